@@ -1,0 +1,56 @@
+//! `sfctl`: singleflight with Forget at the command line. `sfctl run` obeys a script of commands.
+#![tactic(auto)]
+
+mod engines;
+mod outcome;
+#[cfg(test)]
+mod tests;
+mod usage;
+
+use crate::engines::run;
+use crate::outcome::{Outcome, status};
+use crate::usage::Subcommand;
+use std::process::ExitCode;
+use std::rt::Env;
+use std::{env, io};
+
+/// The words of the command line, the program's name first.
+fn words(rt: &(impl Env + AllocGlobal)) -> io::Result<Vec<String>> {
+    let mut words = Vec::new(rt.alloc());
+    for word in env::args(rt)? {
+        words.push(word)?;
+    }
+    Ok(words)
+}
+
+/// Does what the command line asks for, and answers the exit status.
+fn serve<R: Env + AllocGlobal + Input + Print + Eprint>(rt: &R) -> io::Result<u8> {
+    let words = match words(rt) {
+        Ok(words) => words,
+        Err(_) => {
+            eprintln!(rt; "error: the arguments are no text")?;
+            return Ok(status(Outcome::Refused));
+        }
+    };
+    let asked = match usage::parse(rt.alloc(), words.as_slice()) {
+        Ok(asked) => asked,
+        Err(usage) => {
+            eprint!(rt; "{usage}")?;
+            return Ok(status(Outcome::Refused));
+        }
+    };
+    let outcome = match asked {
+        Subcommand::Run => run(rt.alloc(), &mut rt.reader(), &mut io::writer(rt)),
+    };
+    match outcome {
+        Ok(outcome) => Ok(status(outcome)),
+        Err(fault) => {
+            eprintln!(rt; "{fault}")?;
+            Ok(status(Outcome::Refused))
+        }
+    }
+}
+
+fn main(rt: HostRuntime) -> ExitCode {
+    ExitCode::from(serve(&rt).unwrap_or(status(Outcome::Refused)))
+}

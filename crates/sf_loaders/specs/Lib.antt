@@ -1,0 +1,2 @@
+pub mod LoadPath
+pub mod Scripted

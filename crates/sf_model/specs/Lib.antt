@@ -1,0 +1,9 @@
+pub mod Calls
+pub mod Texts
+pub mod RefusalText
+pub mod History
+pub mod Legal
+pub mod State
+pub mod Sequential
+pub mod Reading
+pub mod ScriptText

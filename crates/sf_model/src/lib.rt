@@ -1,0 +1,28 @@
+//! The sequential group: calls, events, histories, and the one-thread singleflight with Forget that every other layer
+//! is compared with.
+#![tactic(auto)]
+
+mod call;
+mod command;
+mod event;
+mod parsing;
+mod refusal;
+mod script;
+mod seq_group;
+mod share;
+mod stream;
+#[cfg(test)]
+mod tests;
+mod text;
+mod walk;
+
+pub use call::CallId;
+pub use command::{Asked, ChanAsked, Command, Forgotten, Taken};
+pub use event::{Event, History};
+pub use parsing::{Outcome, ScriptCommand};
+pub use refusal::{ModelRefusal, ScriptRefusal};
+pub use script::{obey_all, run_script};
+pub use seq_group::SeqGroup;
+pub use share::{Memory, Share};
+pub use stream::{READS, ReadFault, StreamFault, read_all, write_all};
+pub use text::Text;

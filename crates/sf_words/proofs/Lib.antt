@@ -1,0 +1,4 @@
+pub mod CallCodes
+mod Flags
+pub mod KeyCodes
+pub mod NextCodes

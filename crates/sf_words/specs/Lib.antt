@@ -1,0 +1,3 @@
+pub mod CallWord
+pub mod KeyWord
+pub mod NextWord

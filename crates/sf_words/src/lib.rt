@@ -1,0 +1,16 @@
+//! Place numbers, and the words of the lock-free group: what a `u64` of the shared table says of a caller's call, of a
+//! key's last call, and of the next member of a joiner list.
+#![tactic(auto)]
+
+mod call_word;
+mod key_word;
+mod next_word;
+mod place_no;
+
+pub use call_word::{CallState, CallWord, LeaderState, call_codes_differ, pack_call, unpack_call};
+pub use key_word::{KeyState, KeyWord, key_codes_differ, pack_key, unpack_key};
+pub use next_word::{LARGEST_CALLER, NextWord, next_codes_differ, pack_next, unpack_next};
+pub use place_no::{LARGEST_PLACE, PlaceNo};
+
+#[cfg(test)]
+mod tests;
