@@ -3,11 +3,14 @@
 ghost use Rattle.std.specs.Prelude.{◌≡◌, ◌≢◌, ◌++◌, List, ℕ, IfOk, IfErr, IfSome, codes};
 ghost use Rattle.std.specs.Io.KnownBytes.{Appends};
 ghost use Rattle.sf_model.specs.declared.refusal.ScriptRefusal.{ScriptRefusal};
+ghost use Rattle.sf_cli.specs.declared.checking.Checked.{Checked};
+ghost use Rattle.sf_cli.specs.Checking.{IsCheckOf, outcome_of, checked_text};
 ghost use Rattle.sf_model.specs.RefusalText.{refusal_text};
 ghost use Rattle.sf_model.specs.ScriptText.{IsReplyText, IsDue};
 
+use crate::checking::{Checked, judge, outcome};
 use crate::outcome::Outcome;
-use sf_model::{StreamFault, run_script};
+use sf_model::{ReadFault, StreamFault, read_all, run_script, write_line};
 use std::alloc::Global;
 use std::io::{Read, Write};
 
@@ -28,4 +31,23 @@ pub fn run<R: Read, W: Write>(
         Ok(()) => Ok(Outcome::Answered),
         Err(_) => Ok(Outcome::Refused),
     }
+}
+
+/// `sfctl check`: reads records to their end, and writes the one line that says whether their history is legal.
+pub fn check<R: Read, W: Write>(
+    alloc: Global,
+    reader: &mut R,
+    writer: &mut W,
+) -> Result<Outcome, StreamFault>
+    ensures checked { IfOk result (λ outcome. IfSome (R.remaining reader.old) (λ input.
+        (checked : Checked) × IsCheckOf input checked × (outcome ≡ outcome_of checked) × Appends (W.contents writer.old) (W.contents writer.new) (checked_text checked ++ codes "\n"))) }
+    ensures unread { IfErr result (λ fault. fault ≡ StreamFault.CannotRead → W.contents writer.new ≡ W.contents writer.old) }
+{
+    let answer = match read_all(alloc, reader) {
+        Ok(input) => judge(alloc, input.as_slice()),
+        Err(ReadFault::OutOfMemory) => Checked::OutOfMemory,
+        Err(ReadFault::CannotRead) => return Err(StreamFault::CannotRead),
+    };
+    write_line(writer, answer)?;
+    Ok(outcome(answer))
 }

@@ -1,23 +1,26 @@
-//! `sfctl`: singleflight with Forget at the command line. `sfctl run` obeys a script of commands.
+//! `sfctl`: singleflight with Forget at the command line. `sfctl run` obeys a script of commands, and `sfctl check` judges a
+//! recorded history.
 #![tactic(auto)]
 
+mod checking;
 mod engines;
 mod outcome;
 #[cfg(test)]
 mod tests;
 mod usage;
 
-use crate::engines::run;
+use crate::engines::{check, run};
 use crate::outcome::{Outcome, status};
 use crate::usage::Subcommand;
 use std::process::ExitCode;
 use std::rt::Env;
 use std::{env, io};
 
-/// The words of the command line, the program's name first.
+/// The words of the command line; the program's name comes first, and is `sfctl` wherever the file lies.
 fn words(rt: &(impl Env + AllocGlobal)) -> io::Result<Vec<String>> {
     let mut words = Vec::new(rt.alloc());
-    for word in env::args(rt)? {
+    words.push(String::from_str(rt.alloc(), "sfctl")?)?;
+    for word in env::args(rt)?.skip(1) {
         words.push(word)?;
     }
     Ok(words)
@@ -41,6 +44,7 @@ fn serve<R: Env + AllocGlobal + Input + Print + Eprint>(rt: &R) -> io::Result<u8
     };
     let outcome = match asked {
         Subcommand::Run => run(rt.alloc(), &mut rt.reader(), &mut io::writer(rt)),
+        Subcommand::Check => check(rt.alloc(), &mut rt.reader(), &mut io::writer(rt)),
     };
     match outcome {
         Ok(outcome) => Ok(status(outcome)),

@@ -1,6 +1,6 @@
 //! Worked scripts, refused scripts, and streams that fail, through the public engine over memory.
 
-use crate::engines::run;
+use crate::engines::{check, run};
 use crate::outcome::Outcome;
 use sf_model::StreamFault;
 use std::alloc::Global;
@@ -162,6 +162,62 @@ fn a_token_has_at_most_250_bytes(rt: HostRuntime) -> Result<(), Fail> {
         "line 1: not a command\n",
         Outcome::Refused,
     )
+}
+
+/// Checks records, and compares the line that is said and how it ends.
+fn judges(
+    rt: &impl Abort,
+    alloc: Global,
+    records: &str,
+    line: &str,
+    outcome: Outcome,
+) -> Result<(), Fail> {
+    let mut written: Vec<u8> = Vec::new(alloc);
+    let ended = check(alloc, &mut records.as_bytes(), &mut written)?;
+    assert_eq!(rt; written.as_slice(), line.as_bytes(), "{records}");
+    assert_eq!(rt; ended, outcome, "{records}");
+    Ok(())
+}
+
+#[test]
+fn histories(rt: HostRuntime) -> Result<(), Fail> {
+    let rows = [
+        // check_names_the_foreign_settle
+        (
+            "{\"format\":1}\n{\"e\":\"lead\",\"by\":1,\"k\":\"k\",\"c\":[1,1],\"own\":null}\n{\"e\":\"settle\",\"by\":2,\"c\":[1,1],\"ok\":\"v\",\"shared\":false}\n",
+            "event 2: settled by a caller that did not lead\n",
+            Outcome::Illegal,
+        ),
+        (
+            "{\"format\":1}\n{\"e\":\"lead\",\"by\":1,\"k\":\"k\",\"c\":[1,1],\"own\":null}\n{\"e\":\"settle\",\"by\":2",
+            "line 3: not a record\n",
+            Outcome::Refused,
+        ),
+        ("{\"format\":1}\n", "legal: 0 events\n", Outcome::Answered),
+        ("", "line 1: not a record\n", Outcome::Refused),
+        // wrong_shared_mark
+        (
+            "{\"format\":1}\n{\"e\":\"lead\",\"by\":1,\"k\":\"k\",\"c\":[1,1],\"own\":null}\n{\"e\":\"settle\",\"by\":1,\"c\":[1,1],\"ok\":\"v\",\"shared\":true}\n",
+            "event 2: shared mark is wrong\n",
+            Outcome::Illegal,
+        ),
+        // idle_forget_beside_an_open_call
+        (
+            "{\"format\":1}\n{\"e\":\"lead\",\"by\":1,\"k\":\"k\",\"c\":[1,1],\"own\":null}\n{\"e\":\"enter\",\"by\":2,\"k\":\"k\",\"c\":[1,1],\"m\":[2,1]}\n{\"e\":\"forget\",\"by\":3,\"k\":\"k\",\"closed\":null}\n",
+            "event 3: forget names another call\n",
+            Outcome::Illegal,
+        ),
+        // shared_error_history_is_legal
+        (
+            "{\"format\":1}\n{\"e\":\"lead\",\"by\":1,\"k\":\"k\",\"c\":[1,1],\"own\":null}\n{\"e\":\"enter\",\"by\":2,\"k\":\"k\",\"c\":[1,1],\"m\":[2,1]}\n{\"e\":\"settle\",\"by\":1,\"c\":[1,1],\"err\":\"down\",\"shared\":true}\n{\"e\":\"handed\",\"by\":1,\"c\":[1,1]}\n",
+            "legal: 4 events\n",
+            Outcome::Answered,
+        ),
+    ];
+    for (records, line, outcome) in rows {
+        judges(&rt, rt.alloc(), records, line, outcome)?;
+    }
+    Ok(())
 }
 
 /// A reader of a text that hands out three bytes a call, and fails at its n-th read.

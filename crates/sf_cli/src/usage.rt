@@ -8,6 +8,8 @@ use std::alloc::Global;
 pub enum Subcommand {
     /// Obey a script of commands.
     Run,
+    /// Say whether a recorded history is legal.
+    Check,
 }
 
 /// The subcommand that the words ask for, the program's name first. Whatever is no parse is usage, help too.
@@ -15,10 +17,18 @@ pub fn parse(alloc: Global, words: &[String]) -> Result<Subcommand, Error> {
     let run = Command::new(alloc, "run").about(
         "Obeys a script of commands, one a line, from standard input",
     );
+    let check = Command::new(alloc, "check").about(
+        "Says whether the history recorded in standard input is legal",
+    );
     let command = Command::new(alloc, "sfctl")
         .about("Singleflight with Forget: scripts and histories")
         .subcommand_required(true)
-        .subcommand(run)?;
-    let _matches = command.try_get_matches_from(words)?;
-    Ok(Subcommand::Run)
+        .subcommand(run)?
+        .subcommand(check)?;
+    let matches = command.try_get_matches_from(words)?;
+    if matches.subcommand_name() == Some("check") {
+        Ok(Subcommand::Check)
+    } else {
+        Ok(Subcommand::Run)
+    }
 }

@@ -1,5 +1,6 @@
 pub mod Lists
 pub mod LegalHistories
+mod LastLeads
 mod Settling
 mod Spelling
 mod Streams

@@ -3,6 +3,7 @@ pub mod Texts
 pub mod RefusalText
 pub mod History
 pub mod Legal
+pub mod LastLead
 pub mod State
 pub mod Sequential
 pub mod Reading

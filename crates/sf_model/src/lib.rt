@@ -5,6 +5,7 @@
 mod call;
 mod command;
 mod event;
+pub mod laws;
 mod parsing;
 mod refusal;
 mod script;
@@ -24,5 +25,5 @@ pub use refusal::{ModelRefusal, ScriptRefusal};
 pub use script::{obey_all, run_script};
 pub use seq_group::SeqGroup;
 pub use share::{Memory, Share};
-pub use stream::{READS, ReadFault, StreamFault, read_all, write_all};
+pub use stream::{READS, ReadFault, StreamFault, read_all, write_all, write_line};
 pub use text::Text;

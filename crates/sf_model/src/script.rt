@@ -12,7 +12,7 @@ use crate::parsing::{Outcome, ScriptCommand, commands};
 use crate::refusal::{ModelRefusal, ScriptRefusal};
 use crate::seq_group::SeqGroup;
 use crate::share::Memory;
-use crate::stream::{ReadFault, StreamFault, read_all, write_all};
+use crate::stream::{ReadFault, StreamFault, read_all, write_all, write_line};
 use crate::text::Text;
 use std::alloc::Global;
 use std::io::{Read, Write};
@@ -209,7 +209,7 @@ pub fn run_script<R: Read, W: Write>(
             Ok(Ok(()))
         }
         Err(refusal) => {
-            write_refusal(writer, refusal)?;
+            write_line(writer, refusal)?;
             Ok(Err(refusal))
         }
     }
@@ -223,14 +223,4 @@ fn answer(alloc: Global, input: &[u8]) -> Result<String, ScriptRefusal>
     let commands = commands(alloc, input)?;
     let mut group = SeqGroup::new(alloc, 65_535, 1);
     obey_all(alloc, &mut group, commands.as_slice())
-}
-
-fn write_refusal<W: Write>(writer: &mut W, refusal: ScriptRefusal) -> Result<(), StreamFault>
-    ensures ok { OnOk result (Appends (W.contents writer.old) (W.contents writer.new) (refusal_text refusal ++ codes "\n")) }
-    ensures err { IfErr result (λ fault. fault ≡ StreamFault.CannotWrite) }
-{
-    if writeln!(writer, "{refusal}").is_err() || writer.flush().is_err() {
-        return Err(StreamFault::CannotWrite);
-    }
-    Ok(())
 }

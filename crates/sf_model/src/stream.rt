@@ -1,9 +1,10 @@
 //! Reading a whole input, and writing a whole answer.
 
-ghost use Rattle.std.specs.Prelude.{◌≡◌, ◌++◌, IfOk, IfErr, IfSome, OnOk, OnErr};
+ghost use Rattle.std.specs.Prelude.{◌≡◌, ◌++◌, IfOk, IfErr, IfSome, OnOk, OnErr, codes};
 ghost use Rattle.std.specs.Io.KnownBytes.{Appends};
 
 use std::alloc::{AllocError, Global};
+use std::fmt::Display;
 use std::io::{Read, Write};
 use thiserror::Error;
 
@@ -64,6 +65,17 @@ pub fn write_all<W: Write>(writer: &mut W, answer: &str) -> Result<(), StreamFau
     ensures err { IfErr result (λ fault. fault ≡ StreamFault.CannotWrite) }
 {
     if writer.write_all(answer.as_bytes()).is_err() || writer.flush().is_err() {
+        return Err(StreamFault::CannotWrite);
+    }
+    Ok(())
+}
+
+/// Writes one line as the whole answer, and hands it on.
+pub fn write_line<W: Write, D: Display + Drop>(writer: &mut W, line: D) -> Result<(), StreamFault>
+    ensures ok { OnOk result (IfSome (D.output line) (λ text. Appends (W.contents writer.old) (W.contents writer.new) (text ++ codes "\n"))) }
+    ensures err { IfErr result (λ fault. fault ≡ StreamFault.CannotWrite) }
+{
+    if writeln!(writer, "{line}").is_err() || writer.flush().is_err() {
         return Err(StreamFault::CannotWrite);
     }
     Ok(())

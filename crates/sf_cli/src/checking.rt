@@ -1,0 +1,64 @@
+//! What `sfctl check` says of a history that is written as records.
+
+ghost use Rattle.std.specs.Prelude.{◌≡◌};
+ghost use Rattle.sf_cli.specs.Checking.{IsCheckOf, outcome_of};
+
+use crate::outcome::Outcome;
+use sf_replay::{Cause, RecordRefusal, Verdict, check, read};
+use std::alloc::Global;
+use std::fmt;
+
+/// What is said of an input.
+#[derive(Clone, Copy, Debug, PartialEq, Eq)]
+pub enum Checked {
+    /// Its history is legal and has this many events.
+    Legal(u64),
+    /// The event of this number, from 1, is the first that may not follow those before it, with its first cause.
+    Illegal(u64, Cause),
+    /// The line of this number, from 1, is the first that is not a record.
+    BadRecord(u64),
+    /// Memory was refused.
+    OutOfMemory,
+}
+
+impl fmt::Display for Checked {
+    ghost use Rattle.std.specs.Prelude.{Some};
+    ghost use Rattle.sf_cli.specs.Checking.{checked_text};
+
+    ghost output = { λ checked. Some (checked_text checked) };
+
+    fn fmt<W: fmt::Write>(&self, f: &mut fmt::Formatter<W>) -> fmt::Result {
+        match self {
+            Checked::Legal(events) => write!(f, "legal: {events} events"),
+            Checked::Illegal(index, cause) => write!(f, "event {index}: {cause}"),
+            Checked::BadRecord(line) => write!(f, "line {line}: not a record"),
+            Checked::OutOfMemory => write!(f, "out of memory"),
+        }
+    }
+}
+
+/// Reads records, and judges the history that they are.
+pub(crate) fn judge(alloc: Global, input: &[u8]) -> Checked
+    ensures { IsCheckOf input.now result }
+{
+    let history = match read(alloc, input) {
+        Ok(history) => history,
+        Err(RecordRefusal::BadRecord(line)) => return Checked::BadRecord(line),
+        Err(RecordRefusal::Memory) => return Checked::OutOfMemory,
+    };
+    match check(&history) {
+        Verdict::Legal => Checked::Legal(history.len() as u64),
+        Verdict::Illegal { index, cause } => Checked::Illegal(index, cause),
+    }
+}
+
+/// How the program ends after saying it.
+pub(crate) fn outcome(checked: Checked) -> Outcome
+    ensures { result ≡ outcome_of checked }
+{
+    match checked {
+        Checked::Legal(_) => Outcome::Answered,
+        Checked::Illegal(..) => Outcome::Illegal,
+        Checked::BadRecord(_) | Checked::OutOfMemory => Outcome::Refused,
+    }
+}

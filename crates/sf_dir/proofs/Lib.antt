@@ -1,0 +1,9 @@
+pub mod Counts
+pub mod Elements
+pub mod Keeps
+pub mod Keys
+pub mod Knowing
+pub mod Publishing
+pub mod Rows
+pub mod Seating
+pub mod Walking

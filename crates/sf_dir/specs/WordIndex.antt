@@ -1,0 +1,27 @@
+-- Where the words of the table lie.
+use Rattle.std.specs.Prelude.{ℕ, ◌+◌, ◌*◌, ◌/◌, ◌≤◌}
+use Rattle.sf_dir.specs.declared.rule.Sizes.{Sizes}
+
+-- 1 to 1,048,576 places, keys of at most 250 bytes, 1 to 65,535 desks
+pub record IsWithinLimits (z : Sizes) : Type 0 where
+  pub some_key : 1 ≤ z.keys
+  pub keys : z.keys ≤ 1048576
+  pub key_bytes : z.key_bytes ≤ 250
+  pub some_desk : 1 ≤ z.desks
+  pub desks : z.desks ≤ 65535
+
+-- Where the words lie: place n is the word n, the counter is 16 words behind the last place, and the rows begin 16 words behind the counter.
+abbrev pub row_width : Sizes → ℕ
+row_width z = (z.key_bytes + 7) / 8 + 1
+
+abbrev pub row_count : Sizes → ℕ
+row_count z = z.keys + z.desks
+
+abbrev pub counter_at : Sizes → ℕ
+counter_at z = z.keys + 16
+
+abbrev pub row_at : Sizes → ℕ → ℕ
+row_at z row = z.keys + 32 + row * row_width z
+
+abbrev pub word_total : Sizes → ℕ
+word_total z = row_at z (row_count z)

@@ -1,0 +1,9 @@
+pub mod Causes
+pub mod Verdicts
+pub mod Records
+pub mod Lines
+pub mod RecordJson
+pub mod RecordData
+pub mod NoLineFeed
+pub mod RoundTrip
+pub mod RecordLaws

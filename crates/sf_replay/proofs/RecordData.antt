@@ -1,0 +1,118 @@
+-- the data that a record's JSON is, and the event that it reads as
+use Rattle.std.proofs.Common.{◌≡◌, ℕ, ◌^◌, ◌<◌, ◌≤◌, List, length, Option, Some, None, Result, Ok, Err, IfSome, codes, decimal, refl, ◌∙◌, ap, arith, option_and_then, option_map}
+use Rattle.std.proofs.lemmas.Bool.{cond-true, and_from, lt-ltb, le-leb}
+use Rattle.json.specs.Json as json
+use Rattle.json.specs.Tree.{HasNumbers, depth}
+use Rattle.json.proofs.Printed.Decimals.{IsNumber-decimal}
+use Rattle.serde_json.specs.Data.{Data, number, unsigned, string, boolean, null, array, item, no_items, object, Members, no_members, put}
+use Rattle.serde_json.specs.Read.{of_json, max_depth}
+use Rattle.serde_json.proofs.Numbers.{number_of-decimal}
+use Rattle.sf_model.specs.declared.call.CallId.{CallId}
+use Rattle.sf_model.specs.declared.event.Event.TheVariants.{Lead, Enter, Forget, Settle, Handed}
+use Rattle.sf_replay.specs.Record.{TextEvent, in_range, short, call_from, lead_in, enter_in, forget_in, settle_in, handed_in, event_of_kind, event_in}
+use Rattle.sf_replay.specs.Written.{IsCaller, IsCallWithin, IsWithinLimits}
+use Rattle.sf_replay.proofs.RecordJson.{call_of, option_of, json_of_event}
+
+-- ---- the JSON as data
+
+of_number : (n : ℕ) → n < 2 ^ 64 → of_json (json.number (decimal n)) ≡ Some (number (unsigned n))
+of_number n small = ap (option_map number) (number_of-decimal n small)
+
+abbrev call_data : CallId → Data
+call_data c = array (item (number (unsigned c.caller)) (item (number (unsigned c.generation)) no_items))
+
+of_call : (c : CallId) → IsCallWithin c → of_json (call_of c) ≡ Some (call_data c)
+of_call c within =
+    let caller : c.caller < 2 ^ 64 = omega (arith, within.0.1) in
+    let generation : c.generation < 2 ^ 64 = omega (arith, within.2) in
+    rw (number_of-decimal c.caller caller, number_of-decimal c.generation generation) refl
+
+abbrev option_data : Option CallId → Data
+option_data None = null
+option_data (Some c) = call_data c
+
+of_option : (o : Option CallId) → IfSome o IsCallWithin → of_json (option_of o) ≡ Some (option_data o)
+of_option None within = refl
+of_option (Some c) within = of_call c within
+
+-- the names that each record has
+abbrev begun_data : List ℕ → ℕ → Members
+begun_data kind by = put (codes "by") (number (unsigned by)) (put (codes "e") (string kind) no_members)
+
+abbrev result_data : Result (List ℕ) (List ℕ) → Members → Members
+result_data (Ok value) found = put (codes "ok") (string value) found
+result_data (Err error) found = put (codes "err") (string error) found
+
+-- ---- what the data reads as
+
+range_is : (max n : ℕ) → 0 < n → n ≤ max → in_range max n ≡ Some n
+range_is max n some within = cond-true _ (Some n) None (and_from _ _ (lt-ltb 0 n some) (le-leb n max within))
+
+short_is : (key : List ℕ) → length key ≤ 250 → short key ≡ Some key
+short_is key within = cond-true _ (Some key) None (le-leb (length key) 250 within)
+
+call_is : (c : CallId) → IsCallWithin c → call_from (in_range 65535 c.caller) (in_range 4294967295 c.generation) ≡ Some c
+call_is c within = rw (range_is 65535 c.caller within.0.0 within.0.1, range_is 4294967295 c.generation within.1 within.2) refl
+
+small : (n : ℕ) → IsCaller n → n < 2 ^ 64
+small n within = omega (arith, within.1)
+
+-- what the record of each kind is, and that it reads as its event
+abbrev event_data : TextEvent → Data
+event_data (Lead by key call own) = object (put (codes "own") (option_data own) (put (codes "c") (call_data call) (put (codes "k") (string key) (begun_data (codes "lead") by))))
+event_data (Enter by key call joined) = object (put (codes "m") (call_data joined) (put (codes "c") (call_data call) (put (codes "k") (string key) (begun_data (codes "enter") by))))
+event_data (Forget by key closed) = object (put (codes "closed") (option_data closed) (put (codes "k") (string key) (begun_data (codes "forget") by)))
+event_data (Settle by call result shared) = object (put (codes "shared") (boolean shared) (result_data result (put (codes "c") (call_data call) (begun_data (codes "settle") by))))
+event_data (Handed by call) = object (put (codes "c") (call_data call) (begun_data (codes "handed") by))
+
+event_is : (e : TextEvent) → IsWithinLimits e → of_json (json_of_event e) ≡ Some (event_data e)
+event_is (Lead by key call own) within =
+    rw (of_number by (small by within.0), of_call call within.2, of_option own within.3) refl
+event_is (Enter by key call joined) within =
+    rw (of_number by (small by within.0), of_call call within.2, of_call joined within.3) refl
+event_is (Forget by key closed) within =
+    rw (of_number by (small by within.0), of_option closed within.2) refl
+event_is (Settle by call (Ok value) shared) within = rw (of_number by (small by within.0), of_call call within.1) refl
+event_is (Settle by call (Err error) shared) within = rw (of_number by (small by within.0), of_call call within.1) refl
+event_is (Handed by call) within = rw (of_number by (small by within.0), of_call call within.1) refl
+
+data_reads : (e : TextEvent) → IsWithinLimits e → event_in (event_data e) ≡ Some e
+unfolding event_in event_of_kind lead_in enter_in forget_in settle_in handed_in
+data_reads (Lead by key call None) within = rw (range_is 65535 by within.0.0 within.0.1, short_is key within.1, call_is call within.2) refl
+data_reads (Lead by key call (Some own)) within = rw (range_is 65535 by within.0.0 within.0.1, short_is key within.1, call_is call within.2, call_is own within.3) refl
+data_reads (Enter by key call joined) within = rw (range_is 65535 by within.0.0 within.0.1, short_is key within.1, call_is call within.2, call_is joined within.3) refl
+data_reads (Forget by key None) within = rw (range_is 65535 by within.0.0 within.0.1, short_is key within.1) refl
+data_reads (Forget by key (Some closed)) within = rw (range_is 65535 by within.0.0 within.0.1, short_is key within.1, call_is closed within.2) refl
+data_reads (Settle by call (Ok value) shared) within = rw (range_is 65535 by within.0.0 within.0.1, call_is call within.1) refl
+data_reads (Settle by call (Err error) shared) within = rw (range_is 65535 by within.0.0 within.0.1, call_is call within.1) refl
+data_reads (Handed by call) within = rw (range_is 65535 by within.0.0 within.0.1, call_is call within.1) refl
+
+pub event_reads : (e : TextEvent) → IsWithinLimits e → option_and_then event_in (of_json (json_of_event e)) ≡ Some e
+event_reads e within = ap (option_and_then event_in) (event_is e within) ∙ data_reads e within
+
+-- ---- its numbers are numbers, and it nests no deeper than two
+
+call_numbers : (c : CallId) → IsCallWithin c → HasNumbers (call_of c)
+call_numbers c within = (IsNumber-decimal c.caller (small c.caller within.0), (IsNumber-decimal c.generation (omega (arith, within.2)), tt))
+
+option_numbers : (o : Option CallId) → IfSome o IsCallWithin → HasNumbers (option_of o)
+option_numbers None within = tt
+option_numbers (Some c) within = call_numbers c within
+
+pub event_numbers : (e : TextEvent) → IsWithinLimits e → HasNumbers (json_of_event e)
+event_numbers (Lead by key call own) within = (tt, (IsNumber-decimal by (small by within.0), (tt, (call_numbers call within.2, (option_numbers own within.3, tt)))))
+event_numbers (Enter by key call joined) within = (tt, (IsNumber-decimal by (small by within.0), (tt, (call_numbers call within.2, (call_numbers joined within.3, tt)))))
+event_numbers (Forget by key closed) within = (tt, (IsNumber-decimal by (small by within.0), (tt, (option_numbers closed within.2, tt))))
+event_numbers (Settle by call (Ok value) shared) within = (tt, (IsNumber-decimal by (small by within.0), (call_numbers call within.1, (tt, (tt, tt)))))
+event_numbers (Settle by call (Err error) shared) within = (tt, (IsNumber-decimal by (small by within.0), (call_numbers call within.1, (tt, (tt, tt)))))
+event_numbers (Handed by call) within = (tt, (IsNumber-decimal by (small by within.0), (call_numbers call within.1, tt)))
+
+pub event_shallow : (e : TextEvent) → depth (json_of_event e) ≤ max_depth
+event_shallow (Lead by key call None) = omega arith
+event_shallow (Lead by key call (Some own)) = omega arith
+event_shallow (Enter by key call joined) = omega arith
+event_shallow (Forget by key None) = omega arith
+event_shallow (Forget by key (Some closed)) = omega arith
+event_shallow (Settle by call (Ok value) shared) = omega arith
+event_shallow (Settle by call (Err error) shared) = omega arith
+event_shallow (Handed by call) = omega arith

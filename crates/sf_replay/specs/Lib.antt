@@ -1,0 +1,4 @@
+pub mod Checker
+pub mod Record
+pub mod RecordText
+pub mod Written

@@ -1,0 +1,136 @@
+-- one record: the event that a JSON object says
+use Rattle.std.specs.Prelude.{ℕ, ◌==◌, Bool, false, ◌&&◌, nat_lt, nat_le, List, length, if◌then◌else◌, Option, Some, None, is_some, option_map, option_and_then, Result, Ok, Err, codes}
+use Rattle.std.specs.Option.{option_map_or}
+use Rattle.serde_json.specs.Data.{Data, Items, no_items, item}
+use Rattle.serde_json.specs.Find.{get, as_null, as_bool, as_number, as_u64, as_str, as_array, as_object}
+use Rattle.serde_json.specs.Events.{members_len}
+use Rattle.sf_model.specs.declared.call.CallId.{CallId}
+use Rattle.sf_model.specs.declared.event.Event.{Event}
+use Rattle.sf_model.specs.declared.event.Event.TheVariants.{Lead, Enter, Forget, Settle, Handed}
+use Rattle.sf_model.specs.Texts.{same_text}
+
+-- an event whose key is a text, settled with a text or with an error's
+abbrev pub TextEvent : Type 0
+TextEvent = Event (List ℕ) (Result (List ℕ) (List ℕ))
+
+-- ---- what the names of an object hold
+
+-- a whole number, 1 to max
+abbrev pub in_range : ℕ → ℕ → Option ℕ
+in_range max n = if nat_lt 0 n && nat_le n max then Some n else None
+
+abbrev pub number_in : ℕ → Data → Option ℕ
+number_in max d = option_and_then (in_range max) (option_and_then as_u64 (as_number d))
+
+abbrev pub caller_in : Data → Option ℕ
+caller_in d = number_in 65535 d
+
+-- a call or a member is the array of its caller and its generation
+abbrev pub call_from : Option ℕ → Option ℕ → Option CallId
+call_from None generation = None
+call_from (Some caller) None = None
+call_from (Some caller) (Some generation) = Some (record { caller = caller; generation = generation })
+
+abbrev pub call_of_items : Items → Option CallId
+call_of_items no_items = None
+call_of_items (item a no_items) = None
+call_of_items (item a (item b no_items)) = call_from (number_in 65535 a) (number_in 4294967295 b)
+call_of_items (item a (item b (item c more))) = None
+
+abbrev pub call_in : Data → Option CallId
+call_in d = option_and_then call_of_items (as_array d)
+
+-- null, or a call or member
+abbrev pub option_in : Data → Option (Option CallId)
+option_in d = if is_some (as_null d) then Some None else option_map Some (call_in d)
+
+-- a key has at most 250 bytes
+abbrev pub short : List ℕ → Option (List ℕ)
+short text = if nat_le (length text) 250 then Some text else None
+
+abbrev pub key_in : Data → Option (List ℕ)
+key_in d = option_and_then short (as_str d)
+
+-- what an object holds at a name
+abbrev pub field : {A : Type 0} → List ℕ → (Data → Option A) → Data → Option A
+field name value d = option_and_then value (get name d)
+
+-- an object of so many names; an object has each name once
+abbrev pub has_names : ℕ → Data → Bool
+has_names n d = option_map_or (λ names. members_len names == n) (as_object d) false
+
+-- ---- the events: each has the names of its kind and no other
+
+abbrev pub lead_from : Option ℕ → Option (List ℕ) → Option CallId → Option (Option CallId) → Option TextEvent
+lead_from None key call own = None
+lead_from (Some by) None call own = None
+lead_from (Some by) (Some key) None own = None
+lead_from (Some by) (Some key) (Some call) None = None
+lead_from (Some by) (Some key) (Some call) (Some own) = Some (Lead by key call own)
+
+abbrev pub enter_from : Option ℕ → Option (List ℕ) → Option CallId → Option CallId → Option TextEvent
+enter_from None key call member = None
+enter_from (Some by) None call member = None
+enter_from (Some by) (Some key) None member = None
+enter_from (Some by) (Some key) (Some call) None = None
+enter_from (Some by) (Some key) (Some call) (Some member) = Some (Enter by key call member)
+
+abbrev pub forget_from : Option ℕ → Option (List ℕ) → Option (Option CallId) → Option TextEvent
+forget_from None key closed = None
+forget_from (Some by) None closed = None
+forget_from (Some by) (Some key) None = None
+forget_from (Some by) (Some key) (Some closed) = Some (Forget by key closed)
+
+abbrev pub settle_from : Option ℕ → Option CallId → Option (Result (List ℕ) (List ℕ)) → Option Bool → Option TextEvent
+settle_from None call result shared = None
+settle_from (Some by) None result shared = None
+settle_from (Some by) (Some call) None shared = None
+settle_from (Some by) (Some call) (Some result) None = None
+settle_from (Some by) (Some call) (Some result) (Some shared) = Some (Settle by call result shared)
+
+abbrev pub handed_from : Option ℕ → Option CallId → Option TextEvent
+handed_from None call = None
+handed_from (Some by) None = None
+handed_from (Some by) (Some call) = Some (Handed by call)
+
+-- a text at the name `ok`, or else one at the name `err`
+abbrev pub result_from : Option (List ℕ) → Option (List ℕ) → Option (Result (List ℕ) (List ℕ))
+result_from (Some value) error = Some (Ok value)
+result_from None None = None
+result_from None (Some error) = Some (Err error)
+
+abbrev pub result_in : Data → Option (Result (List ℕ) (List ℕ))
+result_in d = result_from (field (codes "ok") as_str d) (field (codes "err") as_str d)
+
+-- beside `e` and `by` the names k, c, own; k, c, m; k, closed; c, ok or err, shared; c
+unfoldable pub lead_in : Data → Option TextEvent
+lead_in d = if has_names 5 d then lead_from (field (codes "by") caller_in d) (field (codes "k") key_in d) (field (codes "c") call_in d) (field (codes "own") option_in d) else None
+
+unfoldable pub enter_in : Data → Option TextEvent
+enter_in d = if has_names 5 d then enter_from (field (codes "by") caller_in d) (field (codes "k") key_in d) (field (codes "c") call_in d) (field (codes "m") call_in d) else None
+
+unfoldable pub forget_in : Data → Option TextEvent
+forget_in d = if has_names 4 d then forget_from (field (codes "by") caller_in d) (field (codes "k") key_in d) (field (codes "closed") option_in d) else None
+
+unfoldable pub settle_in : Data → Option TextEvent
+settle_in d = if has_names 5 d then settle_from (field (codes "by") caller_in d) (field (codes "c") call_in d) (result_in d) (field (codes "shared") as_bool d) else None
+
+unfoldable pub handed_in : Data → Option TextEvent
+handed_in d = if has_names 3 d then handed_from (field (codes "by") caller_in d) (field (codes "c") call_in d) else None
+
+-- the event of this kind
+unfoldable pub event_of_kind : List ℕ → Data → Option TextEvent
+event_of_kind kind d =
+    if same_text kind (codes "lead") then lead_in d
+    else (if same_text kind (codes "enter") then enter_in d
+    else (if same_text kind (codes "forget") then forget_in d
+    else (if same_text kind (codes "settle") then settle_in d
+    else (if same_text kind (codes "handed") then handed_in d
+    else None))))
+
+unfoldable pub event_in : Data → Option TextEvent
+event_in d = option_and_then (λ kind. event_of_kind kind d) (field (codes "e") as_str d)
+
+-- the number of a format: an object with the one name `format`
+unfoldable pub format_in : Data → Option ℕ
+format_in d = if has_names 1 d then field (codes "format") (number_in 1) d else None

@@ -1,0 +1,58 @@
+-- what is written: the format, then one record an event, each line ended
+use Rattle.std.specs.Prelude.{ℕ, ◌<◌, ◌≤◌, Bool, true, false, List, [], ◌∷◌, ◌++◌, length, Option, Some, None, IfSome, Result, Ok, Err, codes, decimal}
+use Rattle.json.specs.Print.{quoted}
+use Rattle.sf_model.specs.declared.call.CallId.{CallId}
+use Rattle.sf_model.specs.declared.event.Event.TheVariants.{Lead, Enter, Forget, Settle, Handed}
+use Rattle.sf_replay.specs.Record.{TextEvent}
+
+-- a call or a member, as in `[1,2]`
+abbrev pub call_json : CallId → List ℕ
+call_json c = codes "[" ++ (decimal c.caller ++ (codes "," ++ (decimal c.generation ++ codes "]")))
+
+abbrev pub option_json : Option CallId → List ℕ
+option_json None = codes "null"
+option_json (Some c) = call_json c
+
+abbrev pub mark_json : Bool → List ℕ
+mark_json true = codes "true"
+mark_json false = codes "false"
+
+-- what a call is settled with, after its name
+abbrev pub result_json : Result (List ℕ) (List ℕ) → List ℕ
+result_json (Ok value) = codes "\"ok\":" ++ quoted value
+result_json (Err error) = codes "\"err\":" ++ quoted error
+
+unfoldable pub record_text : TextEvent → List ℕ
+record_text (Lead by key call own) =
+    codes "{\"e\":\"lead\",\"by\":" ++ (decimal by ++ (codes ",\"k\":" ++ (quoted key ++ (codes ",\"c\":" ++ (call_json call ++ (codes ",\"own\":" ++ (option_json own ++ codes "}")))))))
+record_text (Enter by key call member) =
+    codes "{\"e\":\"enter\",\"by\":" ++ (decimal by ++ (codes ",\"k\":" ++ (quoted key ++ (codes ",\"c\":" ++ (call_json call ++ (codes ",\"m\":" ++ (call_json member ++ codes "}")))))))
+record_text (Forget by key closed) =
+    codes "{\"e\":\"forget\",\"by\":" ++ (decimal by ++ (codes ",\"k\":" ++ (quoted key ++ (codes ",\"closed\":" ++ (option_json closed ++ codes "}")))))
+record_text (Settle by call result shared) =
+    codes "{\"e\":\"settle\",\"by\":" ++ (decimal by ++ (codes ",\"c\":" ++ (call_json call ++ (codes "," ++ (result_json result ++ (codes ",\"shared\":" ++ (mark_json shared ++ codes "}")))))))
+record_text (Handed by call) =
+    codes "{\"e\":\"handed\",\"by\":" ++ (decimal by ++ (codes ",\"c\":" ++ (call_json call ++ codes "}")))
+
+-- these records, each line ended
+abbrev pub records_text : List TextEvent → List ℕ
+records_text [] = []
+records_text (event ∷ events) = record_text event ++ (codes "\n" ++ records_text events)
+
+unfoldable pub history_text : List TextEvent → List ℕ
+history_text h = codes "{\"format\":1}\n" ++ records_text h
+
+-- ---- the limits of records: callers 1 to 65,535, generations 1 to 4,294,967,295, keys of at most 250 bytes
+
+abbrev pub IsCaller : ℕ → Type 0
+IsCaller n = (0 < n) × (n ≤ 65535)
+
+abbrev pub IsCallWithin : CallId → Type 0
+IsCallWithin c = IsCaller c.caller × (0 < c.generation) × (c.generation ≤ 4294967295)
+
+abbrev pub IsWithinLimits : TextEvent → Type 0
+IsWithinLimits (Lead by key call own) = IsCaller by × (length key ≤ 250) × IsCallWithin call × IfSome own IsCallWithin
+IsWithinLimits (Enter by key call member) = IsCaller by × (length key ≤ 250) × IsCallWithin call × IsCallWithin member
+IsWithinLimits (Forget by key closed) = IsCaller by × (length key ≤ 250) × IfSome closed IsCallWithin
+IsWithinLimits (Settle by call result shared) = IsCaller by × IsCallWithin call
+IsWithinLimits (Handed by call) = IsCaller by × IsCallWithin call

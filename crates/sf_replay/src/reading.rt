@@ -1,0 +1,166 @@
+//! Reading records.
+
+ghost use Rattle.std.specs.Prelude.{◌≡◌, ◌==◌, IfOk, IfErr, Ok, map, option_map};
+ghost use Rattle.std.specs.List.{slice_split};
+ghost use Rattle.serde_json.specs.View.{view};
+ghost use Rattle.sf_replay.specs.RecordText.{json_of, record_of, format_of, without_empty_last, record_lines, events_of, history_of_lines, history_of};
+ghost use Rattle.sf_replay.specs.RecordText.{IsRecordRefusal, HistoryIsRecords, FailureIsLeastBad};
+
+use crate::record::{TextEvent, event, format};
+use serde_json::Value;
+use sf_model::{History, Memory, Text};
+use std::alloc::{AllocFailed, Global};
+use thiserror::Error;
+
+/// Why records are not read.
+#[derive(Clone, Copy, Debug, PartialEq, Eq, Error)]
+pub enum RecordRefusal {
+    /// The line, counted from 1, is the first that is not what stands there: the format in line 1, and a record in each
+    /// further line.
+    #[error("line {0}: not a record")]
+    BadRecord(u64),
+    /// Memory was refused.
+    #[error("out of memory")]
+    Memory,
+}
+
+impl<T: Drop> From<AllocFailed<T>> for RecordRefusal {
+    ghost use Rattle.std.specs.Prelude.{◌≡◌};
+    ghost use Rattle.sf_replay.specs.declared.reading.RecordRefusal.TheVariants.{Memory};
+
+    ghost from_gives = { λ _ e. e ≡ Memory };
+
+    fn from(_failed: AllocFailed<T>) -> RecordRefusal {
+        RecordRefusal::Memory
+    }
+}
+
+impl From<Memory> for RecordRefusal {
+    ghost use Rattle.std.specs.Prelude.{◌≡◌};
+    ghost use Rattle.sf_replay.specs.declared.reading.RecordRefusal.TheVariants.{Memory};
+
+    ghost from_gives = { λ _ e. e ≡ Memory };
+
+    fn from(_error: Memory) -> RecordRefusal {
+        RecordRefusal::Memory
+    }
+}
+
+/// The JSON value that a line is, if it is one.
+#[tactic(auto, unfolding(crate::specs::RecordText::json_of))]
+fn json(alloc: Global, line: &[u8]) -> Result<Option<Value>, Memory>
+    ensures { IfOk result (λ found. option_map view found ≡ json_of line.now) }
+{
+    match Value::from_slice(alloc, line) {
+        Ok(value) => Ok(Some(value)),
+        Err(error) => {
+            if error.is_memory() {
+                Err(Memory)
+            } else {
+                Ok(None)
+            }
+        }
+    }
+}
+
+fn record(alloc: Global, line: &[u8]) -> Result<Option<TextEvent>, Memory>
+    ensures { IfOk result (λ found. found ≡ record_of line.now) }
+{
+    match json(alloc, line)? {
+        Some(value) => event(alloc, &value),
+        None => Ok(None),
+    }
+}
+
+fn format_of(alloc: Global, line: &[u8]) -> Result<Option<u32>, Memory>
+    ensures { IfOk result (λ found. found ≡ format_of line.now) }
+{
+    match json(alloc, line)? {
+        Some(value) => Ok(format(&value)),
+        None => Ok(None),
+    }
+}
+
+/// What stands between the line feeds.
+fn parts(alloc: Global, text: &[u8]) -> Result<Vec<&[u8]>, Memory>
+    ensures { IfOk result (λ parts. map (λ part. part.now) parts.items ≡ slice_split (λ byte. byte == 10) text.now) }
+{
+    text.split(|byte| *byte == b'\n').collect(alloc)
+}
+
+/// Takes off the last line where nothing stands in it.
+fn drop_empty_last(lines: &mut Vec<&[u8]>)
+    ensures { map (λ line. line.now) lines.new.items ≡ without_empty_last (map (λ line. line.now) lines.old.items) }
+{
+    let Some(last) = lines.last() else {
+        return;
+    };
+    if last.is_empty() {
+        lines.pop();
+    }
+}
+
+fn lines(alloc: Global, text: &[u8]) -> Result<Vec<&[u8]>, Memory>
+    ensures { IfOk result (λ lines. map (λ line. line.now) lines.items ≡ record_lines text.now) }
+{
+    let mut lines = parts(alloc, text)?;
+    drop_empty_last(&mut lines);
+    Ok(lines)
+}
+
+/// The history that these lines record; the first of them is the text's second.
+fn history(
+    alloc: Global,
+    lines: &[&[u8]],
+) -> Result<History<Text, Result<Text, Text>>, RecordRefusal>
+    ensures ok { IfOk result (λ history. events_of 2 (map (λ line. line.now) lines.now) ≡ Ok history) }
+    ensures bad { IfErr result (λ refusal. IsRecordRefusal refusal (events_of 2 (map (λ line. line.now) lines.now))) }
+{
+    let mut events = Vec::new(alloc);
+    for (i, line) in lines.iter().enumerate() {
+        match record(alloc, line)? {
+            Some(event) => events.push(event)?,
+            None => return Err(RecordRefusal::BadRecord(i as u64 + 2)),
+        }
+    }
+    Ok(History::from_vec(events))
+}
+
+/// The history of these lines, of which the first is the text's first.
+fn history_of_lines(
+    alloc: Global,
+    lines: &[&[u8]],
+) -> Result<History<Text, Result<Text, Text>>, RecordRefusal>
+    ensures ok { IfOk result (λ history. history_of_lines (map (λ line. line.now) lines.now) ≡ Ok history) }
+    ensures bad { IfErr result (λ refusal. IsRecordRefusal refusal (history_of_lines (map (λ line. line.now) lines.now))) }
+{
+    let [first, records @ ..] = lines else {
+        return Err(RecordRefusal::BadRecord(1));
+    };
+    if format_of(alloc, first)?.is_none() {
+        return Err(RecordRefusal::BadRecord(1));
+    }
+    history(alloc, records)
+}
+
+/// The history that a text holds: its first line is the format, and each further line is a record. Where it holds none,
+/// the refusal has the first line that is not what stands there, or memory was refused. Its time is linear in the text.
+#[tactic(auto, unfolding(crate::specs::RecordText::history_of))]
+pub fn read(alloc: Global, text: &[u8]) -> Result<History<Text, Result<Text, Text>>, RecordRefusal>
+    ensures ok { IfOk result (λ history. history_of text.now ≡ Ok history) }
+    ensures bad { IfErr result (λ refusal. IsRecordRefusal refusal (history_of text.now)) }
+{
+    let lines = lines(alloc, text)?;
+    history_of_lines(alloc, lines.as_slice())
+}
+
+/// A text holds a history exactly where its first line is a format and its further lines are the records of the history's
+/// events: a law of the definitions, with nothing to run.
+pub fn history_is_records()
+    ensures { HistoryIsRecords }
+{}
+
+/// The refused line is the least that is not what stands there: a law of the definitions, with nothing to run.
+pub fn failure_is_least_bad()
+    ensures { FailureIsLeastBad }
+{}

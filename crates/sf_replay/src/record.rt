@@ -1,0 +1,252 @@
+//! One record: the event that a JSON object says.
+
+ghost use Rattle.std.specs.Prelude.{◌≡◌, IfOk, option_map};
+ghost use Rattle.serde_json.specs.Find.{as_str, as_bool};
+ghost use Rattle.serde_json.specs.View.{view};
+ghost use Rattle.sf_replay.specs.Record.{number_in, caller_in, call_in, option_in, key_in, field, has_names};
+ghost use Rattle.sf_replay.specs.Record.{lead_in, enter_in, forget_in, result_in, settle_in, handed_in, event_of_kind, event_in, format_in};
+
+use serde_json::Value;
+use sf_model::{CallId, Event, Memory, Text};
+use std::alloc::Global;
+
+/// An event whose key is a text, settled with a text or with an error's.
+pub type TextEvent = Event<Text, Result<Text, Text>>;
+
+/// The longest key of a record, in bytes.
+const KEY_BYTES: usize = 250;
+
+/// The newest format of records.
+const NEWEST_FORMAT: u32 = 1;
+
+/// The highest number of a caller.
+const CALLERS: u32 = 65_535;
+
+fn number(value: &Value, max: u32) -> Option<u32>
+    ensures { result ≡ number_in max (view value.now) }
+{
+    match value.as_u64() {
+        Some(n) if 0 < n && n <= u64::from(max) => Some(n as u32),
+        _ => None,
+    }
+}
+
+fn call(value: &Value) -> Option<CallId>
+    ensures { result ≡ call_in (view value.now) }
+{
+    match value.as_array()?.as_slice() {
+        [caller, generation] => {
+            Some(CallId {
+                caller: number(caller, CALLERS)?,
+                generation: number(generation, u32::MAX)?,
+            })
+        }
+        _ => None,
+    }
+}
+
+fn has_names(value: &Value, n: usize) -> bool
+    ensures { result ≡ has_names n (view value.now) }
+{
+    match value.as_object() {
+        Some(names) => names.len() == n,
+        None => false,
+    }
+}
+
+fn caller_at(value: &Value, name: &str) -> Option<u32>
+    ensures { result ≡ field name.now caller_in (view value.now) }
+{
+    number(value.get(name)?, CALLERS)
+}
+
+fn call_at(value: &Value, name: &str) -> Option<CallId>
+    ensures { result ≡ field name.now call_in (view value.now) }
+{
+    call(value.get(name)?)
+}
+
+/// `None` where nothing or something else stands there, `Some(None)` for null.
+fn option_at(value: &Value, name: &str) -> Option<Option<CallId>>
+    ensures { result ≡ field name.now option_in (view value.now) }
+{
+    let found = value.get(name)?;
+    if found.is_null() {
+        Some(None)
+    } else {
+        Some(Some(call(found)?))
+    }
+}
+
+fn key_at<'a>(value: &'a Value, name: &str) -> Option<&'a str>
+    ensures { option_map (λ key. key.now) result ≡ field name.now key_in (view value.now) }
+{
+    let key = value.get(name)?.as_str()?;
+    if key.len() <= KEY_BYTES {
+        Some(key)
+    } else {
+        None
+    }
+}
+
+fn text_at<'a>(value: &'a Value, name: &str) -> Option<&'a str>
+    ensures { option_map (λ text. text.now) result ≡ field name.now as_str (view value.now) }
+{
+    value.get(name)?.as_str()
+}
+
+fn bool_at(value: &Value, name: &str) -> Option<bool>
+    ensures { result ≡ field name.now as_bool (view value.now) }
+{
+    value.get(name)?.as_bool()
+}
+
+#[tactic(auto, unfolding(crate::specs::Record::lead_in))]
+fn lead(alloc: Global, value: &Value) -> Result<Option<TextEvent>, Memory>
+    ensures { IfOk result (λ found. found ≡ lead_in (view value.now)) }
+{
+    if !has_names(value, 5) {
+        return Ok(None);
+    }
+    match (
+        caller_at(value, "by"),
+        key_at(value, "k"),
+        call_at(value, "c"),
+        option_at(value, "own"),
+    ) {
+        (Some(by), Some(key), Some(call), Some(own)) => {
+            let key = Text::copied(alloc, key)?;
+            Ok(Some(Event::Lead { by, key, call, own }))
+        }
+        _ => Ok(None),
+    }
+}
+
+#[tactic(auto, unfolding(crate::specs::Record::enter_in))]
+fn enter(alloc: Global, value: &Value) -> Result<Option<TextEvent>, Memory>
+    ensures { IfOk result (λ found. found ≡ enter_in (view value.now)) }
+{
+    if !has_names(value, 5) {
+        return Ok(None);
+    }
+    match (
+        caller_at(value, "by"),
+        key_at(value, "k"),
+        call_at(value, "c"),
+        call_at(value, "m"),
+    ) {
+        (Some(by), Some(key), Some(call), Some(member)) => {
+            let key = Text::copied(alloc, key)?;
+            Ok(Some(Event::Enter {
+                by,
+                key,
+                call,
+                member,
+            }))
+        }
+        _ => Ok(None),
+    }
+}
+
+#[tactic(auto, unfolding(crate::specs::Record::forget_in))]
+fn forget(alloc: Global, value: &Value) -> Result<Option<TextEvent>, Memory>
+    ensures { IfOk result (λ found. found ≡ forget_in (view value.now)) }
+{
+    if !has_names(value, 4) {
+        return Ok(None);
+    }
+    match (
+        caller_at(value, "by"),
+        key_at(value, "k"),
+        option_at(value, "closed"),
+    ) {
+        (Some(by), Some(key), Some(closed)) => {
+            let key = Text::copied(alloc, key)?;
+            Ok(Some(Event::Forget { by, key, closed }))
+        }
+        _ => Ok(None),
+    }
+}
+
+/// The text at the name `ok`, or else the one at the name `err`.
+fn result(alloc: Global, value: &Value) -> Result<Option<Result<Text, Text>>, Memory>
+    ensures { IfOk result (λ found. found ≡ result_in (view value.now)) }
+{
+    match (text_at(value, "ok"), text_at(value, "err")) {
+        (Some(text), _) => Ok(Some(Ok(Text::copied(alloc, text)?))),
+        (None, Some(text)) => Ok(Some(Err(Text::copied(alloc, text)?))),
+        (None, None) => Ok(None),
+    }
+}
+
+#[tactic(auto, unfolding(crate::specs::Record::settle_in))]
+fn settle(alloc: Global, value: &Value) -> Result<Option<TextEvent>, Memory>
+    ensures { IfOk result (λ found. found ≡ settle_in (view value.now)) }
+{
+    if !has_names(value, 5) {
+        return Ok(None);
+    }
+    match (
+        caller_at(value, "by"),
+        call_at(value, "c"),
+        result(alloc, value)?,
+        bool_at(value, "shared"),
+    ) {
+        (Some(by), Some(call), Some(result), Some(shared)) => Ok(Some(Event::Settle {
+            by,
+            call,
+            result,
+            shared,
+        })),
+        _ => Ok(None),
+    }
+}
+
+#[tactic(auto, unfolding(crate::specs::Record::handed_in))]
+fn handed(value: &Value) -> Option<TextEvent>
+    ensures { result ≡ handed_in (view value.now) }
+{
+    if !has_names(value, 3) {
+        return None;
+    }
+    let by = caller_at(value, "by")?;
+    let call = call_at(value, "c")?;
+    Some(Event::Handed { by, call })
+}
+
+#[tactic(auto, unfolding(crate::specs::Record::event_of_kind))]
+fn event_of_kind(alloc: Global, kind: &str, value: &Value) -> Result<Option<TextEvent>, Memory>
+    ensures { IfOk result (λ found. found ≡ event_of_kind kind.now (view value.now)) }
+{
+    match kind {
+        "lead" => lead(alloc, value),
+        "enter" => enter(alloc, value),
+        "forget" => forget(alloc, value),
+        "settle" => settle(alloc, value),
+        "handed" => Ok(handed(value)),
+        _ => Ok(None),
+    }
+}
+
+/// The event that a JSON value says, if it says one.
+#[tactic(auto, unfolding(crate::specs::Record::event_in))]
+pub(crate) fn event(alloc: Global, value: &Value) -> Result<Option<TextEvent>, Memory>
+    ensures { IfOk result (λ found. found ≡ event_in (view value.now)) }
+{
+    match text_at(value, "e") {
+        Some(kind) => event_of_kind(alloc, kind, value),
+        None => Ok(None),
+    }
+}
+
+/// The number of the format that a JSON value names, if it names one.
+#[tactic(auto, unfolding(crate::specs::Record::format_in))]
+pub(crate) fn format(value: &Value) -> Option<u32>
+    ensures { result ≡ format_in (view value.now) }
+{
+    if has_names(value, 1) {
+        number(value.get("format")?, NEWEST_FORMAT)
+    } else {
+        None
+    }
+}

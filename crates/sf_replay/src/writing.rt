@@ -1,0 +1,134 @@
+//! Writing records.
+
+ghost use Rattle.std.specs.Prelude.{◌≡◌, ◌++◌, Ok, IfOk, All, codes, string_bytes};
+ghost use Rattle.json.specs.Print.{quoted};
+ghost use Rattle.sf_replay.specs.RecordText.{history_of};
+ghost use Rattle.sf_replay.specs.Written.{call_json, option_json, result_json, record_text, history_text, IsWithinLimits};
+
+use crate::record::TextEvent;
+use serde_json::Value;
+use sf_model::{CallId, Event, History, Memory, Text};
+use std::alloc::Global;
+use std::fmt;
+
+/// The first line of records.
+const FORMAT_LINE: &str = "{\"format\":1}\n";
+
+/// A call or a member, as in `[1,2]`.
+#[derive(Clone, Copy)]
+struct CallJson(CallId);
+
+impl fmt::Display for CallJson {
+    ghost use Rattle.std.specs.Prelude.{Some};
+    ghost use Rattle.sf_replay.specs.Written.{call_json};
+
+    ghost output = { λ c. Some (call_json c.0) };
+
+    fn fmt<W: fmt::Write>(&self, f: &mut fmt::Formatter<W>) -> fmt::Result {
+        let caller = self.0.caller;
+        let generation = self.0.generation;
+        write!(f, "[{caller},{generation}]")
+    }
+}
+
+/// A call or a member, or null.
+#[derive(Clone, Copy)]
+struct OptionJson(Option<CallId>);
+
+impl fmt::Display for OptionJson {
+    ghost use Rattle.std.specs.Prelude.{Some};
+    ghost use Rattle.sf_replay.specs.Written.{option_json};
+
+    ghost output = { λ o. Some (option_json o.0) };
+
+    fn fmt<W: fmt::Write>(&self, f: &mut fmt::Formatter<W>) -> fmt::Result {
+        match self.0 {
+            Some(call) => write!(f, "{}", CallJson(call)),
+            None => f.write_str("null"),
+        }
+    }
+}
+
+/// A text as a JSON string.
+fn quoted(alloc: Global, text: &Text) -> Result<String, Memory>
+    ensures { IfOk result (λ string. string_bytes string ≡ quoted text.now) }
+{
+    let value = Value::String(String::from_str(alloc, text.as_str())?);
+    value.to_string(alloc)
+}
+
+/// What a call is settled with, after its name.
+fn settled(alloc: Global, outcome: &Result<Text, Text>) -> Result<String, Memory>
+    ensures { IfOk result (λ string. string_bytes string ≡ result_json outcome.now) }
+{
+    match outcome {
+        Ok(value) => {
+            let value = quoted(alloc, value)?;
+            format!(in alloc; "\"ok\":{value}")
+        }
+        Err(error) => {
+            let error = quoted(alloc, error)?;
+            format!(in alloc; "\"err\":{error}")
+        }
+    }
+}
+
+/// One record, without the end of its line.
+#[tactic(auto, unfolding(crate::specs::Written::record_text))]
+fn record(alloc: Global, event: &TextEvent) -> Result<String, Memory>
+    ensures { IfOk result (λ string. string_bytes string ≡ record_text event.now) }
+{
+    match event {
+        Event::Lead { by, key, call, own } => {
+            let (key, call, own) = (quoted(alloc, key)?, CallJson(*call), OptionJson(*own));
+            format!(in alloc;
+                "{{\"e\":\"lead\",\"by\":{by},\"k\":{key},\"c\":{call},\"own\":{own}}}"
+            )
+        }
+        Event::Enter {
+            by,
+            key,
+            call,
+            member,
+        } => {
+            let (key, call, member) = (quoted(alloc, key)?, CallJson(*call), CallJson(*member));
+            format!(in alloc;
+                "{{\"e\":\"enter\",\"by\":{by},\"k\":{key},\"c\":{call},\"m\":{member}}}"
+            )
+        }
+        Event::Forget { by, key, closed } => {
+            let (key, closed) = (quoted(alloc, key)?, OptionJson(*closed));
+            format!(in alloc; "{{\"e\":\"forget\",\"by\":{by},\"k\":{key},\"closed\":{closed}}}")
+        }
+        Event::Settle {
+            by,
+            call,
+            result,
+            shared,
+        } => {
+            let (call, result) = (CallJson(*call), settled(alloc, result)?);
+            format!(in alloc;
+                "{{\"e\":\"settle\",\"by\":{by},\"c\":{call},{result},\"shared\":{shared}}}"
+            )
+        }
+        Event::Handed { by, call } => {
+            let call = CallJson(*call);
+            format!(in alloc; "{{\"e\":\"handed\",\"by\":{by},\"c\":{call}}}")
+        }
+    }
+}
+
+/// The records of a history: the format, then one record an event, each line ended. The history of callers 1 to 65,535,
+/// generations 1 to 4,294,967,295 and keys of at most 250 bytes is read back from it. Its time is linear in the history.
+#[tactic(auto, unfolding(crate::specs::Written::history_text))]
+pub fn write(alloc: Global, history: &History<Text, Result<Text, Text>>) -> Result<String, Memory>
+    ensures text { IfOk result (λ string. string_bytes string ≡ history_text history.now) }
+    ensures reads_back { IfOk result (λ string. All IsWithinLimits history.now → history_of (string_bytes string) ≡ Ok history.now) }
+{
+    let mut text = String::from_str(alloc, FORMAT_LINE)?;
+    for event in history.events() {
+        text.push_str(record(alloc, event)?.as_str())?;
+        text.push_str("\n")?;
+    }
+    Ok(text)
+}
