@@ -15,7 +15,7 @@ mod stream;
 #[cfg(test)]
 mod tests;
 mod text;
-mod walk;
+pub mod walk;
 
 pub use call::CallId;
 pub use command::{Asked, ChanAsked, Command, Forgotten, Taken};

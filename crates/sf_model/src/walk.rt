@@ -1,4 +1,4 @@
-//! What a history says, found by walking its events.
+//! What a history says, found by walking its events: each answer is the definition's, in time linear in the history.
 
 ghost use Rattle.std.specs.Prelude.{◌≡◌, ◌≢◌, ◌+◌, ◌^◌, ◌<◌, None, IfSome};
 ghost use Rattle.sf_model.specs.Calls.{same_call};
@@ -9,7 +9,8 @@ ghost use Rattle.sf_model.specs.State.{own_ticket, has_taken, leaves_led, led_ca
 use crate::call::{CallId, Ticket};
 use crate::event::Event;
 
-fn is_call(found: Option<CallId>, call: CallId) -> bool
+/// Whether the option is this call.
+pub fn is_call(found: Option<CallId>, call: CallId) -> bool
     ensures { result ≡ holds_call found call }
 {
     match found {
@@ -30,7 +31,7 @@ fn opened<K: Eq, V>(found: Option<CallId>, event: &Event<K, V>, key: &K) -> Opti
 }
 
 /// The key's open call.
-pub(crate) fn open_call<K: Eq, V>(events: &[Event<K, V>], key: &K) -> Option<CallId>
+pub fn open_call<K: Eq, V>(events: &[Event<K, V>], key: &K) -> Option<CallId>
     ensures { result ≡ open_call K.eq events.now key.now }
 {
     events
@@ -68,7 +69,7 @@ fn enters_call<K, V>(event: &Event<K, V>, entered: CallId) -> bool
 }
 
 /// Whether somebody joined the call; its own channel does not count.
-pub(crate) fn is_joined<K, V>(events: &[Event<K, V>], call: CallId) -> bool
+pub fn is_joined<K, V>(events: &[Event<K, V>], call: CallId) -> bool
     ensures { result ≡ has_joined events.now call }
 {
     events.iter().any(|event| enters_call(event, call))
@@ -84,7 +85,7 @@ fn hands_call<K, V>(event: &Event<K, V>, handed: CallId) -> bool
 }
 
 /// Whether each letter that the call owed is in its owner's cell.
-pub(crate) fn is_handed<K, V>(events: &[Event<K, V>], call: CallId) -> bool
+pub fn is_handed<K, V>(events: &[Event<K, V>], call: CallId) -> bool
     ensures { result ≡ is_handed events.now call }
 {
     events.iter().any(|event| hands_call(event, call))

@@ -5,9 +5,8 @@ ghost use Rattle.sf_model.specs.Legal.{IsLegal};
 ghost use Rattle.sf_replay.specs.Checker.{first_cause, lead_cause, enter_cause, forget_cause, settle_cause, handed_cause, same_option, own_is, is_named, IsVerdictOf, NoCauseMayFollow};
 
 use crate::cause::Cause;
-use crate::walk::{
-    has_begun, is_call, is_handed, is_joined, is_named, is_settled, open_call, was_led,
-};
+use crate::walk::{has_begun, is_named, is_settled, was_led};
+use sf_model::walk::{is_call, is_handed, is_joined, open_call};
 use sf_model::{CallId, Event, History};
 use std::fmt;
 

@@ -1,41 +1,12 @@
-//! What a history says, found by walking its events.
+//! What the checker asks of a history beside what `sf_model::walk` finds.
 
-ghost use Rattle.std.specs.Prelude.{◌≡◌, None};
+ghost use Rattle.std.specs.Prelude.{◌≡◌};
 ghost use Rattle.sf_model.specs.Calls.{same_call};
-ghost use Rattle.sf_model.specs.History.{holds_call, names, opens, open_call, enters, has_joined, leads, was_led, settles};
-ghost use Rattle.sf_model.specs.History.{is_settled, hands, is_handed};
+ghost use Rattle.sf_model.specs.History.{holds_call, names, leads, was_led, settles, is_settled};
 ghost use Rattle.sf_replay.specs.Checker.{is_named, begins, has_begun};
 
+use sf_model::walk::is_call;
 use sf_model::{CallId, Event};
-
-pub(crate) fn is_call(found: Option<CallId>, call: CallId) -> bool
-    ensures { result ≡ holds_call found call }
-{
-    match found {
-        Some(other) => other == call,
-        None => false,
-    }
-}
-
-fn opened<K: Eq, V>(found: Option<CallId>, event: &Event<K, V>, key: &K) -> Option<CallId>
-    ensures { result ≡ opens K.eq key.now found event.now }
-{
-    match event {
-        Event::Lead { key: led, call, .. } if led == key => Some(*call),
-        Event::Forget { key: forgotten, .. } if forgotten == key => None,
-        Event::Settle { call, .. } if is_call(found, *call) => None,
-        _ => found,
-    }
-}
-
-/// The key's open call.
-pub(crate) fn open_call<K: Eq, V>(events: &[Event<K, V>], key: &K) -> Option<CallId>
-    ensures { result ≡ open_call K.eq events.now key.now }
-{
-    events
-        .iter()
-        .fold(None, |found, event| opened(found, event, key))
-}
 
 fn names_call<K, V>(event: &Event<K, V>, named: CallId) -> bool
     ensures { result ≡ names named event.now }
@@ -100,36 +71,4 @@ pub(crate) fn is_settled<K, V>(events: &[Event<K, V>], call: CallId) -> bool
     ensures { result ≡ is_settled events.now call }
 {
     events.iter().any(|event| settles_call(event, call))
-}
-
-fn enters_call<K, V>(event: &Event<K, V>, entered: CallId) -> bool
-    ensures { result ≡ enters entered event.now }
-{
-    match event {
-        Event::Enter { call, .. } => *call == entered,
-        _ => false,
-    }
-}
-
-/// Whether somebody joined the call; its own channel does not count.
-pub(crate) fn is_joined<K, V>(events: &[Event<K, V>], call: CallId) -> bool
-    ensures { result ≡ has_joined events.now call }
-{
-    events.iter().any(|event| enters_call(event, call))
-}
-
-fn hands_call<K, V>(event: &Event<K, V>, handed: CallId) -> bool
-    ensures { result ≡ hands handed event.now }
-{
-    match event {
-        Event::Handed { call, .. } => *call == handed,
-        _ => false,
-    }
-}
-
-/// Whether each letter that the call owed is in its owner's cell.
-pub(crate) fn is_handed<K, V>(events: &[Event<K, V>], call: CallId) -> bool
-    ensures { result ≡ is_handed events.now call }
-{
-    events.iter().any(|event| hands_call(event, call))
 }
