@@ -1,15 +1,16 @@
-//! `sfctl`: singleflight with Forget at the command line. `sfctl run` obeys a script of commands, and `sfctl check` judges a
-//! recorded history.
+//! `sfctl`: singleflight with Forget at the command line. `sfctl run` obeys a script of commands, `sfctl steps`
+//! plays a schedule of the step core, and `sfctl check` judges a recorded history.
 #![tactic(auto)]
 
 mod checking;
 mod engines;
 mod outcome;
+mod playing;
 #[cfg(test)]
 mod tests;
 mod usage;
 
-use crate::engines::{check, run};
+use crate::engines::{check, run, steps};
 use crate::outcome::{Outcome, status};
 use crate::usage::Subcommand;
 use std::process::ExitCode;
@@ -44,6 +45,7 @@ fn serve<R: Env + AllocGlobal + Input + Print + Eprint>(rt: &R) -> io::Result<u8
     };
     let outcome = match asked {
         Subcommand::Run => run(rt.alloc(), &mut rt.reader(), &mut io::writer(rt)),
+        Subcommand::Steps => steps(rt.alloc(), &mut rt.reader(), &mut io::writer(rt)),
         Subcommand::Check => check(rt.alloc(), &mut rt.reader(), &mut io::writer(rt)),
     };
     match outcome {

@@ -1,6 +1,6 @@
 //! Worked scripts, refused scripts, and streams that fail, through the public engine over memory.
 
-use crate::engines::{check, run};
+use crate::engines::{check, run, steps};
 use crate::outcome::Outcome;
 use sf_model::StreamFault;
 use std::alloc::Global;
@@ -216,6 +216,83 @@ fn histories(rt: HostRuntime) -> Result<(), Fail> {
     ];
     for (records, line, outcome) in rows {
         judges(&rt, rt.alloc(), records, line, outcome)?;
+    }
+    Ok(())
+}
+
+/// Plays a schedule, and compares what it prints and how it ends.
+fn prints(
+    rt: &impl Abort,
+    alloc: Global,
+    schedule: &[u8],
+    printed: &str,
+    outcome: Outcome,
+) -> Result<(), Fail> {
+    let mut written: Vec<u8> = Vec::new(alloc);
+    let ended = steps(alloc, &mut &*schedule, &mut written)?;
+    assert_eq!(rt; written.as_slice(), printed.as_bytes(), "{printed}");
+    assert_eq!(rt; ended, outcome, "{printed}");
+    Ok(())
+}
+
+#[test]
+fn schedules(rt: HostRuntime) -> Result<(), Fail> {
+    let rows: [(&[u8], &str); 4] = [
+        (b"", ""),
+        // leader_clears_for_the_forgetter
+        (
+            b"do 1 ask 1\nstep 1 3\ndo 3 forget 1\nstep 3 3\ndo 1 settle ok v\nstep 1 2\nstep 3\n",
+            "1 look 1 0\n1 ready 1.1 open\n1 lead 1 1.1 yes\n= lead 1 1.1\n3 look 1 1.1\n3 peek 1.1 open 0\n3 close 1.1 forgot yes\n= forget 1 closed 1.1\n1 peek 1.1 forgot 0\n= settle 1.1 v shared=no\n= handed 1.1\n1 clear 1 1.1 yes\n3 clear 1 1.1 no\n",
+        ),
+        // closed_call_is_not_current_before_its_clear
+        (
+            b"do 1 ask 1\nstep 1 3\ndo 2 forget 1\nstep 2 3\ndo 3 current 1 1.1\nstep 3\n",
+            "1 look 1 0\n1 ready 1.1 open\n1 lead 1 1.1 yes\n= lead 1 1.1\n2 look 1 1.1\n2 peek 1.1 open 0\n2 close 1.1 forgot yes\n= forget 1 closed 1.1\n3 peek 1.1 forgot 0\n> no\n",
+        ),
+        // idle_forget_clears_a_settled_call
+        (
+            b"do 1 ask 1\nstep 1 3\ndo 1 settle ok v\nstep 1 2\ndo 2 forget 1\nstep 2 3\n",
+            "1 look 1 0\n1 ready 1.1 open\n1 lead 1 1.1 yes\n= lead 1 1.1\n1 peek 1.1 open 0\n1 close 1.1 done yes\n= settle 1.1 v shared=no\n= handed 1.1\n2 look 1 1.1\n2 peek 1.1 done 0\n2 clear 1 1.1 yes\n= forget 1 idle\n",
+        ),
+    ];
+    for (schedule, printed) in rows {
+        prints(&rt, rt.alloc(), schedule, printed, Outcome::Answered)?;
+    }
+    Ok(())
+}
+
+#[test]
+fn hostile_schedules(rt: HostRuntime) -> Result<(), Fail> {
+    let rows: [(&[u8], u32); 16] = [
+        (b"do 1 ask 1\nstep 1 1001\n", 2),
+        (b"do 1 ask 1\ndrop 1\n", 2),
+        (b"do 1 ask 65\n", 1),
+        (b"do 65 ask 1\n", 1),
+        (b"do 0 ask 1\n", 1),
+        (b"do 1 ask 1\ndo 1 ask 2\n", 2),
+        (b"do 1 settle ok v\n", 1),
+        (b"step 1\n", 1),
+        // A step beyond the end comes before a line of bad form.
+        (b"do 1 ask 1\nstep 1 4\nfoo\n", 2),
+        (b"do 1 ask 1\n\nstep 1\n", 2),
+        (b"do 1 ask 1\nstep 1 \xff\n", 2),
+        // A question is of a call that was led on its place.
+        (b"do 1 current 1 1.1\n", 1),
+        (b"do 1 ask 1\nstep 1 3\ndo 2 current 2 1.1\n", 3),
+        // Channels, polls and joiners are not there yet.
+        (b"do 1 chan 2 1\n", 1),
+        (b"do 1 poll\n", 1),
+        (b"do 1 ask 1\nstep 1 3\ndo 2 ask 1\nstep 2 2\nstep 2\n", 5),
+    ];
+    for (schedule, line) in rows {
+        let refusal = format!(in rt.alloc(); "line {line}: not a turn of this schedule\n")?;
+        prints(
+            &rt,
+            rt.alloc(),
+            schedule,
+            refusal.as_str(),
+            Outcome::Refused,
+        )?;
     }
     Ok(())
 }

@@ -12,11 +12,11 @@ use Rattle.sf_model.specs.declared.call.CallId.{CallId}
 use Rattle.sf_model.specs.declared.command.Command.TheVariants.{Ask, AskChan, Settle, Forget, Take, IsCurrent}
 use Rattle.sf_model.specs.Reading.{ScriptCommand, Spells, IsToken, IsNumber, IsCallerWord, IsCallWord, words}
 
-abbrev AreAscii : List ℕ → Type 0
+abbrev pub AreAscii : List ℕ → Type 0
 AreAscii bs = AllByRecursion (λ b. b < 128) bs
 
 -- a list whose parts are ASCII is ASCII
-ascii_from_parts : (bs : List ℕ) → AllByRecursion AreAscii (slice_split (λ b. b == 32) bs) → AreAscii bs
+pub ascii_from_parts : (bs : List ℕ) → AllByRecursion AreAscii (slice_split (λ b. b == 32) bs) → AreAscii bs
 ascii_from_parts [] parts = tt
 ascii_from_parts (x ∷ bs) parts = let both = at (x == 32) refl (slice_split (λ b. b == 32) bs) parts in (both.0, ascii_from_parts bs both.1)
   where
@@ -26,10 +26,10 @@ ascii_from_parts (x ∷ bs) parts = let both = at (x == 32) refl (slice_split (�
     at false is (part ∷ rest) all = (all.0.0, (all.0.1, all.1))
 
 -- tokens and numbers are ASCII
-token_ascii : (w : List ℕ) → IsToken w → AreAscii w
+pub token_ascii : (w : List ℕ) → IsToken w → AreAscii w
 token_ascii w token = recursion_from_All (λ b. b < 128) w (λ k d within. let printable = token.2 k d within in omega arith)
 
-number_ascii : (greatest : ℕ) (w : List ℕ) (n : ℕ) → greatest < 2 ^ 32 → IsNumber greatest w n → AreAscii w
+pub number_ascii : (greatest : ℕ) (w : List ℕ) (n : ℕ) → greatest < 2 ^ 32 → IsNumber greatest w n → AreAscii w
 number_ascii greatest w n small is =
     let range = is.1 in
     let fits : n < 2 ^ 64 = omega arith in
@@ -38,7 +38,7 @@ number_ascii greatest w n small is =
 caller_ascii : (w : List ℕ) (a : ℕ) → IsCallerWord w a → AreAscii w
 caller_ascii w a is = number_ascii 65535 w a (omega arith) is
 
-call_ascii : (w : List ℕ) (c : CallId) → IsCallWord w c → AreAscii w
+pub call_ascii : (w : List ℕ) (c : CallId) → IsCallWord w c → AreAscii w
 call_ascii w c is =
     let before = caller_ascii _ c.caller is.caller in
     let after = number_ascii 4294967295 _ c.generation (omega arith) is.generation in

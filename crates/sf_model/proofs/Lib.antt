@@ -4,9 +4,9 @@ mod LastLeads
 mod Settling
 mod Spelling
 mod Streams
-mod Lines
+pub mod Lines
 mod Runs
-mod Ascii
+pub mod Ascii
 mod Kept
 mod KeptByCalls
 pub mod Refused

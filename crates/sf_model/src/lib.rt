@@ -6,7 +6,7 @@ mod call;
 mod command;
 mod event;
 pub mod laws;
-mod parsing;
+pub mod parsing;
 mod refusal;
 mod script;
 mod seq_group;

@@ -1,4 +1,4 @@
-//! The lines of scripts, read as commands.
+//! Lines and words of text, and the lines of scripts, read as commands.
 
 ghost use Rattle.std.specs.Prelude.{◌≡◌, ◌==◌, ℕ, ◌↔◌, [], ◌∷◌, map, IsTrue, IfOk, IfErr, MatchOption, codes, decimal};
 ghost use Rattle.std.specs.List.{slice_split};
@@ -30,7 +30,7 @@ fn is_decimal(word: &str, n: u32) -> bool
 }
 
 /// The number from 1 to a greatest one that the word is, in decimal with no sign and no leading zero.
-pub(crate) fn number(word: &str, greatest: u32) -> Option<u32>
+pub fn number(word: &str, greatest: u32) -> Option<u32>
     ensures { MatchOption result ((n : ℕ) → IsNumber greatest word.now n → ⊥) (IsNumber greatest word.now) }
 {
     let Ok(n) = word.parse::<u32>() else {
@@ -43,7 +43,8 @@ pub(crate) fn number(word: &str, greatest: u32) -> Option<u32>
     }
 }
 
-fn is_token(word: &str) -> bool
+/// Whether the word may be a key or a text: 1 to 250 bytes, each from 0x21 to 0x7E.
+pub fn is_token(word: &str) -> bool
     ensures { IsTrue result ↔ IsToken word.now }
 {
     !word.is_empty()
@@ -51,7 +52,8 @@ fn is_token(word: &str) -> bool
         && word.as_bytes().iter().all(|b| 33 <= *b && *b <= 126)
 }
 
-fn call(word: &str) -> Option<CallId>
+/// The call that the word is: a caller from 1 to 65,535, a dot, and a generation from 1 to 4,294,967,295.
+pub fn call(word: &str) -> Option<CallId>
     ensures { MatchOption result ((c : CallId) → IsCallWord word.now c → ⊥) (IsCallWord word.now) }
 {
     let (caller, generation) = word.split_once('.')?;
@@ -60,7 +62,8 @@ fn call(word: &str) -> Option<CallId>
     Some(CallId { caller, generation })
 }
 
-fn words(alloc: Global, line: &str) -> Result<Vec<&str>, Memory>
+/// The words of a line, which are parted by one space.
+pub fn words(alloc: Global, line: &str) -> Result<Vec<&str>, Memory>
     ensures { IfOk result (λ parts. map (λ x. x.now) parts.items ≡ words line.now) }
 {
     line.split(' ').collect(alloc)
@@ -248,7 +251,7 @@ fn without_return(line: &[u8]) -> &[u8]
 }
 
 /// The lines of an input: they end at LF, a CR before it is taken off, and the last line may lack its LF.
-fn lines(alloc: Global, input: &[u8]) -> Result<Vec<&[u8]>, Memory>
+pub fn lines(alloc: Global, input: &[u8]) -> Result<Vec<&[u8]>, Memory>
     ensures { IfOk result (λ parts. map (λ x. x.now) parts.items ≡ lines input.now) }
 {
     let parts = parts(alloc, input)?;

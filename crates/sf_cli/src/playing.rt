@@ -1,0 +1,18 @@
+//! What `sfctl steps` prints of a schedule.
+
+ghost use Rattle.std.specs.Prelude.{IfOk, IfErr, string_bytes};
+ghost use Rattle.std.specs.Str.Lines.{lines};
+ghost use Rattle.sf_steps.specs.Played.{IsRefusalOf};
+ghost use Rattle.sf_cli.specs.Playing.{IsTraceText};
+
+use sf_steps::{ScheduleRefusal, play, trace_text};
+use std::alloc::Global;
+
+/// What the steps of a schedule print.
+pub(crate) fn traced(alloc: Global, schedule: &[u8]) -> Result<String, ScheduleRefusal>
+    ensures played { IfOk result (λ text. IsTraceText schedule.now (string_bytes text)) }
+    ensures refused { IfErr result (λ refusal. IsRefusalOf (lines schedule.now) refusal) }
+{
+    let trace = play(alloc, schedule)?;
+    Ok(trace_text(alloc, trace.steps.as_slice())?)
+}

@@ -1,0 +1,13 @@
+pub mod World
+pub mod Turns
+pub mod Events
+pub mod Schedules
+pub mod Laws
+pub mod Delivered
+pub mod Stages
+pub mod Acts
+pub mod TraceText
+pub mod ScheduleText
+pub mod Played
+pub mod PlayerState
+pub mod Running
