@@ -7,6 +7,7 @@ pub mod SettleSteps
 pub mod ForgetSteps
 pub mod AllTurns
 pub mod RightAnswers
+pub mod Peeks
 pub mod Playing
 mod AfterTurns
 mod Lines

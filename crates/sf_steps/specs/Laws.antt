@@ -35,3 +35,8 @@ LooksAreRight V = (z : Setting) (p rest : List (Turn V)) (a k : ℕ) (c : CallId
     → (world_after z.first p).stages a ≡ Questioning k c Peek → (world_after z.first (p ++ Step a ∷ [])).stages a ≡ Questioning k c Look
     → current_answer (world_after z.first (p ++ Step a ∷ rest)) k c Look ≡ Some answer
     → (answer ≡ is_current_after z.first p k c) ⊎ (answer ≡ is_current_after z.first (p ++ Step a ∷ rest) k c)
+
+-- a question that is at its look has made its peek, after a front of the schedule
+abbrev pub LooksHavePeeks : Type 0 → Type 0
+LooksHavePeeks V = (z : Setting) (s : List (Turn V)) → IsPlain z s → (a k : ℕ) (c : CallId) → (world_after z.first s).stages a ≡ Questioning k c Look
+    → (p rest : List (Turn V)) × (s ≡ p ++ Step a ∷ rest) × ((world_after z.first p).stages a ≡ Questioning k c Peek) × ((world_after z.first (p ++ Step a ∷ [])).stages a ≡ Questioning k c Look)
