@@ -10,3 +10,17 @@ pub mod Ascii
 mod Kept
 mod KeptByCalls
 pub mod Refused
+mod RowsAfter
+mod RowsLed
+mod RowsEntered
+mod RowsOwned
+mod Agreeing
+mod Obeyed
+mod NewRows
+mod RowsSettled
+mod Settled
+mod HandedOut
+mod Awaited
+mod Polled
+mod Filled
+mod AwaitedLetters

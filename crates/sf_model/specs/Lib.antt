@@ -8,3 +8,6 @@ pub mod State
 pub mod Sequential
 pub mod Reading
 pub mod ScriptText
+pub mod Rows
+pub mod Agrees
+pub mod Settlements

@@ -10,6 +10,7 @@ pub mod parsing;
 mod refusal;
 mod script;
 mod seq_group;
+mod seq_state;
 mod share;
 mod stream;
 #[cfg(test)]
@@ -24,6 +25,7 @@ pub use parsing::{Outcome, ScriptCommand};
 pub use refusal::{ModelRefusal, ScriptRefusal};
 pub use script::{obey_all, run_script};
 pub use seq_group::SeqGroup;
+pub use seq_state::{SeqState, Settlement};
 pub use share::{Memory, Share};
 pub use stream::{READS, ReadFault, StreamFault, read_all, write_all, write_line};
 pub use text::Text;

@@ -2,7 +2,7 @@
 
 use crate::{
     Asked, CallId, ChanAsked, Command, Event, Forgotten, History, ModelRefusal, Outcome, SeqGroup,
-    Share, Taken, Text, obey_all, read_all, write_all,
+    SeqState, Settlement, Share, Taken, Text, obey_all, read_all, write_all,
 };
 use std::alloc::Global;
 use std::test::Fail;
@@ -139,5 +139,83 @@ fn streams_are_read_and_written_whole(rt: HostRuntime) -> Result<(), Fail> {
     let mut written: Vec<u8> = Vec::new(rt.alloc());
     write_all(&mut written, "text")?;
     assert_eq!(rt; written.as_slice(), b"text".as_slice());
+    Ok(())
+}
+
+#[test]
+fn a_state_is_led_joined_and_forgotten(rt: HostRuntime) -> Result<(), Fail> {
+    let mut state: SeqState<Outcome> = SeqState::new(rt.alloc(), 2, 3, 1)?;
+    assert_eq!(rt; state.begin(1, 2)?, Asked::Lead(id(1, 1)));
+    assert_eq!(rt; state.begin(2, 2)?, Asked::Join(id(1, 1)));
+    assert_eq!(rt; state.begin(2, 1), Err(ModelRefusal::NotFree(2)));
+    assert_eq!(rt; state.forget(2, 2), Err(ModelRefusal::NotFree(2)));
+    assert_eq!(rt; state.forget(3, 2)?, Forgotten::Closed(id(1, 1)));
+    assert_eq!(rt; state.forget(3, 2)?, Forgotten::Idle);
+    assert_eq!(rt; state.poll(2)?, Taken::Pending(id(1, 1)));
+    assert_eq!(rt; state.poll(3), Err(ModelRefusal::NothingAsked(3)));
+    Ok(())
+}
+
+#[test]
+fn letters_of_a_state_are_delivered_one_by_one(rt: HostRuntime) -> Result<(), Fail> {
+    let mut state: SeqState<Outcome> = SeqState::new(rt.alloc(), 1, 4, 1)?;
+    assert_eq!(rt; state.begin(1, 1)?, Asked::Lead(id(1, 1)));
+    assert_eq!(rt; state.begin(2, 1)?, Asked::Join(id(1, 1)));
+    assert_eq!(rt; state.begin_chan(3, 4, 1)?, ChanAsked::Joined(id(1, 1)));
+    assert!(rt; state.owes_none(1));
+    let settled = state.settle(1, Ok(text(rt.alloc(), "v")?));
+    assert_eq!(rt; settled, Ok(Settlement::Owed(id(1, 1), true)));
+    assert_eq!(rt; state.deliver(1)?, Settlement::Owed(id(1, 1), true));
+    let value = Ok(text(rt.alloc(), "v")?);
+    assert_eq!(rt;
+        state.deliver(1)?,
+        Settlement::HandedOut(id(1, 1), value, true)
+    );
+    let letter = Taken::Got(id(1, 1), Ok(text(rt.alloc(), "v")?), true);
+    assert_eq!(rt; state.poll(4)?, letter);
+    Ok(())
+}
+
+#[test]
+fn an_own_channel_of_a_state_is_not_shared(rt: HostRuntime) -> Result<(), Fail> {
+    let mut state: SeqState<Outcome> = SeqState::new(rt.alloc(), 1, 2, 7)?;
+    assert_eq!(rt;
+        state.begin_chan(1, 2, 1)?,
+        ChanAsked::Led(id(1, 7), id(2, 7))
+    );
+    assert!(rt; state.owes_none(1));
+    let settled = state.settle(1, Ok(text(rt.alloc(), "v")?));
+    assert_eq!(rt; settled, Ok(Settlement::Owed(id(1, 7), false)));
+    let value = Ok(text(rt.alloc(), "v")?);
+    assert_eq!(rt;
+        state.deliver(1)?,
+        Settlement::HandedOut(id(1, 7), value, false)
+    );
+    assert_eq!(rt; state.deliver(1), Err(ModelRefusal::NotLeading(1)));
+    let letter = Taken::Got(id(1, 7), Ok(text(rt.alloc(), "v")?), false);
+    assert_eq!(rt; state.poll(2)?, letter);
+    Ok(())
+}
+
+#[test]
+fn a_state_refuses_the_spent_and_the_unled(rt: HostRuntime) -> Result<(), Fail> {
+    let last = 4_294_967_295;
+    let mut state: SeqState<Outcome> = SeqState::new(rt.alloc(), 1, 2, last)?;
+    assert_eq!(rt; state.begin(1, 1)?, Asked::Lead(id(1, last)));
+    assert!(rt; state.owes_none(1));
+    let alone = state.settle(1, Err(text(rt.alloc(), "e")?));
+    let outcome = Err(text(rt.alloc(), "e")?);
+    assert_eq!(rt;
+        alone,
+        Ok(Settlement::HandedOut(id(1, last), outcome, false))
+    );
+    assert_eq!(rt; state.begin(1, 1), Err(ModelRefusal::Spent(1)));
+    assert_eq!(rt; state.begin_chan(1, 2, 1), Err(ModelRefusal::Spent(1)));
+    assert_eq!(rt; state.begin_chan(2, 1, 1), Err(ModelRefusal::Spent(1)));
+    assert_eq!(rt; state.begin_chan(2, 2, 1), Err(ModelRefusal::NotFree(2)));
+    assert!(rt; state.owes_none(2));
+    let unled = state.settle(2, Ok(text(rt.alloc(), "v")?));
+    let value = Ok(text(rt.alloc(), "v")?);
+    assert_eq!(rt; unled, Err((ModelRefusal::NotLeading(2), value)));
     Ok(())
 }
