@@ -237,8 +237,23 @@ fn prints(
 
 #[test]
 fn schedules(rt: HostRuntime) -> Result<(), Fail> {
-    let rows: [(&[u8], &str); 4] = [
+    let rows: [(&[u8], &str); 7] = [
         (b"", ""),
+        // stale_joiner_misses_a_reused_word
+        (
+            b"do 1 ask 1\nstep 1 3\ndo 2 ask 1\nstep 2 2\ndo 1 settle ok v\nstep 1 2\ndo 1 ask 2\nstep 1 3\nstep 2 7\n",
+            "1 look 1 0\n1 ready 1.1 open\n1 lead 1 1.1 yes\n= lead 1 1.1\n2 look 1 1.1\n2 peek 1.1 open 0\n1 peek 1.1 open 0\n1 close 1.1 done yes\n= settle 1.1 v shared=no\n= handed 1.1\n1 look 2 0\n1 ready 1.2 open\n1 lead 2 1.2 yes\n= lead 2 1.2\n2 ready 2.1 listed\n2 link 0\n2 enter 1.1 no\n2 look 1 1.1\n2 peek 1.2 open 0\n2 ready 2.1 open\n2 lead 1 2.1 yes\n= lead 1 2.1\n",
+        ),
+        // failed_enter_is_asked_again
+        (
+            b"do 1 ask 1\nstep 1 3\ndo 3 ask 1\nstep 3 2\ndo 2 ask 1\nstep 2 5\nstep 3 3\ndrop 3\ndo 3 ask 1\nstep 3 5\ndo 1 settle ok v\nstep 1 8\ndo 2 poll\nstep 2\n",
+            "1 look 1 0\n1 ready 1.1 open\n1 lead 1 1.1 yes\n= lead 1 1.1\n3 look 1 1.1\n3 peek 1.1 open 0\n2 look 1 1.1\n2 peek 1.1 open 0\n2 ready 2.1 listed\n2 link 0\n2 enter 1.1 yes\n= enter 1 1.1 2.1\n3 ready 3.1 listed\n3 link 0\n3 enter 1.1 no\n3 look 1 1.1\n3 peek 1.1 open 2\n3 ready 3.1 listed\n3 link 2\n3 enter 1.1 yes\n= enter 1 1.1 3.1\n1 peek 1.1 open 3\n1 close 1.1 done yes\n= settle 1.1 v shared=yes\n1 follow 3 2\n1 peek 3.1 listed 0\n1 deliver 3.1\n1 follow 2 0\n1 peek 2.1 listed 0\n1 deliver 2.1\n= handed 1.1\n2 collect 2.1 full\n",
+        ),
+        // leader_delivers_to_its_own_channel
+        (
+            b"do 1 chan 2 1\nstep 1 4\ndo 1 settle ok v\nstep 1 4\ndo 2 poll\nstep 2\n",
+            "1 look 1 0\n2 ready 2.1 listed\n1 ready 1.1 open\n1 lead 1 1.1 yes\n= lead 1 1.1 own=2.1\n1 peek 1.1 open own 0\n1 close 1.1 done yes\n= settle 1.1 v shared=no\n1 peek 2.1 listed 0\n1 deliver 2.1\n= handed 1.1\n2 collect 2.1 full\n",
+        ),
         // leader_clears_for_the_forgetter
         (
             b"do 1 ask 1\nstep 1 3\ndo 3 forget 1\nstep 3 3\ndo 1 settle ok v\nstep 1 2\nstep 3\n",
@@ -263,7 +278,7 @@ fn schedules(rt: HostRuntime) -> Result<(), Fail> {
 
 #[test]
 fn hostile_schedules(rt: HostRuntime) -> Result<(), Fail> {
-    let rows: [(&[u8], u32); 16] = [
+    let rows: [(&[u8], u32); 18] = [
         (b"do 1 ask 1\nstep 1 1001\n", 2),
         (b"do 1 ask 1\ndrop 1\n", 2),
         (b"do 1 ask 65\n", 1),
@@ -279,10 +294,13 @@ fn hostile_schedules(rt: HostRuntime) -> Result<(), Fail> {
         // A question is of a call that was led on its place.
         (b"do 1 current 1 1.1\n", 1),
         (b"do 1 ask 1\nstep 1 3\ndo 2 current 2 1.1\n", 3),
-        // Channels, polls and joiners are not there yet.
-        (b"do 1 chan 2 1\n", 1),
+        // A chan has two free callers, and only the first makes its steps.
+        (b"do 1 chan 1 1\n", 1),
+        (b"do 1 chan 2 1\ndo 3 chan 2 1\n", 2),
+        (b"do 1 chan 2 1\nstep 1\nstep 2\n", 3),
+        // A poll is made by one that holds a ticket.
         (b"do 1 poll\n", 1),
-        (b"do 1 ask 1\nstep 1 3\ndo 2 ask 1\nstep 2 2\nstep 2\n", 5),
+        (b"do 1 ask 1\nstep 1 3\ndo 1 poll\n", 3),
     ];
     for (schedule, line) in rows {
         let refusal = format!(in rt.alloc(); "line {line}: not a turn of this schedule\n")?;

@@ -21,7 +21,7 @@ module _ {L : Type 0} where
       let more : take (i + 1) (map f ls) ≡ take i (map f ls) ++ f (slice_index_or ls i d) ∷ [] =
       take_more (map f ls) i [] (within_map f ls i lt) ∙ ap (λ (x : List ℕ). take i (map f ls) ++ x ∷ []) (get_or-map f ls i d [] lt) in (
         ts ++ turns_of said,
-        subst (λ (xs : List (List ℕ)). IsScheduleText xs (ts ++ turns_of said)) (sym more) (text_push (take i (map f ls)) (f (slice_index_or ls i d)) said ts text one after.plain),
+        subst (λ (xs : List (List ℕ)). IsScheduleText xs (ts ++ turns_of said)) (sym more) (text_push (take i (map f ls)) (f (slice_index_or ls i d)) said ts text one after.allowed),
         after,
       )
 

@@ -1,5 +1,5 @@
 -- what the history says of itself and of the next generations, kept by each event that is added
-use Rattle.std.proofs.Common.{◌≡◌, ◌≢◌, ℕ, ◌+◌, ◌<◌, true, false, ◌||◌, List, [], ◌∷◌, ◌++◌, inl, inr, None, refl, sym, ◌∙◌, ap, subst, arith, eq-eqb}
+use Rattle.std.proofs.Common.{◌≡◌, ◌≢◌, ℕ, ◌+◌, ◌<◌, true, false, ◌==◌, List, [], ◌∷◌, ◌++◌, inl, inr, Option, Some, None, refl, sym, ◌∙◌, ap, subst, arith, eq-eqb}
 use Rattle.std.proofs.lemmas.Bool.{or_cases, ne_eqb, cases_Bool, cases_eq, true≢false}
 use Rattle.std.specs.Prelude.{nat_eq, cond}
 use Rattle.std.specs.List.{list_any}
@@ -7,10 +7,10 @@ use Rattle.sf_model.specs.declared.call.CallId.{CallId}
 use Rattle.sf_model.specs.declared.event.Event.{Event}
 use Rattle.sf_model.specs.declared.event.Event.TheVariants.{Lead, Enter, Forget, Settle, Handed}
 use Rattle.sf_model.specs.Calls.{same_call}
-use Rattle.sf_model.specs.History.{names, is_settled, is_handed, enters, has_joined, uses, next_generation}
+use Rattle.sf_model.specs.History.{names, is_settled, is_handed, uses, next_generation}
 use Rattle.sf_model.specs.Legal.{MayFollow, IsLegal}
-use Rattle.sf_model.proofs.Lists.{list_any_push_cases, list_any_push_none}
-use Rattle.sf_model.proofs.LegalHistories.{same_call_is, next_push, legal_nil, legal_push, settled_named, handed_settled}
+use Rattle.sf_model.proofs.Lists.{list_any_push_cases}
+use Rattle.sf_model.proofs.LegalHistories.{same_call_is, next_push, legal_nil, legal_push, open_named, settled_named, handed_settled}
 use Rattle.sf_steps.specs.World.{put}
 use Rattle.sf_steps.proofs.Histories.{opened}
 
@@ -28,15 +28,63 @@ put_cases P f i v j here other =
       | inr n ↦ subst P (sym (put_else f i v j n)) (other n)
     ]
 
+-- one more generation of a caller is used
+abbrev one_more : (ℕ → ℕ) → ℕ → ℕ → ℕ
+one_more g a = put g a (g a + 1)
+
+used_one : (g : ℕ → ℕ) (a b : ℕ) → one_more g a b ≡ g b + cond {A = ℕ} (a == b) 1 0
+used_one g a b = put_cases (λ (n : ℕ). n ≡ g b + cond {A = ℕ} (a == b) 1 0) g a (g a + 1) b
+    (λ here.
+    let one : cond {A = ℕ} (a == b) 1 0 ≡ 1 = ap (λ t. cond {A = ℕ} t 1 0) (eq-eqb a b (sym here)) in
+    let same : g b ≡ g a = ap g here in
+    omega arith)
+    (λ other.
+    let none : cond {A = ℕ} (a == b) 1 0 ≡ 0 = ap (λ t. cond {A = ℕ} t 1 0) (ne_eqb a b (λ s. other (sym s))) in
+    omega arith)
+
+-- a call of a generation below is below, as it was
+below_one : (g : ℕ → ℕ) (a : ℕ) → g a < one_more g a a
+below_one g a = let here : one_more g a a ≡ g a + 1 = put_here g a (g a + 1) in omega arith
+
+kept_below : (g : ℕ → ℕ) (a b n : ℕ) → n < g b → n < one_more g a b
+kept_below g a b n below = let more : one_more g a b ≡ g b + cond {A = ℕ} (a == b) 1 0 = used_one g a b in omega arith
+
+-- the generations after a Lead, with an own channel of this caller or without one
+abbrev pub lead_generations : (ℕ → ℕ) → ℕ → Option ℕ → ℕ → ℕ
+lead_generations g a None = put g a (g a + 1)
+lead_generations g a (Some b) = put (put g b (g b + 1)) a (put g b (g b + 1) a + 1)
+
+abbrev pub own_in : (ℕ → ℕ) → Option ℕ → Option CallId
+own_in g None = None
+own_in g (Some b) = Some (record { caller = b; generation = g b })
+
 module _ {V : Type 0} where
   pub record Past (first : ℕ) (h : List (Event ℕ V)) (generations : ℕ → ℕ) : Type 0 where
     pub legal : IsLegal nat_eq h
     pub counted : (a : ℕ) → generations a ≡ next_generation first h a
     pub numbered : (c : CallId) → list_any (names c) h ≡ true → c.generation < generations c.caller
-    pub alone : (c : CallId) → has_joined h c ≡ false
 
   pub past_begins : (first : ℕ) → Past first [] (λ _. first)
-  past_begins first = record { legal = legal_nil nat_eq; counted = λ a. omega arith; numbered = λ c is. cc; alone = λ c. refl }
+  past_begins first = record { legal = legal_nil nat_eq; counted = λ a. omega arith; numbered = λ c is. cc }
+
+  -- an event that may follow, which uses these generations
+  past_more : (first : ℕ) (h : List (Event ℕ V)) (g n : ℕ → ℕ) (e : Event ℕ V) → Past first h g → MayFollow nat_eq h e → ((a : ℕ) → n a ≡ g a + uses a e)
+      → ((c : CallId) → names c e ≡ true → c.generation < n c.caller) → Past first (h ++ e ∷ []) n
+  past_more first h g n e p follows used named = record {
+    legal = legal_push nat_eq h e p.legal follows;
+    counted = λ a.
+        let was : g a ≡ next_generation first h a = p.counted a in
+        let more : next_generation first (h ++ e ∷ []) a ≡ next_generation first h a + uses a e = next_push first h e a in
+        let now : n a ≡ g a + uses a e = used a in
+        omega arith;
+    numbered = λ c is. elim (list_any_push_cases (names c) h e is) [
+      | inl was ↦
+          let below : c.generation < g c.caller = p.numbered c was in
+          let now : n c.caller ≡ g c.caller + uses c.caller e = used c.caller in
+          omega arith
+      | inr last ↦ named c last
+    ];
+  }
 
   -- a Forget, a Settle, a Handed
   abbrev pub NamesNothing : Event ℕ V → Type 0
@@ -53,13 +101,6 @@ module _ {V : Type 0} where
   names_none (Settle by call result shared) none c = refl
   names_none (Handed by call) none c = refl
 
-  enters_none : (e : Event ℕ V) → NamesNothing e → (c : CallId) → enters c e ≡ false
-  enters_none (Lead by key call own) none c = absurd none
-  enters_none (Enter by key call member) none c = absurd none
-  enters_none (Forget by key closed) none c = refl
-  enters_none (Settle by call result shared) none c = refl
-  enters_none (Handed by call) none c = refl
-
   uses_none : (e : Event ℕ V) → NamesNothing e → (a : ℕ) → uses a e ≡ 0
   uses_none (Lead by key call own) none a = absurd none
   uses_none (Enter by key call member) none a = absurd none
@@ -68,19 +109,8 @@ module _ {V : Type 0} where
   uses_none (Handed by call) none a = refl
 
   pub past_note : (first : ℕ) (h : List (Event ℕ V)) (g : ℕ → ℕ) (e : Event ℕ V) → Past first h g → MayFollow nat_eq h e → NamesNothing e → Past first (h ++ e ∷ []) g
-  past_note first h g e p follows none = record {
-    legal = legal_push nat_eq h e p.legal follows;
-    counted = λ a.
-        let was : g a ≡ next_generation first h a = p.counted a in
-        let more : next_generation first (h ++ e ∷ []) a ≡ next_generation first h a + uses a e = next_push first h e a in
-        let used : uses a e ≡ 0 = uses_none e none a in
-        omega arith;
-    numbered = λ c is. elim (list_any_push_cases (names c) h e is) [
-      | inl was ↦ p.numbered c was
-      | inr last ↦ absurd (true≢false (sym last ∙ names_none e none c))
-    ];
-    alone = λ c. list_any_push_none (enters c) h e (p.alone c) (enters_none e none c);
-  }
+  past_note first h g e p follows none =
+      past_more first h g g e p follows (λ a. let zero : uses a e ≡ 0 = uses_none e none a in omega arith) (λ c named. absurd (true≢false (sym named ∙ names_none e none c)))
 
   -- a call of the caller's next generation is new
   pub next_is_new : (first : ℕ) (h : List (Event ℕ V)) (g : ℕ → ℕ) (a : ℕ) → Past first h g → list_any (names (record { caller = a; generation = g a })) h ≡ false
@@ -107,41 +137,44 @@ module _ {V : Type 0} where
         | inr not_handed ↦ not_handed
       ]
 
-  pub past_lead : (first : ℕ) (h : List (Event ℕ V)) (g : ℕ → ℕ) (a k : ℕ) → Past first h g → opened h k ≡ None
-      → Past first (h ++ Lead a k (record { caller = a; generation = g a }) None ∷ []) (put g a (g a + 1))
-  past_lead first h g a k p none = record {
-    legal = legal_push nat_eq h e p.legal (refl, next_is_new first h g a p, tt, none);
-    counted = λ b. put_cases (λ n. n ≡ next_generation first (h ++ e ∷ []) b) g a (g a + 1) b
-        (λ here.
-        let was : g a ≡ next_generation first h b = ap g (sym here) ∙ p.counted b in
-        let more : next_generation first (h ++ e ∷ []) b ≡ next_generation first h b + uses b e = next_push first h e b in
-        let used : uses b e ≡ 1 = ap (λ t. cond {A = ℕ} t 1 0 + 0) (eq-eqb a b (sym here)) in
-        omega arith)
-        (λ other.
-        let was : g b ≡ next_generation first h b = p.counted b in
-        let more : next_generation first (h ++ e ∷ []) b ≡ next_generation first h b + uses b e = next_push first h e b in
-        let used : uses b e ≡ 0 = ap (λ t. cond {A = ℕ} t 1 0 + 0) (ne_eqb a b (λ s. other (sym s))) in
-        omega arith);
-    numbered = λ d is. put_cases (λ n. d.generation < n) g a (g a + 1) d.caller
-        (λ here. elim (list_any_push_cases (names d) h e is) [
-          | inl was ↦ let below : d.generation < g d.caller = p.numbered d was in let same : g d.caller ≡ g a = ap g here in omega arith
-          | inr last ↦ let same : c ≡ d = led_is d last in let n : g a ≡ d.generation = ap (λ (z : CallId). z.generation) same in omega arith
-        ])
-        (λ other. elim (list_any_push_cases (names d) h e is) [
-          | inl was ↦ p.numbered d was
-          | inr last ↦ absurd (other (sym (ap (λ (z : CallId). z.caller) (led_is d last))))
-        ]);
-    alone = λ d. list_any_push_none (enters d) h e (p.alone d) refl;
-  }
+  pub past_lead : (first : ℕ) (h : List (Event ℕ V)) (g : ℕ → ℕ) (a k : ℕ) (s : Option ℕ) → Past first h g → MayFollow nat_eq h (Lead a k (record { caller = a; generation = g a }) (own_in g s))
+      → Past first (h ++ Lead a k (record { caller = a; generation = g a }) (own_in g s) ∷ []) (lead_generations g a s)
+  past_lead first h g a k None p follows = past_more first h g (put g a (g a + 1)) (Lead a k c None) p follows
+      (λ b. let used : one_more g a b ≡ g b + cond {A = ℕ} (a == b) 1 0 = used_one g a b in omega arith)
+      (λ d named. elim (or_cases (same_call c d) false named) [
+        | inl same ↦ subst (λ (z : CallId). z.generation < one_more g a z.caller) (same_call_is c d same) (below_one g a)
+        | inr none ↦ cc
+      ])
+    where
+      c : CallId
+      c = record { caller = a; generation = g a }
+  past_lead first h g a k (Some b) p follows = past_more first h g (one_more (one_more g b) a) (Lead a k c (Some m)) p follows
+      (λ x.
+      let first_used : one_more g b x ≡ g x + cond {A = ℕ} (b == x) 1 0 = used_one g b x in
+      let then_used : one_more (one_more g b) a x ≡ one_more g b x + cond {A = ℕ} (a == x) 1 0 = used_one (one_more g b) a x in
+      omega arith)
+      (λ d named. elim (or_cases (same_call c d) (same_call m d) named) [
+        | inl same ↦ subst (λ (z : CallId). z.generation < one_more (one_more g b) a z.caller) (same_call_is c d same)
+            (let here : one_more (one_more g b) a a ≡ one_more g b a + 1 = put_here (one_more g b) a (one_more g b a + 1) in
+            let used : one_more g b a ≡ g a + cond {A = ℕ} (b == a) 1 0 = used_one g b a in
+            omega arith)
+        | inr same ↦ subst (λ (z : CallId). z.generation < one_more (one_more g b) a z.caller) (same_call_is m d same) (kept_below (one_more g b) a b (g b) (below_one g b))
+      ])
     where
       c : CallId
       c = record { caller = a; generation = g a }
 
-      e : Event ℕ V
-      e = Lead a k c None
+      m : CallId
+      m = record { caller = b; generation = g b }
 
-      led_is : (d : CallId) → (same_call c d || false) ≡ true → c ≡ d
-      led_is d is = elim (or_cases (same_call c d) false is) [
-        | inl same ↦ same_call_is c d same
-        | inr no_own ↦ cc
-      ]
+  pub past_enter : (first : ℕ) (h : List (Event ℕ V)) (g : ℕ → ℕ) (j k : ℕ) (c : CallId) → Past first h g → opened h k ≡ Some c
+      → Past first (h ++ Enter j k c (record { caller = j; generation = g j }) ∷ []) (put g j (g j + 1))
+  past_enter first h g j k c p is = past_more first h g (one_more g j) (Enter j k c m) p (refl, next_is_new first h g j p, is)
+      (λ b. used_one g j b)
+      (λ d named. elim (or_cases (same_call c d) (same_call m d) named) [
+        | inl same ↦ subst (λ (z : CallId). z.generation < one_more g j z.caller) (same_call_is c d same) (kept_below g j c.caller c.generation (p.numbered c (open_named nat_eq h k c is)))
+        | inr same ↦ subst (λ (z : CallId). z.generation < one_more g j z.caller) (same_call_is m d same) (below_one g j)
+      ])
+    where
+      m : CallId
+      m = record { caller = j; generation = g j }

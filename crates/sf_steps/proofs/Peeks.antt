@@ -20,7 +20,8 @@ use Rattle.sf_steps.specs.declared.operation.CurrentStep.TheVariants as current
 use Rattle.sf_steps.specs.declared.turn.Turn.{Turn}
 use Rattle.sf_steps.specs.declared.turn.Turn.TheVariants as turn
 use Rattle.sf_steps.specs.World.{World, first_world, put, with_stage, next_id, key_of, same_key, is_open_with, is_forgot_in, open_in, generation_in, is_full, is_spent}
-use Rattle.sf_steps.specs.Turns.{looked, peeked, joiner, ready_own, after_lead, after_enter, ask_stepped, after_own_peek, at_members, after_close, cleared, own_peeked, settle_stepped, forget_looked, forget_peeked, forgot, forget_cleared, forget_stepped, polled, current_peeked, current_stepped, stepped, chan_started, started, freed, left, turned, run}
+use Rattle.sf_steps.specs.Askings.{looked, peeked, joiner, ready_own, after_lead, after_enter, ask_stepped}
+use Rattle.sf_steps.specs.Turns.{after_own_peek, at_members, after_close, cleared, own_peeked, settle_stepped, forget_looked, forget_peeked, forgot, forget_cleared, forget_stepped, polled, current_peeked, current_stepped, stepped, chan_started, started, freed, left, turned, run}
 use Rattle.sf_steps.specs.Laws.{LooksHavePeeks}
 use Rattle.sf_steps.proofs.Sound.{call_of}
 use Rattle.sf_steps.proofs.Past.{put_cases}

@@ -30,16 +30,16 @@ use Rattle.sf_steps.specs.declared.operation.CurrentStep.TheVariants as current
 use Rattle.sf_steps.specs.declared.turn.Turn.{Turn}
 use Rattle.sf_steps.specs.declared.turn.Turn.TheVariants as turn
 use Rattle.sf_steps.specs.World.{World, first_world, put, with_stage, next_id, key_of, cleared_key_of, same_key, is_open_with, is_forgot_in, is_full, is_spent}
-use Rattle.sf_steps.specs.Turns.{ready_own, led, after_lead, after_enter, current_peeked, ask_stepped, after_close, cleared, settle_stepped, forgot, forget_cleared, forget_stepped, polled, current_stepped, stepped, chan_started, started, freed, left, turned, run}
+use Rattle.sf_steps.specs.Askings.{ready_own, led, after_lead, after_enter, ask_stepped}
+use Rattle.sf_steps.specs.Turns.{current_peeked, after_close, cleared, settle_stepped, forgot, forget_cleared, forget_stepped, polled, current_stepped, stepped, chan_started, started, freed, left, turned, run}
 use Rattle.sf_steps.specs.Events.{turn_events, adds, events_of, world_after}
-use Rattle.sf_steps.specs.Laws.{IsPlain, is_current_after, SchedulesAreLegal, PeeksAreRight, LooksAreRight}
-use Rattle.sf_steps.specs.Schedules.{Setting, leads_on, was_led_on, IsScheduleFrom, AreWithoutJoining}
+use Rattle.sf_steps.specs.Laws.{is_current_after, SchedulesAreLegal, PeeksAreRight, LooksAreRight}
+use Rattle.sf_steps.specs.Schedules.{Setting, leads_on, was_led_on, IsScheduleFrom, IsSchedule}
 use Rattle.sf_steps.proofs.Histories.{now, led_on_named}
 use Rattle.sf_steps.proofs.Past.{put_here, put_cases}
 use Rattle.sf_steps.proofs.Sound.{call_of, IsForgotWord, Good, GoodKey, Sound, sound_begins}
-use Rattle.sf_steps.proofs.AskSteps.{same_key_is, same_key_self}
-use Rattle.sf_steps.proofs.SettleSteps.{forgotten_not_now}
-use Rattle.sf_steps.proofs.ForgetSteps.{current_key}
+use Rattle.sf_steps.proofs.Compared.{same_key_is, same_key_self}
+use Rattle.sf_steps.proofs.Leaders.{forgotten_not_now, current_key}
 use Rattle.sf_steps.proofs.AllTurns.{turn_sound, run_sound}
 
 -- two key words that name the same call
@@ -214,18 +214,13 @@ module _ {V : Type 0} where
       let parts = schedule_parts z p q (h ++ turn_events w t) (turned w t) is.1 in
       ((is.0, parts.0), subst (λ (es : List (Event ℕ V)). IsScheduleFrom z es (run (turned w t) p) q) (append_assoc h (turn_events w t) (adds (turned w t) p)) parts.1)
 
-  pub joining_parts : (p q : List (Turn V)) (w : World V) → AreWithoutJoining w (p ++ q) → AreWithoutJoining w p × AreWithoutJoining (run w p) q
-  joining_parts [] q w is = (tt, is)
-  joining_parts (t ∷ p) q w is = let parts = joining_parts p q (turned w t) is.1 in ((is.0, parts.0), parts.1)
+  pub always : (z : Setting) (s : List (Turn V)) → IsSchedule z s → Sound z.first (events_of z.first s) (world_after z.first s)
+  always z s is = run_sound z s [] (first_world z.first) (sound_begins z.first) is
 
-  pub always : (z : Setting) (s : List (Turn V)) → IsPlain z s → Sound z.first (events_of z.first s) (world_after z.first s)
-  always z s is = run_sound z s [] (first_world z.first) (sound_begins z.first) is.0 is.1
-
-  unnamed_run : (z : Setting) (k : ℕ) (c : CallId) (ts : List (Turn V)) (h : List (Event ℕ V)) (w : World V) → Sound z.first h w → was_led_on h k c ≡ true → IsScheduleFrom z h w ts → AreWithoutJoining w ts
-      → w.keys k ≢ key_of c → (run w ts).keys k ≢ key_of c
-  unnamed_run z k c [] h w sound led is plain isnt = isnt
-  unnamed_run z k c (t ∷ ts) h w sound led is plain isnt =
-      unnamed_run z k c ts (h ++ turn_events w t) (turned w t) (turn_sound z h w t sound is.0 plain.0) (led_longer h (turn_events w t) led) is.1 plain.1 (unnamed_turn z.first h w k c sound led t isnt)
+  unnamed_run : (z : Setting) (k : ℕ) (c : CallId) (ts : List (Turn V)) (h : List (Event ℕ V)) (w : World V) → Sound z.first h w → was_led_on h k c ≡ true → IsScheduleFrom z h w ts → w.keys k ≢ key_of c → (run w ts).keys k ≢ key_of c
+  unnamed_run z k c [] h w sound led is isnt = isnt
+  unnamed_run z k c (t ∷ ts) h w sound led is isnt =
+      unnamed_run z k c ts (h ++ turn_events w t) (turned w t) (turn_sound z h w t sound is.0) (led_longer h (turn_events w t) led) is.1 (unnamed_turn z.first h w k c sound led t isnt)
     where
       led_longer : (h es : List (Event ℕ V)) → was_led_on h k c ≡ true → was_led_on (h ++ es) k c ≡ true
       led_longer h es led = list_any-append (leads_on k c) h es ∙ or_left (list_any (leads_on k c) h) (list_any (leads_on k c) es) led
@@ -271,13 +266,10 @@ module _ {V : Type 0} where
       h = events_of z.first p
 
       parts : IsScheduleFrom z [] (first_world z.first) p × IsScheduleFrom z h w (turn.Step a ∷ rest)
-      parts = schedule_parts z p (turn.Step a ∷ rest) [] (first_world z.first) is.0
-
-      plain : AreWithoutJoining (first_world z.first) p × AreWithoutJoining w (turn.Step a ∷ rest)
-      plain = joining_parts p (turn.Step a ∷ rest) (first_world z.first) is.1
+      parts = schedule_parts z p (turn.Step a ∷ rest) [] (first_world z.first) is
 
       sound : Sound z.first h w
-      sound = always z p (parts.0, plain.0)
+      sound = always z p parts.0
 
       peeked : World V
       peeked = turned w (turn.Step a)
@@ -303,7 +295,7 @@ module _ {V : Type 0} where
           before : (b : Bool) → same_key (w.keys k) (key_of c) ≡ b → w.keys k ≡ key_of c
           before true same = same_key_is (w.keys k) (key_of c) same
           before false other =
-              let led : was_led_on h k c ≡ true = subst (λ (q : Stage V). Good h w a q) at (sound.own a) in
+              let led : was_led_on h k c ≡ true = subst (λ (q : Stage V). Good h w a q) at (sound.callers a).good in
               let isnt : w.keys k ≢ key_of c = λ same. true≢false (sym (subst (λ (v : KeyState). same_key v (key_of c) ≡ true) (sym same) (same_key_self (key_of c))) ∙ other) in
-              let after : (run w (turn.Step a ∷ rest)).keys k ≢ key_of c = unnamed_run z k c (turn.Step a ∷ rest) h w sound led parts.1 plain.1 isnt in
+              let after : (run w (turn.Step a ∷ rest)).keys k ≢ key_of c = unnamed_run z k c (turn.Step a ∷ rest) h w sound led parts.1 isnt in
               absurd (after (ap (λ (x : World V). x.keys k) (sym (run_append (first_world z.first) p (turn.Step a ∷ rest))) ∙ same_key_is (u.keys k) (key_of c) found))

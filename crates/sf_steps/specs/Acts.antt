@@ -14,7 +14,7 @@ use Rattle.sf_steps.specs.declared.operation.CurrentStep.TheVariants as current
 use Rattle.sf_steps.specs.declared.trace.Act.{Act}
 use Rattle.sf_steps.specs.declared.trace.Act.TheVariants.{Look, Peek, Ready, Lead, Link, Enter, Close, Clear, Follow, Deliver, Collect}
 use Rattle.sf_steps.specs.World.{World, next_id, key_of, same_key, is_open_with, is_full}
-use Rattle.sf_steps.specs.Turns.{joiner}
+use Rattle.sf_steps.specs.Askings.{joiner}
 
 -- the caller whose word a step is about: a second makes its own words ready, links and enters
 abbrev pub ask_stepper : ℕ → Option ℕ → AskStep → ℕ

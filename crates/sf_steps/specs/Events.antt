@@ -21,7 +21,8 @@ use Rattle.sf_steps.specs.declared.operation.CurrentStep.TheVariants as current
 use Rattle.sf_steps.specs.declared.turn.Turn.{Turn}
 use Rattle.sf_steps.specs.declared.turn.Turn.TheVariants as turn
 use Rattle.sf_steps.specs.World.{World, first_world, next_id, key_of, same_key, is_open_with, is_forgot_in}
-use Rattle.sf_steps.specs.Turns.{joiner, own_of, turned, run}
+use Rattle.sf_steps.specs.Askings.{joiner, own_of}
+use Rattle.sf_steps.specs.Turns.{turned, run}
 
 module _ {V : Type 0} where
   -- the Handed of a call that owes no letter

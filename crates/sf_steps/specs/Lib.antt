@@ -1,13 +1,17 @@
 pub mod World
+pub mod Askings
 pub mod Turns
 pub mod Events
 pub mod Schedules
 pub mod Laws
 pub mod Delivered
 pub mod Stages
+pub mod Settling
 pub mod Acts
 pub mod TraceText
 pub mod ScheduleText
 pub mod Played
 pub mod PlayerState
 pub mod Running
+pub mod Left
+pub mod Closes

@@ -14,8 +14,7 @@ use Rattle.sf_steps.specs.World.{World, first_world}
 use Rattle.sf_steps.specs.Turns.{turned}
 use Rattle.sf_steps.specs.Events.{step_events, answer_at}
 use Rattle.sf_steps.specs.Acts.{act_at, stepper}
-use Rattle.sf_steps.specs.Schedules.{Setting}
-use Rattle.sf_steps.specs.Laws.{IsPlain}
+use Rattle.sf_steps.specs.Schedules.{Setting, IsSchedule}
 use Rattle.sf_steps.specs.TraceText.{Outcome}
 use Rattle.sf_steps.specs.ScheduleText.{Spells, turns_of}
 
@@ -54,12 +53,12 @@ AreSpelled [] (s ∷ ss) = ⊥
 AreSpelled (l ∷ ls) [] = ⊥
 AreSpelled (l ∷ ls) (s ∷ ss) = Spells (words l) s × AreSpelled ls ss
 
--- the lines say these turns, and they are a schedule without joining
+-- the lines say these turns, and they are a schedule
 pub record IsScheduleText (ls : List (List ℕ)) (ts : List (Turn Outcome)) : Type 0 where
   pub said : List ScheduleLine
   pub spelled : AreSpelled ls said
   pub turns : ts ≡ flat_map turns_of said
-  pub plain : IsPlain text_setting ts
+  pub allowed : IsSchedule text_setting ts
 
 -- the trace of the lines
 abbrev pub IsTraceOf : List (List ℕ) → List (Step Outcome) → Type 0
@@ -67,7 +66,7 @@ IsTraceOf ls steps = (ts : List (Turn Outcome)) × IsScheduleText ls ts × (map 
 
 -- after a schedule the words say no turns, or turns that are not allowed there
 abbrev pub IsBadLine : List (Turn Outcome) → List (List ℕ) → Type 0
-IsBadLine ts ws = ((l : ScheduleLine) → Spells ws l → ⊥) ⊎ ((l : ScheduleLine) × Spells ws l × (IsPlain text_setting (ts ++ turns_of l) → ⊥))
+IsBadLine ts ws = ((l : ScheduleLine) → Spells ws l → ⊥) ⊎ ((l : ScheduleLine) × Spells ws l × (IsSchedule text_setting (ts ++ turns_of l) → ⊥))
 
 -- the lines before the line n are a schedule, which the line n does not go on with
 pub record IsBadAt (ls : List (List ℕ)) (n : ℕ) : Type 0 where

@@ -60,12 +60,6 @@ module _ {V : Type 0} where
   AsksOfLed h (op.Current k c) = was_led_on h k c ≡ true
   AsksOfLed h _ = Unit {0}
 
-  -- the operation is no chan and no poll
-  abbrev pub StartsNoJoining : Op V → Type 0
-  StartsNoJoining (op.Chan b k) = ⊥
-  StartsNoJoining op.Poll = ⊥
-  StartsNoJoining _ = Unit {0}
-
   -- a caller at this stage has an operation
   abbrev pub HasOperation : Stage V → Type 0
   HasOperation Free = ⊥
@@ -97,19 +91,3 @@ module _ {V : Type 0} where
   -- schedule: each turn is allowed where it stands
   abbrev pub IsSchedule : Setting → List (Turn V) → Type 0
   IsSchedule z s = IsScheduleFrom z [] (first_world z.first) s
-
-  -- the step of a caller at this stage readies no joiner
-  abbrev pub MakesNoJoiner : Stage V → Type 0
-  MakesNoJoiner (Asking k s (ask.ReadyJoin c seen)) = ⊥
-  MakesNoJoiner _ = Unit {0}
-
-  -- a turn by which nobody becomes a joiner, and which starts no chan and no poll
-  abbrev pub IsWithoutJoining : World V → Turn V → Type 0
-  IsWithoutJoining w (turn.Start a o) = StartsNoJoining o
-  IsWithoutJoining w (turn.Step a) = MakesNoJoiner (w.stages a)
-  IsWithoutJoining w (turn.Leave a) = Unit {0}
-
-  -- all turns from a world on are so
-  abbrev pub AreWithoutJoining : World V → List (Turn V) → Type 0
-  AreWithoutJoining w [] = Unit {0}
-  AreWithoutJoining w (t ∷ ts) = IsWithoutJoining w t × AreWithoutJoining (turned w t) ts

@@ -1,5 +1,6 @@
--- what a stage tells at once: its place, whether it asks, and whether joiners have no part in it
-use Rattle.std.specs.Prelude.{ℕ, Bool, true, false, None, is_none}
+-- what a stage tells at once: its place, who asks, and which callers it knows of
+use Rattle.std.specs.Prelude.{ℕ, ◌≤◌, Bool, true, false, Option, Some, None, unwrap_or}
+use Rattle.sf_model.specs.declared.call.CallId.{CallId}
 use Rattle.sf_words.specs.declared.call_word.CallState.{CallState}
 use Rattle.sf_words.specs.declared.call_word.CallState.TheVariants as word
 use Rattle.sf_steps.specs.declared.operation.Stage.{Stage}
@@ -11,29 +12,63 @@ use Rattle.sf_steps.specs.declared.operation.ForgetStep.TheVariants as forget
 use Rattle.sf_steps.specs.declared.operation.SettleStep.{SettleStep}
 use Rattle.sf_steps.specs.declared.operation.SettleStep.TheVariants as settle
 
--- nobody is on the call word's list
-abbrev pub is_listless : CallState → Bool
-is_listless (word.Open s) = is_none s.top
-is_listless (word.Forgot s) = is_none s.top
-is_listless (word.Done s) = is_none s.top
-is_listless _ = true
+-- the caller field of an optional caller: 0 for none
+abbrev pub field_of : Option ℕ → ℕ
+field_of o = unwrap_or o 0
 
--- the step is one of an asking that does not join, or has yet to make its joiner's word ready
-abbrev pub is_unjoined_step : AskStep → Bool
-is_unjoined_step (ask.ReadyOwn seen forgot) = false
-is_unjoined_step (ask.Link c seen) = false
-is_unjoined_step (ask.Enter c seen) = false
-is_unjoined_step _ = true
+-- the caller on top of the call word's list, 0 for none
+abbrev pub top_in : CallState → ℕ
+top_in word.Free = 0
+top_in (word.Open s) = field_of s.top
+top_in (word.Forgot s) = field_of s.top
+top_in (word.Done s) = field_of s.top
+top_in (word.Listed g) = 0
+top_in (word.Full g) = 0
 
-abbrev pub is_unjoined_settle : SettleStep → Bool
-is_unjoined_settle settle.Peek = true
-is_unjoined_settle (settle.Close seen) = is_none seen.top
-is_unjoined_settle (settle.Clear shared top) = is_none top
-is_unjoined_settle _ = false
+-- the caller of an optional member, 0 for none
+abbrev pub caller_of : Option CallId → ℕ
+caller_of None = 0
+caller_of (Some m) = m.caller
 
-abbrev pub is_unjoined_forget : ForgetStep → Bool
-is_unjoined_forget (forget.Close c seen) = is_none seen.top
-is_unjoined_forget _ = true
+-- the top of a list that the step remembers, 0 for none
+abbrev pub ask_top : AskStep → ℕ
+ask_top (ask.Look failed) = 0
+ask_top (ask.Peek c) = 0
+ask_top (ask.ReadyOwn seen forgot) = 0
+ask_top (ask.ReadyLead seen forgot) = 0
+ask_top (ask.Lead seen forgot) = 0
+ask_top (ask.ReadyJoin c seen) = field_of seen.top
+ask_top (ask.Link c seen) = field_of seen.top
+ask_top (ask.Enter c seen) = field_of seen.top
+
+abbrev pub forget_top : ForgetStep → ℕ
+forget_top (forget.Look failed) = 0
+forget_top (forget.Peek c) = 0
+forget_top (forget.Close c seen) = field_of seen.top
+forget_top (forget.FirstClear c) = 0
+forget_top (forget.LastClear c) = 0
+
+-- the top of the list, or the next of its members, that the step remembers, 0 for none
+abbrev pub settle_top : SettleStep → ℕ
+settle_top settle.Peek = 0
+settle_top (settle.Close seen) = field_of seen.top
+settle_top (settle.Clear shared top) = field_of top
+settle_top (settle.Follow shared m) = 0
+settle_top (settle.PeekMember shared m next) = field_of next
+settle_top (settle.Deliver shared m next) = field_of next
+settle_top (settle.PeekOwn shared) = 0
+settle_top (settle.DeliverOwn shared m) = 0
+
+-- the member that the step is about, 0 for none
+abbrev pub settle_member : SettleStep → ℕ
+settle_member settle.Peek = 0
+settle_member (settle.Close seen) = 0
+settle_member (settle.Clear shared top) = 0
+settle_member (settle.Follow shared m) = m
+settle_member (settle.PeekMember shared m next) = m
+settle_member (settle.Deliver shared m next) = m.caller
+settle_member (settle.PeekOwn shared) = 0
+settle_member (settle.DeliverOwn shared m) = m.caller
 
 module _ {V : Type 0} where
   -- the place of the caller's operation or call; 1 where it has none
@@ -48,20 +83,41 @@ module _ {V : Type 0} where
   place_in (Forgetting k step) = k
   place_in (Questioning k c step) = k
 
-  -- the caller makes an ask or a chan
+  -- the caller makes an ask or a chan, or is the second of one
   abbrev pub is_asking : Stage V → Bool
+  is_asking (Seconding first) = true
   is_asking (Asking k s step) = true
   is_asking _ = false
 
-  -- the stage is one of a world in which nobody has joined
-  abbrev pub is_unjoined : Stage V → Bool
-  is_unjoined Free = true
-  is_unjoined (Leading k g own) = is_none own
-  is_unjoined (Asking k None step) = is_unjoined_step step
-  is_unjoined (Settling k g None v step) = is_unjoined_settle step
-  is_unjoined (Forgetting k step) = is_unjoined_forget step
-  is_unjoined (Questioning k c step) = true
-  is_unjoined _ = false
+  -- the second of the chan that the caller makes
+  abbrev pub second_in : Stage V → Option ℕ
+  second_in (Asking k s step) = s
+  second_in _ = None
+
+  -- the caller that makes the chan of which this one is the second
+  abbrev pub first_in : Stage V → Option ℕ
+  first_in (Seconding first) = Some first
+  first_in _ = None
+
+  -- the callers that the stage knows of: of the own channel, of the member at hand, and on top of what is left of the list
+  abbrev pub own_in : Stage V → ℕ
+  own_in (Leading k g own) = caller_of own
+  own_in (Settling k g own v step) = caller_of own
+  own_in _ = 0
+
+  abbrev pub member_in : Stage V → ℕ
+  member_in (Settling k g own v step) = settle_member step
+  member_in _ = 0
+
+  abbrev pub list_in : Stage V → ℕ
+  list_in (Asking k s step) = ask_top step
+  list_in (Settling k g own v step) = settle_top step
+  list_in (Forgetting k step) = forget_top step
+  list_in _ = 0
+
+  -- all of them are among so many callers
+  abbrev pub AreWithin : ℕ → Stage V → Type 0
+  AreWithin callers s = (own_in s ≤ callers) × (member_in s ≤ callers) × (list_in s ≤ callers)
 
   -- the caller settles
   abbrev pub is_settling : Stage V → Bool

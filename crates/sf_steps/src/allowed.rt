@@ -2,9 +2,10 @@
 
 ghost use Rattle.std.specs.Prelude.{◌≡◌, ℕ, ◌≤◌, ◌↔◌, Option, IsTrue};
 ghost use Rattle.sf_model.specs.declared.call.CallId.{CallId};
-ghost use Rattle.sf_steps.specs.Schedules.{leads_on, was_led_on, IsCaller, IsPlace, MayAsk, MayStart, StartsNoJoining};
-ghost use Rattle.sf_steps.specs.Schedules.{HasOperation, MakesNoJoiner, MayLeave};
-ghost use Rattle.sf_steps.specs.declared.operation.Stage.TheVariants.{Free, Leading};
+ghost use Rattle.sf_steps.specs.Schedules.{leads_on, was_led_on, IsCaller, IsPlace, MayAsk, MayStart};
+ghost use Rattle.sf_steps.specs.Schedules.{HasOperation, MayLeave};
+ghost use Rattle.sf_steps.specs.declared.operation.Op.TheVariants as op_of;
+ghost use Rattle.sf_steps.specs.declared.operation.Stage.TheVariants.{Free, Leading, Holding};
 
 use crate::operation::{AskStep, ForgetStep, Op, Stage};
 use crate::world::World;
@@ -63,35 +64,53 @@ impl<V: Drop> World<V> {
         matches!(self.stage(caller), Stage::Leading { .. })
     }
 
+    fn is_holding(&self, caller: u32) -> bool
+        requires { caller ≤ self.now.callers }
+        ensures { IsTrue result ↔ ((k g : ℕ) × (c : CallId) × ((world_of self.now).stages caller ≡ Holding k g c)) }
+    {
+        matches!(self.stage(caller), Stage::Holding { .. })
+    }
+
     /// Whether the caller may start the operation. That a call of which a question is asked was led is not looked at.
     pub fn may_start(&self, caller: u32, op: &Op<V>) -> bool
         ensures { IsTrue result ↔ (IsCaller (setting_of self.now) caller
-            × MayStart (setting_of self.now) (world_of self.now) caller op.now × StartsNoJoining op.now) }
+            × MayStart (setting_of self.now) (world_of self.now) caller op.now) }
     {
         self.is_caller(caller)
             && match op {
                 Op::Ask { place } => self.is_place(*place) && self.may_ask(caller),
+                Op::Chan { second, place } => self.may_start_chan(caller, *second, *place),
                 Op::Settle { .. } => self.is_leading(caller),
                 Op::Forget { place } | Op::Current { place, .. } => self.is_place(*place)
                     && self.is_free(caller),
-                _ => false,
+                Op::Poll => self.is_holding(caller),
             }
     }
 
-    /// Whether the caller has an operation that may make its next step.
+    fn may_start_chan(&self, caller: u32, second: u32, place: u32) -> bool
+        requires { caller ≤ self.now.callers }
+        ensures { IsTrue result ↔ MayStart (setting_of self.now) (world_of self.now) caller (op_of.Chan second place) }
+    {
+        self.is_place(place)
+            && self.is_caller(second)
+            && second != caller
+            && self.may_ask(caller)
+            && self.may_ask(second)
+    }
+
+    /// Whether the caller has an operation, which may make its next step.
     pub fn may_step(&self, caller: u32) -> bool
-        ensures { IsTrue result ↔ (IsCaller (setting_of self.now) caller
-            × HasOperation ((world_of self.now).stages caller) × MakesNoJoiner ((world_of self.now).stages caller)) }
+        ensures { IsTrue result ↔ (IsCaller (setting_of self.now) caller × HasOperation ((world_of self.now).stages caller)) }
     {
         self.is_caller(caller)
-            && match self.stage(caller) {
-                Stage::Asking { step, .. } => !matches!(step, AskStep::ReadyJoin { .. }),
+            && matches!(
+                self.stage(caller),
                 Stage::Polling { .. }
-                | Stage::Settling { .. }
-                | Stage::Forgetting { .. }
-                | Stage::Questioning { .. } => true,
-                _ => false,
-            }
+                    | Stage::Asking { .. }
+                    | Stage::Settling { .. }
+                    | Stage::Forgetting { .. }
+                    | Stage::Questioning { .. }
+            )
     }
 
     /// Whether the caller may leave its operation.

@@ -1,13 +1,13 @@
 //! The steps of a forget: look, peek, close, first clear, last clear.
 
-ghost use Rattle.std.specs.Prelude.{◌≡◌, ◌≤◌, None, is_none, [], IfOk, OnOk, OnErr, Some, true};
+ghost use Rattle.std.specs.Prelude.{◌≡◌, ◌≤◌, None, [], IfOk, OnOk, OnErr, Some, true};
 ghost use Rattle.sf_steps.specs.World.{with_stage, key_of, same_key, open_in, is_open_with};
 ghost use Rattle.sf_steps.specs.Turns as turns;
 ghost use Rattle.sf_steps.specs.Events.{look_events, forget_one, forget_events};
 ghost use Rattle.sf_steps.specs.Acts.{forget_act};
-ghost use Rattle.sf_steps.specs.Stages.{is_unjoined_forget};
+ghost use Rattle.sf_steps.specs.Stages.{field_of, forget_top};
+ghost use Rattle.sf_steps.specs.declared.operation.ForgetStep.{ForgetStep as AnyStep};
 ghost use Rattle.sf_steps.specs.declared.operation.Stage.TheVariants.{Free, Forgetting};
-ghost use Rattle.sf_steps.specs.declared.operation.ForgetStep.TheVariants as step_of;
 ghost use Rattle.sf_steps.specs.declared.trace.Act.TheVariants as act_of;
 
 use crate::operation::{ForgetStep, Stage};
@@ -53,8 +53,8 @@ impl<V: Drop> World<V> {
     /// The forget goes on to a step.
     fn forgets_on(&mut self, caller: u32, place: u32, step: ForgetStep)
         requires caller { caller ≤ self.old.callers }
-        requires place { (1 ≤ place) × (place ≤ self.old.places) }
-        requires unjoined { is_unjoined_forget step ≡ true }
+        requires forgets { (before : AnyStep) × ((world_of self.old).stages caller ≡ Forgetting place before) }
+        requires top { forget_top step ≤ self.old.callers }
         ensures world { world_of self.new ≡ with_stage (world_of self.old) caller (Forgetting place step) }
         ensures sizes { (self.new.callers ≡ self.old.callers) × (self.new.places ≡ self.old.places) }
     {
@@ -64,7 +64,7 @@ impl<V: Drop> World<V> {
     /// The forget loads the key word.
     fn look_to_forget(&mut self, caller: u32, place: u32) -> Result<Step<V>, Memory>
         requires caller { caller ≤ self.old.callers }
-        requires place { (1 ≤ place) × (place ≤ self.old.places) × (place ≤ 1048576) }
+        requires forgets { (before : AnyStep) × ((world_of self.old).stages caller ≡ Forgetting place before) }
         ensures world { OnOk result (world_of self.new ≡ with_stage (world_of self.old) caller (turns.forget_looked place ((world_of self.old).keys place))) }
         ensures caller { IfOk result (λ step. (step.caller ≡ caller) × (step.answer ≡ None)) }
         ensures act { IfOk result (λ step. step.act ≡ act_of.Look place ((world_of self.old).keys place)) }
@@ -108,8 +108,8 @@ impl<V: Drop> World<V> {
         seen: LeaderState,
     ) -> Result<Step<V>, Memory>
         requires caller { caller ≤ self.old.callers }
-        requires place { (1 ≤ place) × (place ≤ self.old.places) × (place ≤ 1048576) }
-        requires unjoined { is_none seen.top ≡ true }
+        requires forgets { (before : AnyStep) × ((world_of self.old).stages caller ≡ Forgetting place before) }
+        requires top { field_of seen.top ≤ self.old.callers }
         ensures world { OnOk result (world_of self.new ≡ turns.forgot (world_of self.old) caller place call seen (is_open_with seen ((world_of self.old).calls call.caller))) }
         ensures caller { IfOk result (λ step. (step.caller ≡ caller) × (step.answer ≡ None)) }
         ensures act { IfOk result (λ step. step.act ≡ act_of.Close call true (is_open_with seen ((world_of self.old).calls call.caller))) }
@@ -137,7 +137,7 @@ impl<V: Drop> World<V> {
     /// The forget clears the key word of a call that is not open.
     fn first_clear(&mut self, caller: u32, place: u32, call: CallId) -> Result<Step<V>, Memory>
         requires caller { caller ≤ self.old.callers }
-        requires place { (1 ≤ place) × (place ≤ self.old.places) × (place ≤ 1048576) }
+        requires forgets { (before : AnyStep) × ((world_of self.old).stages caller ≡ Forgetting place before) }
         ensures world { OnOk result (world_of self.new ≡ turns.forget_cleared (world_of self.old) caller place call (same_key ((world_of self.old).keys place) (key_of call))) }
         ensures caller { IfOk result (λ step. (step.caller ≡ caller) × (step.answer ≡ None)) }
         ensures act { IfOk result (λ step. step.act ≡ act_of.Clear place call (same_key ((world_of self.old).keys place) (key_of call))) }
@@ -164,7 +164,7 @@ impl<V: Drop> World<V> {
     /// The forget clears the key word of the call that it closed, if the key word still names it.
     fn last_clear(&mut self, caller: u32, place: u32, call: CallId) -> Step<V>
         requires caller { caller ≤ self.old.callers }
-        requires place { (1 ≤ place) × (place ≤ self.old.places) }
+        requires forgets { (before : AnyStep) × ((world_of self.old).stages caller ≡ Forgetting place before) }
         ensures world { world_of self.new ≡ with_stage (turns.cleared (world_of self.old) place call (same_key ((world_of self.old).keys place) (key_of call))) caller Free }
         ensures caller { (result.caller ≡ caller) × (result.answer ≡ None) }
         ensures act { result.act ≡ act_of.Clear place call (same_key ((world_of self.old).keys place) (key_of call)) }
@@ -184,7 +184,7 @@ impl<V: Drop> World<V> {
     /// The forget loads the call word of the call's leader.
     fn peek_to_forget(&mut self, caller: u32, place: u32, call: CallId) -> Step<V>
         requires caller { caller ≤ self.old.callers }
-        requires place { (1 ≤ place) × (place ≤ self.old.places) }
+        requires forgets { (before : AnyStep) × ((world_of self.old).stages caller ≡ Forgetting place before) }
         ensures world { world_of self.new ≡ with_stage (world_of self.old) caller (Forgetting place (turns.forget_peeked call (open_in call.generation ((world_of self.old).calls call.caller)))) }
         ensures caller { (result.caller ≡ caller) × (result.answer ≡ None) }
         ensures act { result.act ≡ act_of.Peek call.caller ((world_of self.old).calls call.caller) }
@@ -212,8 +212,7 @@ impl<V: Drop> World<V> {
         step: ForgetStep,
     ) -> Result<Step<V>, Memory>
         requires caller { caller ≤ self.old.callers }
-        requires place { (1 ≤ place) × (place ≤ self.old.places) × (place ≤ 1048576) }
-        requires unjoined { is_unjoined_forget step ≡ true }
+        requires forgets { (world_of self.old).stages caller ≡ Forgetting place step }
         ensures world { OnOk result (world_of self.new ≡ turns.forget_stepped (world_of self.old) caller place step) }
         ensures caller { IfOk result (λ done. (done.caller ≡ caller) × (done.answer ≡ None)) }
         ensures act { IfOk result (λ done. done.act ≡ forget_act (world_of self.old) place step) }

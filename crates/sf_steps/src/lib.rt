@@ -4,7 +4,9 @@
 
 mod allowed;
 mod asking;
+mod delivering;
 mod forgetting;
+mod joining;
 pub mod laws;
 mod letter;
 mod operation;

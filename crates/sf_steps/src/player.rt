@@ -7,8 +7,7 @@ ghost use Rattle.sf_steps.specs.declared.turn.Turn.{Turn};
 ghost use Rattle.sf_steps.specs.declared.turn.Turn.TheVariants as turn;
 ghost use Rattle.sf_steps.specs.Events.{events_of};
 ghost use Rattle.sf_steps.specs.TraceText.{Outcome};
-ghost use Rattle.sf_steps.specs.Schedules.{was_led_on, AsksOfLed};
-ghost use Rattle.sf_steps.specs.Laws.{IsPlain};
+ghost use Rattle.sf_steps.specs.Schedules.{was_led_on, AsksOfLed, IsSchedule};
 ghost use Rattle.sf_steps.specs.Played.{text_setting};
 ghost use Rattle.sf_steps.specs.PlayerState.{IsAfter};
 ghost use Rattle.sf_steps.specs.ScheduleText.{turns_of};
@@ -62,7 +61,7 @@ impl Player {
     /// Starts an operation; false, and nothing changes, where that is no turn of a schedule.
     pub(crate) fn start(&mut self, caller: u32, op: Op<Outcome>) -> bool
         ensures turn { (ts : List (Turn Outcome)) → IsAfter self.old ts
-            → MatchBool result (IsAfter self.new (ts ++ turn.Start caller op ∷ [])) (IsPlain text_setting (ts ++ turn.Start caller op ∷ []) → ⊥) }
+            → MatchBool result (IsAfter self.new (ts ++ turn.Start caller op ∷ [])) (IsSchedule text_setting (ts ++ turn.Start caller op ∷ []) → ⊥) }
     {
         if !self.world.may_start(caller, &op) || !self.asks_of_led(&op) {
             return false;
@@ -74,7 +73,7 @@ impl Player {
     /// Makes the next step of a caller's operation; false, and nothing changes, where that is no turn of a schedule.
     pub(crate) fn step(&mut self, caller: u32) -> Result<bool, Memory>
         ensures turn { (ts : List (Turn Outcome)) → IsAfter self.old ts
-            → IfOk result (λ done. MatchBool done (IsAfter self.new (ts ++ turn.Step caller ∷ [])) (IsPlain text_setting (ts ++ turn.Step caller ∷ []) → ⊥)) }
+            → IfOk result (λ done. MatchBool done (IsAfter self.new (ts ++ turn.Step caller ∷ [])) (IsSchedule text_setting (ts ++ turn.Step caller ∷ []) → ⊥)) }
     {
         if !self.world.may_step(caller) {
             return Ok(false);
@@ -88,7 +87,7 @@ impl Player {
     /// Leaves a caller's operation; false, and nothing changes, where that is no turn of a schedule.
     pub(crate) fn leave(&mut self, caller: u32) -> bool
         ensures turn { (ts : List (Turn Outcome)) → IsAfter self.old ts
-            → MatchBool result (IsAfter self.new (ts ++ turn.Leave caller ∷ [])) (IsPlain text_setting (ts ++ turn.Leave caller ∷ []) → ⊥) }
+            → MatchBool result (IsAfter self.new (ts ++ turn.Leave caller ∷ [])) (IsSchedule text_setting (ts ++ turn.Leave caller ∷ []) → ⊥) }
     {
         if !self.world.may_leave(caller) {
             return false;
@@ -100,7 +99,7 @@ impl Player {
     /// Makes so many steps of a caller's operation; false where one of them is no turn of a schedule.
     fn steps(&mut self, caller: u32, count: u32) -> Result<bool, Memory>
         ensures turns { (ts : List (Turn Outcome)) → IsAfter self.old ts
-            → IfOk result (λ done. MatchBool done (IsAfter self.new (ts ++ replicate count (turn.Step caller))) (IsPlain text_setting (ts ++ replicate count (turn.Step caller)) → ⊥)) }
+            → IfOk result (λ done. MatchBool done (IsAfter self.new (ts ++ replicate count (turn.Step caller))) (IsSchedule text_setting (ts ++ replicate count (turn.Step caller)) → ⊥)) }
     {
         for _i in 0..count {
             if !self.step(caller)? {
@@ -113,7 +112,7 @@ impl Player {
     /// Makes the turns that a line says; false where one of them is no turn of a schedule.
     pub(crate) fn obey(&mut self, line: ScheduleLine) -> Result<bool, Memory>
         ensures turns { (ts : List (Turn Outcome)) → IsAfter self.old ts
-            → IfOk result (λ done. MatchBool done (IsAfter self.new (ts ++ turns_of line)) (IsPlain text_setting (ts ++ turns_of line) → ⊥)) }
+            → IfOk result (λ done. MatchBool done (IsAfter self.new (ts ++ turns_of line)) (IsSchedule text_setting (ts ++ turns_of line) → ⊥)) }
     {
         match line {
             ScheduleLine::Do { caller, op } => Ok(self.start(caller, op)),

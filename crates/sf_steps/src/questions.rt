@@ -1,18 +1,55 @@
-//! The steps of the question whether a call is current: peek and look.
+//! The step of a poll, which collects, and those of the question whether a call is current: peek and look.
 
-ghost use Rattle.std.specs.Prelude.{◌≡◌, ◌≤◌, []};
-ghost use Rattle.sf_steps.specs.Turns.{current_stepped};
+ghost use Rattle.std.specs.Prelude.{◌≡◌, ◌≤◌, None, []};
+ghost use Rattle.sf_steps.specs.World.{is_full};
+ghost use Rattle.sf_steps.specs.Turns.{polled, current_stepped};
 ghost use Rattle.sf_steps.specs.Events.{current_answer};
 ghost use Rattle.sf_steps.specs.Acts.{current_act};
+ghost use Rattle.sf_steps.specs.declared.operation.Stage.TheVariants.{Polling, Questioning};
+ghost use Rattle.sf_steps.specs.declared.trace.Act.TheVariants as act_of;
 
 use crate::asking::is_forgot;
 use crate::operation::{CurrentStep, Stage};
 use crate::trace::{Act, Step};
 use crate::world::{World, is_same_key, named};
 use sf_model::CallId;
+use sf_words::CallState;
 
 impl<V: Drop> World<V> {
     ghost use Rattle.sf_steps.specs.Running.{world_of};
+
+    /// The step of a poll: it loads the own call word, and where that is full the letter is taken from the cell.
+    pub(crate) fn step_polling(
+        &mut self,
+        caller: u32,
+        place: u32,
+        generation: u32,
+        call: CallId,
+    ) -> Step<V>
+        requires caller { caller ≤ self.old.callers }
+        requires polls { (world_of self.old).stages caller ≡ Polling place generation call }
+        ensures world { world_of self.new ≡ polled (world_of self.old) caller place generation call (is_full ((world_of self.old).calls caller)) }
+        ensures act { (result.caller ≡ caller) × (result.act ≡ act_of.Collect (record { caller = caller; generation = generation }) (is_full ((world_of self.old).calls caller))) }
+        ensures quiet { (result.events.items ≡ []) × (result.answer ≡ None) }
+        ensures sizes { (self.new.callers ≡ self.old.callers) × (self.new.places ≡ self.old.places) }
+    {
+        let full = matches!(self.call(caller), CallState::Full { .. });
+        if full {
+            self.set_cell(caller, None);
+            self.set_stage(caller, Stage::Free);
+        } else {
+            self.set_stage(
+                caller,
+                Stage::Holding {
+                    place,
+                    generation,
+                    call,
+                },
+            );
+        }
+        let member = CallId { caller, generation };
+        Step::quiet(self.alloc(), caller, Act::Collect { member, full })
+    }
 
     /// The next step of a question.
     pub(crate) fn step_questioning(
@@ -23,7 +60,7 @@ impl<V: Drop> World<V> {
         step: CurrentStep,
     ) -> Step<V>
         requires caller { caller ≤ self.old.callers }
-        requires place { (1 ≤ place) × (place ≤ self.old.places) }
+        requires asks { (world_of self.old).stages caller ≡ Questioning place call step }
         ensures world { world_of self.new ≡ current_stepped (world_of self.old) caller place call step }
         ensures caller { result.caller ≡ caller }
         ensures act { result.act ≡ current_act (world_of self.old) place call step }

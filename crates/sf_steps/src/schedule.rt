@@ -21,7 +21,7 @@ pub struct Trace {
 }
 
 /// Plays the schedule that this text says, with 64 callers and 64 places. It is refused at the first line that says
-/// no turn, or a turn that is not allowed there; chans, polls and joiners are not there yet.
+/// no turn, or a turn that is not allowed there.
 pub fn play(alloc: Global, text: &[u8]) -> Result<Trace, ScheduleRefusal>
     ensures ok { IfOk result (λ trace. IsTraceOf (lines text.now) trace.steps.items) }
     ensures legal { IfOk result (λ trace. IsLegal nat_eq (events_in trace.steps.items)) }

@@ -1,23 +1,51 @@
-//! The steps of a settle: peek, close, clear.
+//! The steps of a settle up to its list: peek, close, clear.
 
-ghost use Rattle.std.specs.Prelude.{◌≡◌, ◌≤◌, None, [], IfOk, OnOk, OnErr, true, false};
+ghost use Rattle.std.specs.Prelude.{◌≡◌, ◌≤◌, None, Some, [], IfOk, OnOk, OnErr, true};
 ghost use Rattle.std.specs.Vec.{vec_capacity};
-ghost use Rattle.sf_words.specs.declared.key_word.KeyState.TheVariants.{Names};
-ghost use Rattle.sf_steps.specs.World.{with_stage, same_key, is_open_with};
+ghost use Rattle.sf_steps.specs.World.{with_stage};
 ghost use Rattle.sf_steps.specs.Turns as turns;
-ghost use Rattle.sf_steps.specs.Events.{settled, peek_events, close_events, step_events};
-ghost use Rattle.sf_steps.specs.Acts as acts;
-ghost use Rattle.sf_steps.specs.Stages.{is_settling, is_unjoined_settle};
+ghost use Rattle.sf_steps.specs.Turns.{stepped};
+ghost use Rattle.sf_steps.specs.Events as added;
+ghost use Rattle.sf_steps.specs.Acts.{act_at};
+ghost use Rattle.sf_steps.specs.Stages.{field_of, top_in, settle_member, settle_top, is_settling};
+ghost use Rattle.sf_steps.specs.Settling.{result_in, settling_at, members_at};
+ghost use Rattle.sf_steps.specs.declared.operation.SettleStep.{SettleStep as AnyStep};
 ghost use Rattle.sf_steps.specs.declared.operation.Stage.TheVariants.{Free, Settling};
-ghost use Rattle.sf_steps.specs.declared.operation.SettleStep.TheVariants as settle;
-ghost use Rattle.sf_steps.specs.declared.trace.Act.TheVariants as act_of;
+ghost use Rattle.sf_steps.specs.declared.operation.SettleStep.TheVariants as step_of;
 
 use crate::operation::{SettleStep, Stage};
 use crate::trace::{Act, Step};
 use crate::world::{World, named};
 use sf_model::{CallId, Event, Memory, Share};
-use sf_words::{CallState, KeyState, LeaderState, PlaceNo};
+use sf_words::{CallState, LeaderState, PlaceNo};
 use std::alloc::Global;
+
+/// The call that a caller settles.
+#[derive(Clone, Copy, Debug, PartialEq, Eq)]
+pub(crate) struct LedCall {
+    pub(crate) place: u32,
+    pub(crate) call: CallId,
+    pub(crate) own: Option<CallId>,
+}
+
+/// What a settle does after its peek of the own call word.
+fn after_own_peek(found: CallState) -> SettleStep
+    ensures step { result ≡ turns.after_own_peek found }
+    ensures member { settle_member result ≡ 0 }
+    ensures top { settle_top result ≤ top_in found }
+{
+    match found {
+        CallState::Open(seen) => SettleStep::Close { seen },
+        CallState::Forgot(leader) => {
+            let shared = leader.top.is_some();
+            SettleStep::Clear {
+                shared,
+                top: leader.top,
+            }
+        }
+        _ => SettleStep::Peek,
+    }
+}
 
 /// Room for the two events of a settle.
 fn room_for_two<V: Drop>(alloc: Global) -> Result<Vec<Event<PlaceNo, V>>, Memory>
@@ -28,14 +56,20 @@ fn room_for_two<V: Drop>(alloc: Global) -> Result<Vec<Event<PlaceNo, V>>, Memory
     Ok(events)
 }
 
-/// Adds the Settle of a call that nobody joined, and its Handed.
-fn push_settled<V: Drop>(events: &mut Vec<Event<PlaceNo, V>>, call: CallId, value: V)
+/// Adds the Settle of a call with this top of its list, and its Handed where no letter is owed.
+fn push_settled<V: Drop>(
+    events: &mut Vec<Event<PlaceNo, V>>,
+    led: LedCall,
+    value: V,
+    top: Option<u32>,
+)
     requires room { 2 ≤ vec_capacity events.old }
     requires empty { events.old.items ≡ [] }
-    ensures { events.new.items ≡ settled call.caller call None value None }
+    ensures { events.new.items ≡ added.settled led.call.caller led.call led.own value top }
 {
+    let call = led.call;
     let by = call.caller;
-    let shared = false;
+    let shared = top.is_some();
     events
         .push(Event::Settle {
             by,
@@ -44,81 +78,114 @@ fn push_settled<V: Drop>(events: &mut Vec<Event<PlaceNo, V>>, call: CallId, valu
             shared,
         })
         .unwrap();
-    events.push(Event::Handed { by, call }).unwrap();
+    if top.is_none() && led.own.is_none() {
+        events.push(Event::Handed { by, call }).unwrap();
+    }
 }
 
 impl<V: Share> World<V> {
     ghost use Rattle.sf_steps.specs.Running.{world_of};
 
-    /// The leader settles on, at this step.
-    fn settles_on(&mut self, caller: u32, place: u32, generation: u32, value: V, step: SettleStep)
+    /// The settle goes on at this step.
+    pub(crate) fn settles_on(&mut self, caller: u32, step: SettleStep)
         requires caller { caller ≤ self.old.callers }
-        requires place { (1 ≤ place) × (place ≤ self.old.places) }
-        requires unjoined { is_unjoined_settle step ≡ true }
-        ensures world { world_of self.new ≡ with_stage (world_of self.old) caller (Settling place generation None value step) }
+        requires settles { is_settling ((world_of self.old).stages caller) ≡ true }
+        requires member { settle_member step ≤ self.old.callers }
+        requires top { settle_top step ≤ self.old.callers }
+        ensures world { world_of self.new ≡ with_stage (world_of self.old) caller (settling_at step ((world_of self.old).stages caller)) }
         ensures sizes { (self.new.callers ≡ self.old.callers) × (self.new.places ≡ self.old.places) }
     {
+        let Stage::Settling {
+            place,
+            generation,
+            own,
+            result,
+            ..
+        } = self.take_stage(caller)
+        else {
+            unreachable!();
+        };
         self.set_stage(
             caller,
             Stage::Settling {
                 place,
                 generation,
-                own: None,
-                result: value,
+                own,
+                result,
                 step,
             },
         );
     }
 
-    /// The leader loads its own call word, which is open, or was closed by a Forget.
-    fn peek_own(
-        &mut self,
-        caller: u32,
-        place: u32,
-        generation: u32,
-        mut value: V,
-        mut events: Vec<Event<PlaceNo, V>>,
-    ) -> Result<Step<V>, Memory>
+    /// The value with which the caller settles, which is free then.
+    pub(crate) fn take_result(&mut self, caller: u32) -> V
         requires caller { caller ≤ self.old.callers }
-        requires place { (1 ≤ place) × (place ≤ self.old.places) }
-        requires events { (events.items ≡ []) × (2 ≤ vec_capacity events) }
-        ensures world { OnOk result (world_of self.new ≡ turns.settle_stepped (world_of self.old) caller place generation None value settle.Peek) }
-        ensures caller { IfOk result (λ step. (step.caller ≡ caller) × (step.answer ≡ None)) }
-        ensures act { IfOk result (λ step. step.act ≡ act_of.Peek caller ((world_of self.old).calls caller)) }
-        ensures events { IfOk result (λ step. step.events.items ≡ peek_events caller (record { caller = caller; generation = generation }) None value ((world_of self.old).calls caller)) }
-        ensures unchanged { OnErr result (world_of self.new ≡ with_stage (world_of self.old) caller (Settling place generation None value settle.Peek)) }
+        requires settles { is_settling ((world_of self.old).stages caller) ≡ true }
+        ensures value { result_in ((world_of self.old).stages caller) ≡ Some result }
+        ensures world { world_of self.new ≡ with_stage (world_of self.old) caller Free }
         ensures sizes { (self.new.callers ≡ self.old.callers) × (self.new.places ≡ self.old.places) }
     {
-        let found = self.call(caller);
-        match found {
-            CallState::Open(seen) => self.settles_on(
-                caller,
-                place,
-                generation,
-                value,
-                SettleStep::Close { seen },
-            ),
-            CallState::Forgot(leader) => {
-                let copy = match value.share() {
-                    Ok(copy) => copy,
-                    Err(refused) => {
-                        self.settles_on(caller, place, generation, value, SettleStep::Peek);
-                        return Err(refused);
-                    }
-                };
-                push_settled(&mut events, CallId { caller, generation }, copy);
-                let shared = leader.top.is_some();
-                let top = leader.top;
-                self.settles_on(
-                    caller,
-                    place,
-                    generation,
-                    value,
-                    SettleStep::Clear { shared, top },
-                );
-            }
-            _ => self.settles_on(caller, place, generation, value, SettleStep::Peek),
+        let Stage::Settling { result, .. } = self.take_stage(caller) else {
+            unreachable!();
+        };
+        result
+    }
+
+    /// The settle goes on to the members from this top on, and then to the own channel; with neither it ends.
+    fn goes_to_members(&mut self, led: LedCall, shared: bool, top: Option<u32>)
+        requires caller { led.call.caller ≤ self.old.callers }
+        requires settles { (v : V) × (before : AnyStep) × ((world_of self.old).stages led.call.caller ≡ Settling led.place led.call.generation led.own v before) }
+        requires top { field_of top ≤ self.old.callers }
+        ensures world { world_of self.new ≡ with_stage (world_of self.old) led.call.caller (members_at shared top ((world_of self.old).stages led.call.caller)) }
+        ensures sizes { (self.new.callers ≡ self.old.callers) × (self.new.places ≡ self.old.places) }
+    {
+        let caller = led.call.caller;
+        match (top, led.own) {
+            (Some(member), _) => self.settles_on(caller, SettleStep::Follow { shared, member }),
+            (None, Some(_)) => self.settles_on(caller, SettleStep::PeekOwn { shared }),
+            (None, None) => self.set_stage(caller, Stage::Free),
         }
+    }
+
+    /// The value for an event or a letter, while the settle goes on to these members: itself where nobody else is owed
+    /// it, and else another one.
+    pub(crate) fn pass_on(
+        &mut self,
+        led: LedCall,
+        shared: bool,
+        top: Option<u32>,
+    ) -> Result<V, Memory>
+        requires caller { led.call.caller ≤ self.old.callers }
+        requires settles { (v : V) × (before : AnyStep) × ((world_of self.old).stages led.call.caller ≡ Settling led.place led.call.generation led.own v before) }
+        requires top { field_of top ≤ self.old.callers }
+        ensures value { IfOk result (λ value. result_in ((world_of self.old).stages led.call.caller) ≡ Some value) }
+        ensures world { OnOk result (world_of self.new ≡ with_stage (world_of self.old) led.call.caller (members_at shared top ((world_of self.old).stages led.call.caller))) }
+        ensures unchanged { OnErr result (world_of self.new ≡ world_of self.old) }
+        ensures sizes { (self.new.callers ≡ self.old.callers) × (self.new.places ≡ self.old.places) }
+    {
+        if let (None, None) = (top, led.own) {
+            return Ok(self.take_result(led.call.caller));
+        }
+        let value = self.share_result(led.call.caller)?;
+        self.goes_to_members(led, shared, top);
+        Ok(value)
+    }
+
+    /// The leader loads its own call word, which is open, or was closed by a Forget.
+    fn peek_own(&mut self, led: LedCall) -> Result<Step<V>, Memory>
+        requires caller { led.call.caller ≤ self.old.callers }
+        requires settles { (v : V) × ((world_of self.old).stages led.call.caller ≡ Settling led.place led.call.generation led.own v step_of.Peek) }
+        ensures world { OnOk result (world_of self.new ≡ stepped (world_of self.old) led.call.caller ((world_of self.old).stages led.call.caller)) }
+        ensures caller { IfOk result (λ step. (step.caller ≡ led.call.caller) × (step.answer ≡ None)) }
+        ensures act { IfOk result (λ step. step.act ≡ act_at (world_of self.old) led.call.caller ((world_of self.old).stages led.call.caller)) }
+        ensures events { IfOk result (λ step. step.events.items ≡ added.step_events (world_of self.old) led.call.caller ((world_of self.old).stages led.call.caller)) }
+        ensures unchanged { OnErr result (world_of self.new ≡ world_of self.old) }
+        ensures sizes { (self.new.callers ≡ self.old.callers) × (self.new.places ≡ self.old.places) }
+    {
+        let caller = led.call.caller;
+        let found = self.call(caller);
+        let events = self.settled_by_forget(led, found)?;
+        self.settles_on(caller, after_own_peek(found));
         Ok(Step {
             caller,
             act: Act::Peek { caller, found },
@@ -127,93 +194,108 @@ impl<V: Share> World<V> {
         })
     }
 
-    /// The leader exchanges its own call word to done.
-    fn close_own(
+    /// What a peek of the own call word adds: the Settle, where a Forget closed the call.
+    fn settled_by_forget(
         &mut self,
-        caller: u32,
-        place: u32,
-        generation: u32,
-        value: V,
-        seen: LeaderState,
-        mut events: Vec<Event<PlaceNo, V>>,
-    ) -> Step<V>
-        requires caller { caller ≤ self.old.callers }
-        requires place { (1 ≤ place) × (place ≤ self.old.places) }
-        requires list { seen.top ≡ None }
-        requires events { (events.items ≡ []) × (2 ≤ vec_capacity events) }
-        ensures world { world_of self.new ≡ turns.after_close (world_of self.old) caller place generation None value seen (is_open_with seen ((world_of self.old).calls caller)) }
-        ensures caller { (result.caller ≡ caller) × (result.answer ≡ None) }
-        ensures act { result.act ≡ act_of.Close (record { caller = caller; generation = generation }) false (is_open_with seen ((world_of self.old).calls caller)) }
-        ensures events { result.events.items ≡ close_events caller (record { caller = caller; generation = generation }) None value seen (is_open_with seen ((world_of self.old).calls caller)) }
+        led: LedCall,
+        found: CallState,
+    ) -> Result<Vec<Event<PlaceNo, V>>, Memory>
+        requires caller { led.call.caller ≤ self.old.callers }
+        requires settles { (v : V) × ((world_of self.old).stages led.call.caller ≡ Settling led.place led.call.generation led.own v step_of.Peek) }
+        requires found { found ≡ (world_of self.old).calls led.call.caller }
+        ensures events { IfOk result (λ events. events.items ≡ added.step_events (world_of self.old) led.call.caller ((world_of self.old).stages led.call.caller)) }
+        ensures world { world_of self.new ≡ world_of self.old }
         ensures sizes { (self.new.callers ≡ self.old.callers) × (self.new.places ≡ self.old.places) }
     {
-        let call = CallId { caller, generation };
-        let done = self.exchange_call(caller, seen, CallState::Done(seen));
-        if done {
-            push_settled(&mut events, call, value);
-            self.set_stage(caller, Stage::Free);
-        } else {
-            self.settles_on(caller, place, generation, value, SettleStep::Peek);
-        }
-        let forgot = false;
-        Step {
-            caller,
-            act: Act::Close { call, forgot, done },
-            events,
-            answer: None,
-        }
+        let CallState::Forgot(leader) = found else {
+            return Ok(Vec::new(self.alloc()));
+        };
+        let mut events = room_for_two(self.alloc())?;
+        let value = self.share_result(led.call.caller)?;
+        push_settled(&mut events, led, value, leader.top);
+        Ok(events)
     }
 
-    /// The leader of a forgotten call clears the key word, if it still names the call.
-    fn clear_own(&mut self, caller: u32, place: u32, generation: u32) -> Step<V>
-        requires caller { caller ≤ self.old.callers }
-        requires place { (1 ≤ place) × (place ≤ self.old.places) }
-        ensures world { world_of self.new ≡ with_stage (turns.cleared (world_of self.old) place (record { caller = caller; generation = generation }) (same_key ((world_of self.old).keys place) (Names caller generation false))) caller Free }
-        ensures caller { (result.caller ≡ caller) × (result.answer ≡ None) }
-        ensures act { result.act ≡ act_of.Clear place (record { caller = caller; generation = generation }) (same_key ((world_of self.old).keys place) (Names caller generation false)) }
-        ensures events { result.events.items ≡ [] }
-        ensures sizes { (self.new.callers ≡ self.old.callers) × (self.new.places ≡ self.old.places) }
-    {
-        let call = CallId { caller, generation };
-        let done = self.exchange_key(place, named(call, false), named(call, true));
-        self.set_stage(caller, Stage::Free);
-        Step {
-            caller,
-            act: Act::Clear { place, call, done },
-            events: Vec::new(self.alloc()),
-            answer: None,
-        }
-    }
-
-    /// The next step of a settle.
-    pub(crate) fn step_settling(&mut self, caller: u32) -> Result<Step<V>, Memory>
-        requires caller { caller ≤ self.old.callers }
-        requires settles { is_settling ((world_of self.old).stages caller) ≡ true }
-        ensures world { OnOk result (world_of self.new ≡ turns.stepped (world_of self.old) caller ((world_of self.old).stages caller)) }
-        ensures caller { IfOk result (λ step. (step.caller ≡ caller) × (step.answer ≡ None)) }
-        ensures act { IfOk result (λ step. step.act ≡ acts.act_at (world_of self.old) caller ((world_of self.old).stages caller)) }
-        ensures events { IfOk result (λ step. step.events.items ≡ step_events (world_of self.old) caller ((world_of self.old).stages caller)) }
+    /// The leader exchanges its own call word to done.
+    fn close_own(&mut self, led: LedCall, seen: LeaderState) -> Result<Step<V>, Memory>
+        requires caller { led.call.caller ≤ self.old.callers }
+        requires settles { (v : V) × ((world_of self.old).stages led.call.caller ≡ Settling led.place led.call.generation led.own v (step_of.Close seen)) }
+        ensures world { OnOk result (world_of self.new ≡ stepped (world_of self.old) led.call.caller ((world_of self.old).stages led.call.caller)) }
+        ensures caller { IfOk result (λ step. (step.caller ≡ led.call.caller) × (step.answer ≡ None)) }
+        ensures act { IfOk result (λ step. step.act ≡ act_at (world_of self.old) led.call.caller ((world_of self.old).stages led.call.caller)) }
+        ensures events { IfOk result (λ step. step.events.items ≡ added.step_events (world_of self.old) led.call.caller ((world_of self.old).stages led.call.caller)) }
         ensures unchanged { OnErr result (world_of self.new ≡ world_of self.old) }
         ensures sizes { (self.new.callers ≡ self.old.callers) × (self.new.places ≡ self.old.places) }
     {
-        let events = room_for_two(self.alloc())?;
-        let Stage::Settling {
-            place,
-            generation,
-            own: _,
-            result: value,
-            step,
-        } = self.take_stage(caller)
-        else {
-            unreachable!();
-        };
+        let call = led.call;
+        let caller = call.caller;
+        let done = self.is_open(caller, seen);
+        let forgot = false;
+        let act = Act::Close { call, forgot, done };
+        if !done {
+            self.settles_on(caller, SettleStep::Peek);
+            return Ok(Step::quiet(self.alloc(), caller, act));
+        }
+        let mut events = room_for_two(self.alloc())?;
+        let value = self.pass_on(led, seen.top.is_some(), seen.top)?;
+        self.set_call(caller, CallState::Done(seen));
+        push_settled(&mut events, led, value, seen.top);
+        Ok(Step {
+            caller,
+            act,
+            events,
+            answer: None,
+        })
+    }
+
+    /// The leader of a forgotten call clears the key word, if it still names the call.
+    fn clear_own(&mut self, led: LedCall, shared: bool, top: Option<u32>) -> Step<V>
+        requires caller { led.call.caller ≤ self.old.callers }
+        requires settles { (v : V) × ((world_of self.old).stages led.call.caller ≡ Settling led.place led.call.generation led.own v (step_of.Clear shared top)) }
+        ensures world { world_of self.new ≡ stepped (world_of self.old) led.call.caller ((world_of self.old).stages led.call.caller) }
+        ensures act { (result.caller ≡ led.call.caller) × (result.act ≡ act_at (world_of self.old) led.call.caller ((world_of self.old).stages led.call.caller)) }
+        ensures quiet { (result.events.items ≡ []) × (result.answer ≡ None) }
+        ensures sizes { (self.new.callers ≡ self.old.callers) × (self.new.places ≡ self.old.places) }
+    {
+        let call = led.call;
+        let done = self.exchange_key(led.place, named(call, false), named(call, true));
+        self.goes_to_members(led, shared, top);
+        let place = led.place;
+        Step::quiet(self.alloc(), call.caller, Act::Clear { place, call, done })
+    }
+
+    /// The next step of a settle.
+    pub(crate) fn step_settling(
+        &mut self,
+        led: LedCall,
+        step: SettleStep,
+    ) -> Result<Step<V>, Memory>
+        requires caller { led.call.caller ≤ self.old.callers }
+        requires settles { (v : V) × ((world_of self.old).stages led.call.caller ≡ Settling led.place led.call.generation led.own v step) }
+        ensures world { OnOk result (world_of self.new ≡ stepped (world_of self.old) led.call.caller ((world_of self.old).stages led.call.caller)) }
+        ensures caller { IfOk result (λ done. (done.caller ≡ led.call.caller) × (done.answer ≡ None)) }
+        ensures act { IfOk result (λ done. done.act ≡ act_at (world_of self.old) led.call.caller ((world_of self.old).stages led.call.caller)) }
+        ensures events { IfOk result (λ done. done.events.items ≡ added.step_events (world_of self.old) led.call.caller ((world_of self.old).stages led.call.caller)) }
+        ensures unchanged { OnErr result (world_of self.new ≡ world_of self.old) }
+        ensures sizes { (self.new.callers ≡ self.old.callers) × (self.new.places ≡ self.old.places) }
+    {
         match step {
-            SettleStep::Peek => self.peek_own(caller, place, generation, value, events),
-            SettleStep::Close { seen } => Ok(self.close_own(
-                caller, place, generation, value, seen, events,
-            )),
-            SettleStep::Clear { .. } => Ok(self.clear_own(caller, place, generation)),
-            _ => unreachable!(),
+            SettleStep::Peek => self.peek_own(led),
+            SettleStep::Close { seen } => self.close_own(led, seen),
+            SettleStep::Clear { shared, top } => Ok(self.clear_own(led, shared, top)),
+            SettleStep::Follow { shared, member } => Ok(self.follow(led, shared, member)),
+            SettleStep::PeekMember {
+                shared,
+                member,
+                next,
+            } => Ok(self.peek_member(led, shared, member, next)),
+            SettleStep::Deliver {
+                shared,
+                member,
+                next,
+            } => self.deliver(led, shared, member, next),
+            SettleStep::PeekOwn { shared } => Ok(self.peek_channel(led, shared)),
+            SettleStep::DeliverOwn { shared, member } => self.deliver_own(led, shared, member),
         }
     }
 }

@@ -1,7 +1,10 @@
 //! Traces: what the steps of a schedule do.
 
+ghost use Rattle.std.specs.Prelude.{◌≡◌, None, []};
+
 use sf_model::{CallId, Event};
 use sf_words::{CallState, KeyState, PlaceNo};
+use std::alloc::Global;
 
 /// What a step does. An exchange is `done` where it found the word that it had seen.
 #[derive(Clone, Copy, Debug, PartialEq, Eq)]
@@ -76,4 +79,19 @@ pub struct Step<V> {
     pub events: Vec<Event<PlaceNo, V>>,
     /// Whether the call is current.
     pub answer: Option<bool>,
+}
+
+impl<V: Drop> Step<V> {
+    /// A step that adds no event and answers nothing.
+    pub(crate) fn quiet(alloc: Global, caller: u32, act: Act) -> Step<V>
+        ensures made { (result.caller ≡ caller) × (result.act ≡ act) }
+        ensures quiet { (result.events.items ≡ []) × (result.answer ≡ None) }
+    {
+        Step {
+            caller,
+            act,
+            events: Vec::new(alloc),
+            answer: None,
+        }
+    }
 }

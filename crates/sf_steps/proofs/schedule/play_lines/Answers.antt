@@ -1,7 +1,7 @@
 use Rattle.std.proofs.Common.{ℕ, Bool, List, [], ◌++◌, Bor, inl, inr, refl, subst, slice_index_or}
 use Rattle.std.specs.Bool.{MatchBool}
 use Rattle.sf_model.specs.Reading.{words}
-use Rattle.sf_steps.specs.Laws.{IsPlain}
+use Rattle.sf_steps.specs.Schedules.{IsSchedule}
 use Rattle.sf_steps.specs.Played.{text_setting}
 use Rattle.sf_steps.specs.PlayerState.{IsAfter}
 use Rattle.sf_steps.specs.ScheduleText.{turns_of}
@@ -13,14 +13,14 @@ abbrev nothing : Bor (List ℕ)
 nothing = record { ref_ptr = (0, 0); now = [] }
 
 pub loop-i-init : goal.loop-i-init
-loop-i-init c = ([], record { said = []; spelled = tt; turns = refl; plain = c.in_ok-player.ensures.plain }, c.in_ok-player.ensures)
+loop-i-init c = ([], record { said = []; spelled = tt; turns = refl; allowed = c.in_ok-player.ensures.allowed }, c.in_ok-player.ensures)
 
 pub loop-i-preserved : goal.loop-i-preserved
 loop-i-preserved c =
     let ws = words (slice_index_or c.args.lines.now c.loop-i.i nothing).now in
     let one = said_line ws c.in_ok-said.field-0 c.in-Some.said c.in_ok-said.ensures c.in-Some.is in
     let ts = c.loop-i.invariant.0 in
-    let after = subst (λ (b : Bool). MatchBool b (IsAfter c.obey.new.self (ts ++ turns_of c.in-Some.said)) (IsPlain text_setting (ts ++ turns_of c.in-Some.said) → ⊥)) c.if-not-branch.false (c.in_ok-obey.ensures.turns ts c.loop-i.invariant.2) in
+    let after = subst (λ (b : Bool). MatchBool b (IsAfter c.obey.new.self (ts ++ turns_of c.in-Some.said)) (IsSchedule text_setting (ts ++ turns_of c.in-Some.said) → ⊥)) c.if-not-branch.false (c.in_ok-obey.ensures.turns ts c.loop-i.invariant.2) in
     line_obeyed (λ (x : Bor (List ℕ)). x.now) c.args.lines.now c.loop-i.i nothing c.obey.new.self ts c.in-Some.said c.loop-i-test.true c.loop-i.invariant.1 one after
 
 pub returns-in_default-clause-refused : goal.returns-in_default-clause-refused
@@ -33,7 +33,7 @@ returns-then-not-branch-clause-refused c =
     let ws = words (slice_index_or c.args.lines.now c.loop-i.i nothing).now in
     let one = said_line ws c.in_ok-said.field-0 c.in-Some.said c.in_ok-said.ensures c.in-Some.is in
     let ts = c.loop-i.invariant.0 in
-    let isnt = subst (λ (b : Bool). MatchBool b (IsAfter c.obey.new.self (ts ++ turns_of c.in-Some.said)) (IsPlain text_setting (ts ++ turns_of c.in-Some.said) → ⊥)) c.if-not-branch.true (c.in_ok-obey.ensures.turns ts c.loop-i.invariant.2) in
+    let isnt = subst (λ (b : Bool). MatchBool b (IsAfter c.obey.new.self (ts ++ turns_of c.in-Some.said)) (IsSchedule text_setting (ts ++ turns_of c.in-Some.said) → ⊥)) c.if-not-branch.true (c.in_ok-obey.ensures.turns ts c.loop-i.invariant.2) in
     line_refused (λ (x : Bor (List ℕ)). x.now) c.args.lines.now c.loop-i.i nothing ts c.loop-i-test.true c.loop-i.invariant.1 (inr (c.in-Some.said, one, isnt))
 
 pub returns-clause-legal : goal.returns-clause-legal

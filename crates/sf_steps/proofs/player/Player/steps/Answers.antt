@@ -1,7 +1,7 @@
 use Rattle.std.proofs.Common.{◌++◌, [], ◌∷◌, Bool, replicate, subst}
 use Rattle.std.specs.Bool.{MatchBool}
 use Rattle.sf_steps.specs.declared.turn.Turn.TheVariants as turn
-use Rattle.sf_steps.specs.Laws.{IsPlain}
+use Rattle.sf_steps.specs.Schedules.{IsSchedule}
 use Rattle.sf_steps.specs.Played.{text_setting}
 use Rattle.sf_steps.specs.PlayerState.{IsAfter}
 use Rattle.sf_steps.proofs.Playing.{too_many}
@@ -12,6 +12,6 @@ returns-then-not-branch c = record {
   turns = λ ts is.
       let front = ts ++ replicate c.loop-i._i (turn.Step c.args.caller) in
       too_many text_setting ts c.args.count c.loop-i._i (turn.Step c.args.caller) c.loop-i-test.true
-      (subst (λ (b : Bool). MatchBool b (IsAfter c.step.new.self (front ++ turn.Step c.args.caller ∷ [])) (IsPlain text_setting (front ++ turn.Step c.args.caller ∷ []) → ⊥)) c.if-not-branch.true
+      (subst (λ (b : Bool). MatchBool b (IsAfter c.step.new.self (front ++ turn.Step c.args.caller ∷ [])) (IsSchedule text_setting (front ++ turn.Step c.args.caller ∷ []) → ⊥)) c.if-not-branch.true
       (c.in_ok-step.ensures.turn front (c.loop-i.invariant ts is)));
 }

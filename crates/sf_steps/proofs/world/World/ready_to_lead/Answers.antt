@@ -1,9 +1,8 @@
-use Rattle.std.proofs.Common.{◌≡◌, ap, arith, slice_index_or}
-use Rattle.sf_steps.specs.World.{World}
+use Rattle.std.proofs.Common.{ℕ, ◌∙◌, ap}
+use Rattle.sf_steps.specs.declared.operation.Stage.{Stage}
+use Rattle.sf_steps.specs.declared.operation.AskStep.TheVariants as ask
 use Rattle.sf_steps.proofs.world.World.ready_to_lead.Goals as goal
 
-pub goes_on-requires-clause-spent : goal.goes_on-requires-clause-spent
-goes_on-requires-clause-spent g c =
-    let same : slice_index_or c.set_call.new.self.generations.items c.args.caller 1 ≡ slice_index_or c.args.self.now.generations.items c.args.caller 1 =
-    ap (λ (w : World g.row.V.Denot). w.generations c.args.caller) c.set_call.ensures.world in
-    omega arith
+pub asks_on-requires-clause-asks : goal.asks_on-requires-clause-asks
+asks_on-requires-clause-asks g c =
+    (ask.ReadyLead c.args.seen c.args.forgot, ap (λ (row : ℕ → Stage g.row.V.Denot). row c.args.caller) c.set_call.ensures.stages ∙ c.requires.asks)
