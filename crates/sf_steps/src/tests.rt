@@ -174,7 +174,12 @@ fn letters_reach_members_and_the_channel(rt: HostRuntime) -> Result<(), Fail> {
 #[test]
 fn idle_forget_clears_a_settled_call(rt: HostRuntime) -> Result<(), Fail> {
     laws::schedules_are_legal::<Outcome>();
+    laws::letters_are_answers::<Outcome>();
+    laws::tickets_are_served::<Outcome>();
+    laws::cells_are_collected::<Outcome>();
     laws::questions_are_answered_rightly::<Outcome>();
+    laws::others_are_left::<Outcome>();
+    laws::closes_fail_seldom::<Outcome>();
     let schedule = b"do 1 ask 1\nstep 1 3\ndo 1 settle ok v\nstep 1 2\ndo 2 forget 1\nstep 2 3\n";
     let trace = play(rt.alloc(), schedule)?;
     assert_eq!(rt; trace.steps.len(), 8);

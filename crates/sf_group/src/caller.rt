@@ -1,0 +1,35 @@
+//! Callers that are free to ask and to forget.
+ghost use Rattle.std.specs.Prelude.{◌≡◌};
+
+use crate::rule::GroupSeat;
+use std::marker::Model;
+
+/// One who asks for places, in one thread at a time. It leads no call, owes no letter and holds no ticket. What it has
+/// seen only grows.
+#[derive(Drop)]
+pub struct Caller<V> {
+    pub(crate) seat: GroupSeat<V>,
+    pub(crate) number: u32,
+    pub(crate) next: u64,
+}
+
+impl<V> Model for Caller<V> {
+    ghost use Rattle.std.specs.Prelude.{◌≡◌, [], None};
+    ghost use Rattle.sf_group.specs.Known.{Sits, caller_of};
+    ghost use Rattle.sf_group.specs.Tokens.{CallerValue};
+
+    ghost Value = { CallerValue V };
+
+    ghost view = { λ c. caller_of c.seat.table_id c.seat.me.0 c.number };
+
+    ghost invariant = { λ c. Sits c.number c.next c.seat.me.0 None None None × (c.seat.me.1 ≡ []) };
+}
+
+impl<V> Caller<V> {
+    /// The caller's number, from 1.
+    pub fn number(&self) -> u32
+        ensures { result ≡ self.now.number }
+    {
+        self.number
+    }
+}

@@ -1,0 +1,58 @@
+//! Tickets: callers that wait for a letter.
+ghost use Rattle.std.specs.Prelude.{◌≡◌};
+
+use crate::rule::GroupSeat;
+use sf_model::CallId;
+use std::marker::Model;
+
+/// A caller that waits for the letter of a call, as a member of it. It has to be spent.
+pub struct Ticket<V> {
+    pub(crate) seat: GroupSeat<V>,
+    pub(crate) number: u32,
+    pub(crate) next: u64,
+    pub(crate) place: u32,
+    pub(crate) call: CallId,
+    pub(crate) member: CallId,
+}
+
+impl<V> Model for Ticket<V> {
+    ghost use Rattle.std.specs.Prelude.{◌≡◌, [], None, Some};
+    ghost use Rattle.sf_group.specs.Known.{Sits, ticket, ticket_of};
+    ghost use Rattle.sf_group.specs.Fitting.{led_place};
+    ghost use Rattle.sf_group.specs.Tokens.{TicketValue};
+
+    ghost Value = { TicketValue V };
+
+    ghost view = { λ t. ticket_of t.seat.table_id t.seat.me.0 t.number t.place t.call t.member };
+
+    ghost invariant = { λ t. Sits t.number t.next t.seat.me.0 None None (Some (ticket t.call t.member)) × (t.seat.me.1 ≡ []) × (t.member.caller ≡ t.number)
+        × (led_place t.seat.me.0.known.seen t.call ≡ Some t.place) };
+}
+
+impl<V> Ticket<V> {
+    /// The call whose letter it waits for.
+    pub fn call(&self) -> CallId
+        ensures { result ≡ self.now.call }
+    {
+        self.call
+    }
+
+    /// The member of the call that it is.
+    pub fn member(&self) -> CallId
+        ensures { result ≡ self.now.member }
+    {
+        self.member
+    }
+
+    /// Gives the ticket up for good: nothing is added, its letter is never taken, and its caller does not come back.
+    pub fn abandon(self) {
+        let Ticket {
+            seat: _,
+            number: _,
+            next: _,
+            place: _,
+            call: _,
+            member: _,
+        } = self;
+    }
+}
