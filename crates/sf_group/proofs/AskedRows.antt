@@ -110,8 +110,7 @@ module _ {V : Type 0} where
       let p : Passes fits v mid (Lead m.caller k m None ∷ []) [] w = h.1 in
       let next = next_is t v m sits in
       let own : own_events {V = V} m.caller (Lead m.caller k m None ∷ []) ≡ Lead m.caller k m None ∷ [] = cond-true _ _ _ (eq-eqb m.caller m.caller refl) in
-      let used : ◌≡◌ {A = ℕ} (cond (nat_eq m.caller m.caller) 1 0) 1 = cond-true _ _ _ (eq-eqb m.caller m.caller refl) in
-      (
+      let used : ◌≡◌ {A = ℕ} (cond (nat_eq m.caller m.caller) 1 0) 1 = cond-true _ _ _ (eq-eqb m.caller m.caller refl) in (
         unspent t v m sits left,
         group_passed fits t t' v w mid (Lead m.caller k m None ∷ []) [] table p,
         refl,
@@ -128,8 +127,7 @@ module _ {V : Type 0} where
       let p : Passes fits v mid (Enter m.caller k c m ∷ []) [] w = h.1 in
       let next = next_is t v m sits in
       let own : own_events {V = V} m.caller (Enter m.caller k c m ∷ []) ≡ Enter m.caller k c m ∷ [] = cond-true _ _ _ (eq-eqb m.caller m.caller refl) in
-      let used : ◌≡◌ {A = ℕ} (cond (nat_eq m.caller m.caller) 1 0) 1 = cond-true _ _ _ (eq-eqb m.caller m.caller refl) in
-      (
+      let used : ◌≡◌ {A = ℕ} (cond (nat_eq m.caller m.caller) 1 0) 1 = cond-true _ _ _ (eq-eqb m.caller m.caller refl) in (
         unspent t v m sits left,
         group_passed fits t t' v w mid (Enter m.caller k c m ∷ []) [] table p,
         refl,

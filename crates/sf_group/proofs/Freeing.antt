@@ -34,7 +34,7 @@ module _ {V : Type 0} where
         seen = mine.1;
         taken = mine.2;
         home = out.home;
-        others = λ k u apart q. elim (cases_Bool u.locked) [ | inl is ↦ absurd (apart ((out.locked k u q is).0 ∙ sym mine.0)) | inr free ↦ free ];
+        others = λ k u apart q. elim (cases_Bool u.locked) [ inl is ↦ absurd (apart ((out.locked k u q is).0 ∙ sym mine.0)) | inr free ↦ free ];
       })
       sh.lock
 
@@ -57,9 +57,9 @@ module _ {V : Type 0} where
       let m = sh.seats id v at in
       let same : f.z ≡ z = m.sizes f.z f.sizes in
       let agrees : Agrees f.state (group_at z (h ++ es) (members ++ ms)) =
-          subst (λ (s : Sizes). Agrees f.state (group_at s (h ++ es) (members ++ ms))) same
-          (subst (λ q. Agrees f.state (group_at f.z (q ++ es) (members ++ ms))) all.seen
-          (subst (λ q. Agrees f.state (group_at f.z (v.known.seen ++ es) (q ++ ms))) all.taken f.agrees)) in
+      subst (λ (s : Sizes). Agrees f.state (group_at s (h ++ es) (members ++ ms))) same
+      (subst (λ q. Agrees f.state (group_at f.z (q ++ es) (members ++ ms))) all.seen
+      (subst (λ q. Agrees f.state (group_at f.z (v.known.seen ++ es) (q ++ ms))) all.taken f.agrees)) in
       record {
         size = length-set t.words 0 0 ∙ sh.size;
         kept = agrees.kept;

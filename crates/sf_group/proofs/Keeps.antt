@@ -140,7 +140,7 @@ module _ {V : Type 0} where
             places = home.places ∙ ap (λ (s : Sizes). s.places) (sym (m.sizes y e));
           },
         ) in
-        subst (λ b. MatchBool b (Took fits me (w, (0, home.state) ∷ me.1)) ((w, (0, home.state) ∷ me.1) ≡ me)) (sym (eq-eqb (slice_index t.words 0) 0 free)) told,
+            subst (λ b. MatchBool b (Took fits me (w, (0, home.state) ∷ me.1)) ((w, (0, home.state) ∷ me.1) ≡ me)) (sym (eq-eqb (slice_index t.words 0) 0 free)) told,
       ))
       (λ (out : IsOut h members t). absurd (let one = out.word in omega arith))
       sh.lock
@@ -151,7 +151,7 @@ module _ {V : Type 0} where
     keeps,
     tt,
     subst (λ vs. Holds fits z (record { words = set t.words 0 (slice_index t.words 0); homes = t.homes; views = vs })) (sym (set_again t.views id me.0 at))
-    (subst (λ ws. Holds fits z (record { words = ws; homes = t.homes; views = t.views })) (sym (set-get_or t.words 0 0)) hold),
+        (subst (λ ws. Holds fits z (record { words = ws; homes = t.homes; views = t.views })) (sym (set-get_or t.words 0 0)) hold),
     subst (λ b. MatchBool b (Took fits me me) (me ≡ me)) (sym (ne_eqb (slice_index t.words 0) 0 busy)) refl,
   )
 

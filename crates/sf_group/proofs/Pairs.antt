@@ -109,8 +109,8 @@ module _ {V : Type 0} where
       let is : r ≡ chan_asked.Led m n = done.0 ∙ (ap (λ c. chan_asked.Led c (next_id (now z w) n.caller)) ready.next ∙ ap (chan_asked.Led m) ready.second_next) in
       let events : List (Event ℕ V) = Lead m.caller k m (Some n) ∷ [] in
       let agrees : Agrees t (group_at z (w.known.seen ++ events) w.known.taken) =
-          subst (λ (d : CallId). Agrees t (group_at z (w.known.seen ++ Lead m.caller k m (Some d) ∷ []) w.known.taken)) ready.second_next
-          (subst (λ (c : CallId). Agrees t (group_at z (w.known.seen ++ Lead m.caller k c (Some (next_id (now z w) n.caller)) ∷ []) w.known.taken)) ready.next done.1) in
+      subst (λ (d : CallId). Agrees t (group_at z (w.known.seen ++ Lead m.caller k m (Some d) ∷ []) w.known.taken)) ready.second_next
+      (subst (λ (c : CallId). Agrees t (group_at z (w.known.seen ++ Lead m.caller k c (Some (next_id (now z w) n.caller)) ∷ []) w.known.taken)) ready.next done.1) in
       let on : GoesOn fits z (all_of v) w.known t events [] = record {
         concern = ((λ b g. subst (λ q. Has q b) (sym who) (led_two b g)), tt);
         own = tt;

@@ -191,7 +191,7 @@ module _ {V : Type 0} where
       let both : IsView z h members owner id (both_of v w) = record {
         sizes = here.sizes;
         apart = subst AreApart (sym (both_all v w)) (apart_append (all_of v) (all_of w) mine.apart theirs.apart
-        (λ a l r. apart (sym (all_owns z h members sh.owner other w theirs a r).0 ∙ (all_owns z h members sh.owner id v mine a l).0)));
+            (λ a l r. apart (sym (all_owns z h members sh.owner other w theirs a r).0 ∙ (all_owns z h members sh.owner id v mine a l).0)));
         known = here.known;
         told = claims_append z h members owner id v.told (w.known ∷ w.told) here.told (brought.known, brought.told);
       } in (

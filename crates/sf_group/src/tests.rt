@@ -163,7 +163,11 @@ fn pending(
     }
 }
 
-fn next_caller(rt: &impl Abort, group: &Group<Outcome>, list: &mut Vec<Caller<Outcome>>) -> Caller<Outcome>
+fn next_caller(
+    rt: &impl Abort,
+    group: &Group<Outcome>,
+    list: &mut Vec<Caller<Outcome>>,
+) -> Caller<Outcome>
     requires { All (λ c. c.group ≡ group.now) list.old.items }
     ensures caller { result.group ≡ group.now }
     ensures rest { All (λ c. c.group ≡ group.now) list.new.items }
@@ -216,7 +220,10 @@ fn forget_parts_old_and_new_callers(rt: HostRuntime) -> Result<(), Fail> {
     let one = next_caller(&rt, &group, &mut callers);
     let old = lead(&rt, &group, one, id(1, 1));
     let ticket = join(&rt, &group, two, id(1, 1), id(2, 1));
-    assert_eq!(rt; group.locked_forget(&rt, &mut three, 1), Forgotten::Closed(id(1, 1)));
+    assert_eq!(rt;
+        group.locked_forget(&rt, &mut three, 1),
+        Forgotten::Closed(id(1, 1))
+    );
     let new = lead(&rt, &group, four, id(4, 1));
     finish(&rt, &group, old, 1, true);
     ready(&rt, &group, ticket, 1, true);
@@ -232,7 +239,10 @@ fn late_settle_leaves_the_newer_call(rt: HostRuntime) -> Result<(), Fail> {
     let mut two = next_caller(&rt, &group, &mut callers);
     let one = next_caller(&rt, &group, &mut callers);
     let old = lead(&rt, &group, one, id(1, 1));
-    assert_eq!(rt; group.locked_forget(&rt, &mut two, 1), Forgotten::Closed(id(1, 1)));
+    assert_eq!(rt;
+        group.locked_forget(&rt, &mut two, 1),
+        Forgotten::Closed(id(1, 1))
+    );
     let new = lead(&rt, &group, three, id(3, 1));
     finish(&rt, &group, old, 1, false);
     let ticket = join(&rt, &group, four, id(3, 1), id(4, 1));

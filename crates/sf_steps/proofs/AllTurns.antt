@@ -100,17 +100,17 @@ module _ {V : Type 0} where
         kept_open = λ k c free is. is;
         callers = λ z one. elim one [
           | inl here ↦ subst (λ (n : ℕ). Caller h w' n) (sym here) (record {
-              good = subst (λ (s : Stage V). Good h w' a s) (sym (put_here (with_stage w b q).stages a p)) good_first;
-              live = (sound.callers a).live;
-              forgot = (sound.callers a).forgot;
-              empty = λ none. (sound.callers a).empty first_idle.no_ticket;
-            })
+            good = subst (λ (s : Stage V). Good h w' a s) (sym (put_here (with_stage w b q).stages a p)) good_first;
+            live = (sound.callers a).live;
+            forgot = (sound.callers a).forgot;
+            empty = λ none. (sound.callers a).empty first_idle.no_ticket;
+          })
           | inr there ↦ subst (λ (n : ℕ). Caller h w' n) (sym there) (record {
-              good = subst (λ (s : Stage V). Good h w' b s) (sym stage_there) good_second;
-              live = (sound.callers b).live;
-              forgot = (sound.callers b).forgot;
-              empty = λ none. (sound.callers b).empty second_idle.no_ticket;
-            })
+            good = subst (λ (s : Stage V). Good h w' b s) (sym stage_there) good_second;
+            live = (sound.callers b).live;
+            forgot = (sound.callers b).forgot;
+            empty = λ none. (sound.callers b).empty second_idle.no_ticket;
+          })
         ];
         keys = λ k. key_kept h h w w' k (w.keys k) (sound.keys k) (λ c is. is) refl
             (λ x g is forgot debt. debt_same w w' x k g (untouched x (not_owing w a x (k, g) first_idle.no_debt debt) (not_owing w b x (k, g) second_idle.no_debt debt)) forgot debt);

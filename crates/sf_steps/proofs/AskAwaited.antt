@@ -244,27 +244,48 @@ module _ {V : Type 0} where
 
   serves_linked : (h : List (Event ℕ V)) (w u : World V) (l : ℕ) (p : Stage V) (j : ℕ) (t : Option ℕ) (k g : ℕ) (m : CallId) → u.nexts ≡ put w.nexts j t → u.calls ≡ w.calls → ticket (w.stages j) ≡ None → Good h w l p → Serves w l p k g m → Serves u l p k g m
   serves_linked h w u l Free j t k g m nexts calls none good is = is
-  serves_linked h w u l (Leading i n own) j t k g m nexts calls none good is = (is.0, is.1,
-      subst (λ (f : ℕ → Option ℕ). InLine f own (top_in (u.calls l)) m) (sym nexts) (subst (λ (f : ℕ → CallState). InLine (put w.nexts j t) own (top_in (f l)) m) (sym calls)
-      (line_linked w i (call_of l n) j t (top_in (w.calls l)) (members h (call_of l n)) none (line_members (Waits w i (call_of l n)) own (members h (call_of l n)) good.waits) good.chain own m is.2)))
+  serves_linked h w u l (Leading i n own) j t k g m nexts calls none good is = (
+    is.0,
+    is.1,
+    subst (λ (f : ℕ → Option ℕ). InLine f own (top_in (u.calls l)) m) (sym nexts) (subst (λ (f : ℕ → CallState). InLine (put w.nexts j t) own (top_in (f l)) m) (sym calls)
+        (line_linked w i (call_of l n) j t (top_in (w.calls l)) (members h (call_of l n)) none (line_members (Waits w i (call_of l n)) own (members h (call_of l n)) good.waits) good.chain own m is.2)),
+  )
   serves_linked h w u l (Holding i n c) j t k g m nexts calls none good is = is
   serves_linked h w u l (Polling i n c) j t k g m nexts calls none good is = is
   serves_linked h w u l (Seconding first) j t k g m nexts calls none good is = is
   serves_linked h w u l (Asking i s step) j t k g m nexts calls none good is = is
-  serves_linked h w u l (Settling i n own v settle.Peek) j t k g m nexts calls none good is = (is.0, is.1,
-      subst (λ (f : ℕ → Option ℕ). InLine f own (top_in (u.calls l)) m) (sym nexts) (subst (λ (f : ℕ → CallState). InLine (put w.nexts j t) own (top_in (f l)) m) (sym calls)
-      (line_linked w i (call_of l n) j t (top_in (w.calls l)) (members h (call_of l n)) none (line_members (Waits w i (call_of l n)) own (members h (call_of l n)) good.waits) good.chain own m is.2)))
-  serves_linked h w u l (Settling i n own v (settle.Close seen)) j t k g m nexts calls none good is = (is.0, is.1,
-      subst (λ (f : ℕ → Option ℕ). InLine f own (top_in (u.calls l)) m) (sym nexts) (subst (λ (f : ℕ → CallState). InLine (put w.nexts j t) own (top_in (f l)) m) (sym calls)
-      (line_linked w i (call_of l n) j t (top_in (w.calls l)) (members h (call_of l n)) none (line_members (Waits w i (call_of l n)) own (members h (call_of l n)) good.0.waits) good.0.chain own m is.2)))
-  serves_linked h w u l (Settling i n own v (settle.Clear shared top)) j t k g m nexts calls none good is = (is.0, is.1,
-      subst (λ (f : ℕ → Option ℕ). InLine f own top m) (sym nexts) (line_linked w i (call_of l n) j t top good.0 none (line_members (Waits w i (call_of l n)) own good.0 good.1.waits) good.1.chain own m is.2))
-  serves_linked h w u l (Settling i n own v (settle.Follow shared y)) j t k g m nexts calls none good is = (is.0, is.1,
-      subst (λ (f : ℕ → Option ℕ). InLine f own (Some y) m) (sym nexts) (line_linked w i (call_of l n) j t (Some y) good.0 none (line_members (Waits w i (call_of l n)) own good.0 good.1.waits) good.1.chain own m is.2))
-  serves_linked h w u l (Settling i n own v (settle.PeekMember shared y next)) j t k g m nexts calls none good is = (is.0, is.1,
-      subst (λ (f : ℕ → Option ℕ). InLine f own (Some y) m) (sym nexts) (line_linked w i (call_of l n) j t (Some y) good.0 none (line_members (Waits w i (call_of l n)) own good.0 good.1.waits) good.1.chain own m is.2))
-  serves_linked h w u l (Settling i n own v (settle.Deliver shared y next)) j t k g m nexts calls none good is = (is.0, is.1,
-      subst (λ (f : ℕ → Option ℕ). InLine f own (Some y.caller) m) (sym nexts) (line_linked w i (call_of l n) j t (Some y.caller) (y ∷ good.0) none (line_members (Waits w i (call_of l n)) own (y ∷ good.0) good.1.waits) good.1.chain own m is.2))
+  serves_linked h w u l (Settling i n own v settle.Peek) j t k g m nexts calls none good is = (
+    is.0,
+    is.1,
+    subst (λ (f : ℕ → Option ℕ). InLine f own (top_in (u.calls l)) m) (sym nexts) (subst (λ (f : ℕ → CallState). InLine (put w.nexts j t) own (top_in (f l)) m) (sym calls)
+        (line_linked w i (call_of l n) j t (top_in (w.calls l)) (members h (call_of l n)) none (line_members (Waits w i (call_of l n)) own (members h (call_of l n)) good.waits) good.chain own m is.2)),
+  )
+  serves_linked h w u l (Settling i n own v (settle.Close seen)) j t k g m nexts calls none good is = (
+    is.0,
+    is.1,
+    subst (λ (f : ℕ → Option ℕ). InLine f own (top_in (u.calls l)) m) (sym nexts) (subst (λ (f : ℕ → CallState). InLine (put w.nexts j t) own (top_in (f l)) m) (sym calls)
+        (line_linked w i (call_of l n) j t (top_in (w.calls l)) (members h (call_of l n)) none (line_members (Waits w i (call_of l n)) own (members h (call_of l n)) good.0.waits) good.0.chain own m is.2)),
+  )
+  serves_linked h w u l (Settling i n own v (settle.Clear shared top)) j t k g m nexts calls none good is = (
+    is.0,
+    is.1,
+    subst (λ (f : ℕ → Option ℕ). InLine f own top m) (sym nexts) (line_linked w i (call_of l n) j t top good.0 none (line_members (Waits w i (call_of l n)) own good.0 good.1.waits) good.1.chain own m is.2),
+  )
+  serves_linked h w u l (Settling i n own v (settle.Follow shared y)) j t k g m nexts calls none good is = (
+    is.0,
+    is.1,
+    subst (λ (f : ℕ → Option ℕ). InLine f own (Some y) m) (sym nexts) (line_linked w i (call_of l n) j t (Some y) good.0 none (line_members (Waits w i (call_of l n)) own good.0 good.1.waits) good.1.chain own m is.2),
+  )
+  serves_linked h w u l (Settling i n own v (settle.PeekMember shared y next)) j t k g m nexts calls none good is = (
+    is.0,
+    is.1,
+    subst (λ (f : ℕ → Option ℕ). InLine f own (Some y) m) (sym nexts) (line_linked w i (call_of l n) j t (Some y) good.0 none (line_members (Waits w i (call_of l n)) own good.0 good.1.waits) good.1.chain own m is.2),
+  )
+  serves_linked h w u l (Settling i n own v (settle.Deliver shared y next)) j t k g m nexts calls none good is = (
+    is.0,
+    is.1,
+    subst (λ (f : ℕ → Option ℕ). InLine f own (Some y.caller) m) (sym nexts) (line_linked w i (call_of l n) j t (Some y.caller) (y ∷ good.0) none (line_members (Waits w i (call_of l n)) own (y ∷ good.0) good.1.waits) good.1.chain own m is.2),
+  )
   serves_linked h w u l (Settling i n own v (settle.PeekOwn shared)) j t k g m nexts calls none good is = is
   serves_linked h w u l (Settling i n own v (settle.DeliverOwn shared y)) j t k g m nexts calls none good is = is
   serves_linked h w u l (Forgetting i step) j t k g m nexts calls none good is = is

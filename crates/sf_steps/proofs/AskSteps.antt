@@ -82,11 +82,11 @@ module _ {V : Type 0} where
         kept_open = λ i c free is. is;
         callers = λ z one. elim (cases_eq z a) [
           | inl here ↦ subst (λ (n : ℕ). Caller h w' n) (sym here) (record {
-              good = subst (λ (p : Stage V). Good h w' a p) (sym (put_here w.stages a q)) (second_still w a k s step q at second, good);
-              live = stored_live first h w x u sound fresh a;
-              forgot = stored_forgot first h w x u sound unforgotten a;
-              empty = λ none. (sound.callers a).empty own.no_ticket;
-            })
+            good = subst (λ (p : Stage V). Good h w' a p) (sym (put_here w.stages a q)) (second_still w a k s step q at second, good);
+            live = stored_live first h w x u sound fresh a;
+            forgot = stored_forgot first h w x u sound unforgotten a;
+            empty = λ none. (sound.callers a).empty own.no_ticket;
+          })
           | inr other ↦
               let there : z ≡ x = elim one [
                 | inl is ↦ absurd (other is)
@@ -129,11 +129,11 @@ module _ {V : Type 0} where
         kept_open = λ i c free is. is;
         callers = λ z one. elim (cases_eq z a) [
           | inl here ↦ subst (λ (m : ℕ). Caller h w' m) (sym here) (record {
-              good = subst (λ (p : Stage V). Good h w' a p) (sym (put_here w.stages a q)) (second_still w a k s step q at second, good);
-              live = (sound.callers a).live;
-              forgot = (sound.callers a).forgot;
-              empty = λ none. (sound.callers a).empty own.no_ticket;
-            })
+            good = subst (λ (p : Stage V). Good h w' a p) (sym (put_here w.stages a q)) (second_still w a k s step q at second, good);
+            live = (sound.callers a).live;
+            forgot = (sound.callers a).forgot;
+            empty = λ none. (sound.callers a).empty own.no_ticket;
+          })
           | inr other ↦
               let there : z ≡ x = elim one [
                 | inl is ↦ absurd (other is)

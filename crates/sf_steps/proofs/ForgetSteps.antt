@@ -158,8 +158,8 @@ module _ {V : Type 0} where
       let chain : Chain w.nexts seen.top (members h c) = subst (λ (u : CallState). Chain w.nexts (top_in u) (members h c)) is leads.chain in
       let chain_now : Chain w'.nexts seen.top (members h c) = subst (λ (g : ℕ → Option ℕ). Chain g seen.top (members h c)) (sym nexts) chain in
       let waits : Each (Waits w' k c) (line good.0 (members h c)) = each_map (Waits w k c) (Waits w' k c)
-          (λ m waiting. waits_same w w' k c m (untouched m.caller (ticket_apart w k c m a waiting none) (ticket_apart w k c m l waiting (leader_ticketless (w.stages l) (k, c.generation) leader.stage))) waiting)
-          (line good.0 (members h c)) leads.waits in
+      (λ m waiting. waits_same w w' k c m (untouched m.caller (ticket_apart w k c m a waiting none) (ticket_apart w k c m l waiting (leader_ticketless (w.stages l) (k, c.generation) leader.stage))) waiting)
+      (line good.0 (members h c)) leads.waits in
       subst (λ (q : Stage V). Good h' w' l q) (sym stage) (good.2 h' w' (record {
         led = f.grows.led k c leads.led;
         mine = f.grows.mine l c leads.mine;
@@ -212,20 +212,20 @@ module _ {V : Type 0} where
           | inl here ↦ forgetter first h h' w w' a k s (forget.Close c seen) at sound f (put_here w.stages a s) (put_else w.calls l u a (λ (e : a ≡ l). apart (sym e))) refl
               (f.grows.led k c good.0, λ found. let none : now h' k ≡ None = f.currents in cc) z here
           | inr there ↦ subst (λ (n : ℕ). Caller h' w' n) (sym there) (record {
-              good = closed_leader first h h' w w' a k c seen sound f leader apart is (list_any_push (settles c) h (Forget a k (Some c)) ∙ or-false (is_settled h c)) word_there stage_there refl untouched (ap ticket at);
-              live = λ i state led open_word. let clash : word.Forgot seen ≡ word.Open state = sym word_there ∙ open_word in cc;
-              forgot = λ i state word_is found. elim (cases_eq i k) [
-                | inl at_place ↦ let none : now h' i ≡ None = ap (λ (n : ℕ). now h' n) at_place ∙ f.currents in cc
-                | inr elsewhere ↦
-                    let words : word.Forgot seen ≡ word.Forgot state = sym word_there ∙ word_is in
-                    let states : seen ≡ state = cc in
-                    let d : CallId = call_of l state.generation in
-                    let was : now h i ≡ Some d = past_stays first a k h h' w.generations f i d found in
-                    let open_there : opened h i ≡ Some d = live_open first h w i d seen sound (now_led h i d was) is (ap (λ (x : LeaderState). x.generation) states) in
-                    absurd (elsewhere (one_place i state.generation (sound.held i d open_there).stage))
-              ];
-              empty = λ none. (sound.callers l).empty (ap ticket (sym stage_there) ∙ none);
-            })
+            good = closed_leader first h h' w w' a k c seen sound f leader apart is (list_any_push (settles c) h (Forget a k (Some c)) ∙ or-false (is_settled h c)) word_there stage_there refl untouched (ap ticket at);
+            live = λ i state led open_word. let clash : word.Forgot seen ≡ word.Open state = sym word_there ∙ open_word in cc;
+            forgot = λ i state word_is found. elim (cases_eq i k) [
+              | inl at_place ↦ let none : now h' i ≡ None = ap (λ (n : ℕ). now h' n) at_place ∙ f.currents in cc
+              | inr elsewhere ↦
+                  let words : word.Forgot seen ≡ word.Forgot state = sym word_there ∙ word_is in
+                  let states : seen ≡ state = cc in
+                  let d : CallId = call_of l state.generation in
+                  let was : now h i ≡ Some d = past_stays first a k h h' w.generations f i d found in
+                  let open_there : opened h i ≡ Some d = live_open first h w i d seen sound (now_led h i d was) is (ap (λ (x : LeaderState). x.generation) states) in
+                  absurd (elsewhere (one_place i state.generation (sound.held i d open_there).stage))
+            ];
+            empty = λ none. (sound.callers l).empty (ap ticket (sym stage_there) ∙ none);
+          })
         ];
         keys = λ i. elim (cases_eq i k) [
           | inl here ↦ subst (λ (n : ℕ). GoodKey h' w' n (w.keys n)) (sym here) (subst (λ (v : KeyState). GoodKey h' w' k v) (sym key) (

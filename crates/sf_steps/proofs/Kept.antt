@@ -220,15 +220,15 @@ module _ {V : Type 0} where
     callers = λ b. elim (t.split b) [
       | inl one ↦ t.callers b one
       | inr free ↦ caller_kept a b h w h' w' (record {
-          other = apart b free.0;
-          grows = t.grows;
-          members = λ c is. t.members c (of c.caller b is free.0);
-          same = free.1;
-          others = λ z. elim (t.split z) [
-            | inl one ↦ inr (t.spared b z free.0 one)
-            | inr more ↦ inl more.1
-          ];
-        }) (λ k c is. t.kept_open k c (of c.caller b is free.0)) (sound.callers b)
+        other = apart b free.0;
+        grows = t.grows;
+        members = λ c is. t.members c (of c.caller b is free.0);
+        same = free.1;
+        others = λ z. elim (t.split z) [
+          | inl one ↦ inr (t.spared b z free.0 one)
+          | inr more ↦ inl more.1
+        ];
+      }) (λ k c is. t.kept_open k c (of c.caller b is free.0)) (sound.callers b)
     ];
   }
     where

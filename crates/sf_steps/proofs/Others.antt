@@ -116,13 +116,13 @@ module _ {V : Type 0} where
         next = refl;
         word = elim (cases_eq b l) [
           | inl here ↦ inr (inl (record {
-              leads = subst (λ (n : ℕ). LeadsUnsettled (w.stages n)) (sym here) (leads_unsettled (w.stages l) (k, c.generation) (sound.held k c is_open).stage);
-              seen = seen;
-              joiner = j;
-              was = ap w.calls here ∙ open_word;
-              is = ap (put w.calls l u) here ∙ put_here w.calls l u;
-              cell = refl;
-            }))
+            leads = subst (λ (n : ℕ). LeadsUnsettled (w.stages n)) (sym here) (leads_unsettled (w.stages l) (k, c.generation) (sound.held k c is_open).stage);
+            seen = seen;
+            joiner = j;
+            was = ap w.calls here ∙ open_word;
+            is = ap (put w.calls l u) here ∙ put_here w.calls l u;
+            cell = refl;
+          }))
           | inr apart ↦ inl (put_else w.calls l u b apart, refl)
         ];
       }
@@ -168,14 +168,14 @@ module _ {V : Type 0} where
         next = refl;
         word = elim (cases_eq b x) [
           | inl here ↦ inr (inr (inr (record {
-              holds = subst (λ (n : ℕ). HoldsTicket (w.stages n)) (sym here) (holds_ticket (w.stages x) (k, m.generation, c) waits.0);
-              generation = m.generation;
-              letter = letter;
-              was = ap w.calls here ∙ waits.1;
-              is = ap (put w.calls x (word.Full m.generation)) here ∙ put_here w.calls x (word.Full m.generation);
-              empty = ap w.cells here ∙ listed.1;
-              filled = ap (put w.cells x (Some letter)) here ∙ put_here w.cells x (Some letter);
-            })))
+            holds = subst (λ (n : ℕ). HoldsTicket (w.stages n)) (sym here) (holds_ticket (w.stages x) (k, m.generation, c) waits.0);
+            generation = m.generation;
+            letter = letter;
+            was = ap w.calls here ∙ waits.1;
+            is = ap (put w.calls x (word.Full m.generation)) here ∙ put_here w.calls x (word.Full m.generation);
+            empty = ap w.cells here ∙ listed.1;
+            filled = ap (put w.cells x (Some letter)) here ∙ put_here w.cells x (Some letter);
+          })))
           | inr apart ↦ inl (put_else w.calls x (word.Full m.generation) b apart, put_else w.cells x (Some letter) b apart)
         ];
       }
@@ -208,12 +208,12 @@ module _ {V : Type 0} where
         next = refl;
         word = elim (cases_eq b l) [
           | inl here ↦ inr (inr (inl (record {
-              leads = subst (λ (n : ℕ). LeadsUnsettled (w.stages n)) (sym here) (leads_unsettled (w.stages l) (k, c.generation) (sound.held k c is_open).stage);
-              seen = seen;
-              was = ap w.calls here ∙ open_word;
-              is = ap (put w.calls l (word.Forgot seen)) here ∙ put_here w.calls l (word.Forgot seen);
-              cell = refl;
-            })))
+            leads = subst (λ (n : ℕ). LeadsUnsettled (w.stages n)) (sym here) (leads_unsettled (w.stages l) (k, c.generation) (sound.held k c is_open).stage);
+            seen = seen;
+            was = ap w.calls here ∙ open_word;
+            is = ap (put w.calls l (word.Forgot seen)) here ∙ put_here w.calls l (word.Forgot seen);
+            cell = refl;
+          })))
           | inr apart ↦ inl (put_else w.calls l (word.Forgot seen) b apart, refl)
         ];
       }

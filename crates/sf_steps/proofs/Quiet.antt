@@ -64,10 +64,13 @@ module _ {V : Type 0} where
     | inl is ↦ inl (inl is)
     | inr other ↦ elim (cases_eq z b) [
       | inl is ↦ inl (inr is)
-      | inr apart ↦ inr (λ (t : Two a b z). elim t [
-        | inl is ↦ other is
-        | inr is ↦ apart is
-      ], same z other apart)
+      | inr apart ↦ inr (
+        λ (t : Two a b z). elim t [
+          | inl is ↦ other is
+          | inr is ↦ apart is
+        ],
+        same z other apart,
+      )
     ]
   ]
 
@@ -78,13 +81,16 @@ module _ {V : Type 0} where
       | inl is ↦ inl (inr (inl is))
       | inr apart ↦ elim (cases_eq z c) [
         | inl is ↦ inl (inr (inr is))
-        | inr far ↦ inr (λ (t : Three a b c z). elim t [
-          | inl is ↦ other is
-          | inr two ↦ elim two [
-            | inl is ↦ apart is
-            | inr is ↦ far is
-          ]
-        ], same z other apart far)
+        | inr far ↦ inr (
+          λ (t : Three a b c z). elim t [
+            | inl is ↦ other is
+            | inr two ↦ elim two [
+              | inl is ↦ apart is
+              | inr is ↦ far is
+            ]
+          ],
+          same z other apart far,
+        )
       ]
     ]
   ]

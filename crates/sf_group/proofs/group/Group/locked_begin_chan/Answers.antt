@@ -58,8 +58,7 @@ invariant_of-result g c =
     let apart = two_apart g.V.Fit.fits m n one other w mid (Lead m.caller c.args.place m (Some n) ∷ []) s t h.1 in
     let on = led_chan g.V.Fit.fits one other w mid m n c.args.place same apart s t h.3 h.1 in
     let first : c.split_seat-first_seat.result.me.0 ≡ part (sizes_of one) m.caller mid (Lead m.caller c.args.place m (Some n) ∷ []) = ap (λ (x : Me (StateRows _) (View _)). x.0) c.split_seat-first_seat.ensures.4 ∙ first_part g.V.Fit.fits m n one other w mid (Lead m.caller c.args.place m (Some n) ∷ []) s t h.1 in
-    let second : c.split_seat-first_seat.new.seat.me.0 ≡ part (sizes_of one) n.caller mid (Lead m.caller c.args.place m (Some n) ∷ []) = ap (λ (x : Me (StateRows _) (View _)). x.0) c.split_seat-first_seat.ensures.2 ∙ second_part g.V.Fit.fits m n one other w mid (Lead m.caller c.args.place m (Some n) ∷ []) s t h.1 in
-    (
+    let second : c.split_seat-first_seat.new.seat.me.0 ≡ part (sizes_of one) n.caller mid (Lead m.caller c.args.place m (Some n) ∷ []) = ap (λ (x : Me (StateRows _) (View _)). x.0) c.split_seat-first_seat.ensures.2 ∙ second_part g.V.Fit.fits m n one other w mid (Lead m.caller c.args.place m (Some n) ∷ []) s t h.1 in (
       subst (λ x. Sits c.caller.inside.number (x + 1) c.split_seat-first_seat.result.me.0 (Some m) None None) (sym next) (subst (λ (v : View _). Sits m.caller (m.generation + 1) v (Some m) None None) (sym first) on.first),
       ap (λ (x : Me (StateRows _) (View _)). x.1) c.split_seat-first_seat.ensures.4,
       refl,
@@ -86,8 +85,7 @@ invariant_of-result-in-Led g c =
     let apart = two_apart g.V.Fit.fits m n one other w mid (Lead m.caller c.args.place m (Some n) ∷ []) s t h.1 in
     let on = led_chan g.V.Fit.fits one other w mid m n c.args.place same apart s t h.3 h.1 in
     let first : c.split_seat-first_seat.result.me.0 ≡ part (sizes_of one) m.caller mid (Lead m.caller c.args.place m (Some n) ∷ []) = ap (λ (x : Me (StateRows _) (View _)). x.0) c.split_seat-first_seat.ensures.4 ∙ first_part g.V.Fit.fits m n one other w mid (Lead m.caller c.args.place m (Some n) ∷ []) s t h.1 in
-    let second : c.split_seat-first_seat.new.seat.me.0 ≡ part (sizes_of one) n.caller mid (Lead m.caller c.args.place m (Some n) ∷ []) = ap (λ (x : Me (StateRows _) (View _)). x.0) c.split_seat-first_seat.ensures.2 ∙ second_part g.V.Fit.fits m n one other w mid (Lead m.caller c.args.place m (Some n) ∷ []) s t h.1 in
-    (
+    let second : c.split_seat-first_seat.new.seat.me.0 ≡ part (sizes_of one) n.caller mid (Lead m.caller c.args.place m (Some n) ∷ []) = ap (λ (x : Me (StateRows _) (View _)). x.0) c.split_seat-first_seat.ensures.2 ∙ second_part g.V.Fit.fits m n one other w mid (Lead m.caller c.args.place m (Some n) ∷ []) s t h.1 in (
       subst (λ x. Sits c.second.inside.number (x + 1) c.split_seat-first_seat.new.seat.me.0 None None (Some (ticket m n))) (sym next') (subst (λ (v : View _). Sits n.caller (n.generation + 1) v None None (Some (ticket m n))) (sym second) on.second),
       ap (λ (x : Me (StateRows _) (View _)). x.1) c.split_seat-first_seat.ensures.2 ∙ c.ask_chan-asked.ensures.own.1,
       refl,
@@ -114,8 +112,7 @@ invariant_of-result-in-Joined g c =
     let apart = two_apart g.V.Fit.fits m n one other w mid (Enter n.caller c.args.place call n ∷ []) s t h.1 in
     let on = entered_chan g.V.Fit.fits one other w mid m n call c.args.place same apart s t h.3 h.1 in
     let first : c.split_seat-first_seat.result.me.0 ≡ part (sizes_of one) m.caller mid (Enter n.caller c.args.place call n ∷ []) = ap (λ (x : Me (StateRows _) (View _)). x.0) c.split_seat-first_seat.ensures.4 ∙ first_part g.V.Fit.fits m n one other w mid (Enter n.caller c.args.place call n ∷ []) s t h.1 in
-    let second : c.split_seat-first_seat.new.seat.me.0 ≡ part (sizes_of one) n.caller mid (Enter n.caller c.args.place call n ∷ []) = ap (λ (x : Me (StateRows _) (View _)). x.0) c.split_seat-first_seat.ensures.2 ∙ second_part g.V.Fit.fits m n one other w mid (Enter n.caller c.args.place call n ∷ []) s t h.1 in
-    (
+    let second : c.split_seat-first_seat.new.seat.me.0 ≡ part (sizes_of one) n.caller mid (Enter n.caller c.args.place call n ∷ []) = ap (λ (x : Me (StateRows _) (View _)). x.0) c.split_seat-first_seat.ensures.2 ∙ second_part g.V.Fit.fits m n one other w mid (Enter n.caller c.args.place call n ∷ []) s t h.1 in (
       subst (λ x. Sits c.second.inside.number (x + 1) c.split_seat-first_seat.new.seat.me.0 None None (Some (ticket call n))) (sym next') (subst (λ (v : View _). Sits n.caller (n.generation + 1) v None None (Some (ticket call n))) (sym second) on.second),
       ap (λ (x : Me (StateRows _) (View _)). x.1) c.split_seat-first_seat.ensures.2 ∙ c.ask_chan-asked.ensures.own.1,
       refl,
@@ -142,8 +139,7 @@ invariant_of-result-in-Joined-2 g c =
     let apart = two_apart g.V.Fit.fits m n one other w mid (Enter n.caller c.args.place call n ∷ []) s t h.1 in
     let on = entered_chan g.V.Fit.fits one other w mid m n call c.args.place same apart s t h.3 h.1 in
     let first : c.split_seat-first_seat.result.me.0 ≡ part (sizes_of one) m.caller mid (Enter n.caller c.args.place call n ∷ []) = ap (λ (x : Me (StateRows _) (View _)). x.0) c.split_seat-first_seat.ensures.4 ∙ first_part g.V.Fit.fits m n one other w mid (Enter n.caller c.args.place call n ∷ []) s t h.1 in
-    let second : c.split_seat-first_seat.new.seat.me.0 ≡ part (sizes_of one) n.caller mid (Enter n.caller c.args.place call n ∷ []) = ap (λ (x : Me (StateRows _) (View _)). x.0) c.split_seat-first_seat.ensures.2 ∙ second_part g.V.Fit.fits m n one other w mid (Enter n.caller c.args.place call n ∷ []) s t h.1 in
-    (
+    let second : c.split_seat-first_seat.new.seat.me.0 ≡ part (sizes_of one) n.caller mid (Enter n.caller c.args.place call n ∷ []) = ap (λ (x : Me (StateRows _) (View _)). x.0) c.split_seat-first_seat.ensures.2 ∙ second_part g.V.Fit.fits m n one other w mid (Enter n.caller c.args.place call n ∷ []) s t h.1 in (
       subst (λ x. Sits c.caller.inside.number x c.split_seat-first_seat.result.me.0 None None None) (sym next) (subst (λ (v : View _). Sits m.caller m.generation v None None None) (sym first) on.first),
       ap (λ (x : Me (StateRows _) (View _)). x.1) c.split_seat-first_seat.ensures.4,
     )

@@ -34,7 +34,7 @@ invariant_of-result g c =
     let h = subst (λ r. HasSettled g.V.Fit.fits call.caller call c.args.value v r w) c.in-HandedOut.is c.settle-settlement.ensures.settled in
     let me = c.letter-letter.ensures.seat.1 in (
       subst (λ a. Sits a c.flight.inside.next c.letter-letter.new.seat.me.0 None None None) mine
-      (subst (λ (u : View _). Sits call.caller c.flight.inside.next u None None None) (sym (ap (λ (x : Me (StateRows _) (View _)). x.0) me)) (handed_after g.V.Fit.fits v w c.flight.inside.next call c.in-HandedOut.field-0 c.args.value c.in-HandedOut.value c.in-HandedOut.shared sits h)),
+          (subst (λ (u : View _). Sits call.caller c.flight.inside.next u None None None) (sym (ap (λ (x : Me (StateRows _) (View _)). x.0) me)) (handed_after g.V.Fit.fits v w c.flight.inside.next call c.in-HandedOut.field-0 c.args.value c.in-HandedOut.value c.in-HandedOut.shared sits h)),
       ap (λ (x : Me (StateRows _) (View _)). x.1) me ∙ c.settle-settlement.ensures.own.1,
     )
 

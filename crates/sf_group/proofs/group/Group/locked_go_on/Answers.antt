@@ -36,8 +36,7 @@ invariant_of-result g c =
     let shared = c.settled.inside.shared in
     let sits = subst (λ a. Sits a c.settled.inside.next v None (Some call) None) (sym mine) c.settled.invariant.0 in
     let settled = subst (λ a. settling v.known.seen call ≡ Some (Settle a call x shared)) (sym mine) c.settled.invariant.4.1 in
-    let h = subst (λ r. HasDeliveredRest g.V.Fit.fits call.caller call v r w) c.in_default.is c.deliver_rest-delivered.ensures.delivered in
-    (
+    let h = subst (λ r. HasDeliveredRest g.V.Fit.fits call.caller call v r w) c.in_default.is c.deliver_rest-delivered.ensures.delivered in (
       sits_still g.V.Fit.fits v w (h.0) c.settled.inside.number c.settled.inside.next None (Some call) None h.1 tt mine c.settled.invariant.0,
       c.deliver_rest-delivered.ensures.own.1,
       mine,
@@ -74,7 +73,7 @@ invariant_of-result-2 g c =
     let h = subst (λ r. HasDeliveredRest g.V.Fit.fits call.caller call v r w) c.in-Some.is c.deliver_rest-delivered.ensures.delivered in
     let me = c.letter-letter.ensures.seat.1 in (
       subst (λ a. Sits a c.settled.inside.next c.letter-letter.new.seat.me.0 None None None) mine
-      (subst (λ (u : View _). Sits call.caller c.settled.inside.next u None None None) (sym (ap (λ (x : Me (StateRows _) (View _)). x.0) me)) (rests_free g.V.Fit.fits v w c.settled.inside.next call c.in-Some.value sits h)),
+          (subst (λ (u : View _). Sits call.caller c.settled.inside.next u None None None) (sym (ap (λ (x : Me (StateRows _) (View _)). x.0) me)) (rests_free g.V.Fit.fits v w c.settled.inside.next call c.in-Some.value sits h)),
       ap (λ (x : Me (StateRows _) (View _)). x.1) me ∙ c.deliver_rest-delivered.ensures.own.1,
     )
 

@@ -34,7 +34,7 @@ invariant_of-result g c =
     let h = subst (λ r. HasTakenUp g.V.Fit.fits (ticket call m) v r w) c.in-Got.is c.poll-taken.ensures.taken in
     let me = c.letter-letter.ensures.seat.1 in (
       subst (λ a. Sits a c.ticket.inside.next c.letter-letter.new.seat.me.0 None None None) mine
-      (subst (λ (u : View _). Sits m.caller c.ticket.inside.next u None None None) (sym (ap (λ (x : Me (StateRows _) (View _)). x.0) me)) (took_letter g.V.Fit.fits v w c.ticket.inside.next call m (h.0) h.1 sits)),
+          (subst (λ (u : View _). Sits m.caller c.ticket.inside.next u None None None) (sym (ap (λ (x : Me (StateRows _) (View _)). x.0) me)) (took_letter g.V.Fit.fits v w c.ticket.inside.next call m (h.0) h.1 sits)),
       ap (λ (x : Me (StateRows _) (View _)). x.1) me ∙ c.poll-taken.ensures.own.1,
     )
 
@@ -46,8 +46,7 @@ invariant_of-result-in-Pending g c =
     let m = c.ticket.inside.member in
     let call = c.ticket.inside.call in
     let sits = subst (λ a. Sits a c.ticket.inside.next v None None (Some (ticket call m))) (sym mine) c.ticket.invariant.0 in
-    let h = subst (λ r. HasTakenUp g.V.Fit.fits (ticket call m) v r w) c.in-Pending.is c.poll-taken.ensures.taken in
-    (
+    let h = subst (λ r. HasTakenUp g.V.Fit.fits (ticket call m) v r w) c.in-Pending.is c.poll-taken.ensures.taken in (
       sits_still g.V.Fit.fits v w (h.0) c.ticket.inside.number c.ticket.inside.next None None (Some (ticket call m)) h.1 tt tt c.ticket.invariant.0,
       c.poll-taken.ensures.own.1,
       mine,
