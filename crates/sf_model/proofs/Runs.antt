@@ -4,13 +4,14 @@ use Rattle.std.proofs.Math.Seq.{drop-cons}
 use Rattle.std.proofs.lemmas.List.Elements.{All-from_recursion}
 use Rattle.std.specs.Prelude.{All, IfOk}
 use Rattle.std.specs.List.{AllByRecursion}
-use Rattle.sf_model.specs.declared.refusal.ModelRefusal.{ModelRefusal}
-use Rattle.sf_model.specs.declared.command.Command.TheVariants.{Ask, AskChan, Settle, Forget, Take, IsCurrent}
-use Rattle.sf_model.specs.History.{open_call, is_handed}
-use Rattle.sf_model.specs.State.{GroupState, is_free, is_spent, led_call, held_ticket}
-use Rattle.sf_model.specs.Sequential.{IsCommandOf, replied, asks, ask_of, asks_chan, ask_chan_of, settles_call, settle_of, forget_of, takes, take_of}
-use Rattle.sf_model.specs.Reading.{ScriptCommand, AreRead, Spells, words}
-use Rattle.sf_model.specs.Texts.{same_text}
+use Rattle.sf_history.specs.declared.refusal.ModelRefusal.{ModelRefusal}
+use Rattle.sf_history.specs.declared.command.Command.TheVariants.{Ask, AskChan, Settle, Forget, Take, IsCurrent}
+use Rattle.sf_history.specs.History.{open_call, is_handed}
+use Rattle.sf_history.specs.State.{GroupState, is_free, is_spent, led_call, held_ticket}
+use Rattle.sf_history.specs.Sequential.{IsCommandOf, replied, asks, ask_of, asks_chan, ask_chan_of, settles_call, settle_of, forget_of, takes, take_of}
+use Rattle.sf_model.specs.Reading.{ScriptCommand, AreRead, Spells}
+use Rattle.sf_text.specs.Words.{words}
+use Rattle.sf_text.specs.Texts.{same_text}
 use Rattle.sf_model.specs.ScriptText.{Script, line_of, after_line, goes_on, replies_of, script_start, IsReplyText}
 use Rattle.std.specs.Str.Lines.{lines}
 

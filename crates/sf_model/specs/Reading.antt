@@ -1,37 +1,14 @@
 -- the lines of scripts: which command a line says
 use Rattle.std.specs.Prelude.{◌≡◌, ℕ, ◌+◌, ◌<◌, ◌≤◌, ◌==◌, List, [], ◌∷◌, ◌++◌, length, All, Option, Some, None, Result, Ok, Err, codes, decimal}
-use Rattle.std.specs.List.{slice_split, position_or_len, before_first, after_first}
-use Rattle.sf_model.specs.declared.call.CallId.{CallId}
+use Rattle.sf_text.specs.Words.{words, IsCallerWord, IsToken, IsCallWord}
 use Rattle.sf_model.specs.declared.refusal.ScriptRefusal.{ScriptRefusal}
 use Rattle.sf_model.specs.declared.refusal.ScriptRefusal.TheVariants.{BadLine, Refused, OutOfMemory}
-use Rattle.sf_model.specs.declared.command.Command.{Command}
-use Rattle.sf_model.specs.declared.command.Command.TheVariants.{Ask, AskChan, Settle, Forget, Take, IsCurrent}
+use Rattle.sf_history.specs.declared.command.Command.{Command}
+use Rattle.sf_history.specs.declared.command.Command.TheVariants.{Ask, AskChan, Settle, Forget, Take, IsCurrent}
 
 -- the commands of scripts: keys are texts, and a value is a text or the text of an error
 abbrev pub ScriptCommand : Type 0
 ScriptCommand = Command (List ℕ) (Result (List ℕ) (List ℕ))
-
--- words are parted by one space
-abbrev pub words : List ℕ → List (List ℕ)
-words line = slice_split (λ b. b == 32) line
-
--- the word is this number, in decimal without leading zeros, from 1 to a greatest one
-abbrev pub IsNumber : ℕ → List ℕ → ℕ → Type 0
-IsNumber greatest w n = (0 < n) × (n ≤ greatest) × (w ≡ decimal n)
-
--- callers are numbered from 1 to 65,535
-abbrev pub IsCallerWord : List ℕ → ℕ → Type 0
-IsCallerWord w a = IsNumber 65535 w a
-
--- keys and texts: 1 to 250 printable bytes
-abbrev pub IsToken : List ℕ → Type 0
-IsToken w = (0 < length w) × (length w ≤ 250) × All (λ b. (33 ≤ b) × (b ≤ 126)) w
-
--- a call is a caller, a dot, and a generation from 1 to 4,294,967,295
-pub record IsCallWord (w : List ℕ) (c : CallId) : Type 0 where
-  pub dotted : position_or_len (λ b. b == 46) w < length w
-  pub caller : IsCallerWord (before_first (λ b. b == 46) w) c.caller
-  pub generation : IsNumber 4294967295 (after_first (λ b. b == 46) w) c.generation
 
 -- the words are this command
 abbrev pub Spells : List (List ℕ) → ScriptCommand → Type 0

@@ -1,23 +1,23 @@
 -- scripts: the text of the replies, and what is answered to an input
 use Rattle.std.specs.Prelude.{◌≡◌, ℕ, ◌+◌, Bool, true, false, List, [], ◌∷◌, ◌++◌, Result, Ok, Err, codes, decimal}
 use Rattle.std.specs.Str.Lines.{lines}
-use Rattle.sf_model.specs.declared.call.CallId.{CallId}
-use Rattle.sf_model.specs.declared.refusal.ModelRefusal.{ModelRefusal}
-use Rattle.sf_model.specs.declared.command.Command.TheVariants as command
-use Rattle.sf_model.specs.declared.command.Asked.{Asked}
-use Rattle.sf_model.specs.declared.command.Asked.TheVariants.{Lead, Join}
-use Rattle.sf_model.specs.declared.command.ChanAsked.{ChanAsked}
-use Rattle.sf_model.specs.declared.command.ChanAsked.TheVariants.{Led, Joined}
-use Rattle.sf_model.specs.declared.command.Forgotten.{Forgotten}
-use Rattle.sf_model.specs.declared.command.Forgotten.TheVariants.{Closed, Idle}
-use Rattle.sf_model.specs.declared.command.Taken.{Taken}
-use Rattle.sf_model.specs.declared.command.Taken.TheVariants.{Got, Pending}
+use Rattle.sf_history.specs.declared.call.CallId.{CallId}
+use Rattle.sf_history.specs.declared.refusal.ModelRefusal.{ModelRefusal}
+use Rattle.sf_history.specs.declared.command.Command.TheVariants as command
+use Rattle.sf_history.specs.declared.command.Asked.{Asked}
+use Rattle.sf_history.specs.declared.command.Asked.TheVariants.{Lead, Join}
+use Rattle.sf_history.specs.declared.command.ChanAsked.{ChanAsked}
+use Rattle.sf_history.specs.declared.command.ChanAsked.TheVariants.{Led, Joined}
+use Rattle.sf_history.specs.declared.command.Forgotten.{Forgotten}
+use Rattle.sf_history.specs.declared.command.Forgotten.TheVariants.{Closed, Idle}
+use Rattle.sf_history.specs.declared.command.Taken.{Taken}
+use Rattle.sf_history.specs.declared.command.Taken.TheVariants.{Got, Pending}
 use Rattle.sf_model.specs.declared.refusal.ScriptRefusal.{ScriptRefusal}
 use Rattle.sf_model.specs.declared.refusal.ScriptRefusal.TheVariants.{BadLine, Refused, OutOfMemory}
-use Rattle.sf_model.specs.Calls.{call_text}
-use Rattle.sf_model.specs.Texts.{same_text}
-use Rattle.sf_model.specs.State.{GroupState}
-use Rattle.sf_model.specs.Sequential.{ask_of, ask_chan_of, settle_of, forget_of, take_of, is_current_of, replied}
+use Rattle.sf_history.specs.Calls.{call_text}
+use Rattle.sf_text.specs.Texts.{same_text}
+use Rattle.sf_history.specs.State.{GroupState}
+use Rattle.sf_history.specs.Sequential.{ask_of, ask_chan_of, settle_of, forget_of, take_of, is_current_of, replied}
 use Rattle.sf_model.specs.Reading.{ScriptCommand, AreRead, IsFirstBad}
 
 -- a result and its mark, as in `v shared=yes` and `error down shared=no`

@@ -4,16 +4,15 @@ ghost use Rattle.std.specs.Prelude.{◌≡◌, ◌≢◌, ℕ, List, ◌∷◌, 
 ghost use Rattle.sf_model.specs.ScriptText.{mark_text, result_text, asked_text, chan_asked_text, settled_text, forgotten_text, taken_text, current_text, line_of, after_line, replies_of, StopsBy, IsReplyText, IsDue};
 ghost use Rattle.sf_model.specs.RefusalText.{refusal_text};
 ghost use Rattle.std.specs.Io.KnownBytes.{Appends};
-ghost use Rattle.sf_model.specs.Sequential.{IsCommandOf, IsRefusal};
+ghost use Rattle.sf_history.specs.Sequential.{IsCommandOf, IsRefusal};
 
-use crate::call::CallId;
-use crate::command::{Asked, ChanAsked, Command, Forgotten, Taken};
-use crate::parsing::{Outcome, ScriptCommand, commands};
-use crate::refusal::{ModelRefusal, ScriptRefusal};
-use crate::seq_group::SeqGroup;
-use crate::share::Memory;
-use crate::stream::{ReadFault, StreamFault, read_all, write_all, write_line};
-use crate::text::Text;
+use crate::grammar::{ScriptCommand, commands};
+use crate::refusal::ScriptRefusal;
+use sf_history::{
+    Asked, CallId, ChanAsked, Command, Forgotten, Memory, ModelRefusal, SeqGroup, Taken,
+};
+use sf_text::{Outcome, ReadFault, StreamFault, Text, read_all, write_all, write_line};
+use sf_words::LARGEST_CALLER;
 use std::alloc::Global;
 use std::io::{Read, Write};
 
@@ -221,6 +220,6 @@ fn answer(alloc: Global, input: &[u8]) -> Result<String, ScriptRefusal>
     ensures refused { IfErr result (IsDue input.now) }
 {
     let commands = commands(alloc, input)?;
-    let mut group = SeqGroup::new(alloc, 65_535, 1);
+    let mut group = SeqGroup::new(alloc, LARGEST_CALLER, 1);
     obey_all(alloc, &mut group, commands.as_slice())
 }

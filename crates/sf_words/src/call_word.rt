@@ -20,7 +20,7 @@ const TAG: u64 = 1 << 28;
 const OWN: u64 = 1 << 27;
 
 /// What the call word of a caller that leads says beside its tag.
-#[derive(Clone, Copy, Debug, PartialEq, Eq, Hash)]
+#[derive(Clone, Copy, Debug, PartialEq, Eq)]
 pub struct LeaderState {
     /// Which of the caller's askings the call is, 1 to 4,294,967,295.
     pub generation: u32,
@@ -31,7 +31,7 @@ pub struct LeaderState {
 }
 
 /// What a call word says of its caller; it stays so until the caller makes its word ready again.
-#[derive(Clone, Copy, Debug, PartialEq, Eq, Hash)]
+#[derive(Clone, Copy, Debug, PartialEq, Eq)]
 pub enum CallState {
     /// The caller has never asked.
     Free,
@@ -54,7 +54,7 @@ pub enum CallState {
 }
 
 /// A lawful call word. Clauses see it as what it says, which is a `CallState` whose numbers are in their ranges.
-#[derive(Clone, Copy, Debug, PartialEq, Eq, Hash)]
+#[derive(Clone, Copy)]
 pub struct CallWord {
     state: CallState,
 }

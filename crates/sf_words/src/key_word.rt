@@ -17,7 +17,7 @@ const GENERATION: u64 = 1 << 32;
 const CLEARED: u64 = 1 << 31;
 
 /// What a key word says of its key.
-#[derive(Clone, Copy, Debug, PartialEq, Eq, Hash)]
+#[derive(Clone, Copy, Debug, PartialEq, Eq)]
 pub enum KeyState {
     /// No call was led on the key.
     Never,
@@ -33,7 +33,7 @@ pub enum KeyState {
 }
 
 /// A lawful key word. Clauses see it as what it says, which is a `KeyState` whose numbers are in their ranges.
-#[derive(Clone, Copy, Debug, PartialEq, Eq, Hash)]
+#[derive(Clone, Copy)]
 pub struct KeyWord {
     state: KeyState,
 }

@@ -4,13 +4,12 @@
 
 mod call_word;
 mod key_word;
+mod limits;
 mod next_word;
 mod place_no;
 
 pub use call_word::{CallState, CallWord, LeaderState, call_codes_differ, pack_call, unpack_call};
 pub use key_word::{KeyState, KeyWord, key_codes_differ, pack_key, unpack_key};
-pub use next_word::{LARGEST_CALLER, NextWord, next_codes_differ, pack_next, unpack_next};
-pub use place_no::{LARGEST_PLACE, PlaceNo};
-
-#[cfg(test)]
-mod tests;
+pub use limits::{LARGEST_CALLER, LARGEST_GENERATION, LARGEST_PLACE, LONGEST_KEY};
+pub use next_word::{NextWord, next_codes_differ, pack_next, unpack_next};
+pub use place_no::PlaceNo;

@@ -6,13 +6,11 @@ ghost use Rattle.std.specs.Prelude.{◌≡◌, ℕ, ◌≤◌, ◌↔◌, IsTrue
 ghost use Rattle.std.specs.Option.{SomeIff};
 ghost use Rattle.sf_words.specs.NextWord.{NextCodesDiffer, IsCallerNumber, IsCallerOrNone, IsNextWord, next_code};
 
+use crate::limits::LARGEST_CALLER;
 use std::marker::Model;
 
-/// The largest number of a caller: no group has more callers.
-pub const LARGEST_CALLER: u32 = 65_535;
-
 /// A lawful next word. Clauses see it as the caller that it names, 1 to 65,535, or `None`.
-#[derive(Clone, Copy, Debug, PartialEq, Eq, Hash)]
+#[derive(Clone, Copy)]
 pub struct NextWord {
     next: Option<u32>,
 }

@@ -1,24 +1,23 @@
-//! Numbers of places: a key of a directory has one, and groups, letters and schedules name a key by it.
+//! Numbers of places: a directory gives each key one, and the events of a schedule name the key by it. The calls of a group and
+//! the turns of a schedule take the plain number, since a place that is none of theirs is excluded by condition.
 
 ghost use Rattle.std.specs.Prelude.{◌≡◌, ◌+◌, ◌<◌, ◌≤◌};
 ghost use Rattle.std.specs.Option.{SomeIff};
-ghost use Rattle.sf_words.specs.declared.place_no.TheConstants.{LARGEST_PLACE};
+ghost use Rattle.sf_words.specs.declared.limits.TheConstants.{LARGEST_PLACE};
 
+use crate::limits::LARGEST_PLACE;
 use std::fmt;
 use std::marker::Model;
 
-/// The largest number of a place: no directory or group has more places.
-pub const LARGEST_PLACE: u32 = 1_048_576;
-
 /// The number of a place, 1 to 1,048,576. Clauses see it as that number.
-#[derive(Clone, Copy, Debug, PartialEq, Eq, PartialOrd, Ord, Hash)]
+#[derive(Clone, Copy, Debug, PartialEq, Eq)]
 pub struct PlaceNo {
     number: u32,
 }
 
 impl Model for PlaceNo {
     ghost use Rattle.std.specs.Prelude.{ℕ, ◌≤◌};
-    ghost use Rattle.sf_words.specs.declared.place_no.TheConstants.{LARGEST_PLACE};
+    ghost use Rattle.sf_words.specs.declared.limits.TheConstants.{LARGEST_PLACE};
 
     ghost Value = { ℕ };
 

@@ -1,0 +1,5 @@
+pub mod LegalHistories
+mod LastLeads
+pub mod Settling
+pub mod Kept
+pub mod KeptByCalls

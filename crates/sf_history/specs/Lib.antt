@@ -1,0 +1,7 @@
+pub mod Calls
+pub mod CauseText
+pub mod History
+pub mod Legal
+pub mod LastLead
+pub mod State
+pub mod Sequential

@@ -1,0 +1,14 @@
+mod RowsAfter
+mod RowsLed
+mod RowsEntered
+mod RowsOwned
+mod Agreeing
+mod Obeyed
+mod NewRows
+mod RowsSettled
+mod Settled
+mod HandedOut
+mod Awaited
+mod Polled
+mod Filled
+mod AwaitedLetters

@@ -1,0 +1,3 @@
+mod Streams
+pub mod Ascii
+mod LineParts

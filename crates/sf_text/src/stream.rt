@@ -1,0 +1,82 @@
+//! Reading a whole input, and writing a whole answer.
+
+ghost use Rattle.std.specs.Prelude.{◌≡◌, ◌++◌, IfOk, IfErr, IfSome, OnOk, OnErr, codes};
+ghost use Rattle.std.specs.Io.KnownBytes.{Appends};
+
+use std::alloc::{AllocError, Global};
+use std::fmt::Display;
+use std::io::{Read, Write};
+use thiserror::Error;
+
+/// How often a run may read; where its last read has not met the end, that is a failing read.
+pub const READS: u32 = 16_777_216;
+
+/// Why a run ends with no answer.
+#[derive(Clone, Copy, Debug, PartialEq, Eq, Drop, Error)]
+pub enum StreamFault {
+    /// A read failed, or the last read that is allowed has not met the end. Nothing was written.
+    #[error("cannot read")]
+    CannotRead,
+    /// A write failed. A part of the answer may have been written.
+    #[error("cannot write")]
+    CannotWrite,
+}
+
+/// Why an input could not be held.
+#[derive(Clone, Copy, Debug, PartialEq, Eq)]
+pub enum ReadFault {
+    /// A read failed, or the last read that is allowed has not met the end.
+    CannotRead,
+    /// Memory was refused.
+    OutOfMemory,
+}
+
+impl From<AllocError> for ReadFault {
+    ghost use Rattle.sf_text.specs.declared.stream.ReadFault.TheVariants.{OutOfMemory};
+
+    ghost from_gives = { λ _ e. e ≡ OutOfMemory };
+
+    fn from(_error: AllocError) -> ReadFault {
+        ReadFault::OutOfMemory
+    }
+}
+
+/// All bytes that a reader has left, in at most `READS` reads. A failed read is not tried again.
+pub fn read_all<R: Read>(alloc: Global, reader: &mut R) -> Result<Vec<u8>, ReadFault>
+    ensures { IfOk result (λ input. IfSome (R.remaining reader.old) (λ bytes. input.items ≡ bytes)) }
+{
+    let mut input = Vec::new(alloc);
+    let mut buffer = [0u8; 4096];
+    'reads: for _ in 0..READS {
+        let Ok(n) = reader.read(&mut buffer) else {
+            return Err(ReadFault::CannotRead);
+        };
+        if n == 0 {
+            return Ok(input);
+        }
+        input.extend_from_slice(&buffer[..n])?;
+    }
+    Err(ReadFault::CannotRead)
+}
+
+/// Writes a whole answer, and hands it on.
+pub fn write_all<W: Write>(writer: &mut W, answer: &str) -> Result<(), StreamFault>
+    ensures ok { OnOk result (Appends (W.contents writer.old) (W.contents writer.new) answer.now) }
+    ensures err { IfErr result (λ fault. fault ≡ StreamFault.CannotWrite) }
+{
+    if writer.write_all(answer.as_bytes()).is_err() || writer.flush().is_err() {
+        return Err(StreamFault::CannotWrite);
+    }
+    Ok(())
+}
+
+/// Writes one line as the whole answer, and hands it on.
+pub fn write_line<W: Write, D: Display + Drop>(writer: &mut W, line: D) -> Result<(), StreamFault>
+    ensures ok { OnOk result (IfSome (D.output line) (λ text. Appends (W.contents writer.old) (W.contents writer.new) (text ++ codes "\n"))) }
+    ensures err { IfErr result (λ fault. fault ≡ StreamFault.CannotWrite) }
+{
+    if writeln!(writer, "{line}").is_err() || writer.flush().is_err() {
+        return Err(StreamFault::CannotWrite);
+    }
+    Ok(())
+}
