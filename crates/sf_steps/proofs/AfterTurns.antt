@@ -1,21 +1,21 @@
 -- what a player has played, turn by turn
 use Rattle.std.proofs.Common.{◌≡◌, ℕ, List, [], ◌∷◌, ◌++◌, map, refl, sym, ◌∙◌, ap, subst}
 use Rattle.std.specs.List.{list_any}
-use Rattle.sf_model.specs.declared.call.CallId.{CallId}
-use Rattle.sf_steps.specs.declared.player.Player.{Player}
-use Rattle.sf_steps.specs.declared.turn.Turn.{Turn}
-use Rattle.sf_steps.specs.World.{World, first_world}
-use Rattle.sf_steps.specs.Turns.{turned}
-use Rattle.sf_steps.specs.Events.{step_events, answer_at, adds, events_of}
-use Rattle.sf_model.specs.declared.event.Event.{Event}
-use Rattle.sf_model.specs.Legal.{IsLegal}
+use Rattle.sf_history.specs.declared.call.CallId.{CallId}
+use Rattle.sf_steps.specs.declared.texts.player.Player.{Player}
+use Rattle.sf_schedules.specs.declared.turn.Turn.{Turn}
+use Rattle.sf_schedules.specs.World.{World, first_world}
+use Rattle.sf_schedules.specs.Turns.{turned}
+use Rattle.sf_schedules.specs.Events.{step_events, answer_at, adds, events_of}
+use Rattle.sf_history.specs.declared.event.Event.{Event}
+use Rattle.sf_history.specs.Legal.{IsLegal}
 use Rattle.std.specs.Prelude.{nat_eq}
-use Rattle.sf_steps.specs.declared.turn.Turn.TheVariants as turn
-use Rattle.sf_steps.proofs.RightAnswers.{schedules_are_legal}
+use Rattle.sf_schedules.specs.declared.turn.Turn.TheVariants as turn
+use Rattle.sf_schedules.proofs.RightAnswers.{schedules_are_legal}
 use Rattle.sf_steps.specs.Acts.{act_at, stepper}
-use Rattle.sf_steps.specs.declared.trace.Step.{Step}
+use Rattle.sf_steps.specs.declared.machine.trace.Step.{Step}
 use Rattle.sf_steps.specs.Running.{world_of, setting_of}
-use Rattle.sf_steps.specs.Schedules.{Setting, was_led_on, IsTurn, IsSchedule}
+use Rattle.sf_schedules.specs.Schedules.{Setting, was_led_on, IsTurn, IsSchedule}
 use Rattle.sf_steps.specs.Played.{ShownStep, shown, shown_step, turn_steps, steps_of, text_setting, events_in}
 use Rattle.sf_steps.specs.PlayerState.{IsAfter}
 use Rattle.sf_steps.specs.TraceText.{Outcome}

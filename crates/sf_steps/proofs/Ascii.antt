@@ -4,12 +4,12 @@ use Rattle.std.proofs.lemmas.List.Elements.{All-from_recursion}
 use Rattle.std.proofs.lemmas.Str.Ascii.{IsAscii-from_all}
 use Rattle.std.specs.List.{AllByRecursion}
 use Rattle.std.specs.Str.{IsAscii}
-use Rattle.sf_model.specs.Reading.{words, IsNumber}
-use Rattle.sf_model.proofs.Ascii.{AreAscii, ascii_from_parts, token_ascii, number_ascii, call_ascii}
-use Rattle.sf_steps.specs.declared.operation.Op.{Op}
-use Rattle.sf_steps.specs.declared.operation.Op.TheVariants as op
-use Rattle.sf_steps.specs.declared.schedule_line.ScheduleLine.{ScheduleLine}
-use Rattle.sf_steps.specs.declared.schedule_line.ScheduleLine.TheVariants.{Do, Steps, Drop}
+use Rattle.sf_text.specs.Words.{words, IsNumber}
+use Rattle.sf_text.proofs.Ascii.{AreAscii, ascii_from_parts, token_ascii, number_ascii, call_ascii}
+use Rattle.sf_schedules.specs.declared.operation.Op.{Op}
+use Rattle.sf_schedules.specs.declared.operation.Op.TheVariants as op
+use Rattle.sf_steps.specs.declared.texts.schedule_line.ScheduleLine.{ScheduleLine}
+use Rattle.sf_steps.specs.declared.texts.schedule_line.ScheduleLine.TheVariants.{Do, Steps, Drop}
 use Rattle.sf_steps.specs.ScheduleText.{IsSmall, SpellsOp, Spells}
 use Rattle.sf_steps.specs.TraceText.{Outcome}
 

@@ -1,10 +1,10 @@
 -- the lines of a schedule, one after the other
 use Rattle.std.proofs.Common.{◌≡◌, ℕ, ◌+◌, ◌<◌, Option, Some, None, List, [], ◌∷◌, ◌++◌, length, map, take, refl, sym, ◌∙◌, ap, subst, slice_index_or}
 use Rattle.std.proofs.lemmas.List.{take_more, get_or-map, length-map}
-use Rattle.sf_model.specs.Reading.{words}
-use Rattle.sf_steps.specs.declared.player.Player.{Player}
-use Rattle.sf_steps.specs.declared.turn.Turn.{Turn}
-use Rattle.sf_steps.specs.declared.schedule_line.ScheduleLine.{ScheduleLine}
+use Rattle.sf_text.specs.Words.{words}
+use Rattle.sf_steps.specs.declared.texts.player.Player.{Player}
+use Rattle.sf_schedules.specs.declared.turn.Turn.{Turn}
+use Rattle.sf_steps.specs.declared.texts.schedule_line.ScheduleLine.{ScheduleLine}
 use Rattle.sf_steps.specs.Played.{IsScheduleText, IsBadLine, IsBadAt}
 use Rattle.sf_steps.specs.PlayerState.{IsAfter}
 use Rattle.sf_steps.specs.ScheduleText.{Spells, IsLine, turns_of}

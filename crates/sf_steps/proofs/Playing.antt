@@ -4,21 +4,21 @@ use Rattle.std.proofs.lemmas.List.{append-nil, replicate_more, replicate-append-
 use Rattle.std.proofs.lemmas.Grind.{flat_map-append}
 use Rattle.std.proofs.lemmas.List.Folds.{list_any-append}
 use Rattle.std.specs.List.{list_any, flat_map}
-use Rattle.sf_model.specs.Reading.{words}
-use Rattle.sf_model.specs.declared.call.CallId.{CallId}
-use Rattle.sf_model.specs.declared.event.Event.{Event}
-use Rattle.sf_steps.specs.declared.trace.Step.{Step}
-use Rattle.sf_steps.specs.declared.turn.Turn.{Turn}
-use Rattle.sf_steps.specs.declared.turn.Turn.TheVariants as turn
-use Rattle.sf_steps.specs.World.{World, first_world}
-use Rattle.sf_steps.specs.Turns.{turned, run}
-use Rattle.sf_steps.specs.Events.{step_events, turn_events, adds, events_of, world_after}
-use Rattle.sf_steps.specs.Schedules.{Setting, leads_on, was_led_on, IsTurn, IsScheduleFrom, IsSchedule}
+use Rattle.sf_text.specs.Words.{words}
+use Rattle.sf_history.specs.declared.call.CallId.{CallId}
+use Rattle.sf_history.specs.declared.event.Event.{Event}
+use Rattle.sf_steps.specs.declared.machine.trace.Step.{Step}
+use Rattle.sf_schedules.specs.declared.turn.Turn.{Turn}
+use Rattle.sf_schedules.specs.declared.turn.Turn.TheVariants as turn
+use Rattle.sf_schedules.specs.World.{World, first_world}
+use Rattle.sf_schedules.specs.Turns.{turned, run}
+use Rattle.sf_schedules.specs.Events.{step_events, turn_events, adds, events_of, world_after}
+use Rattle.sf_schedules.specs.Schedules.{Setting, leads_on, was_led_on, IsTurn, IsScheduleFrom, IsSchedule}
 use Rattle.sf_steps.specs.Played.{ShownStep, shown, turn_steps, steps_of, text_setting, AreSpelled, IsScheduleText}
 use Rattle.sf_steps.specs.TraceText.{Outcome}
-use Rattle.sf_steps.specs.declared.schedule_line.ScheduleLine.{ScheduleLine}
+use Rattle.sf_steps.specs.declared.texts.schedule_line.ScheduleLine.{ScheduleLine}
 use Rattle.sf_steps.specs.ScheduleText.{Spells, turns_of}
-use Rattle.sf_steps.proofs.RightAnswers.{run_append, schedule_parts}
+use Rattle.sf_schedules.proofs.RightAnswers.{run_append, schedule_parts}
 
 module _ {V : Type 0} where
   schedule_join : (z : Setting) (p q : List (Turn V)) (h : List (Event ℕ V)) (w : World V) → IsScheduleFrom z h w p → IsScheduleFrom z (h ++ adds w p) (run w p) q → IsScheduleFrom z h w (p ++ q)

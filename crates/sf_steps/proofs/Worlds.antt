@@ -1,23 +1,23 @@
 -- the worlds that several writes make, one after the other
 use Rattle.std.proofs.Common.{◌≡◌, ◌≢◌, ℕ, Bool, true, false, List, [], ◌∷◌, Option, Some, None, refl, sym, ◌∙◌, ap}
 use Rattle.std.specs.Prelude.{cond}
-use Rattle.sf_model.specs.declared.call.CallId.{CallId}
-use Rattle.sf_model.specs.declared.event.Event.{Event}
-use Rattle.sf_model.specs.declared.event.Event.TheVariants.{Lead}
+use Rattle.sf_history.specs.declared.call.CallId.{CallId}
+use Rattle.sf_history.specs.declared.event.Event.{Event}
+use Rattle.sf_history.specs.declared.event.Event.TheVariants.{Lead}
 use Rattle.sf_words.specs.declared.key_word.KeyState.{KeyState}
 use Rattle.sf_words.specs.declared.key_word.KeyState.TheVariants.{Names}
 use Rattle.sf_words.specs.declared.call_word.LeaderState.{LeaderState}
 use Rattle.sf_words.specs.declared.call_word.CallState.{CallState}
 use Rattle.sf_words.specs.declared.call_word.CallState.TheVariants as word
-use Rattle.sf_steps.specs.declared.letter.Letter.{Letter}
-use Rattle.sf_steps.specs.declared.operation.Stage.{Stage}
-use Rattle.sf_steps.specs.declared.operation.Stage.TheVariants.{Free, Leading, Holding, Settling}
-use Rattle.sf_steps.specs.declared.operation.SettleStep.{SettleStep}
-use Rattle.sf_steps.specs.declared.operation.SettleStep.TheVariants as settle
-use Rattle.sf_steps.specs.World.{World, with_key, with_call, with_stage, with_used, next_id, key_of, same_key, is_open_with}
-use Rattle.sf_steps.specs.Askings.{joiner, with_top, own_of, holds_own, after_lead, after_enter}
-use Rattle.sf_steps.specs.Turns.{after_own_peek, at_members, cleared, delivered, stepped}
-use Rattle.sf_steps.specs.Events.{lead_events}
+use Rattle.sf_schedules.specs.declared.letter.Letter.{Letter}
+use Rattle.sf_schedules.specs.declared.operation.Stage.{Stage}
+use Rattle.sf_schedules.specs.declared.operation.Stage.TheVariants.{Free, Leading, Holding, Settling}
+use Rattle.sf_schedules.specs.declared.operation.SettleStep.{SettleStep}
+use Rattle.sf_schedules.specs.declared.operation.SettleStep.TheVariants as settle
+use Rattle.sf_schedules.specs.World.{World, with_key, with_call, with_stage, with_used, next_id, key_of, same_key, is_open_with}
+use Rattle.sf_schedules.specs.Askings.{joiner, with_top, own_of, holds_own, after_lead, after_enter}
+use Rattle.sf_schedules.specs.Turns.{after_own_peek, at_members, cleared, delivered, stepped}
+use Rattle.sf_schedules.specs.Events.{lead_events}
 use Rattle.sf_steps.specs.Settling.{result_in, settling_at, members_at}
 use Rattle.sf_steps.proofs.Rows.{put_apart, staged_again}
 

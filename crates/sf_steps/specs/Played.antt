@@ -1,20 +1,20 @@
 -- what the steps of a schedule show, and which trace a schedule's text has
 use Rattle.std.specs.Prelude.{◌≡◌, ◌<◌, ◌⊎◌, ℕ, ◌+◌, Bool, List, [], ◌∷◌, ◌++◌, map, length, take, slice_index_or, Option}
 use Rattle.std.specs.List.{flat_map}
-use Rattle.sf_model.specs.declared.event.Event.{Event}
-use Rattle.sf_model.specs.Reading.{words}
-use Rattle.sf_steps.specs.declared.trace.Act.{Act}
-use Rattle.sf_steps.specs.declared.trace.Step.{Step}
-use Rattle.sf_steps.specs.declared.turn.Turn.{Turn}
-use Rattle.sf_steps.specs.declared.turn.Turn.TheVariants as turn
-use Rattle.sf_steps.specs.declared.schedule_line.ScheduleLine.{ScheduleLine}
-use Rattle.sf_steps.specs.declared.refusal.ScheduleRefusal.{ScheduleRefusal}
-use Rattle.sf_steps.specs.declared.refusal.ScheduleRefusal.TheVariants.{BadSchedule, Memory}
-use Rattle.sf_steps.specs.World.{World, first_world}
-use Rattle.sf_steps.specs.Turns.{turned}
-use Rattle.sf_steps.specs.Events.{step_events, answer_at}
+use Rattle.sf_history.specs.declared.event.Event.{Event}
+use Rattle.sf_text.specs.Words.{words}
+use Rattle.sf_steps.specs.declared.machine.trace.Act.{Act}
+use Rattle.sf_steps.specs.declared.machine.trace.Step.{Step}
+use Rattle.sf_schedules.specs.declared.turn.Turn.{Turn}
+use Rattle.sf_schedules.specs.declared.turn.Turn.TheVariants as turn
+use Rattle.sf_steps.specs.declared.texts.schedule_line.ScheduleLine.{ScheduleLine}
+use Rattle.sf_steps.specs.declared.texts.refusal.ScheduleRefusal.{ScheduleRefusal}
+use Rattle.sf_steps.specs.declared.texts.refusal.ScheduleRefusal.TheVariants.{BadSchedule, Memory}
+use Rattle.sf_schedules.specs.World.{World, first_world}
+use Rattle.sf_schedules.specs.Turns.{turned}
+use Rattle.sf_schedules.specs.Events.{step_events, answer_at}
 use Rattle.sf_steps.specs.Acts.{act_at, stepper}
-use Rattle.sf_steps.specs.Schedules.{Setting, IsSchedule}
+use Rattle.sf_schedules.specs.Schedules.{Setting, IsSchedule}
 use Rattle.sf_steps.specs.TraceText.{Outcome}
 use Rattle.sf_steps.specs.ScheduleText.{Spells, turns_of}
 

@@ -1,11 +1,11 @@
 -- what a player has played
 use Rattle.std.specs.Prelude.{◌≡◌, List, map}
-use Rattle.sf_steps.specs.declared.player.Player.{Player}
-use Rattle.sf_steps.specs.declared.turn.Turn.{Turn}
-use Rattle.sf_steps.specs.World.{first_world}
-use Rattle.sf_steps.specs.Events.{world_after}
+use Rattle.sf_steps.specs.declared.texts.player.Player.{Player}
+use Rattle.sf_schedules.specs.declared.turn.Turn.{Turn}
+use Rattle.sf_schedules.specs.World.{first_world}
+use Rattle.sf_schedules.specs.Events.{world_after}
 use Rattle.sf_steps.specs.Running.{world_of, setting_of}
-use Rattle.sf_steps.specs.Schedules.{IsSchedule}
+use Rattle.sf_schedules.specs.Schedules.{IsSchedule}
 use Rattle.sf_steps.specs.Played.{shown, steps_of, text_setting}
 use Rattle.sf_steps.specs.TraceText.{Outcome}
 

@@ -1,12 +1,12 @@
 -- the lines of schedules: which turns a line says
 use Rattle.std.specs.Prelude.{◌≡◌, ◌⊎◌, ℕ, List, [], ◌∷◌, Option, Some, None, Ok, Err, replicate, codes}
-use Rattle.sf_model.specs.Reading.{IsNumber, IsToken, IsCallWord}
-use Rattle.sf_steps.specs.declared.operation.Op.{Op}
-use Rattle.sf_steps.specs.declared.operation.Op.TheVariants as op
-use Rattle.sf_steps.specs.declared.turn.Turn.{Turn}
-use Rattle.sf_steps.specs.declared.turn.Turn.TheVariants as turn
-use Rattle.sf_steps.specs.declared.schedule_line.ScheduleLine.{ScheduleLine}
-use Rattle.sf_steps.specs.declared.schedule_line.ScheduleLine.TheVariants.{Do, Steps, Drop}
+use Rattle.sf_text.specs.Words.{IsNumber, IsToken, IsCallWord}
+use Rattle.sf_schedules.specs.declared.operation.Op.{Op}
+use Rattle.sf_schedules.specs.declared.operation.Op.TheVariants as op
+use Rattle.sf_schedules.specs.declared.turn.Turn.{Turn}
+use Rattle.sf_schedules.specs.declared.turn.Turn.TheVariants as turn
+use Rattle.sf_steps.specs.declared.texts.schedule_line.ScheduleLine.{ScheduleLine}
+use Rattle.sf_steps.specs.declared.texts.schedule_line.ScheduleLine.TheVariants.{Do, Steps, Drop}
 use Rattle.sf_steps.specs.TraceText.{Outcome}
 
 -- callers and places are numbered from 1 to 64

@@ -1,19 +1,19 @@
 -- what a step prints: its own line, a line for each event that it adds, and a line for its answer; and what a refused schedule prints
 use Rattle.std.specs.Prelude.{ℕ, Bool, true, false, List, [], ◌∷◌, ◌++◌, Option, Some, None, Result, Ok, Err, codes, decimal}
-use Rattle.sf_model.specs.declared.call.CallId.{CallId}
-use Rattle.sf_model.specs.declared.event.Event.{Event}
-use Rattle.sf_model.specs.declared.event.Event.TheVariants as event
-use Rattle.sf_model.specs.Calls.{call_text}
+use Rattle.sf_history.specs.declared.call.CallId.{CallId}
+use Rattle.sf_history.specs.declared.event.Event.{Event}
+use Rattle.sf_history.specs.declared.event.Event.TheVariants as event
+use Rattle.sf_history.specs.Calls.{call_text}
 use Rattle.sf_words.specs.declared.key_word.KeyState.{KeyState}
 use Rattle.sf_words.specs.declared.key_word.KeyState.TheVariants.{Never, Names}
 use Rattle.sf_words.specs.declared.call_word.LeaderState.{LeaderState}
 use Rattle.sf_words.specs.declared.call_word.CallState.{CallState}
 use Rattle.sf_words.specs.declared.call_word.CallState.TheVariants as word
-use Rattle.sf_steps.specs.declared.refusal.ScheduleRefusal.{ScheduleRefusal}
-use Rattle.sf_steps.specs.declared.refusal.ScheduleRefusal.TheVariants.{BadSchedule, Memory}
-use Rattle.sf_steps.specs.declared.trace.Act.{Act}
-use Rattle.sf_steps.specs.declared.trace.Act.TheVariants.{Look, Peek, Ready, Lead, Link, Enter, Close, Clear, Follow, Deliver, Collect}
-use Rattle.sf_steps.specs.declared.trace.Step.{Step}
+use Rattle.sf_steps.specs.declared.texts.refusal.ScheduleRefusal.{ScheduleRefusal}
+use Rattle.sf_steps.specs.declared.texts.refusal.ScheduleRefusal.TheVariants.{BadSchedule, Memory}
+use Rattle.sf_steps.specs.declared.machine.trace.Act.{Act}
+use Rattle.sf_steps.specs.declared.machine.trace.Act.TheVariants.{Look, Peek, Ready, Lead, Link, Enter, Close, Clear, Follow, Deliver, Collect}
+use Rattle.sf_steps.specs.declared.machine.trace.Step.{Step}
 
 -- the values of schedules: a text, or the text of an error
 abbrev pub Outcome : Type 0

@@ -1,37 +1,14 @@
 //! The step core: the machine of words and cells on which callers ask, settle, forget, poll and question by single
 //! atomic steps.
+//!
+//! `machine` holds the running world and its steps; `texts` reads schedules, plays them on it, and prints traces.
 #![tactic(auto)]
 
-mod allowed;
-mod asking;
-mod delivering;
-mod forgetting;
-mod joining;
-pub mod laws;
-mod letter;
-mod operation;
-mod player;
-mod questions;
-mod reading;
-mod refusal;
-mod schedule;
-mod schedule_line;
-mod settling;
-mod stepping;
-mod text;
-mod trace;
-mod turn;
-mod world;
+mod machine;
+mod texts;
 
-pub use letter::Letter;
-pub use operation::{AskStep, CurrentStep, ForgetStep, Op, SettleStep, Stage};
-pub use refusal::ScheduleRefusal;
-pub use schedule::{Trace, play};
-pub use schedule_line::ScheduleLine;
-pub use text::{Outcome, step_text, trace_text};
-pub use trace::{Act, Step};
-pub use turn::Turn;
-pub use world::World;
-
-#[cfg(test)]
-mod tests;
+pub use machine::{Act, Step, World};
+pub use sf_schedules::{
+    AskStep, CurrentStep, ForgetStep, Letter, Op, SettleStep, Stage, Turn, laws,
+};
+pub use texts::{ScheduleLine, ScheduleRefusal, Trace, play, step_text, trace_text};

@@ -1,0 +1,16 @@
+pub mod World
+pub mod Askings
+pub mod Turns
+pub mod Events
+pub mod Schedules
+pub mod Stages
+pub mod Left
+pub mod Closes
+pub mod Delivered
+pub mod Laws
+pub mod Named
+pub mod Questions
+pub mod Within
+pub mod Waiting
+pub mod Changed
+pub mod Afters

@@ -1,8 +1,0 @@
-use Rattle.sf_steps.proofs.Others.{others_are_left, own_turns_decide}
-use Rattle.sf_steps.proofs.laws.others_are_left.Goals as goal
-
-pub returns-clause-by_a_turn : goal.returns-clause-by_a_turn
-returns-clause-by_a_turn g c z s t is b free = others_are_left z s t is b free
-
-pub returns-clause-by_turns : goal.returns-clause-by_turns
-returns-clause-by_turns g c z s ts is b others = own_turns_decide z s ts is b others
