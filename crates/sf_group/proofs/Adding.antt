@@ -1,21 +1,20 @@
 -- what a passage of the lock adds for a caller
-use Rattle.std.proofs.Common.{◌≡◌, ℕ, ◌<◌, ◌≤◌, inl, List, [], ◌∷◌, ◌++◌, refl, sym, ap, ◌∙◌, subst, append_assoc, arith}
+use Rattle.std.proofs.Common.{◌≡◌, ℕ, inl, List, [], ◌∷◌, ◌++◌, refl, sym, ap, ◌∙◌, subst, append_assoc, arith}
 use Rattle.std.specs.Prelude.{nat_eq, sum_by}
-use Rattle.std.specs.List.{All}
 use Rattle.std.proofs.lemmas.List.{append-nil}
 use Rattle.std.proofs.lemmas.List.Sums.{sum_by-append}
 use Rattle.std.proofs.lemmas.List.Elements.{filter-append}
 use Rattle.atomic_table.specs.Seated.{TableId}
-use Rattle.sf_model.specs.declared.call.CallId.{CallId}
-use Rattle.sf_model.specs.declared.event.Event.{Event}
-use Rattle.sf_model.specs.History.{uses, maker}
-use Rattle.sf_model.specs.Legal.{IsLegal}
+use Rattle.sf_history.specs.declared.call.CallId.{CallId}
+use Rattle.sf_history.specs.declared.event.Event.{Event}
+use Rattle.sf_history.specs.History.{uses, maker}
 use Rattle.sf_group.specs.declared.view.Claim.{Claim}
 use Rattle.sf_group.specs.declared.view.View.{View}
-use Rattle.sf_group.specs.Tokens.{GroupValue}
-use Rattle.sf_group.specs.Seen.{own_events, Grows, Adds}
+use Rattle.sf_calls.specs.Tokens.{GroupValue}
+use Rattle.sf_calls.specs.Seen.{IsLawful, Grows, Adds}
+use Rattle.sf_history.specs.History.{own_events}
 use Rattle.sf_group.specs.View.{Has, Spares, sizes_of}
-use Rattle.sf_group.specs.Fitting.{FitOf}
+use Rattle.sf_calls.specs.Fitting.{FitOf}
 use Rattle.sf_group.specs.Plays.{IsLater}
 use Rattle.sf_group.specs.Known.{group_of}
 use Rattle.sf_group.specs.Passing.{Passes}
@@ -36,6 +35,10 @@ module _ {V : Type 0} where
         next = omega (arith, nothing, split, split_again, given);
       }
 
+  -- the history that a passage leaves is lawful
+  pub lawful_after : (fits : FitOf V) (v w : View V) (mid : Claim V) (es : List (Event ℕ V)) (ms : List CallId) → Passes fits v mid es ms w → IsLawful (sizes_of v) (mid.seen ++ es)
+  lawful_after fits v w mid es ms p = record { legal = p.kept.legal; made = p.kept.made }
+
   -- a claim that was brought to a passage
   pub adds_passed : (fits : FitOf V) (t : TableId) (v w : View V) (mid : Claim V) (es : List (Event ℕ V)) (ms : List CallId) (c : Claim V) (a : ℕ) (x : List (Event ℕ V)) (n : ℕ) → Passes fits v mid es ms w → IsLater (sizes_of v) c mid → Has c.callers a
       → own_events a es ≡ x → sum_by (uses a) es ≡ n → Adds (group_of t v) a c.seen w.known.seen x n
@@ -44,8 +47,7 @@ module _ {V : Type 0} where
       let longer : w.known.seen ≡ (c.seen ++ l.between) ++ es = seen ∙ ap (λ q. q ++ es) l.seen in
       record {
         grows = subst (λ h. Grows (group_of t v) a c.seen h x n) (sym longer) (grows_from (group_of t v) a c.seen l.between es x n (l.others a g) own given);
-        legal = subst (λ h. IsLegal nat_eq h) (sym seen) p.kept.legal;
-        within = subst (λ h. All (λ e. (0 < maker e) × (maker e ≤ (sizes_of v).callers)) h) (sym seen) p.kept.made;
+        lawful = subst (λ h. IsLawful (sizes_of v) h) (sym seen) (lawful_after fits v w mid es ms p);
       }
 
   -- the seat of one caller, after a passage of its own

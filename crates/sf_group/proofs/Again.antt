@@ -1,14 +1,14 @@
 -- one passage after another
 use Rattle.std.proofs.Common.{◌≡◌, ℕ, ◌⊎◌, ⊎_elim, false, List, [], ◌∷◌, ◌++◌, ap, ◌∙◌, subst, append_assoc}
 use Rattle.std.proofs.lemmas.List.{append-nil}
-use Rattle.sf_model.specs.declared.call.CallId.{CallId}
-use Rattle.sf_model.specs.declared.event.Event.{Event}
-use Rattle.sf_model.specs.State.{has_taken}
-use Rattle.sf_group.specs.declared.view.Sizes.{Sizes}
+use Rattle.sf_history.specs.declared.call.CallId.{CallId}
+use Rattle.sf_history.specs.declared.event.Event.{Event}
+use Rattle.sf_history.specs.State.{has_taken}
+use Rattle.sf_calls.specs.declared.sizes.Sizes.{Sizes}
 use Rattle.sf_group.specs.declared.view.Claim.{Claim}
 use Rattle.sf_group.specs.declared.view.View.{View}
 use Rattle.sf_group.specs.View.{Has, claim, callers_of, all_of, sizes_of}
-use Rattle.sf_group.specs.Fitting.{FitOf}
+use Rattle.sf_calls.specs.Fitting.{FitOf}
 use Rattle.sf_group.specs.Plays.{IsLater, AreLater}
 use Rattle.sf_group.specs.Passing.{Passes}
 use Rattle.sf_group.proofs.Claims.{has_left, has_right, spares_append}

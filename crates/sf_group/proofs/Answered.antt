@@ -4,15 +4,15 @@ use Rattle.std.specs.Prelude.{nat_eq, find, option_and_then, option_map}
 use Rattle.std.specs.List.{list_any}
 use Rattle.std.proofs.Math.Bool.{or-false}
 use Rattle.std.proofs.lemmas.Bool.{cases_Bool, and_parts, or_parts, eqb-true, cond-true, cond-false, false_from_ne_true}
-use Rattle.sf_model.specs.declared.call.CallId.{CallId}
-use Rattle.sf_model.specs.declared.event.Event.{Event}
-use Rattle.sf_model.specs.declared.event.Event.TheVariants.{Lead, Enter, Forget, Settle, Handed}
-use Rattle.sf_model.specs.Calls.{same_call}
-use Rattle.sf_model.specs.History.{holds_call, names, opens, open_call, enters, has_joined, leads, was_led, settles, is_settled, result_in, result_of, answer_of}
-use Rattle.sf_model.specs.Legal.{IsLegal, MayFollow}
-use Rattle.sf_model.proofs.Lists.{by_push, list_any_push, list_any_push_cases, list_any_push_none}
-use Rattle.sf_model.proofs.LegalHistories.{same_call_is, same_call_self, other_call, legal_front, legal_last, fold_push, settled_named}
-use Rattle.sf_group.specs.Seen.{Stands}
+use Rattle.sf_history.specs.declared.call.CallId.{CallId}
+use Rattle.sf_history.specs.declared.event.Event.{Event}
+use Rattle.sf_history.specs.declared.event.Event.TheVariants.{Lead, Enter, Forget, Settle, Handed}
+use Rattle.sf_history.specs.Calls.{same_call}
+use Rattle.sf_history.specs.History.{holds_call, names, opens, open_call, enters, has_joined, leads, was_led, settles, is_settled, result_in, result_of, answer_of}
+use Rattle.sf_history.specs.Legal.{IsLegal, MayFollow}
+use Rattle.sf_lists.proofs.Lists.{by_push, list_any_push, list_any_push_cases, list_any_push_none}
+use Rattle.sf_history.proofs.LegalHistories.{same_call_is, same_call_self, other_call, legal_front, legal_last, fold_push, settled_named}
+use Rattle.sf_calls.specs.Seen.{Stands}
 use Rattle.sf_group.specs.Known.{settling}
 use Rattle.sf_group.proofs.Fits.{found_or_not, found_longer, not_found}
 

@@ -1,42 +1,43 @@
 -- the rows of an asking with a second caller, from its passage of the lock
-use Rattle.std.proofs.Common.{◌≡◌, ◌≢◌, ℕ, ◌+◌, ◌<◌, ◌≤◌, inl, true, false, eq-eqb, ne_eqb, List, [], ◌∷◌, ◌++◌, refl, sym, ap, ◌∙◌, subst, append_assoc, Option, Some, None, arith}
+use Rattle.std.proofs.Common.{◌≡◌, ◌≢◌, ℕ, ◌+◌, ◌≤◌, inl, true, false, eq-eqb, ne_eqb, List, [], ◌∷◌, ◌++◌, refl, sym, ap, ◌∙◌, subst, append_assoc, Option, Some, None, arith}
 use Rattle.std.specs.Prelude.{nat_eq, cond, fold, sum_by, option_and_then}
-use Rattle.std.specs.List.{All}
 use Rattle.std.proofs.lemmas.Bool.{cond-true, cond-false, false_from_ne_true, and_from}
 use Rattle.std.proofs.lemmas.List.{append-nil}
 use Rattle.std.proofs.lemmas.List.Sums.{fold-append, sum_by-append}
 use Rattle.atomic_table.specs.Seated.{TableId}
-use Rattle.sf_model.specs.declared.call.CallId.{CallId}
-use Rattle.sf_model.specs.declared.call.Ticket.{Ticket}
-use Rattle.sf_model.specs.declared.command.ChanAsked.TheVariants as chan_asked
-use Rattle.sf_model.specs.declared.event.Event.{Event}
-use Rattle.sf_model.specs.declared.event.Event.TheVariants.{Lead, Enter}
-use Rattle.sf_model.specs.History.{uses, next_generation, maker}
-use Rattle.sf_model.specs.State.{IsKept, leaves_led, led_call, leaves_ticket, last_ticket, untaken, has_taken}
-use Rattle.sf_model.specs.Agrees.{owns, has_own, leaves_owed, owed_call}
-use Rattle.sf_model.proofs.Lists.{list_any_push_last}
-use Rattle.sf_model.proofs.LegalHistories.{same_call_self, legal_front, legal_last, fold_push}
-use Rattle.sf_group.specs.declared.view.Sizes.{Sizes}
+use Rattle.sf_history.specs.declared.call.CallId.{CallId}
+use Rattle.sf_history.specs.declared.call.Ticket.{Ticket}
+use Rattle.sf_history.specs.declared.command.ChanAsked.TheVariants as chan_asked
+use Rattle.sf_history.specs.declared.event.Event.{Event}
+use Rattle.sf_history.specs.declared.event.Event.TheVariants.{Lead, Enter}
+use Rattle.sf_history.specs.History.{uses, next_generation}
+use Rattle.sf_history.specs.State.{IsKept, leaves_led, led_call, leaves_ticket, last_ticket, untaken, has_taken}
+use Rattle.sf_state.specs.Agrees.{owns, has_own, leaves_owed, owed_call}
+use Rattle.sf_lists.proofs.Lists.{list_any_push_last}
+use Rattle.sf_history.proofs.LegalHistories.{same_call_self, legal_front, legal_last, fold_push}
+use Rattle.sf_calls.specs.declared.sizes.Sizes.{Sizes}
 use Rattle.sf_group.specs.declared.view.Claim.{Claim}
 use Rattle.sf_group.specs.declared.view.View.{View}
-use Rattle.sf_group.specs.declared.locked.ChanBegun.TheVariants as begun
-use Rattle.sf_group.specs.Tokens.{GroupValue}
-use Rattle.sf_group.specs.Seen.{StartsWith, own_events, Grows, Adds}
+use Rattle.sf_calls.specs.declared.outcomes.ChanBegun.TheVariants as begun
+use Rattle.sf_calls.specs.Tokens.{GroupValue}
+use Rattle.sf_calls.specs.Seen.{IsLawful, StartsWith, Grows, Adds}
+use Rattle.sf_history.specs.History.{own_events}
 use Rattle.sf_group.specs.View.{Has, AreApart, claim, group_at, all_of, sizes_of, both_of, first_of_all, rest_of, first_alone, without_first}
-use Rattle.sf_group.specs.Fitting.{FitOf, led_place}
+use Rattle.sf_calls.specs.Fitting.{FitOf, led_place}
 use Rattle.sf_group.specs.Plays.{IsLater}
-use Rattle.sf_group.specs.Calls.{HasChanBegun, call_of}
+use Rattle.sf_calls.specs.Begins.{HasChanBegun}
+use Rattle.sf_calls.specs.Same.{call_of}
 use Rattle.sf_group.specs.Known.{ticket, held_in, Sits, caller_of, flight_of, ticket_of, group_of}
-use Rattle.sf_group.specs.Passing.{Passes, AreNamed, chan_as}
+use Rattle.sf_group.specs.Passing.{Passes, AreNamed, chan_begun_as}
 use Rattle.sf_group.proofs.Adding.{grows_from}
-use Rattle.sf_group.proofs.AskedRows.{next_is}
+use Rattle.sf_group.proofs.BegunRows.{next_is}
 use Rattle.sf_group.proofs.Fits.{led_place_longer}
 use Rattle.sf_group.proofs.Holding.{has_alone}
 use Rattle.sf_group.proofs.Lasting.{led_later, owed_later, held_later, next_later}
 use Rattle.sf_group.proofs.Pairs.{pair_callers, second_later}
 use Rattle.sf_group.proofs.Sitting.{held_plain, led_here, open_led}
 
-chan_open : (m n c : CallId) (o : Option CallId) → chan_asked.Joined c ≡ chan_as m n o → o ≡ Some c
+chan_open : (m n c : CallId) (o : Option CallId) → chan_asked.Joined c ≡ chan_begun_as m n o → o ≡ Some c
 chan_open m n c None is = absurd (let no : chan_asked.Joined c ≡ chan_asked.Led m n = is in cc)
 chan_open m n c (Some d) is = let same : c ≡ d = cc in ap (λ x. Some x) (sym same)
 
@@ -49,9 +50,9 @@ module _ {V : Type 0} where
   part z a mid es = record { sizes = Some z; known = claim (a ∷ []) (mid.seen ++ es) (mid.taken ++ []); told = []; locked = false }
 
   sits_part : (z : Sizes) (c mid : Claim V) (es : List (Event ℕ V)) (a n m : ℕ) (led : Option CallId) (held : Option Ticket) → IsLater z c mid → Has c.callers a → n ≡ next_generation z.first c.seen a → led_call c.seen a ≡ None → owed_call c.seen a ≡ None → held_in c a ≡ None
-      → fold (leaves_led a) None es ≡ led → fold (leaves_owed a) None es ≡ None → (held_in mid a ≡ None → held_in (claim (a ∷ []) (mid.seen ++ es) (mid.taken ++ [])) a ≡ held) → m ≡ n + sum_by (uses a) es
+      → fold (leaves_led a) None es ≡ led → fold (leaves_owed a) None es ≡ None → (held_in mid a ≡ None → held_in (claim (a ∷ []) (mid.seen ++ es) (mid.taken ++ [])) a ≡ held) → m ≡ n + sum_by (uses a) es → IsLawful z (mid.seen ++ es)
       → Sits a m (part z a mid es) led None held
-  sits_part z c mid es a n m led held l own was leads owes holds leads' owes' holds' given =
+  sits_part z c mid es a n m led held l own was leads owes holds leads' owes' holds' given lawful =
       let next : next_generation z.first mid.seen a ≡ n = next_later z.first z c mid a l own ∙ sym was in
       let more = sum_by-append (uses a) mid.seen es in
       record {
@@ -63,13 +64,13 @@ module _ {V : Type 0} where
         leads = fold-append (leaves_led a) None mid.seen es ∙ (ap (λ x. fold (leaves_led a) x es) (led_later z c mid a None l own leads tt) ∙ leads');
         owes = fold-append (leaves_owed a) None mid.seen es ∙ (ap (λ x. fold (leaves_owed a) x es) (owed_later z c mid a None l own owes tt) ∙ owes');
         holds = holds' (held_later z c mid a l own ∙ holds);
+        lawful = lawful;
       }
 
   adds_part : (g : GroupValue) (z : Sizes) (c mid : Claim V) (es x : List (Event ℕ V)) (members : List CallId) (a n : ℕ) → g.sizes ≡ z → IsLater z c mid → Has c.callers a → IsKept nat_eq (group_at z (mid.seen ++ es) members) → own_events a es ≡ x → sum_by (uses a) es ≡ n → Adds g a c.seen (mid.seen ++ es) x n
   adds_part g z c mid es x members a n same l own kept mine given = record {
     grows = subst (λ h. Grows g a c.seen (h ++ es) x n) (sym l.seen) (grows_from g a c.seen l.between es x n (l.others a own) mine given);
-    legal = kept.legal;
-    within = subst (λ (s : Sizes). All (λ e. (0 < maker e) × (maker e ≤ s.callers)) (mid.seen ++ es)) (sym same) kept.made;
+    lawful = subst (λ (s : Sizes). IsLawful s (mid.seen ++ es)) (sym same) record { legal = kept.legal; made = kept.made };
   }
 
   starts_part : (z : Sizes) (c mid : Claim V) (es : List (Event ℕ V)) → IsLater z c mid → StartsWith (mid.seen ++ es) c.seen
@@ -110,11 +111,11 @@ module _ {V : Type 0} where
       let last : last_ticket (mid.seen ++ e ∷ []) n.caller ≡ Some (ticket m n) = fold_push (leaves_ticket n.caller) None mid.seen e ∙ cond-true _ _ _ (by_itself n.caller) in
       record {
         first = sits_part z one.known mid (e ∷ []) m.caller m.generation (m.generation + 1) (Some m) None p.later (has_alone one m.caller s.callers) s.next s.leads s.owes s.holds
-            (cond-true _ _ _ (by_itself m.caller)) refl (held_plain (m.caller ∷ []) mid (e ∷ []) m.caller None (cond-false _ _ _ (ne_eqb n.caller m.caller apart))) (omega (arith, used, unused));
+            (cond-true _ _ _ (by_itself m.caller)) refl (held_plain (m.caller ∷ []) mid (e ∷ []) m.caller None (cond-false _ _ _ (ne_eqb n.caller m.caller apart))) (omega (arith, used, unused)) (record { legal = p.kept.legal; made = p.kept.made });
         second = sits_part z other.known mid (e ∷ []) n.caller n.generation (n.generation + 1) None (Some (ticket m n)) l (has_alone other n.caller t.callers) (t.next ∙ ap (λ (y : Sizes). next_generation y.first other.known.seen n.caller) same) t.leads t.owes t.holds
             (cond-false _ _ _ (ne_eqb m.caller n.caller apart')) refl
             (λ was. ap (option_and_then (untaken (mid.taken ++ []))) last ∙ (ap (λ q. cond (has_taken q n) None (Some (ticket m n))) (append-nil mid.taken) ∙ cond-false _ _ _ untaken_yet))
-            (omega (arith, used', unused'));
+            (omega (arith, used', unused')) (record { legal = p.kept.legal; made = p.kept.made });
         place = led_here mid.seen m.caller k m (Some n) follows.1;
         own = list_any_push_last (owns m) mid.seen e (and_from _ _ (same_call_self m) refl);
       }
@@ -137,10 +138,10 @@ module _ {V : Type 0} where
       let last : last_ticket (mid.seen ++ e ∷ []) n.caller ≡ Some (ticket c n) = fold_push (leaves_ticket n.caller) None mid.seen e ∙ cond-true _ _ _ (by_itself n.caller) in
       record {
         first = sits_part z one.known mid (e ∷ []) m.caller m.generation m.generation None None p.later (has_alone one m.caller s.callers) s.next s.leads s.owes s.holds refl refl
-            (held_plain (m.caller ∷ []) mid (e ∷ []) m.caller None (cond-false _ _ _ (ne_eqb n.caller m.caller apart))) (omega (arith, unused));
+            (held_plain (m.caller ∷ []) mid (e ∷ []) m.caller None (cond-false _ _ _ (ne_eqb n.caller m.caller apart))) (omega (arith, unused)) (record { legal = p.kept.legal; made = p.kept.made });
         second = sits_part z other.known mid (e ∷ []) n.caller n.generation (n.generation + 1) None (Some (ticket c n)) l (has_alone other n.caller t.callers) (t.next ∙ ap (λ (y : Sizes). next_generation y.first other.known.seen n.caller) same) t.leads t.owes t.holds refl refl
             (λ was. ap (option_and_then (untaken (mid.taken ++ []))) last ∙ (ap (λ q. cond (has_taken q n) None (Some (ticket c n))) (append-nil mid.taken) ∙ cond-false _ _ _ untaken_yet))
-            (omega (arith, used'));
+            (omega (arith, used')) (record { legal = p.kept.legal; made = p.kept.made });
         place = led_place_longer mid.seen (e ∷ []) c k (open_led mid.seen k c (legal_front nat_eq mid.seen e p.kept.legal) follows.2);
       }
 
@@ -166,25 +167,25 @@ module _ {V : Type 0} where
       let used : ◌≡◌ {A = ℕ} (cond (nat_eq m.caller m.caller) 1 0) 1 = cond-true _ _ _ (by_itself m.caller) in
       let unused : ◌≡◌ {A = ℕ} (cond (nat_eq n.caller m.caller) 1 0) 0 = cond-false _ _ _ (ne_eqb n.caller m.caller apart) in
       let used' : ◌≡◌ {A = ℕ} (cond (nat_eq n.caller n.caller) 1 0) 1 = cond-true _ _ _ (by_itself n.caller) in
-      let unused' : ◌≡◌ {A = ℕ} (cond (nat_eq m.caller n.caller) 1 0) 0 = cond-false _ _ _ (ne_eqb m.caller n.caller apart') in (
-        unspent_now t one m s left.0,
-        unspent_now u other n q left.1,
-        ap (λ x. at x z) first_table,
-        refl,
-        ap (λ x. at x z) second_table ∙ ap (λ y. at u y) (sym same),
-        refl,
-        refl,
-        sym next,
-        ap (λ c. Some c) (sym next'),
-        refl,
-        refl,
-        sym next',
-        adds_part (group_of t one) z one.known mid (e ∷ []) (Lead m.caller k (call_of (caller_of t one m.caller)) (Some (call_of (caller_of u other n.caller))) ∷ []) (mid.taken ++ []) m.caller 1 refl p.later mine p.kept (cond-true _ _ _ (by_itself m.caller) ∙ ap (λ x. x ∷ []) event) (omega (arith, used, unused)),
-        adds_part (group_of u other) z other.known mid (e ∷ []) [] (mid.taken ++ []) n.caller 1 same l theirs p.kept (cond-false _ _ _ (ne_eqb m.caller n.caller apart')) (omega (arith, used', unused')),
-        (mid.seen, [], ap (λ x. mid.seen ++ x ∷ []) event),
-        starts_part z other.known mid (e ∷ []) l,
-        starts_part z one.known mid (e ∷ []) p.later,
-      )
+      let unused' : ◌≡◌ {A = ℕ} (cond (nat_eq m.caller n.caller) 1 0) 0 = cond-false _ _ _ (ne_eqb m.caller n.caller apart') in record {
+        unspent = unspent_now t one m s left.0;
+        second_unspent = unspent_now u other n q left.1;
+        group = ap (λ x. at x z) first_table;
+        number = refl;
+        second_group = ap (λ x. at x z) second_table ∙ ap (λ y. at u y) (sym same);
+        second_number = refl;
+        place = refl;
+        call = sym next;
+        own = ap (λ c. Some c) (sym next');
+        second_place = refl;
+        second_call = refl;
+        member = sym next';
+        adds = adds_part (group_of t one) z one.known mid (e ∷ []) (Lead m.caller k (call_of (caller_of t one m.caller)) (Some (call_of (caller_of u other n.caller))) ∷ []) (mid.taken ++ []) m.caller 1 refl p.later mine p.kept (cond-true _ _ _ (by_itself m.caller) ∙ ap (λ x. x ∷ []) event) (omega (arith, used, unused));
+        second_adds = adds_part (group_of u other) z other.known mid (e ∷ []) [] (mid.taken ++ []) n.caller 1 same l theirs p.kept (cond-false _ _ _ (ne_eqb m.caller n.caller apart')) (omega (arith, used', unused'));
+        stands = (mid.seen, [], ap (λ x. mid.seen ++ x ∷ []) event);
+        begins = starts_part z other.known mid (e ∷ []) l;
+        second_begins = starts_part z one.known mid (e ∷ []) p.later;
+      }
     where
       at : TableId → Sizes → GroupValue
       at x y = record { table = x; sizes = y }
@@ -200,21 +201,21 @@ module _ {V : Type 0} where
       let next' = next_is u other n q in
       let event : ◌≡◌ {A = Event ℕ V} e (Enter n.caller k c (call_of (caller_of u other n.caller))) = ap (λ d. Enter n.caller k c d) (sym next') in
       let unused : ◌≡◌ {A = ℕ} (cond (nat_eq n.caller m.caller) 1 0) 0 = cond-false _ _ _ (ne_eqb n.caller m.caller apart) in
-      let used' : ◌≡◌ {A = ℕ} (cond (nat_eq n.caller n.caller) 1 0) 1 = cond-true _ _ _ (by_itself n.caller) in (
-        unspent_now t one m s left.0,
-        unspent_now u other n q left.1,
-        ap (λ x. at x z) first_table,
-        refl,
-        ap (λ x. at x z) second_table ∙ ap (λ y. at u y) (sym same),
-        refl,
-        refl,
-        sym next',
-        adds_part (group_of t one) z one.known mid (e ∷ []) [] (mid.taken ++ []) m.caller 0 refl p.later mine p.kept (cond-false _ _ _ (ne_eqb n.caller m.caller apart)) (omega (arith, unused)),
-        adds_part (group_of u other) z other.known mid (e ∷ []) (Enter n.caller k c (call_of (caller_of u other n.caller)) ∷ []) (mid.taken ++ []) n.caller 1 same l theirs p.kept (cond-true _ _ _ (by_itself n.caller) ∙ ap (λ x. x ∷ []) event) (omega (arith, used')),
-        (mid.seen, [], ap (λ x. mid.seen ++ x ∷ []) event),
-        starts_part z other.known mid (e ∷ []) l,
-        starts_part z one.known mid (e ∷ []) p.later,
-      )
+      let used' : ◌≡◌ {A = ℕ} (cond (nat_eq n.caller n.caller) 1 0) 1 = cond-true _ _ _ (by_itself n.caller) in record {
+        unspent = unspent_now t one m s left.0;
+        second_unspent = unspent_now u other n q left.1;
+        group = ap (λ x. at x z) first_table;
+        number = refl;
+        second_group = ap (λ x. at x z) second_table ∙ ap (λ y. at u y) (sym same);
+        second_number = refl;
+        second_place = refl;
+        member = sym next';
+        adds = adds_part (group_of t one) z one.known mid (e ∷ []) [] (mid.taken ++ []) m.caller 0 refl p.later mine p.kept (cond-false _ _ _ (ne_eqb n.caller m.caller apart)) (omega (arith, unused));
+        second_adds = adds_part (group_of u other) z other.known mid (e ∷ []) (Enter n.caller k c (call_of (caller_of u other n.caller)) ∷ []) (mid.taken ++ []) n.caller 1 same l theirs p.kept (cond-true _ _ _ (by_itself n.caller) ∙ ap (λ x. x ∷ []) event) (omega (arith, used'));
+        stands = (mid.seen, [], ap (λ x. mid.seen ++ x ∷ []) event);
+        begins = starts_part z other.known mid (e ∷ []) l;
+        second_begins = starts_part z one.known mid (e ∷ []) p.later;
+      }
     where
       at : TableId → Sizes → GroupValue
       at x y = record { table = x; sizes = y }

@@ -5,12 +5,12 @@ use Rattle.std.proofs.Math.Bool.{or-false}
 use Rattle.std.proofs.lemmas.Bool.{false_from_ne_true}
 use Rattle.std.proofs.lemmas.List.{append-nil}
 use Rattle.std.proofs.lemmas.List.Folds.{list_any-append}
-use Rattle.sf_model.specs.declared.call.CallId.{CallId}
-use Rattle.sf_model.specs.declared.event.Event.{Event}
-use Rattle.sf_model.specs.Calls.{same_call}
-use Rattle.sf_model.specs.State.{IsCaller, has_taken}
-use Rattle.sf_model.proofs.LegalHistories.{same_call_is}
-use Rattle.sf_group.specs.declared.view.Sizes.{Sizes}
+use Rattle.sf_history.specs.declared.call.CallId.{CallId}
+use Rattle.sf_history.specs.declared.event.Event.{Event}
+use Rattle.sf_history.specs.Calls.{same_call}
+use Rattle.sf_history.specs.State.{IsCaller, has_taken}
+use Rattle.sf_history.proofs.LegalHistories.{same_call_is}
+use Rattle.sf_calls.specs.declared.sizes.Sizes.{Sizes}
 use Rattle.sf_group.specs.declared.view.Claim.{Claim}
 use Rattle.sf_group.specs.declared.view.View.{View}
 use Rattle.sf_group.specs.View.{Has, AreMembersOf, Spares, Concern, claim, group_at, callers_of, all_of}

@@ -1,16 +1,18 @@
 -- callers that are dealt out, one after the other
 use Rattle.std.proofs.Common.{◌≡◌, ℕ, suc, ◌+◌, ◌-◌, ◌≤◌, List, [], ◌∷◌, ◌++◌, refl, sym, ap, ◌∙◌, subst, false, Option, Some, None, arith}
 use Rattle.std.specs.List.{range_with_len}
+use Rattle.std.proofs.lemmas.List.Elements.{All-nil}
 use Rattle.std.proofs.lemmas.List.{map-append, map-id}
 use Rattle.std.proofs.lemmas.List.FromFn.{map-range_with_len_more}
 use Rattle.atomic_table.specs.Seated.{TableId}
-use Rattle.sf_model.specs.declared.event.Event.{Event}
-use Rattle.sf_group.specs.declared.view.Sizes.{Sizes}
+use Rattle.sf_history.specs.declared.event.Event.{Event}
+use Rattle.sf_calls.specs.declared.sizes.Sizes.{Sizes}
 use Rattle.sf_group.specs.declared.view.Claim.{Claim}
 use Rattle.sf_group.specs.declared.view.View.{View}
-use Rattle.sf_group.specs.Tokens.{CallerValue}
+use Rattle.sf_calls.specs.Tokens.{CallerValue}
 use Rattle.sf_group.specs.View.{claim, rest_of, first_of_all, first_view, without_first, first_alone, sizes_of}
-use Rattle.sf_group.specs.Making.{IsDealing, new_caller, numbers_of}
+use Rattle.sf_group.specs.Dealing.{IsDealing}
+use Rattle.sf_calls.specs.Making.{new_caller, numbers_of}
 use Rattle.sf_group.specs.Known.{Sits, caller_of}
 
 -- the numbers that are left begin with the next
@@ -41,11 +43,15 @@ module _ {V : Type 0} where
     unlocked = d.unlocked;
   }
 
+  nothing : (p q : List (Event ℕ V)) (e : Event ℕ V) → [] ≡ p ++ e ∷ q → ⊥
+  nothing [] q e is = cc
+  nothing (x ∷ p) q e is = cc
+
   pub deals_one : (n next : ℕ) (z : Sizes) (v : View V) → n ≤ z.callers → next ≡ z.first → IsDealing n z v → Sits n next (first_alone v) None None None
   deals_one n next z v le first d =
       let known : claim (first_of_all v.known.callers) v.known.seen v.known.taken ≡ claim (n ∷ []) [] [] = ap (λ q. claim (first_of_all q) v.known.seen v.known.taken) (dealt_callers n z v le d) ∙ (ap (λ q. claim (n ∷ []) q v.known.taken) d.seen ∙ ap (λ q. claim (n ∷ []) [] q) d.taken) in
       let whole : first_alone v ≡ alone n z = ap (λ c. with_known v c) known ∙ ap (λ o. of_sizes n o) d.sizes in
-      subst (λ (u : View V). Sits n next u None None None) (sym whole) record { sizes = refl; callers = refl; told = refl; unlocked = refl; next = first ∙ omega arith; leads = refl; owes = refl; holds = refl }
+      subst (λ (u : View V). Sits n next u None None None) (sym whole) record { sizes = refl; callers = refl; told = refl; unlocked = refl; next = first ∙ omega arith; leads = refl; owes = refl; holds = refl; lawful = record { legal = λ p q e is. absurd (nothing p q e is); made = All-nil _ } }
     where
       with_known : View V → Claim V → View V
       with_known u c = record { sizes = u.sizes; known = c; told = []; locked = false }
@@ -63,7 +69,7 @@ module _ {V : Type 0} where
       sizes_with o = sizes_of (record { sizes = o; known = v.known; told = []; locked = false })
 
       at : Sizes → List (Event ℕ V) → CallerValue V
-      at s q = record { group = record { table = t; sizes = s }; number = n; seen = q }
+      at s q = record { group = record { table = t; sizes = s }; number = n; seen = q; turns = [] }
 
   -- the numbers, with one more caller
   pub numbers_more : (callers : List (CallerValue V)) (c : CallerValue V) (n : ℕ) → numbers_of callers ≡ range_with_len 1 n → c.number ≡ n + 1 → numbers_of (callers ++ c ∷ []) ≡ range_with_len 1 (n + 1)

@@ -2,31 +2,31 @@
 use Rattle.std.proofs.Common.{◌≡◌, ℕ, inl, ⊎_elim, Bool, true, false, ◌||◌, List, [], ◌∷◌, ◌++◌, refl, sym, ap, ◌∙◌, subst, Option, Some, None, Result, Ok, Err}
 use Rattle.std.proofs.lemmas.Bool.{or_cases}
 use Rattle.std.proofs.lemmas.List.{append-nil}
-use Rattle.sf_model.specs.declared.call.CallId.{CallId}
-use Rattle.sf_model.specs.declared.command.Taken.{Taken}
-use Rattle.sf_model.specs.declared.command.Taken.TheVariants as taken
-use Rattle.sf_model.specs.declared.event.Event.{Event}
-use Rattle.sf_model.specs.declared.event.Event.TheVariants.{Settle, Handed}
-use Rattle.sf_model.specs.declared.refusal.ModelRefusal.{ModelRefusal}
-use Rattle.sf_model.specs.declared.seq_state.Settlement.{Settlement}
-use Rattle.sf_model.specs.declared.seq_state.Settlement.TheVariants as settlement
-use Rattle.sf_model.specs.declared.seq_state.table.Owing.{Owing}
-use Rattle.sf_model.specs.History.{has_joined, is_handed, answer_of}
-use Rattle.sf_model.specs.State.{GroupState, held_ticket}
-use Rattle.sf_model.specs.Rows.{StateRows, row_of}
-use Rattle.sf_model.specs.Agrees.{has_own, owed_call, owed_in, Agrees}
-use Rattle.sf_model.specs.Settlements.{settles_with, settles_led, settlement_of, IsSettled, IsDelivered, IsPolled}
-use Rattle.sf_group.specs.declared.view.Sizes.{Sizes}
+use Rattle.sf_history.specs.declared.call.CallId.{CallId}
+use Rattle.sf_history.specs.declared.command.Taken.{Taken}
+use Rattle.sf_history.specs.declared.command.Taken.TheVariants as taken
+use Rattle.sf_history.specs.declared.event.Event.{Event}
+use Rattle.sf_history.specs.declared.event.Event.TheVariants.{Settle, Handed}
+use Rattle.sf_history.specs.declared.refusal.ModelRefusal.{ModelRefusal}
+use Rattle.sf_state.specs.declared.seq_state.Settlement.{Settlement}
+use Rattle.sf_state.specs.declared.seq_state.Settlement.TheVariants as settlement
+use Rattle.sf_state.specs.declared.seq_state.table.Owing.{Owing}
+use Rattle.sf_history.specs.History.{has_joined, is_handed, answer_of}
+use Rattle.sf_history.specs.State.{GroupState, held_ticket}
+use Rattle.sf_state.specs.Rows.{StateRows, row_of}
+use Rattle.sf_state.specs.Agrees.{has_own, owed_call, owed_in, Agrees}
+use Rattle.sf_state.specs.Settlements.{settles_with, settles_led, settlement_of, IsSettled, IsDelivered, IsPolled}
+use Rattle.sf_calls.specs.declared.sizes.Sizes.{Sizes}
 use Rattle.sf_group.specs.declared.view.Claim.{Claim}
 use Rattle.sf_group.specs.declared.view.View.{View}
 use Rattle.sf_group.specs.View.{Has, all_of, sizes_of, group_at}
-use Rattle.sf_group.specs.Fitting.{FitOf, led_place, AllFit}
+use Rattle.sf_calls.specs.Fitting.{FitOf, led_place, AllFit}
 use Rattle.sf_group.specs.Plays.{Locks}
 use Rattle.sf_group.specs.Known.{ticket, Sits}
-use Rattle.sf_group.specs.Passing.{settled_events, IsSettledAs, delivered_events, IsDeliveredAs, polled_members, IsPolledAs}
+use Rattle.sf_group.specs.Passing.{finish_events, IsFinishedAs, delivery_events, IsDeliveredAs, poll_members, IsPolledAs}
 use Rattle.sf_group.proofs.Fits.{Lasts, fit_more, fit_settle, led_place_longer}
 use Rattle.sf_group.proofs.Holding.{now, has_alone, led_now, owed_now, held_now, GoesOn, agrees_plain}
-use Rattle.sf_group.proofs.Asking.{alone}
+use Rattle.sf_group.proofs.Beginning.{alone}
 
 both_mine : (a b : ℕ) → Has (a ∷ a ∷ []) b → a ≡ b
 both_mine a b g = ⊎_elim (λ (e : a ≡ b). e) (λ y. ⊎_elim (λ (e : a ≡ b). e) (λ z. absurd z) y) g
@@ -44,10 +44,10 @@ module _ {V : Type 0} where
       owes_nothing c.caller (row_of s c.caller).owing (sym (l.agrees.rows c.caller number).owes ∙ owed)
 
   -- the state settles the call that the caller leads
-  pub settle_obeyed : (fits : FitOf V) (v w : View V) (s t : StateRows V) (n : ℕ) (c : CallId) (x : V) (r : Result (Settlement V) (ModelRefusal × V)) → Locks fits (sizes_of v) v w s → Sits c.caller n v (Some c) None None
+  pub finish_obeyed : (fits : FitOf V) (v w : View V) (s t : StateRows V) (n : ℕ) (c : CallId) (x : V) (r : Result (Settlement V) (ModelRefusal × V)) → Locks fits (sizes_of v) v w s → Sits c.caller n v (Some c) None None
       → ((g : GroupState ℕ V) → Agrees s g → IsSettled (settlement_of g c.caller x) r x s t)
       → IsSettled (Ok (settles_with (now (sizes_of v) w) c.caller x c (has_joined w.known.seen c || has_own w.known.seen c))) r x s t
-  settle_obeyed fits v w s t n c x r l sits obeyed =
+  finish_obeyed fits v w s t n c x r l sits obeyed =
       let led = led_now fits (sizes_of v) v w s c.caller n (Some c) None None l sits refl in
       subst (λ q. IsSettled (settles_led (now (sizes_of v) w) c.caller x q) r x s t) led (obeyed (now (sizes_of v) w) l.agrees)
 
@@ -62,7 +62,7 @@ module _ {V : Type 0} where
   settled_on : (fits : FitOf V) → Lasts fits → (v w : View V) (s t : StateRows V) (n k : ℕ) (c : CallId) (x : V) (b : Bool) (r : Settlement V) → (has_joined w.known.seen c || has_own w.known.seen c) ≡ b → Locks fits (sizes_of v) v w s → Sits c.caller n v (Some c) None None
       → led_place v.known.seen c ≡ Some k → fits k c x v.known.seen
       → (r ≡ (settles_with (now (sizes_of v) w) c.caller x c b).0) × Agrees t (settles_with (now (sizes_of v) w) c.caller x c b).1
-      → GoesOn fits (sizes_of v) (all_of v) w.known t (settled_events c.caller c x r) [] × IsSettledAs w.known.seen c x r
+      → GoesOn fits (sizes_of v) (all_of v) w.known t (finish_events c.caller c x r) [] × IsFinishedAs w.known.seen c x r
   settled_on fits lasts v w s t n k c x true r owed l sits led fit done =
       let shared : Bool = has_joined w.known.seen c in
       let es : List (Event ℕ V) = Settle c.caller c x shared ∷ [] in
@@ -72,7 +72,7 @@ module _ {V : Type 0} where
         agrees = agrees_plain (sizes_of v) w.known t es done.1;
         fitting = fit_settle fits lasts w.known.seen [] c.caller k c x shared l.sees.fitting (λ d. refl) (led_there fits v w s k c l led) (fits_now fits lasts v w s k c x l fit);
       } in
-      subst (λ q. GoesOn fits (sizes_of v) (all_of v) w.known t (settled_events c.caller c x q) [] × IsSettledAs w.known.seen c x q) (sym done.0) (on, or_cases (has_joined w.known.seen c) (has_own w.known.seen c) owed)
+      subst (λ q. GoesOn fits (sizes_of v) (all_of v) w.known t (finish_events c.caller c x q) [] × IsFinishedAs w.known.seen c x q) (sym done.0) (on, or_cases (has_joined w.known.seen c) (has_own w.known.seen c) owed)
   settled_on fits lasts v w s t n k c x false r unowed l sits led fit done =
       let shared : Bool = has_joined w.known.seen c in
       let es : List (Event ℕ V) = Settle c.caller c x shared ∷ Handed c.caller c ∷ [] in
@@ -82,13 +82,13 @@ module _ {V : Type 0} where
         agrees = agrees_plain (sizes_of v) w.known t es done.1;
         fitting = fit_settle fits lasts w.known.seen (Handed c.caller c ∷ []) c.caller k c x shared l.sees.fitting (λ d. refl) (led_there fits v w s k c l led) (fits_now fits lasts v w s k c x l fit);
       } in
-      subst (λ q. GoesOn fits (sizes_of v) (all_of v) w.known t (settled_events c.caller c x q) [] × IsSettledAs w.known.seen c x q) (sym done.0) (on, refl)
+      subst (λ q. GoesOn fits (sizes_of v) (all_of v) w.known t (finish_events c.caller c x q) [] × IsFinishedAs w.known.seen c x q) (sym done.0) (on, refl)
 
-  pub settle_goes_on : (fits : FitOf V) → Lasts fits → (v w : View V) (s t : StateRows V) (n k : ℕ) (c : CallId) (x : V) (r : Settlement V) → Locks fits (sizes_of v) v w s → Sits c.caller n v (Some c) None None
+  pub finish_goes_on : (fits : FitOf V) → Lasts fits → (v w : View V) (s t : StateRows V) (n k : ℕ) (c : CallId) (x : V) (r : Settlement V) → Locks fits (sizes_of v) v w s → Sits c.caller n v (Some c) None None
       → led_place v.known.seen c ≡ Some k → fits k c x v.known.seen
       → IsSettled (Ok (settles_with (now (sizes_of v) w) c.caller x c (has_joined w.known.seen c || has_own w.known.seen c))) (Ok r) x s t
-      → GoesOn fits (sizes_of v) (all_of v) w.known t (settled_events c.caller c x r) [] × IsSettledAs w.known.seen c x r
-  settle_goes_on fits lasts v w s t n k c x r l sits led fit done = settled_on fits lasts v w s t n k c x (has_joined w.known.seen c || has_own w.known.seen c) r refl l sits led fit done
+      → GoesOn fits (sizes_of v) (all_of v) w.known t (finish_events c.caller c x r) [] × IsFinishedAs w.known.seen c x r
+  finish_goes_on fits lasts v w s t n k c x r l sits led fit done = settled_on fits lasts v w s t n k c x (has_joined w.known.seen c || has_own w.known.seen c) r refl l sits led fit done
 
   -- nothing is added
   nothing_on : (fits : FitOf V) → Lasts fits → (z : Sizes) (who : List ℕ) (c : Claim V) (t : StateRows V) → Agrees t (group_at z c.seen c.taken) → AllFit fits c.seen → GoesOn fits z who c t [] []
@@ -108,7 +108,7 @@ module _ {V : Type 0} where
 
   pub deliver_goes_on : (fits : FitOf V) → Lasts fits → (v w : View V) (s t : StateRows V) (n : ℕ) (c : CallId) (r : Result (Settlement V) ModelRefusal) → Locks fits (sizes_of v) v w s → Sits c.caller n v None (Some c) None
       → IsDelivered (now (sizes_of v) w) c.caller (Some c) r s t
-      → GoesOn fits (sizes_of v) (all_of v) w.known t (delivered_events c.caller c r) [] × IsDeliveredAs w.known.seen c r
+      → GoesOn fits (sizes_of v) (all_of v) w.known t (delivery_events c.caller c r) [] × IsDeliveredAs w.known.seen c r
   deliver_goes_on fits lasts v w s t n c (Ok (settlement.Owed d shared)) l sits done = (nothing_on fits lasts (sizes_of v) (all_of v) w.known t done.2 l.sees.fitting, tt)
   deliver_goes_on fits lasts v w s t n c (Ok (settlement.HandedOut d x shared)) l sits done = (
     record {
@@ -130,7 +130,7 @@ module _ {V : Type 0} where
 
   pub poll_goes_on : (fits : FitOf V) → Lasts fits → (v w : View V) (s t : StateRows V) (n : ℕ) (c m : CallId) (r : Taken V) → Locks fits (sizes_of v) v w s → Sits m.caller n v None None (Some (ticket c m))
       → IsPolled (now (sizes_of v) w) m.caller (Some (ticket c m)) (Ok r) s t
-      → GoesOn fits (sizes_of v) (all_of v) w.known t [] (polled_members m r) × IsPolledAs w.known.seen c r
+      → GoesOn fits (sizes_of v) (all_of v) w.known t [] (poll_members m r) × IsPolledAs w.known.seen c r
   poll_goes_on fits lasts v w s t n c m (taken.Got d x shared) l sits done = (
     record {
       concern = tt;

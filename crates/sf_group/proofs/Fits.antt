@@ -4,13 +4,13 @@ use Rattle.std.specs.Prelude.{find, option_and_then}
 use Rattle.std.specs.Option.{option_or}
 use Rattle.std.proofs.lemmas.Bool.{cases_Bool, cond-true, cond-false}
 use Rattle.std.proofs.lemmas.List.Folds.{find-append}
-use Rattle.sf_model.specs.declared.call.CallId.{CallId}
-use Rattle.sf_model.specs.declared.event.Event.{Event}
-use Rattle.sf_model.specs.declared.event.Event.TheVariants.{Settle}
-use Rattle.sf_model.specs.Calls.{same_call}
-use Rattle.sf_model.specs.History.{settles, result_in, result_of}
-use Rattle.sf_model.proofs.LegalHistories.{same_call_is}
-use Rattle.sf_group.specs.Fitting.{FitOf, is_lead, place_in, led_place, AllFit}
+use Rattle.sf_history.specs.declared.call.CallId.{CallId}
+use Rattle.sf_history.specs.declared.event.Event.{Event}
+use Rattle.sf_history.specs.declared.event.Event.TheVariants.{Settle}
+use Rattle.sf_history.specs.Calls.{same_call}
+use Rattle.sf_history.specs.History.{settles, result_in, result_of}
+use Rattle.sf_history.proofs.LegalHistories.{same_call_is}
+use Rattle.sf_calls.specs.Fitting.{FitOf, is_lead, place_in, led_place, AllFit}
 
 -- what is found stays found
 pub found_longer : {X : Type 0} (p : X → Bool) (xs ys : List X) (x : X) → find p xs ≡ Some x → find p (xs ++ ys) ≡ Some x

@@ -5,15 +5,15 @@ use lib.ListN.{get_elem?}
 use Rattle.std.proofs.lemmas.Bool.{cases_Bool}
 use Rattle.std.proofs.lemmas.List.{append-nil, length-set, get_or-set_same}
 use Rattle.atomic_table.specs.Table.{State, Me, step, gives, put_back, rest, Allows}
-use Rattle.sf_model.specs.declared.call.CallId.{CallId}
-use Rattle.sf_model.specs.declared.event.Event.{Event}
-use Rattle.sf_model.specs.State.{IsCaller}
-use Rattle.sf_model.specs.Rows.{StateRows}
-use Rattle.sf_model.specs.Agrees.{Agrees}
-use Rattle.sf_group.specs.declared.view.Sizes.{Sizes}
+use Rattle.sf_history.specs.declared.call.CallId.{CallId}
+use Rattle.sf_history.specs.declared.event.Event.{Event}
+use Rattle.sf_history.specs.State.{IsCaller}
+use Rattle.sf_state.specs.Rows.{StateRows}
+use Rattle.sf_state.specs.Agrees.{Agrees}
+use Rattle.sf_calls.specs.declared.sizes.Sizes.{Sizes}
 use Rattle.sf_group.specs.declared.view.View.{View}
 use Rattle.sf_group.specs.View.{Has, AreApart, claim, group_at}
-use Rattle.sf_group.specs.Fitting.{FitOf, AllFit}
+use Rattle.sf_calls.specs.Fitting.{FitOf, AllFit}
 use Rattle.sf_group.specs.Shows.{IsClaim, IsView, IsHome, IsOut, Shows, Holds}
 use Rattle.sf_group.specs.Plays.{MayFree, freed, frees}
 use Rattle.sf_group.proofs.Claims.{whole_claim, view_lasts}

@@ -2,16 +2,16 @@
 use Rattle.std.proofs.Common.{◌≡◌, ℕ, Bool, false, List, [], ◌∷◌, ◌++◌, sym, ap, ◌∙◌, subst, Option, Some}
 use Rattle.std.specs.Prelude.{nat_eq}
 use Rattle.std.proofs.lemmas.List.{append-nil}
-use Rattle.sf_model.specs.declared.call.CallId.{CallId}
-use Rattle.sf_model.specs.declared.event.Event.{Event}
-use Rattle.sf_model.specs.State.{IsKept}
-use Rattle.sf_group.specs.declared.view.Sizes.{Sizes}
+use Rattle.sf_history.specs.declared.call.CallId.{CallId}
+use Rattle.sf_history.specs.declared.event.Event.{Event}
+use Rattle.sf_history.specs.State.{IsKept}
+use Rattle.sf_calls.specs.declared.sizes.Sizes.{Sizes}
 use Rattle.sf_group.specs.declared.view.Claim.{Claim}
 use Rattle.sf_group.specs.declared.view.View.{View}
 use Rattle.sf_group.specs.View.{AreApart, claim, group_at, callers_of, all_of, sizes_of, both_of}
-use Rattle.sf_group.specs.Fitting.{FitOf, AllFit}
+use Rattle.sf_calls.specs.Fitting.{FitOf, AllFit}
 use Rattle.sf_group.specs.Plays.{IsLater, AreLater, SeesAll}
-use Rattle.sf_group.specs.Passing.{Passes, HasHeard}
+use Rattle.sf_group.specs.Passing.{Passes, PassesHear}
 
 module _ {V : Type 0} where
   -- a seat that saw all, and added nothing
@@ -49,7 +49,7 @@ module _ {V : Type 0} where
   shown_first : (z : Sizes) (cs : List (Claim V)) (c : Claim V) (w : Claim V) → cs ≡ c ∷ [] → AreLater z cs w → IsLater z c w
   shown_first z cs c w is later = (subst (λ q. AreLater z q w) is later).0
 
-  pub has_heard : (fits : FitOf V) (v n w : View V) → v.sizes ≡ Some (sizes_of v) → v.told ≡ [] → v.locked ≡ false → n.known.callers ≡ [] → n.told ≡ [] → SeesAll fits (sizes_of v) (both_of v n) w → w.locked ≡ v.locked → HasHeard fits v n.known.seen w
+  pub has_heard : (fits : FitOf V) (v n w : View V) → v.sizes ≡ Some (sizes_of v) → v.told ≡ [] → v.locked ≡ false → n.known.callers ≡ [] → n.told ≡ [] → SeesAll fits (sizes_of v) (both_of v n) w → w.locked ≡ v.locked → PassesHear fits v n.known.seen w
   has_heard fits v n w sizes told unlocked none nothing s locked =
       let brought = shown_first (sizes_of v) (v.told ++ n.known ∷ n.told) n.known w.known (ap (λ q. q ++ n.known ∷ n.told) told ∙ ap (λ q. n.known ∷ q) nothing) s.heard in
       (claim (all_of v) w.known.seen w.known.taken, sees_passes fits v n w told none nothing unlocked s locked, (brought.between, brought.seen))

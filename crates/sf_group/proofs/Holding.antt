@@ -3,17 +3,17 @@ use Rattle.std.proofs.Common.{◌≡◌, ℕ, ◌<◌, ◌≤◌, inl, true, fal
 use Rattle.std.specs.Option.{is_none}
 use Rattle.std.proofs.lemmas.List.{append-nil}
 use Rattle.atomic_table.specs.Table.{Me}
-use Rattle.sf_model.specs.declared.call.CallId.{CallId}
-use Rattle.sf_model.specs.declared.call.Ticket.{Ticket}
-use Rattle.sf_model.specs.declared.event.Event.{Event}
-use Rattle.sf_model.specs.State.{GroupState, led_call, held_ticket, is_free}
-use Rattle.sf_model.specs.Rows.{StateRows, HasCaller, HasPlace}
-use Rattle.sf_model.specs.Agrees.{Agrees, HasSameSize, owed_call}
-use Rattle.sf_group.specs.declared.view.Sizes.{Sizes}
+use Rattle.sf_history.specs.declared.call.CallId.{CallId}
+use Rattle.sf_history.specs.declared.call.Ticket.{Ticket}
+use Rattle.sf_history.specs.declared.event.Event.{Event}
+use Rattle.sf_history.specs.State.{GroupState, led_call, held_ticket, is_free}
+use Rattle.sf_state.specs.Rows.{StateRows, HasCaller, HasPlace}
+use Rattle.sf_state.specs.Agrees.{Agrees, HasSameSize, owed_call}
+use Rattle.sf_calls.specs.declared.sizes.Sizes.{Sizes}
 use Rattle.sf_group.specs.declared.view.Claim.{Claim}
 use Rattle.sf_group.specs.declared.view.View.{View}
 use Rattle.sf_group.specs.View.{Has, AreApart, AreMembersOf, Concern, claim, group_at, callers_of, all_of, sizes_of}
-use Rattle.sf_group.specs.Fitting.{FitOf, AllFit}
+use Rattle.sf_calls.specs.Fitting.{FitOf, AllFit}
 use Rattle.sf_group.specs.Plays.{Locks, Took, MayFree, freed}
 use Rattle.sf_group.specs.Known.{Sits}
 use Rattle.sf_group.specs.Passing.{Passes}

@@ -7,15 +7,15 @@ use Rattle.std.specs.Prelude.{slice_index, MatchBool, nat_eq}
 use Rattle.std.proofs.lemmas.List.{append-nil, length-set, set-get_or, get_or-set_same}
 use Rattle.atomic_table.specs.Table.{State, Me, Act, step, keeps, takes, Allows, Valid, stepped, carried_after}
 use Rattle.atomic_table.proofs.Lists.{at_set, set_again, exchanged}
-use Rattle.sf_model.specs.declared.call.CallId.{CallId}
-use Rattle.sf_model.specs.declared.event.Event.{Event}
-use Rattle.sf_model.specs.State.{IsKept}
-use Rattle.sf_model.specs.Rows.{StateRows}
-use Rattle.sf_model.specs.Agrees.{Agrees}
-use Rattle.sf_group.specs.declared.view.Sizes.{Sizes}
+use Rattle.sf_history.specs.declared.call.CallId.{CallId}
+use Rattle.sf_history.specs.declared.event.Event.{Event}
+use Rattle.sf_history.specs.State.{IsKept}
+use Rattle.sf_state.specs.Rows.{StateRows}
+use Rattle.sf_state.specs.Agrees.{Agrees}
+use Rattle.sf_calls.specs.declared.sizes.Sizes.{Sizes}
 use Rattle.sf_group.specs.declared.view.View.{View}
 use Rattle.sf_group.specs.View.{AreApart, claim, group_at, all_of}
-use Rattle.sf_group.specs.Fitting.{FitOf, AllFit}
+use Rattle.sf_calls.specs.Fitting.{FitOf, AllFit}
 use Rattle.sf_group.specs.Shows.{IsView, IsHome, IsOut, Shows, Holds}
 use Rattle.sf_group.specs.Plays.{SeesAll, Locks, Heard, hears, Took, MayFree, freed, frees}
 use Rattle.sf_group.specs.Plays as plays

@@ -3,18 +3,18 @@ use Rattle.std.proofs.Common.{◌≡◌, ℕ, ◌+◌, inl, inr, false, cond, �
 use Rattle.std.specs.Prelude.{fold, sum_by, option_and_then}
 use Rattle.std.proofs.lemmas.Bool.{cond-false, false_from_ne_true}
 use Rattle.std.proofs.lemmas.List.Sums.{fold-append, sum_by-append, sum_by-cons}
-use Rattle.sf_model.specs.declared.call.CallId.{CallId}
-use Rattle.sf_model.specs.declared.call.Ticket.{Ticket}
-use Rattle.sf_model.specs.declared.event.Event.{Event}
-use Rattle.sf_model.specs.declared.event.Event.TheVariants.{Lead, Enter, Forget, Settle, Handed}
-use Rattle.sf_model.specs.Calls.{same_call}
-use Rattle.sf_model.specs.History.{holds_call, uses, uses_member, maker, next_generation}
-use Rattle.sf_model.specs.State.{leaves_led, led_call, own_ticket, leaves_ticket, last_ticket, untaken, has_taken}
-use Rattle.sf_model.specs.Agrees.{leaves_owed, owed_call}
-use Rattle.sf_model.proofs.LegalHistories.{same_call_is, last_given}
-use Rattle.sf_group.specs.declared.view.Sizes.{Sizes}
+use Rattle.sf_history.specs.declared.call.CallId.{CallId}
+use Rattle.sf_history.specs.declared.call.Ticket.{Ticket}
+use Rattle.sf_history.specs.declared.event.Event.{Event}
+use Rattle.sf_history.specs.declared.event.Event.TheVariants.{Lead, Enter, Forget, Settle, Handed}
+use Rattle.sf_history.specs.Calls.{same_call}
+use Rattle.sf_history.specs.History.{holds_call, uses, uses_member, maker, next_generation}
+use Rattle.sf_history.specs.State.{leaves_led, led_call, own_ticket, leaves_ticket, last_ticket, untaken, has_taken}
+use Rattle.sf_state.specs.Agrees.{leaves_owed, owed_call}
+use Rattle.sf_history.proofs.LegalHistories.{same_call_is, last_given}
+use Rattle.sf_calls.specs.declared.sizes.Sizes.{Sizes}
 use Rattle.sf_group.specs.declared.view.Claim.{Claim}
-use Rattle.sf_group.specs.Seen.{own_events}
+use Rattle.sf_history.specs.History.{own_events}
 use Rattle.sf_group.specs.View.{Has, caller_in, concerned, Spares}
 use Rattle.sf_group.specs.Plays.{IsLater}
 use Rattle.sf_group.specs.Known.{held_in}

@@ -1,14 +1,13 @@
 pub mod Adding
-pub mod AddsAgain
 pub mod Again
 pub mod Answered
-pub mod AskedRows
-pub mod Asking
+pub mod Beginning
+pub mod BegunRows
 pub mod ChanRows
 pub mod Claims
 pub mod Dealing
-pub mod DeliveredRows
 pub mod Delivering
+pub mod FinishedRows
 pub mod Fits
 pub mod Freeing
 pub mod Hearing
@@ -19,6 +18,5 @@ pub mod Opening
 pub mod Pairs
 pub mod PlainRows
 pub mod PolledRows
-pub mod RowsAfter
 pub mod Seating
 pub mod Sitting

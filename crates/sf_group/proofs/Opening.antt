@@ -5,19 +5,21 @@ use lib.ListN.{get_elem?}
 use Rattle.std.specs.List.{range_with_len}
 use Rattle.std.proofs.lemmas.List.{append-nil}
 use Rattle.atomic_table.specs.Table.{opening, Splits}
-use Rattle.sf_model.specs.declared.call.CallId.{CallId}
-use Rattle.sf_model.specs.declared.event.Event.{Event}
-use Rattle.sf_model.specs.State.{IsCaller}
-use Rattle.sf_model.specs.Rows.{StateRows}
-use Rattle.sf_model.specs.Agrees.{Agrees}
-use Rattle.sf_group.specs.declared.view.Sizes.{Sizes}
+use Rattle.sf_history.specs.declared.call.CallId.{CallId}
+use Rattle.sf_history.specs.declared.event.Event.{Event}
+use Rattle.sf_history.specs.State.{IsCaller}
+use Rattle.sf_state.specs.Rows.{StateRows}
+use Rattle.sf_state.specs.Agrees.{Agrees}
+use Rattle.sf_calls.specs.declared.sizes.Sizes.{Sizes}
 use Rattle.sf_group.specs.declared.view.Claim.{Claim}
 use Rattle.sf_group.specs.declared.view.View.{View}
 use Rattle.sf_group.specs.View.{Has, AreApart, claim, group_at, callers_of, first_view, without_first, first_alone}
-use Rattle.sf_group.specs.Fitting.{FitOf}
+use Rattle.sf_calls.specs.Fitting.{FitOf}
 use Rattle.sf_group.specs.Shows.{IsClaim, IsView, Shows, Holds}
 use Rattle.sf_group.proofs.Claims.{whole_claim}
-use Rattle.sf_group.proofs.Seating.{put, put_here, put_else, cut_seats, cut_lock, claim_moves, view_moves}
+use Rattle.sf_group.proofs.Seating.{cut_seats, cut_lock, claim_moves, view_moves}
+use Rattle.sf_lists.specs.Functions.{put}
+use Rattle.sf_lists.proofs.Functions.{put_here, put_else}
 
 module _ {V : Type 0} where
   -- the first caller of a seat gets one of its own

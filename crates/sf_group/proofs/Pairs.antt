@@ -3,26 +3,26 @@ use Rattle.std.proofs.Common.{◌≡◌, ◌≢◌, ℕ, ◌≤◌, inl, inr, �
 use Rattle.std.specs.Prelude.{nat_eq, nat_lt, if◌then◌else◌}
 use Rattle.std.specs.Option.{is_none}
 use Rattle.std.proofs.lemmas.Bool.Decides.{nat_tests}
-use Rattle.sf_model.specs.declared.call.CallId.{CallId}
-use Rattle.sf_model.specs.declared.command.ChanAsked.{ChanAsked}
-use Rattle.sf_model.specs.declared.command.ChanAsked.TheVariants as chan_asked
-use Rattle.sf_model.specs.declared.event.Event.{Event}
-use Rattle.sf_model.specs.declared.event.Event.TheVariants.{Lead, Enter}
-use Rattle.sf_model.specs.declared.refusal.ModelRefusal.{ModelRefusal}
-use Rattle.sf_model.specs.declared.refusal.ModelRefusal.TheVariants.{NotFree, Spent}
-use Rattle.sf_model.specs.History.{open_call, next_generation}
-use Rattle.sf_model.specs.State.{GroupState, led_call, is_free, is_spent, next_id}
-use Rattle.sf_model.specs.Sequential.{asks_chan, ask_chan_of}
-use Rattle.sf_model.specs.Rows.{StateRows, HasCaller}
-use Rattle.sf_model.specs.Agrees.{Agrees, IsObeyed}
-use Rattle.sf_group.specs.declared.view.Sizes.{Sizes}
+use Rattle.sf_history.specs.declared.call.CallId.{CallId}
+use Rattle.sf_history.specs.declared.command.ChanAsked.{ChanAsked}
+use Rattle.sf_history.specs.declared.command.ChanAsked.TheVariants as chan_asked
+use Rattle.sf_history.specs.declared.event.Event.{Event}
+use Rattle.sf_history.specs.declared.event.Event.TheVariants.{Lead, Enter}
+use Rattle.sf_history.specs.declared.refusal.ModelRefusal.{ModelRefusal}
+use Rattle.sf_history.specs.declared.refusal.ModelRefusal.TheVariants.{NotFree, Spent}
+use Rattle.sf_history.specs.History.{open_call, next_generation}
+use Rattle.sf_history.specs.State.{GroupState, led_call, is_free, is_spent, next_id}
+use Rattle.sf_history.specs.Sequential.{asks_chan, ask_chan_of}
+use Rattle.sf_state.specs.Rows.{StateRows, HasCaller}
+use Rattle.sf_state.specs.Agrees.{Agrees, IsObeyed}
+use Rattle.sf_calls.specs.declared.sizes.Sizes.{Sizes}
 use Rattle.sf_group.specs.declared.view.Claim.{Claim}
 use Rattle.sf_group.specs.declared.view.View.{View}
 use Rattle.sf_group.specs.View.{Has, AreApart, callers_of, all_of, sizes_of, group_at, both_of}
-use Rattle.sf_group.specs.Fitting.{FitOf}
+use Rattle.sf_calls.specs.Fitting.{FitOf}
 use Rattle.sf_group.specs.Plays.{IsLater, AreLater, Locks}
 use Rattle.sf_group.specs.Known.{held_in, Sits}
-use Rattle.sf_group.specs.Passing.{IsPair, chan_events, chan_as}
+use Rattle.sf_group.specs.Passing.{IsPair, begin_chan_events, chan_begun_as}
 use Rattle.sf_group.proofs.Lasting.{led_later, held_later, next_later}
 use Rattle.sf_group.proofs.Fits.{Lasts, fit_more}
 use Rattle.sf_group.proofs.Holding.{now, has_alone, GoesOn, agrees_plain}
@@ -96,15 +96,15 @@ module _ {V : Type 0} where
       one : Bool → Result (ChanAsked × GroupState ℕ V) ModelRefusal
       one b = if b then (if (n.caller == m.caller) || not (is_free g n.caller) then Err (NotFree n.caller) else (if is_spent g m.caller then Err (Spent m.caller) else (if is_spent g n.caller then Err (Spent n.caller) else Ok (asks_chan g m.caller n.caller k (open_call nat_eq g.history k))))) else Err (NotFree m.caller)
 
-  pub chan_obeyed : (z : Sizes) (w : View V) (s t : StateRows V) (m n : CallId) (k : ℕ) (r : Result ChanAsked ModelRefusal) → IsReady z w.known m n → (m.generation ≤ 4294967295) × (n.generation ≤ 4294967295) → Agrees s (now z w)
+  pub begin_chan_obeyed : (z : Sizes) (w : View V) (s t : StateRows V) (m n : CallId) (k : ℕ) (r : Result ChanAsked ModelRefusal) → IsReady z w.known m n → (m.generation ≤ 4294967295) × (n.generation ≤ 4294967295) → Agrees s (now z w)
       → ((g : GroupState ℕ V) → Agrees s g → IsObeyed (ask_chan_of nat_eq g m.caller n.caller k) r s t) → IsObeyed (Ok (asks_chan (now z w) m.caller n.caller k (open_call nat_eq w.known.seen k))) r s t
-  chan_obeyed z w s t m n k r ready unspent agrees obeyed =
+  begin_chan_obeyed z w s t m n k r ready unspent agrees obeyed =
       subst (λ x. IsObeyed x r s t) (chan_is (now z w) m n k ready.apart ready.free ready.second_free (unspent_claim (now z w) m ready.next unspent.0) (unspent_claim (now z w) n ready.second_next unspent.1)) (obeyed (now z w) agrees)
 
   -- how the history goes on, by what was open
   chan_on : (fits : FitOf V) → Lasts fits → (z : Sizes) (v w : View V) (s t : StateRows V) (m n : CallId) (k : ℕ) (o : Option CallId) (r : ChanAsked) → Locks fits z v w s → all_of v ≡ m.caller ∷ n.caller ∷ [] → IsReady z w.known m n
       → (r ≡ (asks_chan (now z w) m.caller n.caller k o).0) × Agrees t (asks_chan (now z w) m.caller n.caller k o).1
-      → GoesOn fits z (all_of v) w.known t (chan_events m n k r) [] × (r ≡ chan_as m n o)
+      → GoesOn fits z (all_of v) w.known t (begin_chan_events m n k r) [] × (r ≡ chan_begun_as m n o)
   chan_on fits lasts z v w s t m n k None r l who ready done =
       let is : r ≡ chan_asked.Led m n = done.0 ∙ (ap (λ c. chan_asked.Led c (next_id (now z w) n.caller)) ready.next ∙ ap (chan_asked.Led m) ready.second_next) in
       let events : List (Event ℕ V) = Lead m.caller k m (Some n) ∷ [] in
@@ -117,7 +117,7 @@ module _ {V : Type 0} where
         agrees = agrees_plain z w.known t events agrees;
         fitting = fit_more fits lasts w.known.seen events l.sees.fitting (λ c. refl);
       } in
-      (subst (λ x. GoesOn fits z (all_of v) w.known t (chan_events m n k x) []) (sym is) on, is)
+      (subst (λ x. GoesOn fits z (all_of v) w.known t (begin_chan_events m n k x) []) (sym is) on, is)
     where
       led_two : (b : ℕ) → Has (m.caller ∷ m.caller ∷ n.caller ∷ []) b → Has (m.caller ∷ n.caller ∷ []) b
       led_two b g = ⊎_elim (λ (e : m.caller ≡ b). inl e) (λ x. x) g
@@ -130,15 +130,15 @@ module _ {V : Type 0} where
         agrees = agrees_plain z w.known t events (subst (λ (d : CallId). Agrees t (group_at z (w.known.seen ++ Enter n.caller k c d ∷ []) w.known.taken)) ready.second_next done.1);
         fitting = fit_more fits lasts w.known.seen events l.sees.fitting (λ d. refl);
       } in
-      (subst (λ x. GoesOn fits z (all_of v) w.known t (chan_events m n k x) []) (sym is) on, is)
+      (subst (λ x. GoesOn fits z (all_of v) w.known t (begin_chan_events m n k x) []) (sym is) on, is)
     where
       entered_two : (b : ℕ) → Has (n.caller ∷ n.caller ∷ []) b → Has (m.caller ∷ n.caller ∷ []) b
       entered_two b g = inr (⊎_elim (λ (e : n.caller ≡ b). inl e) (λ x. x) g)
 
-  pub chan_goes_on : (fits : FitOf V) → Lasts fits → (z : Sizes) (v w : View V) (s t : StateRows V) (m n : CallId) (k : ℕ) (r : ChanAsked) → Locks fits z v w s → all_of v ≡ m.caller ∷ n.caller ∷ [] → IsReady z w.known m n
+  pub begin_chan_goes_on : (fits : FitOf V) → Lasts fits → (z : Sizes) (v w : View V) (s t : StateRows V) (m n : CallId) (k : ℕ) (r : ChanAsked) → Locks fits z v w s → all_of v ≡ m.caller ∷ n.caller ∷ [] → IsReady z w.known m n
       → IsObeyed (Ok (asks_chan (now z w) m.caller n.caller k (open_call nat_eq w.known.seen k))) (Ok r) s t
-      → GoesOn fits z (all_of v) w.known t (chan_events m n k r) [] × (r ≡ chan_as m n (open_call nat_eq w.known.seen k))
-  chan_goes_on fits lasts z v w s t m n k r l who ready done = chan_on fits lasts z v w s t m n k (open_call nat_eq w.known.seen k) r l who ready done
+      → GoesOn fits z (all_of v) w.known t (begin_chan_events m n k r) [] × (r ≡ chan_begun_as m n (open_call nat_eq w.known.seen k))
+  begin_chan_goes_on fits lasts z v w s t m n k r l who ready done = chan_on fits lasts z v w s t m n k (open_call nat_eq w.known.seen k) r l who ready done
 
   -- a seat with the state, which stands for two
   pub pair_sizes : (m n : CallId) (v : View V) → IsPair m n v → v.sizes ≡ Some (sizes_of v)

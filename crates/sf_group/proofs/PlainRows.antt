@@ -6,27 +6,28 @@ use Rattle.std.proofs.lemmas.List.{append-nil}
 use Rattle.std.proofs.lemmas.List.Folds.{list_any-append}
 use Rattle.std.proofs.Math.Bool.{or-false}
 use Rattle.atomic_table.specs.Seated.{TableId}
-use Rattle.sf_model.specs.declared.call.CallId.{CallId}
-use Rattle.sf_model.specs.declared.call.Ticket.{Ticket}
-use Rattle.sf_model.specs.declared.command.Forgotten.{Forgotten}
-use Rattle.sf_model.specs.declared.command.Forgotten.TheVariants as forgotten
-use Rattle.sf_model.specs.declared.event.Event.{Event}
-use Rattle.sf_model.specs.declared.event.Event.TheVariants.{Lead, Enter, Forget, Settle, Handed}
-use Rattle.sf_model.specs.Calls.{same_call}
-use Rattle.sf_model.specs.Agrees.{owns, has_own}
-use Rattle.sf_model.proofs.LegalHistories.{same_call_is}
+use Rattle.sf_history.specs.declared.call.CallId.{CallId}
+use Rattle.sf_history.specs.declared.call.Ticket.{Ticket}
+use Rattle.sf_history.specs.declared.command.Forgotten.{Forgotten}
+use Rattle.sf_history.specs.declared.command.Forgotten.TheVariants as forgotten
+use Rattle.sf_history.specs.declared.event.Event.{Event}
+use Rattle.sf_history.specs.declared.event.Event.TheVariants.{Lead, Enter, Forget, Settle, Handed}
+use Rattle.sf_history.specs.Calls.{same_call}
+use Rattle.sf_state.specs.Agrees.{owns, has_own}
+use Rattle.sf_history.proofs.LegalHistories.{same_call_is}
 use Rattle.sf_group.specs.declared.view.Claim.{Claim}
 use Rattle.sf_group.specs.declared.view.View.{View}
-use Rattle.sf_group.specs.Seen.{StartsWith}
+use Rattle.sf_calls.specs.Seen.{StartsWith}
 use Rattle.sf_group.specs.View.{Has, concerned, Spares, all_of}
-use Rattle.sf_group.specs.Fitting.{FitOf, led_place}
-use Rattle.sf_group.specs.Calls.{HasForgotten, HasLearnt, HasLearntLeading}
+use Rattle.sf_calls.specs.Fitting.{FitOf, led_place}
+use Rattle.sf_calls.specs.Forgets.{HasForgot, HasForgotten}
+use Rattle.sf_calls.specs.Notes.{HasLearnt, HasLearntLeading}
 use Rattle.sf_group.specs.Known.{Sits, caller_of, flight_of}
-use Rattle.sf_group.specs.Passing.{Passes, forgotten_events, HasClosed, HasHeard}
+use Rattle.sf_group.specs.Passing.{Passes, forget_events, PassesForget, PassesHear}
 use Rattle.sf_group.proofs.Fits.{led_place_longer}
 use Rattle.sf_group.proofs.Adding.{adds_own}
 use Rattle.sf_group.proofs.Sitting.{sits_passed, held_plain}
-use Rattle.sf_group.proofs.AskedRows.{group_passed, seen_passed}
+use Rattle.sf_group.proofs.BegunRows.{group_passed, seen_passed}
 
 module _ {V : Type 0} where
   -- a caller that added nothing is what it was
@@ -40,12 +41,12 @@ module _ {V : Type 0} where
   pub place_goes_on : (fits : FitOf V) (v w : View V) (mid : Claim V) (es : List (Event ℕ V)) (ms : List CallId) (c : CallId) (k : ℕ) → Passes fits v mid es ms w → led_place v.known.seen c ≡ Some k → led_place w.known.seen c ≡ Some k
   place_goes_on fits v w mid es ms c k p is = let more = seen_goes_on fits v w mid es ms p in ap (λ h. led_place h c) more.1 ∙ led_place_longer v.known.seen (more.0) c k is
 
-  heard_starts : (fits : FitOf V) (v w : View V) (shown : List (Event ℕ V)) → HasHeard fits v shown w → StartsWith w.known.seen shown
+  heard_starts : (fits : FitOf V) (v w : View V) (shown : List (Event ℕ V)) → PassesHear fits v shown w → StartsWith w.known.seen shown
   heard_starts fits v w shown h = (h.2.0, seen_passed fits v w (h.0) [] [] h.1 ∙ (append-nil (h.0).seen ∙ h.2.1))
 
-  pub learnt_row : (fits : FitOf V) (t t' : TableId) (v w : View V) (a n : ℕ) (shown : List (Event ℕ V)) → t' ≡ t → Sits a n v None None None → HasHeard fits v shown w → HasLearnt (caller_of t v a) shown (caller_of t' w a)
+  pub learnt_row : (fits : FitOf V) (t t' : TableId) (v w : View V) (a n : ℕ) (shown : List (Event ℕ V)) → t' ≡ t → Sits a n v None None None → PassesHear fits v shown w → HasLearnt (caller_of t v a) shown (caller_of t' w a)
   learnt_row fits t t' v w a n shown table sits h =
-      ((group_passed fits t t' v w (h.0) [] [] table h.1, refl, adds_own fits t v w (h.0) [] [] a [] 0 h.1 sits.callers refl refl), heard_starts fits v w shown h)
+      (record { group = group_passed fits t t' v w (h.0) [] [] table h.1; number = refl; adds = adds_own fits t v w (h.0) [] [] a [] 0 h.1 sits.callers refl refl }, heard_starts fits v w shown h)
 
   -- others' events give no own channel to the caller's call
   unowned_spares : (c : CallId) (a : ℕ) (es : List (Event ℕ V)) → c.caller ≡ a → Spares es a → has_own es c ≡ false
@@ -66,17 +67,22 @@ module _ {V : Type 0} where
   pub own_stays : (fits : FitOf V) (v w : View V) (mid : Claim V) (c : CallId) (a : ℕ) → Passes fits v mid [] [] w → c.caller ≡ a → Has v.known.callers a → has_own w.known.seen c ≡ has_own v.known.seen c
   own_stays fits v w mid c a p mine g = ap (λ h. has_own h c) (seen_passed fits v w mid [] [] p ∙ append-nil mid.seen) ∙ own_later fits v w mid [] [] c a p mine g
 
-  pub learnt_leading_row : (fits : FitOf V) (t t' : TableId) (v w : View V) (a n k : ℕ) (c : CallId) (own : Option CallId) (shown : List (Event ℕ V)) → t' ≡ t → Sits a n v (Some c) None None → HasHeard fits v shown w
+  pub learnt_leading_row : (fits : FitOf V) (t t' : TableId) (v w : View V) (a n k : ℕ) (c : CallId) (own : Option CallId) (shown : List (Event ℕ V)) → t' ≡ t → Sits a n v (Some c) None None → PassesHear fits v shown w
       → HasLearntLeading (flight_of t v a k c own) shown (flight_of t' w a k c own)
   learnt_leading_row fits t t' v w a n k c own shown table sits h =
-      ((group_passed fits t t' v w (h.0) [] [] table h.1, refl, refl, refl, refl, adds_own fits t v w (h.0) [] [] a [] 0 h.1 sits.callers refl refl), heard_starts fits v w shown h)
+      (record { group = group_passed fits t t' v w (h.0) [] [] table h.1; number = refl; place = refl; call = refl; own = refl; adds = adds_own fits t v w (h.0) [] [] a [] 0 h.1 sits.callers refl refl }, heard_starts fits v w shown h)
 
   -- a Forget
-  pub forgets_after : (fits : FitOf V) (v w : View V) (a n k : ℕ) (r : Forgotten) → Sits a n v None None None → HasClosed fits a k v r w → Sits a n w None None None
-  forgets_after fits v w a n k r sits h = sits_passed fits v w (h.0) (forgotten_events a k r) [] a n n None None None None None None h.1 sits tt tt refl refl (held_plain (all_of v) (h.0) (forgotten_events a k r) a None refl) (omega arith)
+  pub forgets_after : (fits : FitOf V) (v w : View V) (a n k : ℕ) (r : Forgotten) → Sits a n v None None None → PassesForget fits a k v r w → Sits a n w None None None
+  forgets_after fits v w a n k r sits h = sits_passed fits v w (h.0) (forget_events a k r) [] a n n None None None None None None h.1 sits tt tt refl refl (held_plain (all_of v) (h.0) (forget_events a k r) a None refl) (omega arith)
 
-  pub forget_row : (fits : FitOf V) (t t' : TableId) (v w : View V) (a n k : ℕ) (r : Forgotten) → t' ≡ t → Sits a n v None None None → HasClosed fits a k v r w → HasForgotten (caller_of t v a) k (caller_of t' w a) r
-  forget_row fits t t' v w a n k (forgotten.Closed x) table sits h =
-      (group_passed fits t t' v w (h.0) (Forget a k (Some x) ∷ []) [] table h.1, refl, adds_own fits t v w (h.0) (Forget a k (Some x) ∷ []) [] a (Forget a k (Some x) ∷ []) 0 h.1 sits.callers (cond-true _ _ _ (eq-eqb a a refl)) refl)
-  forget_row fits t t' v w a n k forgotten.Idle table sits h =
-      (group_passed fits t t' v w (h.0) (Forget a k None ∷ []) [] table h.1, refl, adds_own fits t v w (h.0) (Forget a k None ∷ []) [] a (Forget a k None ∷ []) 0 h.1 sits.callers (cond-true _ _ _ (eq-eqb a a refl)) refl)
+  forgot_row : (fits : FitOf V) (t t' : TableId) (v w : View V) (a n k : ℕ) (closed : Option CallId) (mid : Claim V) → t' ≡ t → Sits a n v None None None → Passes fits v mid (Forget a k closed ∷ []) [] w → HasForgot (caller_of t v a) k closed (caller_of t' w a)
+  forgot_row fits t t' v w a n k closed mid table sits p = record {
+    group = group_passed fits t t' v w mid (Forget a k closed ∷ []) [] table p;
+    number = refl;
+    adds = adds_own fits t v w mid (Forget a k closed ∷ []) [] a (Forget a k closed ∷ []) 0 p sits.callers (cond-true _ _ _ (eq-eqb a a refl)) refl;
+  }
+
+  pub forget_row : (fits : FitOf V) (t t' : TableId) (v w : View V) (a n k : ℕ) (r : Forgotten) → t' ≡ t → Sits a n v None None None → PassesForget fits a k v r w → HasForgotten (caller_of t v a) k (caller_of t' w a) r
+  forget_row fits t t' v w a n k (forgotten.Closed x) table sits h = forgot_row fits t t' v w a n k (Some x) (h.0) table sits h.1
+  forget_row fits t t' v w a n k forgotten.Idle table sits h = forgot_row fits t t' v w a n k None (h.0) table sits h.1

@@ -4,28 +4,28 @@ use Rattle.std.specs.Prelude.{cond, option_and_then}
 use Rattle.std.proofs.lemmas.Bool.{cond-true}
 use Rattle.std.proofs.lemmas.List.{append-nil}
 use Rattle.atomic_table.specs.Seated.{TableId}
-use Rattle.sf_model.specs.declared.call.CallId.{CallId}
-use Rattle.sf_model.specs.declared.call.Ticket.{Ticket}
-use Rattle.sf_model.specs.declared.command.Taken.TheVariants as taken
-use Rattle.sf_model.specs.declared.event.Event.{Event}
-use Rattle.sf_model.specs.declared.event.Event.TheVariants.{Settle}
-use Rattle.sf_model.specs.Calls.{same_call}
-use Rattle.sf_model.specs.History.{settles, is_handed, answer_of, result_in, result_of}
-use Rattle.sf_model.specs.State.{last_ticket, untaken, has_taken}
-use Rattle.sf_model.proofs.Lists.{list_any_push_last}
-use Rattle.sf_model.proofs.LegalHistories.{same_call_self}
+use Rattle.sf_history.specs.declared.call.CallId.{CallId}
+use Rattle.sf_history.specs.declared.call.Ticket.{Ticket}
+use Rattle.sf_history.specs.declared.command.Taken.TheVariants as taken
+use Rattle.sf_history.specs.declared.event.Event.{Event}
+use Rattle.sf_history.specs.declared.event.Event.TheVariants.{Settle}
+use Rattle.sf_history.specs.Calls.{same_call}
+use Rattle.sf_history.specs.History.{settles, is_handed, answer_of, result_in, result_of}
+use Rattle.sf_history.specs.State.{last_ticket, untaken, has_taken}
+use Rattle.sf_lists.proofs.Lists.{list_any_push_last}
+use Rattle.sf_history.proofs.LegalHistories.{same_call_self}
 use Rattle.sf_group.specs.declared.view.Claim.{Claim}
 use Rattle.sf_group.specs.declared.view.View.{View}
-use Rattle.sf_group.specs.declared.locked.Polled.TheVariants as polled
-use Rattle.sf_group.specs.Seen.{Stands}
-use Rattle.sf_group.specs.Fitting.{FitOf, AllFit, led_place}
-use Rattle.sf_group.specs.Calls.{HasPolled}
+use Rattle.sf_calls.specs.declared.outcomes.Polled.TheVariants as polled
+use Rattle.sf_calls.specs.Seen.{Stands}
+use Rattle.sf_calls.specs.Fitting.{FitOf, AllFit, led_place}
+use Rattle.sf_calls.specs.Finishes.{HasPolled}
 use Rattle.sf_group.specs.Known.{ticket, settling, Sits, caller_of, ticket_of, letter_of}
-use Rattle.sf_group.specs.Passing.{Passes, HasTakenUp}
+use Rattle.sf_group.specs.Passing.{Passes, PassesPoll}
 use Rattle.sf_group.proofs.Fits.{found_longer}
 use Rattle.sf_group.proofs.Adding.{adds_own}
 use Rattle.sf_group.proofs.Sitting.{sits_passed}
-use Rattle.sf_group.proofs.AskedRows.{group_passed, seen_passed}
+use Rattle.sf_group.proofs.BegunRows.{group_passed, seen_passed}
 use Rattle.sf_group.proofs.PlainRows.{place_goes_on}
 use Rattle.sf_group.proofs.Answered.{found_stands, legal_before, settling_is}
 
@@ -79,29 +79,29 @@ module _ {V : Type 0} where
       ap (λ h. option_and_then (untaken (mid.taken ++ m ∷ [])) (last_ticket h m.caller)) (append-nil mid.seen) ∙ (ap (option_and_then (untaken (mid.taken ++ m ∷ []))) last ∙ cond-true _ _ _ gone))
       (omega arith)
 
-  pub ready_row : (fits : FitOf V) (t t' : TableId) (v w : View V) (n k : ℕ) (c m d : CallId) (x : V) (shared : Bool) → t' ≡ t → Sits m.caller n v None None (Some (ticket c m)) → led_place v.known.seen c ≡ Some k → HasTakenUp fits (ticket c m) v (taken.Got d x shared) w
+  pub ready_row : (fits : FitOf V) (t t' : TableId) (v w : View V) (n k : ℕ) (c m d : CallId) (x : V) (shared : Bool) → t' ≡ t → Sits m.caller n v None None (Some (ticket c m)) → led_place v.known.seen c ≡ Some k → PassesPoll fits (ticket c m) v (taken.Got d x shared) w
       → HasPolled fits (ticket_of t v m.caller k c m) (polled.Ready (caller_of t' w m.caller) (letter_of t' w k c x shared))
   ready_row fits t t' v w n k c m d x shared table sits led h =
       let p : Passes fits v (h.0) [] (m ∷ []) w = h.1 in
       let a = answered_after fits v w (h.0) [] (m ∷ []) k c x shared p led h.2 in
-      let same = group_passed fits t t' v w (h.0) [] (m ∷ []) table p in (
-        same,
-        refl,
-        adds_own fits t v w (h.0) [] (m ∷ []) m.caller [] 0 p sits.callers refl refl,
-        record { group = same; place = refl; call = refl; value = refl; mark = refl; settled = a.stands },
-        ([], sym (append-nil w.known.seen)),
-        a.fit,
-      )
+      let same = group_passed fits t t' v w (h.0) [] (m ∷ []) table p in record {
+        group = same;
+        number = refl;
+        adds = adds_own fits t v w (h.0) [] (m ∷ []) m.caller [] 0 p sits.callers refl refl;
+        letter = record { group = same; place = refl; call = refl; value = refl; mark = refl; settled = a.stands };
+        shows = ([], sym (append-nil w.known.seen));
+        fitting = a.fit;
+      }
 
-  pub pending_row : (fits : FitOf V) (t t' : TableId) (v w : View V) (n k : ℕ) (c m d : CallId) → t' ≡ t → Sits m.caller n v None None (Some (ticket c m)) → HasTakenUp fits (ticket c m) v (taken.Pending d) w
+  pub pending_row : (fits : FitOf V) (t t' : TableId) (v w : View V) (n k : ℕ) (c m d : CallId) → t' ≡ t → Sits m.caller n v None None (Some (ticket c m)) → PassesPoll fits (ticket c m) v (taken.Pending d) w
       → HasPolled fits (ticket_of t v m.caller k c m) (polled.Pending (ticket_of t' w m.caller k c m))
   pending_row fits t t' v w n k c m d table sits h =
-      let p : Passes fits v (h.0) [] [] w = h.1 in (
-        group_passed fits t t' v w (h.0) [] [] table p,
-        refl,
-        refl,
-        refl,
-        refl,
-        adds_own fits t v w (h.0) [] [] m.caller [] 0 p sits.callers refl refl,
-        ap (λ q. is_handed q c) (seen_passed fits v w (h.0) [] [] p ∙ append-nil (h.0).seen) ∙ h.2,
-      )
+      let p : Passes fits v (h.0) [] [] w = h.1 in record {
+        group = group_passed fits t t' v w (h.0) [] [] table p;
+        number = refl;
+        place = refl;
+        call = refl;
+        member = refl;
+        adds = adds_own fits t v w (h.0) [] [] m.caller [] 0 p sits.callers refl refl;
+        unhanded = ap (λ q. is_handed q c) (seen_passed fits v w (h.0) [] [] p ∙ append-nil (h.0).seen) ∙ h.2;
+      }

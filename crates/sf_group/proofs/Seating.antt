@@ -4,33 +4,19 @@ use mathlib.Core.Option.{some, some-injective, some-ne-none}
 use lib.ListN.{get_elem?}
 use Rattle.atomic_table.specs.Table.{State, Splits, Joins}
 use Rattle.atomic_table.proofs.Lists.{at_set, set_else}
-use Rattle.sf_model.specs.declared.call.CallId.{CallId}
-use Rattle.sf_model.specs.declared.event.Event.{Event}
-use Rattle.sf_model.specs.Rows.{StateRows}
-use Rattle.sf_group.specs.declared.view.Sizes.{Sizes}
+use Rattle.sf_history.specs.declared.call.CallId.{CallId}
+use Rattle.sf_history.specs.declared.event.Event.{Event}
+use Rattle.sf_state.specs.Rows.{StateRows}
+use Rattle.sf_calls.specs.declared.sizes.Sizes.{Sizes}
 use Rattle.sf_group.specs.declared.view.Claim.{Claim}
 use Rattle.sf_group.specs.declared.view.View.{View}
 use Rattle.sf_group.specs.View.{Has, AreApart, callers_of, all_of, note_of, both_of, blank}
-use Rattle.sf_group.specs.Fitting.{FitOf}
+use Rattle.sf_calls.specs.Fitting.{FitOf}
 use Rattle.sf_group.specs.Shows.{IsClaim, AreClaims, IsView, IsHome, IsOut, Shows, Holds}
 use Rattle.sf_group.proofs.Claims.{has_append, has_left, has_right, all_owns}
-
--- what stands in a list with one more at its end
-at_end : {A : Type 0} (l : List A) (a b : A) (j : ℕ) → get_elem? (l ++ a ∷ []) j ≡ some b → (get_elem? l j ≡ some b) ⊎ ((j ≡ length l) × (a ≡ b))
-at_end [] a b zero e = inr (refl, some-injective a b e)
-at_end [] a b (suc j) e = absurd (some-ne-none b (sym e))
-at_end (x ∷ xs) a b zero e = inl e
-at_end (x ∷ xs) a b (suc j) e = ⊎_elim (λ (p : get_elem? xs j ≡ some b). inl p) (λ (p : (j ≡ length xs) × (a ≡ b)). inr (ap suc p.0, p.1)) (at_end xs a b j e)
-
--- a function changed at one number
-abbrev pub put : {A : Type 0} → (ℕ → A) → ℕ → A → ℕ → A
-put f i v j = cond (eqb j i) v (f j)
-
-pub put_here : {A : Type 0} (f : ℕ → A) (i : ℕ) (v : A) → put f i v i ≡ v
-put_here f i v = ap (λ b. cond b v (f i)) (eq-eqb i i refl)
-
-pub put_else : {A : Type 0} (f : ℕ → A) (i : ℕ) (v : A) (j : ℕ) → j ≢ i → put f i v j ≡ f j
-put_else f i v j n = ap (λ b. cond b v (f j)) (ne_eqb j i n)
+use Rattle.sf_lists.specs.Functions.{put}
+use Rattle.sf_lists.proofs.Functions.{put_here, put_else}
+use Rattle.sf_lists.proofs.Ends.{at_end}
 
 -- two lists of callers that no seat shares
 apart_append : (xs ys : List ℕ) → AreApart xs → AreApart ys → ((a : ℕ) → Has xs a → Has ys a → ⊥) → AreApart (xs ++ ys)

@@ -1,27 +1,32 @@
 -- a caller's seat after a passage of its own
-use Rattle.std.proofs.Common.{◌≡◌, ℕ, ◌+◌, Bool, true, false, cond, ◌&&◌, ◌||◌, List, [], ◌∷◌, ◌++◌, refl, sym, ap, ◌∙◌, subst, Option, Some, None, IfSome, arith}
+use Rattle.std.proofs.Common.{◌≡◌, ℕ, ◌+◌, ◌≤◌, Bool, true, false, cond, ◌&&◌, ◌||◌, List, [], ◌∷◌, ◌++◌, refl, sym, ap, ◌∙◌, subst, Option, Some, None, IfSome, arith}
 use Rattle.std.specs.Prelude.{nat_eq, fold, find, sum_by, option_and_then}
 use Rattle.std.specs.Option.{is_some}
 use Rattle.std.specs.List.{list_any}
 use Rattle.std.proofs.lemmas.Bool.{or_parts, and_parts, eqb-true, cond-true, cond-false, false_from_ne_true, or_left}
 use Rattle.std.proofs.lemmas.List.{append-nil}
 use Rattle.std.proofs.lemmas.List.Sums.{fold-append, sum_by-append}
-use Rattle.sf_model.specs.declared.call.CallId.{CallId}
-use Rattle.sf_model.specs.declared.call.Ticket.{Ticket}
-use Rattle.sf_model.specs.declared.event.Event.{Event}
-use Rattle.sf_model.specs.declared.event.Event.TheVariants.{Lead, Enter, Forget, Settle, Handed}
-use Rattle.sf_model.specs.Calls.{same_call}
-use Rattle.sf_model.specs.History.{holds_call, names, opens, open_call, uses, next_generation}
-use Rattle.sf_model.specs.Legal.{IsLegal}
-use Rattle.sf_model.specs.State.{leaves_led, leaves_ticket, last_ticket, untaken}
-use Rattle.sf_model.specs.Agrees.{owns, has_own, leaves_owed}
-use Rattle.sf_model.proofs.Lists.{by_push}
-use Rattle.sf_model.proofs.LegalHistories.{same_call_self, legal_front, legal_last, fold_push}
+use Rattle.atomic_table.specs.Seated.{TableId}
+use Rattle.sf_calls.specs.declared.limits.TheConstants.{GREATEST_GENERATION}
+use Rattle.sf_calls.specs.Tokens.{CallerValue}
+use Rattle.sf_calls.specs.Same.{IsUnspent, HasNothing, call_of}
+use Rattle.sf_calls.proofs.AddsAgain.{nothing_added}
+use Rattle.sf_history.specs.declared.call.CallId.{CallId}
+use Rattle.sf_history.specs.declared.call.Ticket.{Ticket}
+use Rattle.sf_history.specs.declared.event.Event.{Event}
+use Rattle.sf_history.specs.declared.event.Event.TheVariants.{Lead, Enter, Forget, Settle, Handed}
+use Rattle.sf_history.specs.Calls.{same_call}
+use Rattle.sf_history.specs.History.{holds_call, names, opens, open_call, uses, next_generation}
+use Rattle.sf_history.specs.Legal.{IsLegal}
+use Rattle.sf_history.specs.State.{leaves_led, leaves_ticket, last_ticket, untaken}
+use Rattle.sf_state.specs.Agrees.{owns, has_own, leaves_owed}
+use Rattle.sf_lists.proofs.Lists.{by_push}
+use Rattle.sf_history.proofs.LegalHistories.{same_call_self, legal_front, legal_last, fold_push}
 use Rattle.sf_group.specs.declared.view.Claim.{Claim}
 use Rattle.sf_group.specs.declared.view.View.{View}
 use Rattle.sf_group.specs.View.{claim, all_of, sizes_of}
-use Rattle.sf_group.specs.Fitting.{FitOf, is_lead, place_in, led_place}
-use Rattle.sf_group.specs.Known.{held_in, Sits}
+use Rattle.sf_calls.specs.Fitting.{FitOf, is_lead, place_in, led_place}
+use Rattle.sf_group.specs.Known.{held_in, Sits, caller_of}
 use Rattle.sf_group.specs.Passing.{Passes}
 use Rattle.sf_group.proofs.Lasting.{led_later, owed_later, held_later, next_later}
 use Rattle.sf_group.proofs.Fits.{led_place_longer, not_found}
@@ -54,7 +59,31 @@ module _ {V : Type 0} where
         leads = fold-append (leaves_led a) None mid.seen es ∙ (ap (λ x. fold (leaves_led a) x es) (led_later z v.known mid a led l own s.leads my_led) ∙ leads);
         owes = fold-append (leaves_owed a) None mid.seen es ∙ (ap (λ x. fold (leaves_owed a) x es) (owed_later z v.known mid a owed l own s.owes my_owed) ∙ owes);
         holds = holds (held_later z v.known mid a l own ∙ s.holds);
+        lawful = record { legal = p.kept.legal; made = p.kept.made };
       }
+
+  -- a free caller has added nothing to what it has seen
+  pub nothing_here : (c : CallerValue V) (t : TableId) (v : View V) (a n : ℕ) → caller_of t v a ≡ c → Sits a n v None None None → HasNothing c c
+  nothing_here c t v a n is s = subst (λ (x : CallerValue V). HasNothing x x) is (nothing_added (caller_of t v a) s.lawful)
+
+  -- a free caller whose next call or member is this one
+  pub record IsNext (c : CallerValue V) (t : TableId) (v : View V) (n : ℕ) (m : CallId) : Type 0 where
+    pub sits : Sits m.caller m.generation v None None None
+    pub view : caller_of t v m.caller ≡ c
+    pub next : n ≡ m.generation
+    pub left : m.generation ≤ GREATEST_GENERATION
+
+  pub is_next : (c : CallerValue V) (t : TableId) (v : View V) (a n : ℕ) (m : CallId) → caller_of t v a ≡ c → Sits a n v None None None → (m ≡ call_of c) × IsUnspent c → IsNext c t v n m
+  is_next c t v a n m view sits given = subst (λ (x : CallId). IsNext c t v n x) (sym is) record { sits = sits; view = view; next = refl; left = left }
+    where
+      at : ℕ → CallId
+      at x = record { caller = a; generation = x }
+
+      is : m ≡ at n
+      is = given.0 ∙ (ap call_of (sym view) ∙ ap at (sym sits.next))
+
+      left : n ≤ GREATEST_GENERATION
+      left = subst (λ x. x ≤ GREATEST_GENERATION) (sym sits.next) (subst (λ (x : CallerValue V). IsUnspent x) (sym view) given.1)
 
   -- events that give no ticket
   pub held_plain : (who : List ℕ) (mid : Claim V) (es : List (Event ℕ V)) (a : ℕ) (held : Option Ticket) → fold (leaves_ticket a) (last_ticket mid.seen a) es ≡ last_ticket mid.seen a → held_in mid a ≡ held

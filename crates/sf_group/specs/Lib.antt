@@ -1,10 +1,6 @@
-pub mod Calls
-pub mod Fitting
+pub mod Dealing
 pub mod Known
-pub mod Making
 pub mod Passing
 pub mod Plays
-pub mod Seen
 pub mod Shows
-pub mod Tokens
 pub mod View

@@ -1,45 +1,45 @@
 -- what a passage of the lock says: the seat saw all, had the state, and freed it with what it added
 use Rattle.std.specs.Prelude.{◌≡◌, ℕ, nat_eq, ◌⊎◌, Bool, true, false, List, [], ◌∷◌, ◌++◌, Option, Some, None, Result, Ok, Err}
-use Rattle.sf_model.specs.declared.call.CallId.{CallId}
-use Rattle.sf_model.specs.declared.call.Ticket.{Ticket}
-use Rattle.sf_model.specs.declared.command.Asked.{Asked}
-use Rattle.sf_model.specs.declared.command.Asked.TheVariants as asked
-use Rattle.sf_model.specs.declared.command.ChanAsked.{ChanAsked}
-use Rattle.sf_model.specs.declared.command.ChanAsked.TheVariants as chan_asked
-use Rattle.sf_model.specs.declared.command.Forgotten.{Forgotten}
-use Rattle.sf_model.specs.declared.command.Forgotten.TheVariants as forgotten
-use Rattle.sf_model.specs.declared.command.Taken.{Taken}
-use Rattle.sf_model.specs.declared.command.Taken.TheVariants as taken
-use Rattle.sf_model.specs.declared.event.Event.{Event}
-use Rattle.sf_model.specs.declared.event.Event.TheVariants.{Lead, Enter, Forget, Settle, Handed}
-use Rattle.sf_model.specs.declared.refusal.ModelRefusal.{ModelRefusal}
-use Rattle.sf_model.specs.declared.seq_state.Settlement.{Settlement}
-use Rattle.sf_model.specs.declared.seq_state.Settlement.TheVariants as settlement
+use Rattle.sf_history.specs.declared.call.CallId.{CallId}
+use Rattle.sf_history.specs.declared.call.Ticket.{Ticket}
+use Rattle.sf_history.specs.declared.command.Asked.{Asked}
+use Rattle.sf_history.specs.declared.command.Asked.TheVariants as asked
+use Rattle.sf_history.specs.declared.command.ChanAsked.{ChanAsked}
+use Rattle.sf_history.specs.declared.command.ChanAsked.TheVariants as chan_asked
+use Rattle.sf_history.specs.declared.command.Forgotten.{Forgotten}
+use Rattle.sf_history.specs.declared.command.Forgotten.TheVariants as forgotten
+use Rattle.sf_history.specs.declared.command.Taken.{Taken}
+use Rattle.sf_history.specs.declared.command.Taken.TheVariants as taken
+use Rattle.sf_history.specs.declared.event.Event.{Event}
+use Rattle.sf_history.specs.declared.event.Event.TheVariants.{Lead, Enter, Forget, Settle, Handed}
+use Rattle.sf_history.specs.declared.refusal.ModelRefusal.{ModelRefusal}
+use Rattle.sf_state.specs.declared.seq_state.Settlement.{Settlement}
+use Rattle.sf_state.specs.declared.seq_state.Settlement.TheVariants as settlement
 use Rattle.std.specs.List.{list_any}
-use Rattle.sf_model.specs.History.{names, open_call, is_handed, answer_of}
-use Rattle.sf_model.specs.State.{IsKept, has_taken}
-use Rattle.sf_model.specs.Agrees.{has_own}
+use Rattle.sf_history.specs.History.{names, open_call, is_handed, answer_of}
+use Rattle.sf_history.specs.State.{IsKept, has_taken}
+use Rattle.sf_state.specs.Agrees.{has_own}
 use Rattle.sf_group.specs.declared.view.Claim.{Claim}
 use Rattle.sf_group.specs.declared.view.View.{View}
 use Rattle.sf_group.specs.View.{AreApart, claim, group_at, all_of, sizes_of, both_of}
 use Rattle.sf_group.specs.Plays.{IsLater, AreLater}
-use Rattle.sf_group.specs.Seen.{StartsWith}
-use Rattle.sf_group.specs.Fitting.{FitOf, AllFit}
+use Rattle.sf_calls.specs.Seen.{StartsWith}
+use Rattle.sf_calls.specs.Fitting.{FitOf, AllFit}
 use Rattle.sf_group.specs.Known.{Sits}
 
 -- an asking leads where the place has no open call, and else joins that
-abbrev pub asked_as : CallId → Option CallId → Asked
-asked_as m None = asked.Lead m
-asked_as m (Some c) = asked.Join c
+abbrev pub begun_as : CallId → Option CallId → Asked
+begun_as m None = asked.Lead m
+begun_as m (Some c) = asked.Join c
 
 abbrev pub closed_by : Forgotten → Option CallId
 closed_by (forgotten.Closed c) = Some c
 closed_by forgotten.Idle = None
 
 -- an asking with a second leads where the place has no open call, and else the second joins that
-abbrev pub chan_as : CallId → CallId → Option CallId → ChanAsked
-chan_as m n None = chan_asked.Led m n
-chan_as m n (Some c) = chan_asked.Joined c
+abbrev pub chan_begun_as : CallId → CallId → Option CallId → ChanAsked
+chan_begun_as m n None = chan_asked.Led m n
+chan_begun_as m n (Some c) = chan_asked.Joined c
 
 module _ {V : Type 0} where
   -- the seat had v, knew mid under the lock, and has w after it
@@ -56,12 +56,12 @@ module _ {V : Type 0} where
   AreNamed c = (m : CallId) → has_taken c.taken m ≡ true → list_any (names m) c.seen ≡ true
 
   -- what an asking adds, as this call or member
-  abbrev pub asked_events : CallId → ℕ → Asked → List (Event ℕ V)
-  asked_events m k (asked.Lead c) = Lead m.caller k m None ∷ []
-  asked_events m k (asked.Join c) = Enter m.caller k c m ∷ []
+  abbrev pub begin_events : CallId → ℕ → Asked → List (Event ℕ V)
+  begin_events m k (asked.Lead c) = Lead m.caller k m None ∷ []
+  begin_events m k (asked.Join c) = Enter m.caller k c m ∷ []
 
-  abbrev pub HasAsked : FitOf V → CallId → ℕ → View V → Asked → View V → Type 0
-  HasAsked fits m k v r w = (mid : Claim V) × Passes fits v mid (asked_events m k r) [] w × (r ≡ asked_as m (open_call nat_eq mid.seen k)) × AreNamed mid
+  abbrev pub PassesBegin : FitOf V → CallId → ℕ → View V → Asked → View V → Type 0
+  PassesBegin fits m k v r w = (mid : Claim V) × Passes fits v mid (begin_events m k r) [] w × (r ≡ begun_as m (open_call nat_eq mid.seen k)) × AreNamed mid
 
   -- a seat that stands for two callers, as which each was free before
   pub record IsPair (m n : CallId) (v : View V) : Type 0 where
@@ -73,70 +73,70 @@ module _ {V : Type 0} where
     pub second : Sits n.caller n.generation other None None None
 
   -- what an asking with a second adds, as this call and this member
-  abbrev pub chan_events : CallId → CallId → ℕ → ChanAsked → List (Event ℕ V)
-  chan_events m n k (chan_asked.Led c d) = Lead m.caller k m (Some n) ∷ []
-  chan_events m n k (chan_asked.Joined c) = Enter n.caller k c n ∷ []
+  abbrev pub begin_chan_events : CallId → CallId → ℕ → ChanAsked → List (Event ℕ V)
+  begin_chan_events m n k (chan_asked.Led c d) = Lead m.caller k m (Some n) ∷ []
+  begin_chan_events m n k (chan_asked.Joined c) = Enter n.caller k c n ∷ []
 
-  abbrev pub HasChanAsked : FitOf V → CallId → CallId → ℕ → View V → ChanAsked → View V → Type 0
-  HasChanAsked fits m n k v r w = (mid : Claim V) × Passes fits v mid (chan_events m n k r) [] w × (r ≡ chan_as m n (open_call nat_eq mid.seen k)) × AreNamed mid
+  abbrev pub PassesBeginChan : FitOf V → CallId → CallId → ℕ → View V → ChanAsked → View V → Type 0
+  PassesBeginChan fits m n k v r w = (mid : Claim V) × Passes fits v mid (begin_chan_events m n k r) [] w × (r ≡ chan_begun_as m n (open_call nat_eq mid.seen k)) × AreNamed mid
 
-  abbrev pub forgotten_events : ℕ → ℕ → Forgotten → List (Event ℕ V)
-  forgotten_events a k r = Forget a k (closed_by r) ∷ []
+  abbrev pub forget_events : ℕ → ℕ → Forgotten → List (Event ℕ V)
+  forget_events a k r = Forget a k (closed_by r) ∷ []
 
-  abbrev pub HasClosed : FitOf V → ℕ → ℕ → View V → Forgotten → View V → Type 0
-  HasClosed fits a k v r w = (mid : Claim V) × Passes fits v mid (forgotten_events a k r) [] w
+  abbrev pub PassesForget : FitOf V → ℕ → ℕ → View V → Forgotten → View V → Type 0
+  PassesForget fits a k v r w = (mid : Claim V) × Passes fits v mid (forget_events a k r) [] w
 
   -- what a settling of the call adds, with this value
-  abbrev pub settled_events : ℕ → CallId → V → Settlement V → List (Event ℕ V)
-  settled_events a c v (settlement.Owed d shared) = Settle a c v shared ∷ []
-  settled_events a c v (settlement.HandedOut d x shared) = Settle a c v shared ∷ Handed a c ∷ []
+  abbrev pub finish_events : ℕ → CallId → V → Settlement V → List (Event ℕ V)
+  finish_events a c v (settlement.Owed d shared) = Settle a c v shared ∷ []
+  finish_events a c v (settlement.HandedOut d x shared) = Settle a c v shared ∷ Handed a c ∷ []
 
   -- the settled value, which comes back where no letter is owed; and letters are owed where somebody joined or the call has an own channel
-  abbrev pub IsSettledAs : List (Event ℕ V) → CallId → V → Settlement V → Type 0
-  IsSettledAs h c v (settlement.Owed d shared) = (shared ≡ true) ⊎ (has_own h c ≡ true)
-  IsSettledAs h c v (settlement.HandedOut d x shared) = x ≡ v
+  abbrev pub IsFinishedAs : List (Event ℕ V) → CallId → V → Settlement V → Type 0
+  IsFinishedAs h c v (settlement.Owed d shared) = (shared ≡ true) ⊎ (has_own h c ≡ true)
+  IsFinishedAs h c v (settlement.HandedOut d x shared) = x ≡ v
 
-  abbrev pub HasSettled : FitOf V → ℕ → CallId → V → View V → Settlement V → View V → Type 0
-  HasSettled fits a c x v r w = (mid : Claim V) × Passes fits v mid (settled_events a c x r) [] w × IsSettledAs mid.seen c x r
+  abbrev pub PassesFinish : FitOf V → ℕ → CallId → V → View V → Settlement V → View V → Type 0
+  PassesFinish fits a c x v r w = (mid : Claim V) × Passes fits v mid (finish_events a c x r) [] w × IsFinishedAs mid.seen c x r
 
   -- what a delivery adds: its last one hands all letters out
-  abbrev pub delivered_events : ℕ → CallId → Result (Settlement V) ModelRefusal → List (Event ℕ V)
-  delivered_events a c (Ok (settlement.Owed d shared)) = []
-  delivered_events a c (Ok (settlement.HandedOut d x shared)) = Handed a c ∷ []
-  delivered_events a c (Err e) = []
+  abbrev pub delivery_events : ℕ → CallId → Result (Settlement V) ModelRefusal → List (Event ℕ V)
+  delivery_events a c (Ok (settlement.Owed d shared)) = []
+  delivery_events a c (Ok (settlement.HandedOut d x shared)) = Handed a c ∷ []
+  delivery_events a c (Err e) = []
 
   abbrev pub IsDeliveredAs : List (Event ℕ V) → CallId → Result (Settlement V) ModelRefusal → Type 0
   IsDeliveredAs h c (Ok (settlement.Owed d shared)) = Unit {0}
   IsDeliveredAs h c (Ok (settlement.HandedOut d x shared)) = answer_of h c ≡ Some (x, shared)
   IsDeliveredAs h c (Err e) = Unit {0}
 
-  abbrev pub HasDelivered : FitOf V → ℕ → CallId → View V → Result (Settlement V) ModelRefusal → View V → Type 0
-  HasDelivered fits a c v r w = (mid : Claim V) × Passes fits v mid (delivered_events a c r) [] w × IsDeliveredAs mid.seen c r
+  abbrev pub PassesDelivery : FitOf V → ℕ → CallId → View V → Result (Settlement V) ModelRefusal → View V → Type 0
+  PassesDelivery fits a c v r w = (mid : Claim V) × Passes fits v mid (delivery_events a c r) [] w × IsDeliveredAs mid.seen c r
 
   -- which members a poll takes the letters of
-  abbrev pub polled_members : CallId → Taken V → List CallId
-  polled_members m (taken.Got c x shared) = m ∷ []
-  polled_members m (taken.Pending c) = []
+  abbrev pub poll_members : CallId → Taken V → List CallId
+  poll_members m (taken.Got c x shared) = m ∷ []
+  poll_members m (taken.Pending c) = []
 
   abbrev pub IsPolledAs : List (Event ℕ V) → CallId → Taken V → Type 0
   IsPolledAs h c (taken.Got d x shared) = answer_of h c ≡ Some (x, shared)
   IsPolledAs h c (taken.Pending d) = is_handed h c ≡ false
 
-  abbrev pub HasTakenUp : FitOf V → Ticket → View V → Taken V → View V → Type 0
-  HasTakenUp fits t v r w = (mid : Claim V) × Passes fits v mid [] (polled_members t.member r) w × IsPolledAs mid.seen t.call r
+  abbrev pub PassesPoll : FitOf V → Ticket → View V → Taken V → View V → Type 0
+  PassesPoll fits t v r w = (mid : Claim V) × Passes fits v mid [] (poll_members t.member r) w × IsPolledAs mid.seen t.call r
 
   -- what the rest of a delivery adds, which ends with the value or is stopped
-  abbrev pub rest_events : ℕ → CallId → Option V → List (Event ℕ V)
-  rest_events a c None = []
-  rest_events a c (Some x) = Handed a c ∷ []
+  abbrev pub go_on_events : ℕ → CallId → Option V → List (Event ℕ V)
+  go_on_events a c None = []
+  go_on_events a c (Some x) = Handed a c ∷ []
 
-  abbrev pub IsDeliveredWith : List (Event ℕ V) → CallId → Option V → Type 0
-  IsDeliveredWith h c None = Unit {0}
-  IsDeliveredWith h c (Some x) = (shared : Bool) × (answer_of h c ≡ Some (x, shared))
+  abbrev pub IsGoneOnWith : List (Event ℕ V) → CallId → Option V → Type 0
+  IsGoneOnWith h c None = Unit {0}
+  IsGoneOnWith h c (Some x) = (shared : Bool) × (answer_of h c ≡ Some (x, shared))
 
-  abbrev pub HasDeliveredRest : FitOf V → ℕ → CallId → View V → Option V → View V → Type 0
-  HasDeliveredRest fits a c v r w = (mid : Claim V) × Passes fits v mid (rest_events a c r) [] w × IsDeliveredWith mid.seen c r
+  abbrev pub PassesGoOn : FitOf V → ℕ → CallId → View V → Option V → View V → Type 0
+  PassesGoOn fits a c v r w = (mid : Claim V) × Passes fits v mid (go_on_events a c r) [] w × IsGoneOnWith mid.seen c r
 
   -- the seat has seen all, and what was shown to it
-  abbrev pub HasHeard : FitOf V → View V → List (Event ℕ V) → View V → Type 0
-  HasHeard fits v shown w = (mid : Claim V) × Passes fits v mid [] [] w × StartsWith mid.seen shown
+  abbrev pub PassesHear : FitOf V → View V → List (Event ℕ V) → View V → Type 0
+  PassesHear fits v shown w = (mid : Claim V) × Passes fits v mid [] [] w × StartsWith mid.seen shown

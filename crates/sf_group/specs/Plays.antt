@@ -1,16 +1,17 @@
 -- what each step tells the seat that makes it
 use Rattle.std.specs.Prelude.{◌≡◌, ℕ, ◌<◌, ◌≤◌, ◌==◌, nat_eq, true, false, List, [], ◌∷◌, ◌++◌, length, Some, MatchBool}
 use Rattle.atomic_table.specs.Table.{Me, Step}
-use Rattle.sf_model.specs.declared.call.CallId.{CallId}
-use Rattle.sf_model.specs.declared.event.Event.{Event}
-use Rattle.sf_model.specs.State.{IsKept, has_taken}
-use Rattle.sf_model.specs.Rows.{StateRows}
-use Rattle.sf_model.specs.Agrees.{Agrees}
-use Rattle.sf_group.specs.declared.view.Sizes.{Sizes}
+use Rattle.sf_history.specs.declared.call.CallId.{CallId}
+use Rattle.sf_history.specs.declared.event.Event.{Event}
+use Rattle.sf_history.specs.State.{IsKept, has_taken}
+use Rattle.sf_state.specs.Rows.{StateRows}
+use Rattle.sf_state.specs.Agrees.{Agrees}
+use Rattle.sf_calls.specs.declared.sizes.Sizes.{Sizes}
+use Rattle.sf_group.specs.declared.rule.TheConstants.{STATE_SLOT, FREE}
 use Rattle.sf_group.specs.declared.view.Claim.{Claim}
 use Rattle.sf_group.specs.declared.view.View.{View}
 use Rattle.sf_group.specs.View.{Has, AreApart, AreMembersOf, Spares, Concern, claim, group_at, all_of}
-use Rattle.sf_group.specs.Fitting.{FitOf, AllFit}
+use Rattle.sf_calls.specs.Fitting.{FitOf, AllFit}
 
 module _ {V : Type 0} where
   -- the claim c, once this is known: what was added since is not its callers' business
@@ -50,10 +51,10 @@ module _ {V : Type 0} where
   hears fits st v n w = Heard fits v w
 
   abbrev pub Took : FitOf V → Me (StateRows V) (View V) → Me (StateRows V) (View V) → Type 0
-  Took fits v w = (state : StateRows V) × (w.1 ≡ (0, state) ∷ v.1) × ((z : Sizes) → v.0.sizes ≡ Some z → Locks fits z v.0 w.0 state)
+  Took fits v w = (state : StateRows V) × (w.1 ≡ (STATE_SLOT, state) ∷ v.1) × ((z : Sizes) → v.0.sizes ≡ Some z → Locks fits z v.0 w.0 state)
 
   abbrev pub takes : FitOf V → Step (StateRows V) → Me (StateRows V) (View V) → ℕ → Me (StateRows V) (View V) → Type 0
-  takes fits st v n w = MatchBool (n == 0) (Took fits v w) (w ≡ v)
+  takes fits st v n w = MatchBool (n == FREE) (Took fits v w) (w ≡ v)
 
   -- the seat's view once these are added
   abbrev pub freed : List (Event ℕ V) → List CallId → View V → View V
@@ -70,7 +71,7 @@ module _ {V : Type 0} where
     pub locked : v.0.locked ≡ true
     pub apart : AreApart v.0.known.callers
     pub state : StateRows V
-    pub has : v.1 ≡ (0, state) ∷ []
+    pub has : v.1 ≡ (STATE_SLOT, state) ∷ []
     pub concern : Concern v.0.known.callers events
     pub own : AreMembersOf v.0.known.callers members
     pub agrees : Agrees state (group_at z (v.0.known.seen ++ events) (v.0.known.taken ++ members))

@@ -3,16 +3,17 @@ use Rattle.std.specs.Prelude.{◌≡◌, ℕ, ◌⊎◌, nat_eq, true, false, Li
 use mathlib.Core.Option.{some, none}
 use lib.ListN.{get_elem?}
 use Rattle.atomic_table.specs.Table.{State}
-use Rattle.sf_model.specs.declared.call.CallId.{CallId}
-use Rattle.sf_model.specs.declared.event.Event.{Event}
-use Rattle.sf_model.specs.State.{IsKept, IsCaller, has_taken}
-use Rattle.sf_model.specs.Rows.{StateRows}
-use Rattle.sf_model.specs.Agrees.{Agrees}
-use Rattle.sf_group.specs.declared.view.Sizes.{Sizes}
+use Rattle.sf_history.specs.declared.call.CallId.{CallId}
+use Rattle.sf_history.specs.declared.event.Event.{Event}
+use Rattle.sf_history.specs.State.{IsKept, IsCaller, has_taken}
+use Rattle.sf_state.specs.Rows.{StateRows}
+use Rattle.sf_state.specs.Agrees.{Agrees}
+use Rattle.sf_calls.specs.declared.sizes.Sizes.{Sizes}
+use Rattle.sf_group.specs.declared.rule.TheConstants.{LOCK_WORD, FREE, TAKEN}
 use Rattle.sf_group.specs.declared.view.Claim.{Claim}
 use Rattle.sf_group.specs.declared.view.View.{View}
 use Rattle.sf_group.specs.View.{Has, AreApart, Spares, group_at, all_of}
-use Rattle.sf_group.specs.Fitting.{FitOf, AllFit}
+use Rattle.sf_calls.specs.Fitting.{FitOf, AllFit}
 
 module _ {V : Type 0} where
   -- a seat's claim: what it has seen begins the history, and nothing after that is its callers' business
@@ -35,7 +36,7 @@ module _ {V : Type 0} where
 
   -- the lock is free, and the state at home
   pub record IsHome (z : Sizes) (h : List (Event ℕ V)) (members : List CallId) (t : State (StateRows V) (View V)) : Type 0 where
-    pub word : slice_index t.words 0 ≡ 0
+    pub word : slice_index t.words LOCK_WORD ≡ FREE
     pub state : StateRows V
     pub home : t.homes ≡ some state ∷ []
     pub agrees : Agrees state (group_at z h members)
@@ -44,7 +45,7 @@ module _ {V : Type 0} where
 
   -- a seat has the state, and has seen all
   pub record IsOut (h : List (Event ℕ V)) (members : List CallId) (t : State (StateRows V) (View V)) : Type 0 where
-    pub word : slice_index t.words 0 ≡ 1
+    pub word : slice_index t.words LOCK_WORD ≡ TAKEN
     pub home : t.homes ≡ none ∷ []
     pub holder : ℕ
     pub locked : (seat : ℕ) (v : View V) → get_elem? t.views seat ≡ some v → v.locked ≡ true → (seat ≡ holder) × (v.known.seen ≡ h) × (v.known.taken ≡ members)

@@ -1,13 +1,18 @@
 -- what seats know: claims of callers on the history
 use Rattle.std.specs.Prelude.{◌≡◌, ℕ, ◌⊎◌, false, List, [], ◌∷◌, ◌++◌, Option, Some, None, unwrap_or}
 use Rattle.std.specs.List.{range_with_len}
-use Rattle.sf_model.specs.declared.call.CallId.{CallId}
-use Rattle.sf_model.specs.declared.event.Event.{Event}
-use Rattle.sf_model.specs.declared.event.Event.TheVariants.{Lead, Enter, Forget, Settle, Handed}
-use Rattle.sf_model.specs.State.{GroupState}
-use Rattle.sf_group.specs.declared.view.Sizes.{Sizes}
+use Rattle.atomic_table.specs.Seated.{TableId}
+use Rattle.sf_history.specs.declared.call.CallId.{CallId}
+use Rattle.sf_history.specs.declared.event.Event.{Event}
+use Rattle.sf_history.specs.declared.event.Event.TheVariants.{Lead, Enter, Forget, Settle, Handed}
+use Rattle.sf_history.specs.State.{GroupState}
+use Rattle.sf_calls.specs.declared.sizes.Sizes.{Sizes}
 use Rattle.sf_group.specs.declared.view.Claim.{Claim}
 use Rattle.sf_group.specs.declared.view.View.{View}
+
+-- a seat of this table, whose one word is the lock
+abbrev pub IsSeatOf : TableId → TableId → Type 0
+IsSeatOf table seat = (seat ≡ table) × (table.words ≡ 1)
 
 abbrev pub Has : List ℕ → ℕ → Type 0
 Has [] a = ⊥

@@ -2,7 +2,7 @@
 ghost use Rattle.std.specs.Prelude.{◌≡◌};
 
 use crate::rule::GroupSeat;
-use sf_model::CallId;
+use sf_history::CallId;
 use std::marker::Model;
 
 /// A caller that leads a call, until it settles that. It has to be spent.
@@ -16,19 +16,14 @@ pub struct Flight<V> {
 }
 
 impl<V> Model for Flight<V> {
-    ghost use Rattle.std.specs.Prelude.{◌≡◌, [], None, Some};
-    ghost use Rattle.std.specs.Option.{is_some};
-    ghost use Rattle.sf_model.specs.Agrees.{has_own};
-    ghost use Rattle.sf_group.specs.Known.{Sits, flight_of};
-    ghost use Rattle.sf_group.specs.Fitting.{led_place};
-    ghost use Rattle.sf_group.specs.Tokens.{FlightValue};
+    ghost use Rattle.sf_calls.specs.Tokens.{FlightValue};
+    ghost use Rattle.sf_group.specs.Known.{LeadsOn, flight_of};
 
     ghost Value = { FlightValue V };
 
     ghost view = { λ f. flight_of f.seat.table_id f.seat.me.0 f.number f.place f.call f.own };
 
-    ghost invariant = { λ f. Sits f.number f.next f.seat.me.0 (Some f.call) None None × (f.seat.me.1 ≡ []) × (f.call.caller ≡ f.number)
-        × (led_place f.seat.me.0.known.seen f.call ≡ Some f.place) × (has_own f.seat.me.0.known.seen f.call ≡ is_some f.own) };
+    ghost invariant = { λ f. LeadsOn f.number f.next f.place f.call f.own f.seat.me };
 }
 
 impl<V> Flight<V> {

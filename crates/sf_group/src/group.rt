@@ -1,23 +1,20 @@
 //! The group, and the calls that make it.
 ghost use Rattle.std.specs.Prelude.{◌≡◌, ◌+◌, ◌≤◌, ◌↔◌, [], IfOk, IsTrue, All};
 ghost use Rattle.std.specs.List.{range_with_len};
-ghost use Rattle.sf_group.specs.Calls.{IsPlaceOf};
-ghost use Rattle.sf_group.specs.Making.{IsDealing, IsNewCaller, new_caller, numbers_of};
+ghost use Rattle.sf_calls.specs.Same.{IsPlaceOf};
+ghost use Rattle.sf_group.specs.Dealing.{IsDealing};
+ghost use Rattle.sf_group.specs.View.{IsSeatOf};
+ghost use Rattle.sf_calls.specs.Making.{IsNewCaller, new_caller, numbers_of};
 
 use crate::caller::Caller;
-use crate::fit::Fit;
-use crate::rule::{Deals, GroupSeat, Law, Lock};
-use crate::view::{Sizes, View};
+use crate::rule::{Deals, FREE, GroupSeat, Law, Lock};
+use crate::view::View;
 use atomic_table::Table;
-use sf_model::{Memory, SeqState};
+use sf_calls::{Fit, MOST_CALLERS, MOST_PLACES, Sizes};
+use sf_history::Memory;
+use sf_state::SeqState;
 use std::alloc::Global;
 use std::marker::Model;
-
-/// The most places that a group may have.
-pub const MOST_PLACES: u32 = 1_048_576;
-
-/// The most callers that a group may have.
-pub const MOST_CALLERS: u32 = 65_535;
 
 /// Callers that ask for places. Clauses see which group it is, and its sizes.
 #[derive(Drop)]
@@ -28,7 +25,7 @@ pub struct Group<V: Fit> {
 
 impl<V: Fit> Model for Group<V> {
     ghost use Rattle.std.specs.Prelude.{◌≡◌};
-    ghost use Rattle.sf_group.specs.Tokens.{GroupValue};
+    ghost use Rattle.sf_calls.specs.Tokens.{GroupValue};
 
     ghost Value = { GroupValue };
 
@@ -39,7 +36,7 @@ impl<V: Fit> Model for Group<V> {
 
 // The next caller, from the seat that stands for those that are not dealt out yet.
 fn deal<V: Fit>(lock: &Lock<V>, first: &mut GroupSeat<V>, number: u32, next: u64) -> Caller<V>
-    requires own { (first.old.table_id ≡ lock.now.table_id) × (lock.now.table_id.words ≡ 1) }
+    requires own { IsSeatOf lock.now.table_id first.old.table_id }
     requires first { IsDealing number lock.now.key first.old.me.0 × (first.old.me.1 ≡ []) }
     requires number { number ≤ lock.now.key.callers }
     requires next { next ≡ lock.now.key.first }
@@ -77,7 +74,7 @@ impl<V: Fit> Group<V> {
         states.push(SeqState::new(alloc, places, callers, first_generation)?)?;
         let Ok((table, mut first)) = Table::<SeqState<V>, View<V>, Sizes, Law, Global>::new(
             alloc,
-            &[0u64],
+            &[FREE],
             states,
             &sizes,
         ) else {
@@ -99,5 +96,12 @@ impl<V: Fit> Group<V> {
         ensures { IsTrue result ↔ IsPlaceOf self.now place }
     {
         1 <= place && place <= self.sizes.places
+    }
+
+    /// How many places it has, from 1 to 1,048,576.
+    pub fn places(&self) -> u32
+        ensures { result ≡ self.now.sizes.places }
+    {
+        self.sizes.places
     }
 }

@@ -1,10 +1,10 @@
 //! Letters, which bring the answers of calls.
 ghost use Rattle.std.specs.Prelude.{◌≡◌};
-ghost use Rattle.sf_group.specs.Calls.{FitsLetter};
+ghost use Rattle.sf_calls.specs.Finishes.{FitsLetter};
 
-use crate::fit::Fit;
 use crate::note::Note;
-use sf_model::CallId;
+use sf_calls::Fit;
+use sf_history::CallId;
 use std::marker::Model;
 
 /// The answer of a call: the value that its leader settled it with, and whether somebody joined it. Its note shows a list
@@ -19,7 +19,7 @@ pub struct Letter<V: Fit> {
 }
 
 impl<V: Fit> Model for Letter<V> {
-    ghost use Rattle.sf_group.specs.Tokens.{LetterValue};
+    ghost use Rattle.sf_calls.specs.Tokens.{LetterValue};
 
     ghost Value = { LetterValue V };
 
@@ -62,5 +62,21 @@ impl<V: Fit> Letter<V> {
         ensures { FitsLetter V.fits self.now }
     {
         let _ = &self.place;
+    }
+
+    /// The letter's value and its note. What the letter is known by is known of both.
+    pub fn into_parts(self) -> (V, Note<V>)
+        ensures value { result.0 ≡ self.value }
+        ensures note { (result.1.group ≡ self.group) × (result.1.seen ≡ self.seen) }
+        ensures fits { FitsLetter V.fits self }
+    {
+        let Letter {
+            place: _,
+            call: _,
+            value,
+            shared: _,
+            note,
+        } = self;
+        (value, note)
     }
 }

@@ -1,44 +1,22 @@
 //! The calls of the group that may wait for its lock word. They are for the crate of waiting forms alone.
-ghost use Rattle.std.specs.Prelude.{◌≡◌, ◌⊎◌, IfOk, IfErr};
-ghost use Rattle.sf_group.specs.Calls.{IsPlaceOf, IsSpent, HasBegun, HasChanBegun, HasForgotten, HasFinished, HasGoneOn, HasPolled};
+ghost use Rattle.std.specs.Prelude.{◌≡◌, IfOk, IfErr};
+ghost use Rattle.sf_calls.specs.Same.{IsPlaceOf};
+ghost use Rattle.sf_calls.specs.Begins.{HasBegun, HasChanBegun, IsRefusedSpent, AreRefusedSpent};
+ghost use Rattle.sf_calls.specs.Forgets.{HasForgotten};
+ghost use Rattle.sf_calls.specs.Finishes.{HasFinished, HasGoneOn, HasPolled};
 
-use crate::caller::Caller;
-use crate::fit::Fit;
+use crate::caller::{Caller, next_calls};
 use crate::flight::Flight;
 use crate::group::Group;
-use crate::letter::Letter;
+use crate::outcomes::{Begun, ChanBegun, Finished, Polled};
 use crate::passing;
 use crate::rule::{Deals, Tells};
 use crate::settled::Settled;
-use crate::spent::Spent;
 use crate::ticket::Ticket;
-use sf_model::{Asked, CallId, ChanAsked, Forgotten, Settlement, Taken};
+use sf_calls::{Fit, Spent};
+use sf_history::{Asked, ChanAsked, Forgotten, Taken};
+use sf_state::Settlement;
 use std::sync::Wait;
-
-/// How an asking ended: the caller leads a new call, or waits for the letter of the open one.
-pub enum Begun<V> {
-    Lead(Flight<V>),
-    Join(Ticket<V>),
-}
-
-/// How an asking with a second caller ended. The ticket is the second's.
-pub enum ChanBegun<V> {
-    Led(Flight<V>, Ticket<V>),
-    Joined(Ticket<V>, Caller<V>),
-}
-
-/// How settling, or going on with a delivery, ended: all letters are handed out, and the leader has its own; or memory
-/// for a letter's copy was refused.
-pub enum Finished<V: Fit> {
-    Done(Caller<V>, Letter<V>),
-    Held(Settled<V>),
-}
-
-/// How a poll ended: the letter is there, or not yet.
-pub enum Polled<V: Fit> {
-    Ready(Caller<V>, Letter<V>),
-    Pending(Ticket<V>),
-}
 
 impl<V: Fit> Group<V> {
     /// The caller asks for the place: it leads a new call where the place has no open one, and else joins that. Refused as
@@ -52,28 +30,22 @@ impl<V: Fit> Group<V> {
         requires own { caller.group ≡ self.now }
         requires place { IsPlaceOf self.now place }
         ensures begun { IfOk result (λ begun. HasBegun caller place begun) }
-        ensures spent { IfErr result (λ refused. IsSpent caller × (refused.back ≡ caller)) }
+        ensures spent { IfErr result (λ refused. IsRefusedSpent caller refused.back) }
     {
+        let Some(member) = caller.next_call() else {
+            return Err(Spent { back: caller });
+        };
         let Caller {
             mut seat,
-            number,
+            number: _,
             next,
         } = caller;
-        let Ok(generation) = u32::try_from(next) else {
-            return Err(Spent {
-                back: Caller { seat, number, next },
-            });
-        };
-        let member = CallId {
-            caller: number,
-            generation,
-        };
         let next = next + 1;
-        let asked = passing::ask(rt, &self.table.shared, &mut seat, member, place);
-        match asked {
+        let begun = passing::begin(rt, &self.table.shared, &mut seat, member, place);
+        match begun {
             Asked::Lead(call) => Ok(Begun::Lead(Flight {
                 seat,
-                number,
+                number: member.caller,
                 next,
                 place,
                 call,
@@ -81,7 +53,7 @@ impl<V: Fit> Group<V> {
             })),
             Asked::Join(call) => Ok(Begun::Join(Ticket {
                 seat,
-                number,
+                number: member.caller,
                 next,
                 place,
                 call,
@@ -104,45 +76,32 @@ impl<V: Fit> Group<V> {
         requires second { second.group ≡ self.now }
         requires place { IsPlaceOf self.now place }
         ensures begun { IfOk result (λ begun. HasChanBegun caller second place begun) }
-        ensures spent { IfErr result (λ refused. (IsSpent caller ⊎ IsSpent second) × (refused.back ≡ (caller, second))) }
+        ensures spent { IfErr result (λ refused. AreRefusedSpent caller second refused.back.0 refused.back.1) }
     {
-        let Ok(generation) = u32::try_from(caller.next) else {
-            return Err(Spent {
-                back: (caller, second),
-            });
-        };
-        let Ok(second_generation) = u32::try_from(second.next) else {
+        let Some((call, member)) = next_calls(&caller, &second) else {
             return Err(Spent {
                 back: (caller, second),
             });
         };
         let Caller {
             mut seat,
-            number,
+            number: _,
             next,
         } = caller;
         let Caller {
             seat: second_seat,
-            number: second_number,
+            number: _,
             next: second_next,
         } = second;
-        let call = CallId {
-            caller: number,
-            generation,
-        };
-        let member = CallId {
-            caller: second_number,
-            generation: second_generation,
-        };
         let lock = &self.table.shared;
         lock.join_seat::<Tells>(&mut seat, second_seat);
-        let asked = passing::ask_chan(rt, lock, &mut seat, call, member, place);
+        let begun = passing::begin_chan(rt, lock, &mut seat, call, member, place);
         let first_seat = lock.split_seat::<Deals>(&mut seat);
-        match asked {
+        match begun {
             ChanAsked::Led(_, _) => Ok(ChanBegun::Led(
                 Flight {
                     seat: first_seat,
-                    number,
+                    number: call.caller,
                     next: next + 1,
                     place,
                     call,
@@ -150,25 +109,25 @@ impl<V: Fit> Group<V> {
                 },
                 Ticket {
                     seat,
-                    number: second_number,
+                    number: member.caller,
                     next: second_next + 1,
                     place,
                     call,
                     member,
                 },
             )),
-            ChanAsked::Joined(call) => Ok(ChanBegun::Joined(
+            ChanAsked::Joined(open) => Ok(ChanBegun::Joined(
                 Ticket {
                     seat,
-                    number: second_number,
+                    number: member.caller,
                     next: second_next + 1,
                     place,
-                    call,
+                    call: open,
                     member,
                 },
                 Caller {
                     seat: first_seat,
-                    number,
+                    number: call.caller,
                     next,
                 },
             )),
@@ -201,7 +160,7 @@ impl<V: Fit> Group<V> {
             call,
             own: _,
         } = flight;
-        let settlement = passing::settle(rt, &self.table.shared, &mut seat, call, place, value);
+        let settlement = passing::finish(rt, &self.table.shared, &mut seat, call, place, value);
         match settlement {
             Settlement::HandedOut(_, value, shared) => {
                 let letter = self.letter(&mut seat, place, call, value, shared);
@@ -234,7 +193,7 @@ impl<V: Fit> Group<V> {
             call,
             shared,
         } = settled;
-        let delivered = passing::deliver_rest(rt, &self.table.shared, &mut seat, call);
+        let delivered = passing::go_on(rt, &self.table.shared, &mut seat, call);
         let Some(value) = delivered else {
             return Finished::Held(Settled {
                 seat,

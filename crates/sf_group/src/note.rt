@@ -13,7 +13,7 @@ pub struct Note<V> {
 impl<V> Model for Note<V> {
     ghost use Rattle.std.specs.Prelude.{◌≡◌, []};
     ghost use Rattle.sf_group.specs.Known.{IsNote, note_value};
-    ghost use Rattle.sf_group.specs.Tokens.{NoteValue};
+    ghost use Rattle.sf_calls.specs.Tokens.{NoteValue};
 
     ghost Value = { NoteValue V };
 

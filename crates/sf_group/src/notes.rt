@@ -1,28 +1,28 @@
 //! Notes and letters pass on what one has seen. None of these calls waits, and none takes memory but a copy.
 ghost use Rattle.std.specs.Prelude.{◌≡◌, false, [], IfOk, IfErr, Some};
-ghost use Rattle.sf_group.specs.Seen.{StartsWith};
-ghost use Rattle.sf_group.specs.View.{sizes_of};
+ghost use Rattle.sf_calls.specs.Seen.{StartsWith};
+ghost use Rattle.sf_group.specs.View.{IsSeatOf, sizes_of};
 ghost use Rattle.sf_group.specs.Known.{letter_of, IsNote};
-ghost use Rattle.sf_group.specs.Passing.{HasHeard};
-ghost use Rattle.sf_group.specs.Calls.{HasTold, HasLearnt, HasLearntLeading, HasGrown, HasMet, HasLent, HasCopied};
+ghost use Rattle.sf_group.specs.Passing.{PassesHear};
+ghost use Rattle.sf_calls.specs.Notes.{HasTold, HasLearnt, HasLearntLeading, HasGrown, HasMet, HasLent, HasCopied};
 
 use crate::caller::Caller;
-use crate::fit::Fit;
 use crate::flight::Flight;
 use crate::group::Group;
 use crate::letter::Letter;
 use crate::locking::hear;
 use crate::note::Note;
 use crate::rule::{GroupSeat, Lock, Tells};
-use sf_model::{CallId, Memory};
+use sf_calls::Fit;
+use sf_history::{CallId, Memory};
 
 // The seat sees all, and so also what a note shows.
 fn hear_note<V: Fit>(lock: &Lock<V>, seat: &mut GroupSeat<V>, note: &mut GroupSeat<V>)
-    requires own { (seat.old.table_id ≡ lock.now.table_id) × (note.old.table_id ≡ lock.now.table_id) × (lock.now.table_id.words ≡ 1) }
+    requires own { (note.old.table_id ≡ lock.now.table_id) × IsSeatOf lock.now.table_id seat.old.table_id }
     requires seat { (seat.old.me.0.sizes ≡ Some (sizes_of seat.old.me.0)) × (seat.old.me.0.told ≡ []) × (seat.old.me.0.locked ≡ false) × (seat.old.me.1 ≡ []) }
     requires note { IsNote note.old.me.0 × (note.old.me.1 ≡ []) }
     ensures own { (seat.new.table_id ≡ seat.old.table_id) × (seat.new.me.1 ≡ []) }
-    ensures heard { HasHeard V.fits seat.old.me.0 note.old.me.0.known.seen seat.new.me.0 }
+    ensures heard { PassesHear V.fits seat.old.me.0 note.old.me.0.known.seen seat.new.me.0 }
     ensures note { (note.new.table_id ≡ note.old.table_id) × (note.new.me ≡ note.old.me) }
 {
     let again = lock.split_seat::<Tells>(note);

@@ -1,8 +1,8 @@
 //! What each step on the lock word tells. No value of these types is made.
-use crate::fit::Fit;
 use crate::view::View;
 use atomic_table::Play;
-use sf_model::SeqState;
+use sf_calls::Fit;
+use sf_state::SeqState;
 use std::marker::{Brand, PhantomData};
 
 /// An exchange of the lock word, which takes the state where it wins.
@@ -26,8 +26,8 @@ impl<V: Fit> Play<SeqState<V>, View<V>> for Hears {
 /// What a seat adds as it frees the lock: events, and members that took their letters. Each free picks it.
 pub trait Plan<V> {
     ghost use Rattle.std.specs.Prelude.{ℕ, List};
-    ghost use Rattle.sf_model.specs.declared.call.CallId.{CallId};
-    ghost use Rattle.sf_model.specs.declared.event.Event.{Event};
+    ghost use Rattle.sf_history.specs.declared.call.CallId.{CallId};
+    ghost use Rattle.sf_history.specs.declared.event.Event.{Event};
 
     ghost events: { List (Event ℕ V) };
 

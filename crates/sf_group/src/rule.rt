@@ -1,9 +1,21 @@
 //! The rule of the group's table: its state is at home while the lock word is 0, and agrees with one legal history, of
 //! which each seat has seen a beginning.
-use crate::fit::Fit;
-use crate::view::{Sizes, View};
+use crate::view::View;
 use atomic_table::{Join, Seat, Shared, Split, TableRule};
-use sf_model::SeqState;
+use sf_calls::{Fit, Sizes};
+use sf_state::SeqState;
+
+/// The table's one word, which is the lock.
+pub(crate) const LOCK_WORD: usize = 0;
+
+/// What the lock word says while the state is at home.
+pub(crate) const FREE: u64 = 0;
+
+/// What it says while a seat has the state.
+pub(crate) const TAKEN: u64 = 1;
+
+/// The table's one slot, in which the state is at home.
+pub(crate) const STATE_SLOT: usize = 0;
 
 pub(crate) type Lock<V> = Shared<SeqState<V>, View<V>, Sizes, Law>;
 

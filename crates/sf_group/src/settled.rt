@@ -2,7 +2,7 @@
 ghost use Rattle.std.specs.Prelude.{◌≡◌};
 
 use crate::rule::GroupSeat;
-use sf_model::CallId;
+use sf_history::CallId;
 use std::marker::Model;
 
 /// A caller that has settled its call for good, and owes letters of it still. It has to be spent.
@@ -16,19 +16,14 @@ pub struct Settled<V> {
 }
 
 impl<V> Model for Settled<V> {
-    ghost use Rattle.std.specs.Prelude.{◌≡◌, [], None, Some};
-    ghost use Rattle.sf_model.specs.declared.event.Event.TheVariants.{Settle};
-    ghost use Rattle.sf_group.specs.Known.{Sits, settling, settled_of};
-    ghost use Rattle.sf_group.specs.Fitting.{led_place};
-    ghost use Rattle.sf_group.specs.Tokens.{SettledValue};
+    ghost use Rattle.sf_calls.specs.Tokens.{SettledValue};
+    ghost use Rattle.sf_group.specs.Known.{OwesOn, settled_of};
 
     ghost Value = { SettledValue V };
 
     ghost view = { λ s. settled_of s.seat.table_id s.seat.me.0 s.number s.place s.call s.shared };
 
-    ghost invariant = { λ s. Sits s.number s.next s.seat.me.0 None (Some s.call) None × (s.seat.me.1 ≡ []) × (s.call.caller ≡ s.number)
-        × (led_place s.seat.me.0.known.seen s.call ≡ Some s.place)
-        × ((v : V) × (settling s.seat.me.0.known.seen s.call ≡ Some (Settle s.number s.call v s.shared))) };
+    ghost invariant = { λ s. OwesOn s.number s.next s.place s.call s.shared s.seat.me };
 }
 
 impl<V> Settled<V> {

@@ -2,7 +2,7 @@
 ghost use Rattle.std.specs.Prelude.{◌≡◌};
 
 use crate::rule::GroupSeat;
-use sf_model::CallId;
+use sf_history::CallId;
 use std::marker::Model;
 
 /// A caller that waits for the letter of a call, as a member of it. It has to be spent.
@@ -16,17 +16,14 @@ pub struct Ticket<V> {
 }
 
 impl<V> Model for Ticket<V> {
-    ghost use Rattle.std.specs.Prelude.{◌≡◌, [], None, Some};
-    ghost use Rattle.sf_group.specs.Known.{Sits, ticket, ticket_of};
-    ghost use Rattle.sf_group.specs.Fitting.{led_place};
-    ghost use Rattle.sf_group.specs.Tokens.{TicketValue};
+    ghost use Rattle.sf_calls.specs.Tokens.{TicketValue};
+    ghost use Rattle.sf_group.specs.Known.{WaitsOn, ticket_of};
 
     ghost Value = { TicketValue V };
 
     ghost view = { λ t. ticket_of t.seat.table_id t.seat.me.0 t.number t.place t.call t.member };
 
-    ghost invariant = { λ t. Sits t.number t.next t.seat.me.0 None None (Some (ticket t.call t.member)) × (t.seat.me.1 ≡ []) × (t.member.caller ≡ t.number)
-        × (led_place t.seat.me.0.known.seen t.call ≡ Some t.place) };
+    ghost invariant = { λ t. WaitsOn t.number t.next t.place t.call t.member t.seat.me };
 }
 
 impl<V> Ticket<V> {

@@ -1,14 +1,7 @@
-//! What a seat at the group's table knows. No value of these types but `Sizes` is made.
-use sf_model::{CallId, Event};
+//! What a seat at the group's table knows. No value of these types is made.
+use sf_calls::Sizes;
+use sf_history::{CallId, Event};
 use std::collections::LinkedList;
-
-/// How many places and callers a group has, and its callers' first generation.
-#[derive(Clone, Copy, Debug, PartialEq, Eq)]
-pub struct Sizes {
-    pub places: u32,
-    pub callers: u32,
-    pub first: u32,
-}
 
 /// Callers, with a beginning of the history that has all their events, and with members that took their letters, the
 /// callers' own all among them.

@@ -1,13 +1,13 @@
 use Rattle.std.proofs.Common.{[], ◌∷◌, ap, subst, Ok}
 use Rattle.std.specs.Prelude.{nat_eq}
-use Rattle.sf_model.specs.declared.event.Event.TheVariants.{Forget}
-use Rattle.sf_model.specs.Agrees.{IsObeyed}
-use Rattle.sf_model.specs.Sequential.{forgotten_as}
-use Rattle.sf_model.specs.State.{with_events}
-use Rattle.sf_model.specs.History.{open_call}
+use Rattle.sf_history.specs.declared.event.Event.TheVariants.{Forget}
+use Rattle.sf_state.specs.Agrees.{IsObeyed}
+use Rattle.sf_history.specs.Sequential.{forgotten_as}
+use Rattle.sf_history.specs.State.{with_events}
+use Rattle.sf_history.specs.History.{open_call}
 use Rattle.sf_group.specs.View.{sizes_of}
 use Rattle.sf_group.proofs.Holding.{now, has_alone, locks_now, has_state, has_caller, has_place, may_free, passes}
-use Rattle.sf_group.proofs.Asking.{forget_obeyed, forget_goes_on}
+use Rattle.sf_group.proofs.Beginning.{forget_obeyed, forget_goes_on}
 use Rattle.sf_group.proofs.passing.forget.Goals as goal
 
 pub forget-requires-clause-has : goal.forget-requires-clause-has
@@ -46,8 +46,8 @@ free-requires-clause-frees g c =
     let on = forget_goes_on g.V.Fit.fits g.V.Fit.lasts v w (t.0) (o.0) c.args.caller (c.requires.sits.0) c.args.place c.in-Ok.forgotten l sits obeyed in
     may_free g.V.Fit.fits (sizes_of v) v w (t.0) (o.0) c.forget.new.seat.me _ [] l sits.sizes on c.forget.ensures.own.1 o.1 o.2
 
-pub returns-clause-closed : goal.returns-clause-closed
-returns-clause-closed g c =
+pub returns-clause-forgotten : goal.returns-clause-forgotten
+returns-clause-forgotten g c =
     let v = c.args.seat.now.me.0 in
     let w = c.take.new.seat.me.0 in
     let sits = c.requires.sits.1 in

@@ -1,5 +1,5 @@
 use Rattle.std.proofs.Common.{[], ap, subst, Some}
-use Rattle.sf_model.specs.Settlements.{IsPolled}
+use Rattle.sf_state.specs.Settlements.{IsPolled}
 use Rattle.sf_group.specs.Known.{ticket}
 use Rattle.sf_group.specs.View.{sizes_of}
 use Rattle.sf_group.proofs.Holding.{now, has_alone, locks_now, has_state, has_caller, may_free, passes}
@@ -42,8 +42,8 @@ free-requires-clause-frees g c =
     let on = poll_goes_on g.V.Fit.fits g.V.Fit.lasts v w (t.0) (o.0) (c.requires.sits.0) c.args.call c.args.member c.in-Ok.taken l sits obeyed in
     may_free g.V.Fit.fits (sizes_of v) v w (t.0) (o.0) c.poll.new.seat.me [] _ l sits.sizes on.0 c.poll.ensures.own.1 o.1 o.2
 
-pub returns-clause-taken : goal.returns-clause-taken
-returns-clause-taken g c =
+pub returns-clause-polled : goal.returns-clause-polled
+returns-clause-polled g c =
     let v = c.args.seat.now.me.0 in
     let w = c.take.new.seat.me.0 in
     let sits = c.requires.sits.1 in

@@ -1,6 +1,6 @@
 use Rattle.std.proofs.Common.{subst}
-use Rattle.sf_group.specs.Tokens.{CallerValue, NoteValue}
-use Rattle.sf_group.specs.Calls.{HasLearnt}
+use Rattle.sf_calls.specs.Tokens.{CallerValue, NoteValue}
+use Rattle.sf_calls.specs.Notes.{HasLearnt}
 use Rattle.sf_group.specs.Known.{caller_of}
 use Rattle.sf_group.proofs.PlainRows.{sits_still, learnt_row}
 use Rattle.sf_group.proofs.group.Group.learn.Goals as goal

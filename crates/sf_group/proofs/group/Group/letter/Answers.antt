@@ -1,5 +1,5 @@
 use Rattle.std.proofs.Common.{ap, sym, ◌∙◌, arith}
-use Rattle.sf_group.specs.Tokens.{GroupValue}
+use Rattle.sf_calls.specs.Tokens.{GroupValue}
 use Rattle.sf_group.proofs.Seating.{tells_split}
 use Rattle.sf_group.proofs.group.Group.letter.Goals as goal
 

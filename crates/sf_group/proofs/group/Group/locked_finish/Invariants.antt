@@ -1,4 +1,4 @@
 use Rattle.sf_group.proofs.group.Group.locked_finish.Given as goal
 
-abbrev pub ghost-settle : goal.ghost-settle
-ghost-settle g a = a.value
+abbrev pub ghost-finish : goal.ghost-finish
+ghost-finish g a = a.value

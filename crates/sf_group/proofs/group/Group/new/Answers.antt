@@ -2,13 +2,14 @@ use Rattle.std.proofs.Common.{◌≡◌, ◌+◌, List, [], ◌∷◌, ◌++◌,
 use Rattle.std.specs.List.{All}
 use Rattle.std.proofs.lemmas.List.Elements.{All-push}
 use Rattle.atomic_table.specs.Table.{Me, opening}
-use Rattle.sf_model.specs.Rows.{StateRows}
-use Rattle.sf_group.specs.declared.view.Sizes.{Sizes}
+use Rattle.sf_state.specs.Rows.{StateRows}
+use Rattle.sf_calls.specs.declared.sizes.Sizes.{Sizes}
 use Rattle.sf_group.specs.declared.view.View.{View}
-use Rattle.sf_group.specs.Tokens.{GroupValue, CallerValue}
+use Rattle.sf_calls.specs.Tokens.{GroupValue, CallerValue}
 use Rattle.sf_group.specs.View.{first_view}
 use Rattle.sf_group.specs.Shows.{Holds}
-use Rattle.sf_group.specs.Making.{IsDealing, IsNewCaller, new_caller, numbers_of}
+use Rattle.sf_group.specs.Dealing.{IsDealing}
+use Rattle.sf_calls.specs.Making.{IsNewCaller, new_caller, numbers_of}
 use Rattle.sf_group.proofs.Opening.{opens}
 use Rattle.sf_group.proofs.Dealing.{deals_first, numbers_more}
 use Rattle.sf_group.proofs.group.Group.new.Goals as goal

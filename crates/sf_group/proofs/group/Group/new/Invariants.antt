@@ -1,6 +1,7 @@
 use Rattle.std.proofs.Common.{◌≡◌, ◌+◌, []}
 use Rattle.std.specs.List.{All, range_with_len}
-use Rattle.sf_group.specs.Making.{IsDealing, IsNewCaller, numbers_of}
+use Rattle.sf_group.specs.Dealing.{IsDealing}
+use Rattle.sf_calls.specs.Making.{IsNewCaller, numbers_of}
 use Rattle.sf_group.proofs.group.Group.new.Given as goal
 
 abbrev pub invariant-loop-index : goal.invariant-loop-index

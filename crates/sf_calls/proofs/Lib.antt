@@ -1,0 +1,3 @@
+pub mod AddsAgain
+pub mod Refused
+pub mod RowsAfter

@@ -1,0 +1,9 @@
+pub mod Begins
+pub mod Finishes
+pub mod Fitting
+pub mod Forgets
+pub mod Making
+pub mod Notes
+pub mod Same
+pub mod Seen
+pub mod Tokens

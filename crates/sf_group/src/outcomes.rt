@@ -1,0 +1,18 @@
+//! How this group's calls end.
+use crate::caller::Caller;
+use crate::flight::Flight;
+use crate::letter::Letter;
+use crate::settled::Settled;
+use crate::ticket::Ticket;
+
+/// How an asking ended, over this group's tokens.
+pub type Begun<V> = sf_calls::Begun<Flight<V>, Ticket<V>>;
+
+/// How an asking with a second caller ended, over this group's tokens.
+pub type ChanBegun<V> = sf_calls::ChanBegun<Flight<V>, Ticket<V>, Caller<V>>;
+
+/// How settling, or going on with a delivery, ended, over this group's tokens.
+pub type Finished<V> = sf_calls::Finished<Caller<V>, Letter<V>, Settled<V>>;
+
+/// How a poll ended, over this group's tokens.
+pub type Polled<V> = sf_calls::Polled<Caller<V>, Letter<V>, Ticket<V>>;
