@@ -1,0 +1,217 @@
+//! The waiting forms, do, and jobs that workers do.
+ghost use Rattle.std.specs.Prelude.{◌≡◌};
+ghost use Rattle.sf_calls.specs.Same.{IsPlaceOf};
+ghost use Rattle.sf_calls.specs.declared.outcomes.Finished.TheVariants.{Held};
+
+use crate::outcome::{Outcome, check_call, check_letter, id, next_caller};
+use crate::serving::Number;
+use sf_group::{
+    Begun, CallId, Caller, ChanBegun, Finished, Flight, Forgotten, Group, Letter, Settled, Spent,
+    Ticket,
+};
+use sf_wait::{
+    DoFault, Job, begin_chan_wait, begin_wait, do_with, finish_wait, forget_wait, go_on_wait, wait,
+};
+use std::process::Abort;
+use std::sync::Wait;
+use std::sync::atomic::{AtomicU32, Ordering};
+use std::test::Fail;
+
+fn lead(
+    rt: &(impl Abort + Wait),
+    group: &Group<Outcome>,
+    caller: Caller<Outcome>,
+    call: CallId,
+) -> Flight<Outcome>
+    requires own { caller.group ≡ group.now }
+    requires place { IsPlaceOf group.now 1 }
+    ensures { result.group ≡ group.now }
+{
+    match begin_wait(rt, group, caller, 1) {
+        Ok(Begun::Lead(flight)) => {
+            check_call(rt, flight.call(), call);
+            flight
+        }
+        Ok(Begun::Join(ticket)) => {
+            ticket.abandon();
+            panic!(rt; "it joins")
+        }
+        Err(Spent { back }) => panic!(rt; "caller {} is spent", back.number()),
+    }
+}
+
+fn finish(
+    rt: &(impl Abort + Wait),
+    group: &Group<Outcome>,
+    flight: Flight<Outcome>,
+    value: u32,
+) -> (Caller<Outcome>, Letter<Outcome>)
+    requires { flight.group ≡ group.now }
+    ensures { (result.0.group ≡ group.now) × (result.1.group ≡ group.now) }
+{
+    match finish_wait(rt, group, flight, Outcome(value)) {
+        Finished::Done(caller, letter) => (caller, letter),
+        Finished::Held(settled) => {
+            settled.abandon();
+            panic!(rt; "it is held")
+        }
+    }
+}
+
+#[test]
+fn forms_of_one_caller(rt: HostRuntime) -> Result<(), Fail> {
+    let (group, mut callers) = Group::<Outcome>::new(rt.alloc(), 1, 1, 1)?;
+    let one = next_caller(&rt, &group, &mut callers);
+    let flight = lead(&rt, &group, one, id(1, 1));
+    let (mut one, letter) = finish(&rt, &group, flight, 7);
+    check_letter(&rt, &letter, id(1, 1), 7, false);
+    let forgotten = forget_wait(&rt, &group, &mut one, 1);
+    assert!(rt; matches!(&forgotten, Forgotten::Idle), "it closed a call");
+    Ok(())
+}
+
+fn lead_chan(
+    rt: &(impl Abort + Wait),
+    group: &Group<Outcome>,
+    caller: Caller<Outcome>,
+    second: Caller<Outcome>,
+) -> (Flight<Outcome>, Ticket<Outcome>)
+    requires caller { caller.group ≡ group.now }
+    requires second { second.group ≡ group.now }
+    requires place { IsPlaceOf group.now 1 }
+    ensures { (result.0.group ≡ group.now) × (result.1.group ≡ group.now) }
+{
+    match begin_chan_wait(rt, group, caller, second, 1) {
+        Ok(ChanBegun::Led(flight, ticket)) => (flight, ticket),
+        Ok(ChanBegun::Joined(ticket, _)) => {
+            ticket.abandon();
+            panic!(rt; "it joins")
+        }
+        Err(_) => panic!(rt; "one is spent"),
+    }
+}
+
+#[test]
+fn forms_of_a_channel(rt: HostRuntime) -> Result<(), Fail> {
+    let (group, mut callers) = Group::<Outcome>::new(rt.alloc(), 1, 2, 1)?;
+    let two = next_caller(&rt, &group, &mut callers);
+    let one = next_caller(&rt, &group, &mut callers);
+    let (flight, ticket) = lead_chan(&rt, &group, one, two);
+    let (_, letter) = finish(&rt, &group, flight, 7);
+    check_letter(&rt, &letter, id(1, 1), 7, false);
+    let (two, letter) = wait(&rt, &group, ticket);
+    check_letter(&rt, &letter, id(1, 1), 7, false);
+    assert!(rt; two.number() == 2, "caller {} is free", two.number());
+    Ok(())
+}
+
+// The caller joins, and gives its ticket up, so that a copy is owed that it never takes.
+fn join_once(rt: &(impl Abort + Wait), group: &Group<Outcome>, caller: Caller<Outcome>)
+    requires own { caller.group ≡ group.now }
+    requires place { IsPlaceOf group.now 1 }
+{
+    match begin_wait(rt, group, caller, 1) {
+        Ok(Begun::Join(ticket)) => ticket.abandon(),
+        Ok(Begun::Lead(flight)) => {
+            flight.abandon();
+            panic!(rt; "it leads")
+        }
+        Err(Spent { back }) => panic!(rt; "caller {} is spent", back.number()),
+    }
+}
+
+fn held(rt: &impl Abort, finished: Finished<Outcome>) -> Settled<Outcome>
+    ensures { finished ≡ Held result }
+{
+    match finished {
+        Finished::Held(settled) => settled,
+        Finished::Done(..) => panic!(rt; "it is done"),
+    }
+}
+
+#[test]
+fn held_delivery_goes_on(rt: HostRuntime) -> Result<(), Fail> {
+    let (group, mut callers) = Group::<Outcome>::new(rt.alloc(), 1, 2, 1)?;
+    let two = next_caller(&rt, &group, &mut callers);
+    let one = next_caller(&rt, &group, &mut callers);
+    let flight = lead(&rt, &group, one, id(1, 1));
+    join_once(&rt, &group, two);
+    let settled = held(&rt, finish_wait(&rt, &group, flight, Outcome(100)));
+    held(&rt, go_on_wait(&rt, &group, settled)).abandon();
+    Ok(())
+}
+
+fn load_once(
+    rt: &(impl Abort + Wait),
+    group: &Group<Outcome>,
+    caller: Caller<Outcome>,
+    loads: &AtomicU32,
+) -> (Caller<Outcome>, Letter<Outcome>)
+    requires own { caller.group ≡ group.now }
+    requires place { IsPlaceOf group.now 1 }
+    ensures { (result.0.group ≡ group.now) × (result.1.group ≡ group.now) }
+{
+    let load = || {
+        loads.fetch_add(1, Ordering::SeqCst);
+        Outcome(7)
+    };
+    match do_with(rt, group, caller, 1, load) {
+        Ok((caller, letter)) => (caller, letter),
+        Err(DoFault::Held(settled)) => {
+            settled.abandon();
+            panic!(rt; "it is held")
+        }
+        Err(DoFault::Spent(..)) => panic!(rt; "it is spent"),
+    }
+}
+
+#[test]
+fn lone_do_loads_once(rt: HostRuntime) -> Result<(), Fail> {
+    let (group, mut callers) = Group::<Outcome>::new(rt.alloc(), 1, 1, 4_294_967_295)?;
+    let one = next_caller(&rt, &group, &mut callers);
+    let loads = AtomicU32::new(0);
+    let (one, letter) = load_once(&rt, &group, one, &loads);
+    check_letter(&rt, &letter, id(1, 4_294_967_295), 7, false);
+    let loads = loads.load(Ordering::SeqCst);
+    assert!(rt; loads == 1, "after {loads} loads");
+    match do_with(&rt, &group, one, 1, || Outcome(8)) {
+        Err(DoFault::Spent(one, load)) => {
+            let Outcome(value) = load();
+            assert!(rt; value == 8 && one.number() == 1, "its load answers {value}");
+        }
+        Err(DoFault::Held(settled)) => {
+            settled.abandon();
+            panic!(rt; "it is held")
+        }
+        Ok(_) => panic!(rt; "it is not spent"),
+    }
+    Ok(())
+}
+
+#[test]
+fn do_is_held_where_a_copy_is_refused(rt: HostRuntime) -> Result<(), Fail> {
+    let (group, mut callers) = Group::<Outcome>::new(rt.alloc(), 1, 2, 1)?;
+    let two = next_caller(&rt, &group, &mut callers);
+    let one = next_caller(&rt, &group, &mut callers);
+    let load = || {
+        join_once(&rt, &group, two);
+        Outcome(100)
+    };
+    match do_with(&rt, &group, one, 1, load) {
+        Err(DoFault::Held(settled)) => settled.abandon(),
+        Err(DoFault::Spent(..)) => panic!(rt; "it is spent"),
+        Ok(_) => panic!(rt; "it is done"),
+    }
+    Ok(())
+}
+
+#[test]
+fn job_gives_its_parts(rt: HostRuntime) -> Result<(), Fail> {
+    let (group, mut callers) = Group::<Outcome>::new(rt.alloc(), 1, 1, 1)?;
+    let one = next_caller(&rt, &group, &mut callers);
+    let job = Job::new(lead(&rt, &group, one, id(1, 1)), Number(7));
+    let (flight, Number(value)) = job.into_parts();
+    assert!(rt; value == 7, "its work is {value}");
+    Job::new(flight, Number(8)).abandon();
+    Ok(())
+}

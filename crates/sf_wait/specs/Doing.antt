@@ -1,0 +1,47 @@
+-- how a do ends
+use Rattle.std.specs.Prelude.{◌≡◌, ℕ, ◌⊎◌}
+use Rattle.sf_calls.specs.Tokens.{CallerValue, FlightValue, TicketValue, LetterValue, SettledValue}
+use Rattle.sf_calls.specs.Fitting.{FitOf}
+use Rattle.sf_calls.specs.Begins.{HasLed, HasJoined, IsRefusedSpent}
+use Rattle.sf_calls.specs.Finishes.{IsDone, IsHeld, IsReady, HasFinished}
+use Rattle.sf_wait.specs.declared.doing.Did.{Did}
+use Rattle.sf_wait.specs.declared.doing.Did.TheVariants as did
+use Rattle.sf_wait.specs.declared.doing.DoFault.{DoFault}
+use Rattle.sf_wait.specs.declared.doing.DoFault.TheVariants as fault
+
+module _ {V : Type 0} where
+  -- it led, and settled its call with a value that the load answered
+  pub record HasLoaded (fits : FitOf V) (answers : V → Type 0) (c : CallerValue V) (k : ℕ) (d : CallerValue V) (l : LetterValue V) : Type 0 where
+    pub flight : FlightValue V
+    pub value : V
+    pub answered : answers value
+    pub begun : HasLed c k flight
+    pub finished : IsDone fits flight value d l
+
+  -- it joined, and waited for the letter
+  pub record HasWaited (fits : FitOf V) (c : CallerValue V) (k : ℕ) (d : CallerValue V) (l : LetterValue V) : Type 0 where
+    pub ticket : TicketValue V
+    pub begun : HasJoined c k ticket
+    pub waited : IsReady fits ticket d l
+
+  abbrev pub HasDone : FitOf V → (V → Type 0) → CallerValue V → ℕ → CallerValue V → LetterValue V → Type 0
+  HasDone fits answers c k d l = HasLoaded fits answers c k d l ⊎ HasWaited fits c k d l
+
+  -- it led and settled its call with a value that the load answered, and letters of it are owed still
+  pub record OwesLoaded (answers : V → Type 0) (c : CallerValue V) (k : ℕ) (s : SettledValue V) : Type 0 where
+    pub flight : FlightValue V
+    pub value : V
+    pub answered : answers value
+    pub begun : HasLed c k flight
+    pub finished : IsHeld flight value s
+
+module _ {V F : Type 0} where
+  abbrev pub HasFailed : (V → Type 0) → CallerValue V → ℕ → F → DoFault V F → Type 0
+  HasFailed answers c k load (fault.Spent d f) = IsRefusedSpent c d × (f ≡ load)
+  HasFailed answers c k load (fault.Held s) = OwesLoaded answers c k s
+
+  -- it led, with a value that the load answered, or has its load back
+  abbrev pub HasAsked : FitOf V → (V → Type 0) → CallerValue V → ℕ → F → Did V F → Type 0
+  HasAsked fits answers c k load (did.Led r) = (flight : FlightValue V) × (value : V) × answers value × HasLed c k flight × HasFinished fits flight value r
+  HasAsked fits answers c k load (did.Joined t f) = HasJoined c k t × (f ≡ load)
+  HasAsked fits answers c k load (did.Spent d f) = IsRefusedSpent c d × (f ≡ load)

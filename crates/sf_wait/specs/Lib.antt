@@ -1,0 +1,4 @@
+pub mod Doing
+pub mod Hands
+pub mod Jobs
+pub mod Served

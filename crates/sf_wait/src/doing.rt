@@ -1,0 +1,76 @@
+//! Do: the caller leads and loads, or waits for another's answer.
+ghost use Rattle.std.specs.Prelude.{◌≡◌, IfOk, IfErr};
+ghost use Rattle.sf_calls.specs.Tokens.{FlightValue};
+ghost use Rattle.sf_calls.specs.Same.{IsPlaceOf};
+ghost use Rattle.sf_calls.specs.Begins.{HasLed};
+ghost use Rattle.sf_wait.specs.Doing.{HasAsked, HasDone, HasFailed};
+
+use crate::waiting::{begin_wait, finish_wait, wait};
+use sf_calls::{Fit, Spent};
+use sf_group::{Begun, Caller, Finished, Group, Letter, Settled, Ticket};
+use std::sync::Wait;
+
+/// Why a do has no letter.
+pub enum DoFault<V, F> {
+    /// The caller has no generation left. It comes back with its load, which was not called.
+    Spent(Caller<V>, F),
+    /// The caller led, and its call is settled; memory for a letter's copy was refused, so letters are owed still.
+    Held(Settled<V>),
+}
+
+/// The caller asks for the place. Where it leads, it calls `load` once, and settles its call with what that answers; where
+/// it joins, it waits for the letter, and `load` is not called.
+pub fn do_with<V: Fit, R: Wait, F: FnOnce() -> V + Drop>(
+    rt: &R,
+    group: &Group<V>,
+    caller: Caller<V>,
+    place: u32,
+    load: F,
+) -> Result<(Caller<V>, Letter<V>), DoFault<V, F>>
+    requires own { caller.group ≡ group.now }
+    requires place { IsPlaceOf group.now place }
+    requires callable { (flight : FlightValue V) → HasLed caller place flight → F.pre load }
+    requires fits { (flight : FlightValue V) (value : V) → HasLed caller place flight → F.post load value
+        → V.fits flight.place flight.call value flight.seen }
+    ensures done { IfOk result (λ done. HasDone V.fits (F.post load) caller place done.0 done.1) }
+    ensures failed { IfErr result (λ fault. HasFailed (F.post load) caller place load fault) }
+{
+    match ask_with(rt, group, caller, place, load) {
+        Did::Led(Finished::Done(caller, letter)) => Ok((caller, letter)),
+        Did::Led(Finished::Held(settled)) => Err(DoFault::Held(settled)),
+        Did::Joined(ticket, load) => {
+            drop(load);
+            Ok(wait(rt, group, ticket))
+        }
+        Did::Spent(caller, load) => Err(DoFault::Spent(caller, load)),
+    }
+}
+
+// How an asking with a load ended. Who did not lead has its load back.
+enum Did<V: Fit, F> {
+    Led(Finished<V>),
+    Joined(Ticket<V>, F),
+    Spent(Caller<V>, F),
+}
+
+// The load can be neither copied nor dropped here, so it is called only where it does not come back.
+fn ask_with<V: Fit, R: Wait, F: FnOnce() -> V>(
+    rt: &R,
+    group: &Group<V>,
+    caller: Caller<V>,
+    place: u32,
+    load: F,
+) -> Did<V, F>
+    requires own { caller.group ≡ group.now }
+    requires place { IsPlaceOf group.now place }
+    requires callable { (flight : FlightValue V) → HasLed caller place flight → F.pre load }
+    requires fits { (flight : FlightValue V) (value : V) → HasLed caller place flight → F.post load value
+        → V.fits flight.place flight.call value flight.seen }
+    ensures { HasAsked V.fits (F.post load) caller place load result }
+{
+    match begin_wait(rt, group, caller, place) {
+        Ok(Begun::Lead(flight)) => Did::Led(finish_wait(rt, group, flight, load())),
+        Ok(Begun::Join(ticket)) => Did::Joined(ticket, load),
+        Err(Spent { back }) => Did::Spent(back, load),
+    }
+}

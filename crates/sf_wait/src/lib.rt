@@ -1,0 +1,25 @@
+//! The group's calls as forms that wait, a do with a load, and workers that do jobs side by side: what x/sync's
+//! `singleflight` has as `Do` and `DoChan`.
+//!
+//! The forms have the rows of the table of calls, if they return. Each takes a `Wait`, since it may wait for others.
+//!
+//! | To do as | Call |
+//! | --- | --- |
+//! | `Do` | `do_with`: it leads and calls the load, or waits for another's answer |
+//! | `DoChan` | `do_chan` for the ticket; the leader's flight and its work make a `Job`, which a worker of `serve` does |
+//! | `Forget` | `forget_wait` |
+#![tactic(auto)]
+
+mod doing;
+mod job;
+mod serving;
+mod waiting;
+mod workers;
+
+pub use doing::{DoFault, do_with};
+pub use job::{Job, Work};
+pub use serving::{MOST_JOBS, Unserved, serve};
+pub use waiting::{
+    begin_chan_wait, begin_wait, do_chan, finish_wait, forget_wait, go_on_wait, wait,
+};
+pub use workers::{Gate, Served};

@@ -1,0 +1,118 @@
+//! The group's calls, each as a form that comes back when it is done.
+ghost use Rattle.std.specs.Prelude.{◌≡◌, IfOk, IfErr};
+ghost use Rattle.sf_calls.specs.Same.{IsPlaceOf};
+ghost use Rattle.sf_calls.specs.Begins.{HasBegun, HasChanBegun, IsRefusedSpent, AreRefusedSpent};
+ghost use Rattle.sf_calls.specs.Forgets.{HasForgotten};
+ghost use Rattle.sf_calls.specs.Finishes.{HasFinished, HasGoneOn, IsReady};
+
+use sf_calls::{Fit, Spent};
+use sf_group::{
+    Begun, Caller, ChanBegun, Finished, Flight, Forgotten, Group, Letter, Polled, Settled, Ticket,
+};
+use std::sync::Wait;
+use std::thread::yield_now;
+
+/// The caller asks for the place: it leads a new call where the place has no open one, and else joins that. Refused is a
+/// caller that has no generation left.
+pub fn begin_wait<V: Fit, R: Wait>(
+    rt: &R,
+    group: &Group<V>,
+    caller: Caller<V>,
+    place: u32,
+) -> Result<Begun<V>, Spent<Caller<V>>>
+    requires own { caller.group ≡ group.now }
+    requires place { IsPlaceOf group.now place }
+    ensures begun { IfOk result (λ begun. HasBegun caller place begun) }
+    ensures spent { IfErr result (λ refused. IsRefusedSpent caller refused.back) }
+{
+    group.locked_begin(rt, caller, place)
+}
+
+/// The caller asks for the place with a second caller. Where the place has no open call, the caller leads a new one, and
+/// the second holds its own channel; else the second joins the open one, and the caller stays free. Refused is where
+/// either has no generation left.
+pub fn begin_chan_wait<V: Fit, R: Wait>(
+    rt: &R,
+    group: &Group<V>,
+    caller: Caller<V>,
+    second: Caller<V>,
+    place: u32,
+) -> Result<ChanBegun<V>, Spent<(Caller<V>, Caller<V>)>>
+    requires caller { caller.group ≡ group.now }
+    requires second { second.group ≡ group.now }
+    requires place { IsPlaceOf group.now place }
+    ensures begun { IfOk result (λ begun. HasChanBegun caller second place begun) }
+    ensures spent { IfErr result (λ refused. AreRefusedSpent caller second refused.back.0 refused.back.1) }
+{
+    group.locked_begin_chan(rt, caller, second, place)
+}
+
+/// The second caller waits for the place's letter by a ticket. Where the place has no open call, the caller leads a new
+/// one, whose flight makes a `Job`; else the caller stays free. Refused is where either has no generation left.
+pub fn do_chan<V: Fit, R: Wait>(
+    rt: &R,
+    group: &Group<V>,
+    caller: Caller<V>,
+    second: Caller<V>,
+    place: u32,
+) -> Result<ChanBegun<V>, Spent<(Caller<V>, Caller<V>)>>
+    requires caller { caller.group ≡ group.now }
+    requires second { second.group ≡ group.now }
+    requires place { IsPlaceOf group.now place }
+    ensures begun { IfOk result (λ begun. HasChanBegun caller second place begun) }
+    ensures spent { IfErr result (λ refused. AreRefusedSpent caller second refused.back.0 refused.back.1) }
+{
+    begin_chan_wait(rt, group, caller, second, place)
+}
+
+/// The leader settles its call with the value, for good, and delivers the letters.
+pub fn finish_wait<V: Fit, R: Wait>(
+    rt: &R,
+    group: &Group<V>,
+    flight: Flight<V>,
+    value: V,
+) -> Finished<V>
+    requires own { flight.group ≡ group.now }
+    requires fits { V.fits flight.place flight.call value flight.seen }
+    ensures { HasFinished V.fits flight value result }
+{
+    group.locked_finish(rt, flight, value)
+}
+
+/// Goes on with a delivery for whose letters memory was refused.
+pub fn go_on_wait<V: Fit, R: Wait>(rt: &R, group: &Group<V>, settled: Settled<V>) -> Finished<V>
+    requires { settled.group ≡ group.now }
+    ensures { HasGoneOn V.fits settled result }
+{
+    group.locked_go_on(rt, settled)
+}
+
+/// The caller forgets the place, which closes its open call, if it has one.
+pub fn forget_wait<V: Fit, R: Wait>(
+    rt: &R,
+    group: &Group<V>,
+    caller: &mut Caller<V>,
+    place: u32,
+) -> Forgotten
+    requires own { caller.old.group ≡ group.now }
+    requires place { IsPlaceOf group.now place }
+    ensures { HasForgotten caller.old place caller.new result }
+{
+    group.locked_forget(rt, caller, place)
+}
+
+/// Waits for the ticket's letter. The caller is then free.
+pub fn wait<V: Fit, R: Wait>(rt: &R, group: &Group<V>, ticket: Ticket<V>) -> (Caller<V>, Letter<V>)
+    requires { ticket.group ≡ group.now }
+    ensures { IsReady V.fits ticket result.0 result.1 }
+{
+    let mut waiting = ticket;
+    for _ in rt.forever() {
+        match group.locked_poll(rt, waiting) {
+            Polled::Ready(caller, letter) => return (caller, letter),
+            Polled::Pending(pending) => waiting = pending,
+        }
+        yield_now();
+    }
+    unreachable!()
+}
