@@ -1,0 +1,86 @@
+use Rattle.std.proofs.Common.{◌≡◌, ◌∙◌, inl, inr, sym, ap, subst, false}
+use Rattle.std.specs.Prelude.{is_some}
+use Rattle.atomic_table.specs.Table.{Me}
+use Rattle.sf_word_steps.specs.declared.view.View.{View}
+use Rattle.sf_schedules.specs.Turns.{at_members}
+use Rattle.sf_schedules.specs.Events.{settled}
+use Rattle.sf_calls.specs.declared.sizes.Sizes.{Sizes}
+use Rattle.sf_calls.specs.Tokens.{GroupValue, CallerValue, FlightValue, LetterValue}
+use Rattle.sf_calls.specs.Finishes.{IsDone, IsHeld}
+use Rattle.sf_word_steps.specs.View.{sizes_of}
+use Rattle.sf_word_steps.specs.Stands.{Goes}
+use Rattle.sf_word_group.specs.Known.{caller_of, flight_of, settled_of}
+use Rattle.sf_word_group.specs.Calls.{ClosesSeldom}
+use Rattle.sf_word_group.proofs.Finishes.{IsOwed, held_row, done_row, closed_row, fits_later}
+use Rattle.sf_word_group.proofs.word_group.WordGroup.finish.Goals as goal
+use Rattle.sf_word_group.proofs.word_group.WordGroup.finish.Goals.{then-is_some-via-then-is_some, then-is_some-via-else-is_some+then-is_some-2}
+
+pub returns-then-is_some-clause-finished : goal.returns-then-is_some-clause-finished
+returns-then-is_some-clause-finished g c =
+    let f = c.flight.inside in
+    let v = f.seat.me.0 in
+    let w = c.settle_often-top.new.seat.me.0 in
+    let top = c.settle_often-top.result in
+    let same : sizes_of v ≡ c.self.inside.sizes = ap (λ (x : FlightValue _). x.group.sizes) c.flight.view_is ∙ (ap (λ (x : GroupValue). x.sizes) c.requires.own ∙ ap (λ (x : GroupValue). x.sizes) (sym c.self.view_is)) in
+    let goes = subst (λ (z : Sizes). Goes z f.number v w (at_members f.place f.call.generation f.own c.args.value (is_some top) top) (settled f.number (record { caller = f.number; generation = f.call.generation }) f.own c.args.value top) 0) (sym same) c.settle_often-top.ensures.settled in
+    let owed : IsOwed top f.own = elim c.then-is_some.branch [
+      | then-is_some-via-then-is_some w ↦ inl (sym c.is_some.ensures ∙ w.if-is_some.true)
+      | then-is_some-via-else-is_some+then-is_some-2 w ↦ inr (sym w.is_some-else-is_some.ensures ∙ w.if-is_some-2.true)
+    ] in
+    subst (λ (x : FlightValue _). IsHeld x c.args.value (settled_of c.settle_often-top.new.seat.table_id w f.number f.place f.call c.args.value top)) c.flight.view_is
+    (held_row f.seat.table_id c.settle_often-top.new.seat.table_id f.number f.place f.call f.own c.args.value top v w c.settle_often-top.ensures.own.0 c.flight.invariant.1 owed goes)
+
+pub returns-then-is_some-clause-closed : goal.returns-then-is_some-clause-closed
+returns-then-is_some-clause-closed g c =
+    let f = c.flight.inside in
+    let v = f.seat.me.0 in
+    let w = c.settle_often-top.new.seat.me.0 in
+    let top = c.settle_often-top.result in
+    let same : sizes_of v ≡ c.self.inside.sizes = ap (λ (x : FlightValue _). x.group.sizes) c.flight.view_is ∙ (ap (λ (x : GroupValue). x.sizes) c.requires.own ∙ ap (λ (x : GroupValue). x.sizes) (sym c.self.view_is)) in
+    let p = at_members f.place f.call.generation f.own c.args.value (is_some top) top in
+    let es = settled f.number (record { caller = f.number; generation = f.call.generation }) f.own c.args.value top in
+    let goes = subst (λ (z : Sizes). Goes z f.number v w p es 0) (sym same) c.settle_often-top.ensures.settled in
+    subst (λ (x : FlightValue _). ClosesSeldom x w.known.turns) c.flight.view_is (closed_row f.seat.table_id f.number f.place 0 f.call f.own v w p es goes)
+
+pub letter-letter-requires-clause-fits : goal.letter-letter-requires-clause-fits
+letter-letter-requires-clause-fits g c =
+    let f = c.flight.inside in
+    let v = f.seat.me.0 in
+    let w = c.settle_often-top.new.seat.me.0 in
+    let top = c.settle_often-top.result in
+    let same : sizes_of v ≡ c.self.inside.sizes = ap (λ (x : FlightValue _). x.group.sizes) c.flight.view_is ∙ (ap (λ (x : GroupValue). x.sizes) c.requires.own ∙ ap (λ (x : GroupValue). x.sizes) (sym c.self.view_is)) in
+    let goes = subst (λ (z : Sizes). Goes z f.number v w (at_members f.place f.call.generation f.own c.args.value (is_some top) top) (settled f.number (record { caller = f.number; generation = f.call.generation }) f.own c.args.value top) 0) (sym same) c.settle_often-top.ensures.settled in
+    let fit = subst (λ (x : FlightValue _). g.V.Fit.fits x.place x.call c.args.value x.seen) (sym c.flight.view_is) c.requires.fits in
+    fits_later g.V.Fit.fits g.V.Fit.lasts f.seat.table_id f.number 0 f.place f.call c.args.value v w (at_members f.place f.call.generation f.own c.args.value (is_some top) top) (settled f.number (record { caller = f.number; generation = f.call.generation }) f.own c.args.value top) fit goes
+
+pub returns-clause-finished : goal.returns-clause-finished
+returns-clause-finished g c =
+    let f = c.flight.inside in
+    let v = f.seat.me.0 in
+    let w = c.settle_often-top.new.seat.me.0 in
+    let top = c.settle_often-top.result in
+    let same : sizes_of v ≡ c.self.inside.sizes = ap (λ (x : FlightValue _). x.group.sizes) c.flight.view_is ∙ (ap (λ (x : GroupValue). x.sizes) c.requires.own ∙ ap (λ (x : GroupValue). x.sizes) (sym c.self.view_is)) in
+    let goes = subst (λ (z : Sizes). Goes z f.number v w (at_members f.place f.call.generation f.own c.args.value (is_some top) top) (settled f.number (record { caller = f.number; generation = f.call.generation }) f.own c.args.value top) 0) (sym same) c.settle_often-top.ensures.settled in
+    let bare : is_some top ≡ false = sym c.is_some.ensures ∙ c.if-is_some.false in
+    let alone : is_some f.own ≡ false = sym c.is_some-else-is_some.ensures ∙ c.if-is_some-2.false in
+    let back : caller_of c.letter-letter.new.seat.table_id c.letter-letter.new.seat.me.0 f.number ≡ caller_of c.settle_often-top.new.seat.table_id w f.number =
+    ap (λ t. caller_of t c.letter-letter.new.seat.me.0 f.number) c.letter-letter.ensures.seat.0 ∙ ap (λ (m : Me Unit (View _)). caller_of c.settle_often-top.new.seat.table_id m.0 f.number) c.letter-letter.ensures.seat.1 in
+    let fit = fits_later g.V.Fit.fits g.V.Fit.lasts f.seat.table_id f.number 0 f.place f.call c.args.value v w (at_members f.place f.call.generation f.own c.args.value (is_some top) top) (settled f.number (record { caller = f.number; generation = f.call.generation }) f.own c.args.value top) (subst (λ (x : FlightValue _). g.V.Fit.fits x.place x.call c.args.value x.seen) (sym c.flight.view_is) c.requires.fits) goes in
+    subst (λ (x : FlightValue _). IsDone g.V.Fit.fits x c.args.value (caller_of c.letter-letter.new.seat.table_id c.letter-letter.new.seat.me.0 f.number) c.letter-letter.result) c.flight.view_is
+    (subst (λ (d : CallerValue _). IsDone g.V.Fit.fits (flight_of f.seat.table_id v f.number f.place f.call f.own) c.args.value d c.letter-letter.result) (sym back)
+    (subst (λ (l : LetterValue _). IsDone g.V.Fit.fits (flight_of f.seat.table_id v f.number f.place f.call f.own) c.args.value (caller_of c.settle_often-top.new.seat.table_id w f.number) l) (sym c.letter-letter.ensures.letter)
+    (done_row g.V.Fit.fits f.seat.table_id c.settle_often-top.new.seat.table_id f.number f.place f.call f.own c.args.value top v w c.settle_often-top.ensures.own.0 c.flight.invariant.1 bare alone goes fit)))
+
+pub returns-clause-closed : goal.returns-clause-closed
+returns-clause-closed g c =
+    let f = c.flight.inside in
+    let v = f.seat.me.0 in
+    let w = c.settle_often-top.new.seat.me.0 in
+    let top = c.settle_often-top.result in
+    let same : sizes_of v ≡ c.self.inside.sizes = ap (λ (x : FlightValue _). x.group.sizes) c.flight.view_is ∙ (ap (λ (x : GroupValue). x.sizes) c.requires.own ∙ ap (λ (x : GroupValue). x.sizes) (sym c.self.view_is)) in
+    let p = at_members f.place f.call.generation f.own c.args.value (is_some top) top in
+    let es = settled f.number (record { caller = f.number; generation = f.call.generation }) f.own c.args.value top in
+    let goes = subst (λ (z : Sizes). Goes z f.number v w p es 0) (sym same) c.settle_often-top.ensures.settled in
+    let turns_are = ap (λ (m : Me Unit (View _)). m.0.known.turns) c.letter-letter.ensures.seat.1 in
+    subst (λ ts. ClosesSeldom c.args.flight ts) (sym turns_are)
+    (subst (λ (x : FlightValue _). ClosesSeldom x w.known.turns) c.flight.view_is (closed_row f.seat.table_id f.number f.place 0 f.call f.own v w p es goes))

@@ -1,0 +1,21 @@
+use Rattle.std.proofs.Common.{◌+◌, ap, sym, ◌∙◌, subst, arith}
+use Rattle.atomic_table.specs.Table.{Me}
+use Rattle.sf_word_steps.specs.declared.view.View.{View}
+use Rattle.sf_word_group.specs.Dealing.{IsDealing}
+use Rattle.sf_word_steps.proofs.Seats.{deals_split}
+use Rattle.sf_word_group.proofs.Dealing.{deals_rest}
+use Rattle.sf_word_group.proofs.word_group.deal.Goals as goal
+
+pub split_seat-seat-requires : goal.split_seat-seat-requires
+split_seat-seat-requires g c = let one = c.requires.own.1 in (
+  c.requires.own.0,
+  omega arith,
+  deals_split c.args.words.now.key c.args.first.now.id c.args.first.now.me.0,
+)
+
+pub returns-clause-first : goal.returns-clause-first
+returns-clause-first g c =
+    let me = c.split_seat-seat.ensures.2 in (
+      subst (IsDealing (c.args.number + 1) c.args.words.now.key) (sym (ap (λ (m : Me Unit (View _)). m.0) me)) (deals_rest c.args.number c.args.words.now.key c.args.first.now.me.0 c.requires.number.1 c.requires.first.0),
+      ap (λ (m : Me Unit (View _)). m.1) me ∙ c.requires.first.1,
+    )

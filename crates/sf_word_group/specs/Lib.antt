@@ -1,0 +1,11 @@
+pub use Rattle.sf_calls.specs.Tokens
+pub use Rattle.sf_calls.specs.Seen
+pub use Rattle.sf_calls.specs.Same
+pub use Rattle.sf_calls.specs.Fitting
+pub use Rattle.sf_calls.specs.Begins
+pub use Rattle.sf_calls.specs.Forgets
+pub use Rattle.sf_calls.specs.Finishes
+pub use Rattle.sf_calls.specs.Making
+pub mod Known
+pub mod Dealing
+pub mod Calls

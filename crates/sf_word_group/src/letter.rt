@@ -1,0 +1,66 @@
+//! Letters, which bring the answers of calls.
+ghost use Rattle.std.specs.Prelude.{◌≡◌};
+ghost use Rattle.sf_calls.specs.Finishes.{FitsLetter};
+
+use crate::note::Note;
+use sf_calls::Fit;
+use sf_history::CallId;
+use std::marker::Model;
+
+/// The answer of a call: the value that its leader settled it with, and whether somebody joined it. Its note shows a list
+/// in which the call is settled so, and with which the value fits.
+#[derive(Drop)]
+pub struct Letter<V: Fit> {
+    pub(crate) place: u32,
+    pub(crate) call: CallId,
+    pub(crate) value: V,
+    pub(crate) shared: bool,
+    pub(crate) note: Note<V>,
+}
+
+impl<V: Fit> Model for Letter<V> {
+    ghost use Rattle.sf_calls.specs.Tokens.{LetterValue};
+
+    ghost Value = { LetterValue V };
+
+    ghost view = { λ l. record { group = l.note.group; seen = l.note.seen; place = l.place; call = l.call; value = l.value; shared = l.shared } };
+
+    ghost invariant = { λ l. V.fits l.place l.call l.value l.note.seen };
+}
+
+impl<V: Fit> Letter<V> {
+    /// The number of the place.
+    pub fn place(&self) -> u32
+        ensures { result ≡ self.now.place }
+    {
+        self.place
+    }
+
+    /// The call.
+    pub fn call(&self) -> CallId
+        ensures { result ≡ self.now.call }
+    {
+        self.call
+    }
+
+    /// What the call was settled with.
+    pub fn value(&self) -> &V
+        ensures { result.now ≡ self.now.value }
+    {
+        &self.value
+    }
+
+    /// Whether somebody joined the call.
+    pub fn shared(&self) -> bool
+        ensures { result ≡ self.now.shared }
+    {
+        self.shared
+    }
+
+    /// What is known of the letter: its value fits with the list that its note shows.
+    pub fn known(&self)
+        ensures { FitsLetter V.fits self.now }
+    {
+        let _ = &self.place;
+    }
+}

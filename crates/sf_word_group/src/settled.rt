@@ -1,0 +1,52 @@
+//! Unfinished deliveries: callers that have settled their call, and owe letters of it.
+ghost use Rattle.std.specs.Prelude.{◌≡◌};
+
+use sf_history::CallId;
+use sf_word_steps::WordSeat;
+use std::marker::Model;
+
+/// A caller that has settled its call for good, and owes letters of it still. It has to be spent.
+pub struct Settled<V> {
+    pub(crate) seat: WordSeat<V>,
+    pub(crate) number: u32,
+    pub(crate) next: u64,
+    pub(crate) place: u32,
+    pub(crate) call: CallId,
+    pub(crate) own: Option<CallId>,
+    pub(crate) value: V,
+    // The member that joined last, with whom the list of those begins that are owed letters.
+    pub(crate) top: Option<u32>,
+}
+
+impl<V> Model for Settled<V> {
+    ghost use Rattle.std.specs.Prelude.{◌≡◌, [], is_some};
+    ghost use Rattle.sf_schedules.specs.Turns.{at_members};
+    ghost use Rattle.sf_word_steps.specs.View.{sizes_of};
+    ghost use Rattle.sf_word_steps.specs.Stands.{Sits, next_in};
+    ghost use Rattle.sf_word_group.specs.Known.{settled_of};
+    ghost use Rattle.sf_calls.specs.Tokens.{SettledValue};
+
+    ghost Value = { SettledValue V };
+
+    ghost view = { λ s. settled_of s.seat.table_id s.seat.me.0 s.number s.place s.call s.value s.top };
+
+    ghost invariant = { λ s. Sits (sizes_of s.seat.me.0) s.number s.seat.me.0 (at_members s.place s.call.generation s.own s.value (is_some s.top) s.top) × (s.call.caller ≡ s.number)
+        × (s.next ≡ next_in (sizes_of s.seat.me.0) s.seat.me.0 s.number) × (s.seat.me.1 ≡ []) };
+}
+
+impl<V: Drop> Settled<V> {
+    /// Gives the delivery up for good: nothing is added, the letters still owed never come, and its caller does not come
+    /// back.
+    pub fn abandon(self) {
+        let Settled {
+            seat: _,
+            number: _,
+            next: _,
+            place: _,
+            call: _,
+            own: _,
+            value: _,
+            top: _,
+        } = self;
+    }
+}

@@ -1,0 +1,261 @@
+//! The group: its callers' askings, Forgets and settles.
+ghost use Rattle.std.specs.Prelude.{◌≡◌, ◌+◌, ◌≤◌, ◌↔◌, [], false, Some, IfOk, IfErr, IsTrue};
+ghost use Rattle.std.specs.List.{All, range_with_len};
+ghost use Rattle.sf_calls.specs.Same.{IsPlaceOf};
+ghost use Rattle.sf_calls.specs.Begins.{HasBegun};
+ghost use Rattle.sf_calls.specs.Finishes.{HasFinished};
+ghost use Rattle.sf_calls.specs.Forgets.{HasForgotten};
+ghost use Rattle.sf_calls.specs.Making.{IsNewCaller, new_caller, numbers_of};
+ghost use Rattle.sf_word_steps.specs.View.{sizes_of, history_of};
+ghost use Rattle.sf_word_steps.specs.Stands.{IsSeatOf};
+ghost use Rattle.sf_word_group.specs.Calls.{HasNotBegun, HasNotForgotten, HasClosed};
+ghost use Rattle.sf_word_group.specs.Known.{letter_of};
+ghost use Rattle.sf_word_group.specs.Dealing.{IsDealing};
+
+use crate::caller::Caller;
+use crate::flight::Flight;
+use crate::letter::Letter;
+use crate::note::Note;
+use crate::settled::Settled;
+use crate::ticket::Ticket;
+use atomic_table::Table;
+use sf_calls::{Begun, Finished, Fit, MOST_CALLERS, MOST_PLACES, NotBegun, Sizes};
+use sf_history::{CallId, Forgotten};
+use sf_word_steps::{
+    Actor, Attempt, Deals, ForgetAttempt, Law, Tells, View, WordSeat, Words, forget_often,
+    settle_often, try_often, word_count,
+};
+use std::alloc::{AllocError, Global};
+use std::marker::Model;
+
+/// The most tries of a bounded call.
+pub const MOST_TRIES: u32 = 65_536;
+
+/// Callers that ask for places, over words and without a lock.
+///
+/// The words lie in one table. Its rule, which holds between any two steps of any callers, says that some schedule of
+/// turns shows the words, and that each token knows a beginning of it, with all turns of its own caller.
+#[derive(Drop)]
+pub struct WordGroup<V> {
+    pub(crate) table: Table<(), View<V>, Sizes, Law, Global>,
+    pub(crate) sizes: Sizes,
+}
+
+impl<V> Model for WordGroup<V> {
+    ghost use Rattle.std.specs.Prelude.{◌≡◌, ◌≤◌};
+    ghost use Rattle.sf_word_steps.specs.Words.{words_in};
+    ghost use Rattle.sf_calls.specs.Tokens.{GroupValue};
+
+    ghost Value = { GroupValue };
+
+    ghost view = { λ g. record { table = g.table.shared.table_id; sizes = g.sizes } };
+
+    ghost invariant = { λ g. (g.sizes ≡ g.table.shared.key) × (g.table.shared.table_id.words ≡ words_in g.table.shared.key) × (g.sizes.callers ≤ 65535) × (1 ≤ g.sizes.first) };
+}
+
+// The next caller, from the seat that stands for those that are not dealt out yet.
+fn deal<V>(words: &Words<V>, first: &mut WordSeat<V>, number: u32, next: u64) -> Caller<V>
+    requires own { IsSeatOf first.old.table_id words.now.table_id words.now.key }
+    requires first { IsDealing number words.now.key first.old.me.0 × (first.old.me.1 ≡ []) }
+    requires number { (1 ≤ number) × (number ≤ words.now.key.callers) }
+    requires next { next ≡ words.now.key.first }
+    ensures own { first.new.table_id ≡ first.old.table_id }
+    ensures first { IsDealing (number + 1) words.now.key first.new.me.0 × (first.new.me.1 ≡ []) }
+    ensures caller { result ≡ new_caller (record { table = words.now.table_id; sizes = words.now.key }) number }
+{
+    let seat = words.split_seat::<Deals>(first);
+    Caller { seat, number, next }
+}
+
+impl<V> WordGroup<V> {
+    /// A group of this many places (1 to 1,048,576), and its callers (1 to 65,535), numbered from 1, with this first
+    /// generation. All room that its calls need is taken here. Refused where there is no memory.
+    pub fn new(
+        alloc: Global,
+        places: u32,
+        callers: u32,
+        first_generation: u32,
+    ) -> Result<(WordGroup<V>, Vec<Caller<V>>), AllocError>
+        requires places { (1 ≤ places) × (places ≤ MOST_PLACES) }
+        requires callers { (1 ≤ callers) × (callers ≤ MOST_CALLERS) }
+        requires first_generation { 1 ≤ first_generation }
+        ensures sizes { IfOk result (λ made. made.0.sizes ≡ record { places = places; callers = callers; first = first_generation }) }
+        ensures callers { IfOk result (λ made. All (IsNewCaller made.0) made.1.items) }
+        ensures numbers { IfOk result (λ made. numbers_of made.1.items ≡ range_with_len 1 callers) }
+    {
+        let sizes = Sizes {
+            places,
+            callers,
+            first: first_generation,
+        };
+        let mut list = Vec::with_capacity(alloc, callers as usize)?;
+        let zeros = Vec::from_elem(alloc, 0u64, word_count(sizes))?;
+        let (table, mut first) = Table::<(), View<V>, Sizes, Law, Global>::of_words(
+            alloc,
+            zeros.as_slice(),
+            &sizes,
+        )?;
+        for index in 0..callers {
+            list.push(deal(
+                &table.shared,
+                &mut first,
+                index + 1,
+                first_generation as u64,
+            ))?;
+        }
+        Ok((WordGroup { table, sizes }, list))
+    }
+
+    /// Whether the group has a place of this number.
+    pub fn has(&self, place: u32) -> bool
+        ensures { IsTrue result ↔ IsPlaceOf self.now place }
+    {
+        1 <= place && place <= self.sizes.places
+    }
+
+    /// The caller asks for the place: it leads a new call where the place has no open one, and else joins that. Refused
+    /// as spent is a caller that has no generation left, which is looked at first; as busy one whose tries (1 to 65,536)
+    /// all failed, each since another had changed a word between its reading and its exchange.
+    pub fn begin(
+        &self,
+        caller: Caller<V>,
+        place: u32,
+        tries: u32,
+    ) -> Result<Begun<Flight<V>, Ticket<V>>, NotBegun<Caller<V>>>
+        requires own { caller.group ≡ self.now }
+        requires place { IsPlaceOf self.now place }
+        requires tries { (1 ≤ tries) × (tries ≤ MOST_TRIES) }
+        ensures begun { IfOk result (λ begun. HasBegun caller place begun) }
+        ensures refused { IfErr result (λ refused. HasNotBegun caller place tries refused) }
+    {
+        let Caller {
+            mut seat,
+            number,
+            next,
+        } = caller;
+        let Ok(generation) = u32::try_from(next) else {
+            return Err(NotBegun::Spent(Caller { seat, number, next }));
+        };
+        let member = CallId {
+            caller: number,
+            generation,
+        };
+        let actor = Actor {
+            sizes: self.sizes,
+            number,
+            place,
+        };
+        let attempt = try_often(&self.table.shared, &mut seat, actor, generation, tries);
+        match attempt {
+            Attempt::Led => Ok(Begun::Lead(Flight {
+                seat,
+                number,
+                next: next + 1,
+                place,
+                call: member,
+                own: None,
+            })),
+            Attempt::Joined(call) => Ok(Begun::Join(Ticket {
+                seat,
+                number,
+                next: next + 1,
+                place,
+                call,
+                member,
+            })),
+            Attempt::Lost => Err(NotBegun::Busy(tries, Caller { seat, number, next })),
+        }
+    }
+
+    /// The caller forgets the place: it closes the place's open call, or finds none. Refused as busy is one whose
+    /// exchanges failed so often.
+    pub fn forget(&self, caller: &mut Caller<V>, place: u32, tries: u32) -> Result<Forgotten, u32>
+        requires own { caller.old.group ≡ self.now }
+        requires place { IsPlaceOf self.now place }
+        requires tries { (1 ≤ tries) × (tries ≤ MOST_TRIES) }
+        ensures forgotten { IfOk result (λ forgotten. HasForgotten caller.old place caller.new forgotten) }
+        ensures refused { IfErr result (λ failed. HasNotForgotten caller.old place tries caller.new failed) }
+    {
+        let actor = Actor {
+            sizes: self.sizes,
+            number: caller.number,
+            place,
+        };
+        let attempt = forget_often(&self.table.shared, &mut caller.seat, actor, tries);
+        match attempt {
+            ForgetAttempt::Idle => return Ok(Forgotten::Idle),
+            ForgetAttempt::Closed(call) => return Ok(Forgotten::Closed(call)),
+            ForgetAttempt::Missed => {}
+        }
+        Err(tries)
+    }
+}
+
+impl<V: Fit> WordGroup<V> {
+    /// The leader settles its call with the value, for good. Where nobody is owed a letter it is free again, with its own;
+    /// else the delivery is still to be made. It tries at most once more than there are callers, since each of its tries
+    /// that fails is another caller's joining, or the call's one Forget. The value has to fit the call, by what the leader
+    /// has seen.
+    pub fn finish(&self, flight: Flight<V>, value: V) -> Finished<Caller<V>, Letter<V>, Settled<V>>
+        requires own { flight.group ≡ self.now }
+        requires fits { V.fits flight.place flight.call value flight.seen }
+        ensures finished { HasFinished V.fits flight value result }
+        ensures closed { HasClosed flight result }
+    {
+        let Flight {
+            mut seat,
+            number,
+            next,
+            place,
+            call,
+            own,
+        } = flight;
+        let actor = Actor {
+            sizes: self.sizes,
+            number,
+            place,
+        };
+        let top = settle_often(
+            &self.table.shared,
+            &mut seat,
+            actor,
+            call.generation,
+            own,
+            &value,
+        );
+        if top.is_some() || own.is_some() {
+            return Finished::Held(Settled {
+                seat,
+                number,
+                next,
+                place,
+                call,
+                own,
+                value,
+                top,
+            });
+        }
+        let letter = self.letter(&mut seat, place, call, value);
+        Finished::Done(Caller { seat, number, next }, letter)
+    }
+
+    // A letter that nobody joined, whose note shows what the seat has seen.
+    fn letter(&self, seat: &mut WordSeat<V>, place: u32, call: CallId, value: V) -> Letter<V>
+        requires own { seat.old.table_id ≡ self.now.table }
+        requires seat { seat.old.me.0.sizes ≡ Some (sizes_of seat.old.me.0) }
+        requires fits { V.fits place call value (history_of (sizes_of seat.old.me.0) seat.old.me.0.known.turns) }
+        ensures seat { (seat.new.table_id ≡ seat.old.table_id) × (seat.new.me ≡ seat.old.me) }
+        ensures letter { result ≡ letter_of seat.old.table_id seat.old.me.0 place call value false }
+    {
+        let note = Note {
+            seat: self.table.shared.split_seat::<Tells>(seat),
+        };
+        Letter {
+            place,
+            call,
+            value,
+            shared: false,
+            note,
+        }
+    }
+}

@@ -1,0 +1,14 @@
+pub mod Keeps
+pub mod Seats
+pub mod Ways
+pub mod Changing
+pub mod LookSteps
+pub mod LeadSteps
+pub mod EnterSteps
+pub mod Trying
+pub mod ForgetLooks
+pub mod ForgetSteps
+pub mod ForgetClears
+pub mod Forgets
+pub mod Finishing
+pub mod SettleSteps

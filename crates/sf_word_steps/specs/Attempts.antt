@@ -1,0 +1,55 @@
+-- how attempts of an asking end
+use Rattle.std.specs.Prelude.{◌≡◌, ℕ, ◌<◌, Bool, true, false, [], ◌∷◌, None}
+use Rattle.sf_schedules.specs.declared.operation.Stage.{Stage}
+use Rattle.sf_schedules.specs.declared.operation.Stage.TheVariants as stage
+use Rattle.sf_schedules.specs.declared.operation.AskStep.TheVariants as ask
+use Rattle.sf_calls.specs.declared.sizes.Sizes.{Sizes}
+use Rattle.sf_word_steps.specs.declared.view.View.{View}
+use Rattle.sf_word_steps.specs.Words.{key, call}
+use Rattle.sf_history.specs.declared.call.CallId.{CallId}
+use Rattle.sf_history.specs.declared.event.Event.TheVariants as event
+use Rattle.sf_words.specs.declared.key_word.KeyState.{KeyState}
+use Rattle.sf_words.specs.KeyWord.{key_code}
+use Rattle.sf_words.specs.declared.call_word.CallState.{CallState}
+use Rattle.sf_words.specs.CallWord.{call_code}
+use Rattle.sf_word_steps.specs.declared.attempting.Attempt.{Attempt}
+use Rattle.sf_word_steps.specs.declared.attempting.Attempt.TheVariants.{Led, Joined, Lost}
+use Rattle.sf_word_steps.specs.Stands.{Goes, MayLook}
+use Rattle.sf_word_steps.specs.Changes.{Loses, Tries}
+
+module _ {V : Type 0} where
+  -- where a caller stands that did not win its exchange: it looks again, or it left
+  abbrev pub lost_stage : ℕ → Bool → Stage V
+  lost_stage k false = stage.Asking k None (ask.Look true)
+  lost_stage k true = stage.Free
+
+  -- how one attempt of an asking ends
+  abbrev pub HasAttempted : Sizes → ℕ → ℕ → ℕ → Bool → View V → View V → Attempt → Type 0
+  HasAttempted z a g k last v w Led = Goes z a v w (stage.Leading k g None) (event.Lead a k (record { caller = a; generation = g }) None ∷ []) 1
+  HasAttempted z a g k last v w (Joined c) = Goes z a v w (stage.Holding k g c) (event.Enter a k c (record { caller = a; generation = g }) ∷ []) 1
+  HasAttempted z a g k last v w Lost = Tries z a k 1 v w (lost_stage k last)
+
+  -- how the end of an attempt that leads ends, which saw this key word: where it lost, the word was changed since it said so
+  abbrev pub HasLed : Sizes → ℕ → ℕ → ℕ → Bool → KeyState → View V → View V → Attempt → Type 0
+  HasLed z a g k last seen v w Led = Goes z a v w (stage.Leading k g None) (event.Lead a k (record { caller = a; generation = g }) None ∷ []) 1
+  HasLed z a g k last seen v w (Joined c) = ⊥
+  HasLed z a g k last seen v w Lost = Loses z a (key k) (key_code seen) v w (lost_stage k last)
+
+  -- how the end of one that joins ends, which saw this call word
+  abbrev pub HasJoined : Sizes → ℕ → ℕ → ℕ → CallId → Bool → CallState → View V → View V → Attempt → Type 0
+  HasJoined z a g k c last seen v w Led = ⊥
+  HasJoined z a g k c last seen v w (Joined d) = (d ≡ c) × Goes z a v w (stage.Holding k g d) (event.Enter a k d (record { caller = a; generation = g }) ∷ []) 1
+  HasJoined z a g k c last seen v w Lost = Loses z a (call c.caller) (call_code seen) v w (lost_stage k last)
+
+  -- while an asking tries: so many of its tries failed
+  pub record Trying (z : Sizes) (a k tries failed : ℕ) (v w : View V) : Type 0 where
+    pub at : Stage V
+    pub done : Tries z a k failed v w at
+    pub may : failed < tries → MayLook z a k w
+    pub free : failed ≡ tries → at ≡ stage.Free
+
+  -- how an asking of so many tries ends
+  abbrev pub HasTried : Sizes → ℕ → ℕ → ℕ → ℕ → View V → View V → Attempt → Type 0
+  HasTried z a g k tries v w Led = Goes z a v w (stage.Leading k g None) (event.Lead a k (record { caller = a; generation = g }) None ∷ []) 1
+  HasTried z a g k tries v w (Joined c) = Goes z a v w (stage.Holding k g c) (event.Enter a k c (record { caller = a; generation = g }) ∷ []) 1
+  HasTried z a g k tries v w Lost = Tries z a k tries v w stage.Free

@@ -1,0 +1,9 @@
+pub mod Words
+pub mod View
+pub mod Shows
+pub mod Plays
+pub mod Stands
+pub mod Changes
+pub mod Attempts
+pub mod Forgets
+pub mod Settles

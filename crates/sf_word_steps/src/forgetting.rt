@@ -1,0 +1,340 @@
+//! The kinds of step of a Forget, and its attempts.
+ghost use Rattle.std.specs.Prelude.{◌≡◌, ◌≢◌, ℕ, ◌≤◌, None, Some, [], ◌∷◌, IsTrue, IsFalse};
+ghost use Rattle.sf_history.specs.declared.event.Event.TheVariants as event;
+ghost use Rattle.sf_words.specs.KeyWord.{key_code};
+ghost use Rattle.sf_words.specs.CallWord.{call_code};
+ghost use Rattle.sf_words.specs.declared.call_word.LeaderState.{LeaderState};
+ghost use Rattle.sf_words.specs.declared.call_word.CallState.TheVariants.{Open};
+ghost use Rattle.sf_schedules.specs.Schedules.{IsPlace};
+ghost use Rattle.sf_schedules.specs.World.{open_in, key_of};
+ghost use Rattle.sf_schedules.specs.Turns.{forget_looked, forget_peeked};
+ghost use Rattle.sf_schedules.specs.Events.{look_events};
+ghost use Rattle.sf_schedules.specs.declared.operation.Stage.TheVariants.{Forgetting, Free};
+ghost use Rattle.sf_schedules.specs.declared.operation.ForgetStep.TheVariants as forget;
+ghost use Rattle.sf_word_steps.specs.Words.{key, call, IsKeyFor, IsCallFor};
+ghost use Rattle.sf_word_steps.specs.View.{setting_of, world_of};
+ghost use Rattle.sf_word_steps.specs.Stands.{IsSeatOf, Sits, Goes};
+ghost use Rattle.sf_word_steps.specs.Changes.{Stays, Loses, Went};
+ghost use Rattle.sf_word_steps.specs.Forgets.{lost_forget, MayForget, HasForgot, HasCleared, HasClosed, HasForgottenOften};
+
+use crate::actor::Actor;
+use crate::attempting::opened;
+use crate::numbering::{call_index, key_index};
+use crate::rule::{WordSeat, Words};
+use crate::steps::{exchange_turns, load_turns};
+use sf_history::CallId;
+use sf_words::{
+    CallState, CallWord, KeyState, KeyWord, LeaderState, pack_call, pack_key, unpack_call,
+    unpack_key,
+};
+use std::marker::Brand;
+
+/// How an attempt of a Forget ended.
+pub enum ForgetAttempt {
+    /// The place had no open call.
+    Idle,
+    /// It closed this call.
+    Closed(CallId),
+    /// Its exchange failed.
+    Missed,
+}
+
+/// Loads the key word of the place. Where it names no call, or one that is cleared, nothing was open, and the Forget is
+/// made.
+fn forget_look<V>(words: &Words<V>, seat: &mut WordSeat<V>, actor: Actor) -> KeyState
+    requires own { IsSeatOf seat.old.table_id words.now.table_id words.now.key }
+    requires sizes { actor.sizes ≡ words.now.key }
+    requires place { IsPlace (setting_of actor.sizes) actor.place }
+    requires may { MayForget actor.sizes actor.number actor.place seat.old.me.0 }
+    ensures own { (seat.new.table_id ≡ seat.old.table_id) × (seat.new.me.1 ≡ seat.old.me.1) }
+    ensures told { Went actor.sizes actor.number seat.old.me.0 seat.new.me.0 (forget_looked actor.place result) (look_events actor.number actor.place result) }
+    ensures shown { (world_of actor.sizes seat.new.me.0.known.turns).keys actor.place ≡ result }
+    ensures range { IsKeyFor actor.sizes.callers result }
+{
+    let found = load_turns::<V, u32, Brand>(
+        words,
+        seat,
+        key_index(actor.sizes, actor.place),
+        actor.number,
+        &actor.place,
+    );
+    let Some(word) = unpack_key(found) else {
+        unreachable!()
+    };
+    word.state()
+}
+
+/// Loads the call word of the call that the key word named.
+fn forget_peek<V>(
+    words: &Words<V>,
+    seat: &mut WordSeat<V>,
+    actor: Actor,
+    called: CallId,
+) -> CallState
+    requires own { IsSeatOf seat.old.table_id words.now.table_id words.now.key }
+    requires sizes { actor.sizes ≡ words.now.key }
+    requires called { (1 ≤ called.caller) × (called.caller ≤ actor.sizes.callers) }
+    requires asks { Sits actor.sizes actor.number seat.old.me.0 (Forgetting actor.place (forget.Peek called)) }
+    ensures own { (seat.new.table_id ≡ seat.old.table_id) × (seat.new.me.1 ≡ seat.old.me.1) }
+    ensures told { Stays actor.sizes actor.number seat.old.me.0 seat.new.me.0 (Forgetting actor.place (forget_peeked called (open_in called.generation result))) }
+    ensures shown { (world_of actor.sizes seat.new.me.0.known.turns).calls called.caller ≡ result }
+    ensures other { (seen : LeaderState) → open_in called.generation result ≡ Some seen → called.caller ≢ actor.number }
+    ensures range { IsCallFor actor.sizes.callers result }
+{
+    let found = load_turns::<V, CallId, Brand>(
+        words,
+        seat,
+        call_index(actor.sizes, called.caller),
+        actor.number,
+        &called,
+    );
+    let Some(word) = unpack_call(found) else {
+        unreachable!()
+    };
+    word.state()
+}
+
+/// Exchanges the leader's call word that was seen open for the same forgotten, and says whether it did. Who enters the
+/// call between makes it fail. The last try is followed by the drop.
+fn close_forgotten<V>(
+    words: &Words<V>,
+    seat: &mut WordSeat<V>,
+    actor: Actor,
+    called: CallId,
+    seen: LeaderState,
+    last: bool,
+) -> bool
+    requires own { IsSeatOf seat.old.table_id words.now.table_id words.now.key }
+    requires sizes { actor.sizes ≡ words.now.key }
+    requires called { (1 ≤ called.caller) × (called.caller ≤ actor.sizes.callers) }
+    requires seen { IsCallFor actor.sizes.callers (Open seen) }
+    requires asks { Sits actor.sizes actor.number seat.old.me.0 (Forgetting actor.place (forget.Close called seen)) }
+    ensures own { (seat.new.table_id ≡ seat.old.table_id) × (seat.new.me.1 ≡ seat.old.me.1) }
+    ensures won { IsTrue result → Goes actor.sizes actor.number seat.old.me.0 seat.new.me.0 (Forgetting actor.place (forget.LastClear called)) (event.Forget actor.number actor.place (Some called) ∷ []) 0 }
+    ensures lost { IsFalse result → Loses actor.sizes actor.number (call called.caller) (call_code (Open seen)) seat.old.me.0 seat.new.me.0 (lost_forget actor.place last) }
+{
+    let Some(old) = CallWord::new(CallState::Open(seen)) else {
+        unreachable!()
+    };
+    let Some(new) = CallWord::new(CallState::Forgot(seen)) else {
+        unreachable!()
+    };
+    let old = pack_call(old);
+    let found = exchange_turns::<V, (u32, bool), Brand>(
+        words,
+        seat,
+        call_index(actor.sizes, called.caller),
+        old,
+        pack_call(new),
+        actor.number,
+        &(called.caller, last),
+    );
+    found == old
+}
+
+/// Exchanges the key word of a call that was found not open for the same cleared, and says whether it did: then nothing
+/// was open. The last try is followed by the drop.
+fn first_clear<V>(
+    words: &Words<V>,
+    seat: &mut WordSeat<V>,
+    actor: Actor,
+    called: CallId,
+    last: bool,
+) -> bool
+    requires own { IsSeatOf seat.old.table_id words.now.table_id words.now.key }
+    requires sizes { actor.sizes ≡ words.now.key }
+    requires place { IsPlace (setting_of actor.sizes) actor.place }
+    requires called { IsKeyFor actor.sizes.callers (key_of called) }
+    requires asks { Sits actor.sizes actor.number seat.old.me.0 (Forgetting actor.place (forget.FirstClear called)) }
+    ensures own { (seat.new.table_id ≡ seat.old.table_id) × (seat.new.me.1 ≡ seat.old.me.1) }
+    ensures won { IsTrue result → Goes actor.sizes actor.number seat.old.me.0 seat.new.me.0 Free (event.Forget actor.number actor.place None ∷ []) 0 }
+    ensures lost { IsFalse result → Loses actor.sizes actor.number (key actor.place) (key_code (key_of called)) seat.old.me.0 seat.new.me.0 (lost_forget actor.place last) }
+{
+    let Some(old) = KeyWord::new(KeyState::Names {
+        caller: called.caller,
+        generation: called.generation,
+        cleared: false,
+    }) else {
+        unreachable!()
+    };
+    let Some(new) = KeyWord::new(KeyState::Names {
+        caller: called.caller,
+        generation: called.generation,
+        cleared: true,
+    }) else {
+        unreachable!()
+    };
+    let old = pack_key(old);
+    let found = exchange_turns::<V, (u32, bool), Brand>(
+        words,
+        seat,
+        key_index(actor.sizes, actor.place),
+        old,
+        pack_key(new),
+        actor.number,
+        &(actor.place, last),
+    );
+    found == old
+}
+
+/// Clears the key word of the call that this Forget closed, where it still names that. Whether it does is nobody's
+/// matter: its leader clears it too, and an asking leads over it as it is.
+fn last_clear<V>(words: &Words<V>, seat: &mut WordSeat<V>, actor: Actor, called: CallId)
+    requires own { IsSeatOf seat.old.table_id words.now.table_id words.now.key }
+    requires sizes { actor.sizes ≡ words.now.key }
+    requires place { IsPlace (setting_of actor.sizes) actor.place }
+    requires called { IsKeyFor actor.sizes.callers (key_of called) }
+    requires asks { Sits actor.sizes actor.number seat.old.me.0 (Forgetting actor.place (forget.LastClear called)) }
+    ensures own { (seat.new.table_id ≡ seat.old.table_id) × (seat.new.me.1 ≡ seat.old.me.1) }
+    ensures told { Goes actor.sizes actor.number seat.old.me.0 seat.new.me.0 Free [] 0 }
+{
+    let Some(old) = KeyWord::new(KeyState::Names {
+        caller: called.caller,
+        generation: called.generation,
+        cleared: false,
+    }) else {
+        unreachable!()
+    };
+    let Some(new) = KeyWord::new(KeyState::Names {
+        caller: called.caller,
+        generation: called.generation,
+        cleared: true,
+    }) else {
+        unreachable!()
+    };
+    exchange_turns::<V, u32, Brand>(
+        words,
+        seat,
+        key_index(actor.sizes, actor.place),
+        pack_key(old),
+        pack_key(new),
+        actor.number,
+        &actor.place,
+    );
+}
+
+/// Goes on with a call that was found not open.
+fn clear_on<V>(
+    words: &Words<V>,
+    seat: &mut WordSeat<V>,
+    actor: Actor,
+    called: CallId,
+    last: bool,
+) -> ForgetAttempt
+    requires own { IsSeatOf seat.old.table_id words.now.table_id words.now.key }
+    requires sizes { actor.sizes ≡ words.now.key }
+    requires place { IsPlace (setting_of actor.sizes) actor.place }
+    requires called { IsKeyFor actor.sizes.callers (key_of called) }
+    requires asks { Sits actor.sizes actor.number seat.old.me.0 (Forgetting actor.place (forget.FirstClear called)) }
+    ensures own { (seat.new.table_id ≡ seat.old.table_id) × (seat.new.me.1 ≡ seat.old.me.1) }
+    ensures cleared { HasCleared actor.sizes actor.number actor.place called last seat.old.me.0 seat.new.me.0 result }
+{
+    if first_clear(words, seat, actor, called, last) {
+        ForgetAttempt::Idle
+    } else {
+        ForgetAttempt::Missed
+    }
+}
+
+/// Goes on with a call that was found open.
+fn close_on<V>(
+    words: &Words<V>,
+    seat: &mut WordSeat<V>,
+    actor: Actor,
+    called: CallId,
+    seen: LeaderState,
+    last: bool,
+) -> ForgetAttempt
+    requires own { IsSeatOf seat.old.table_id words.now.table_id words.now.key }
+    requires sizes { actor.sizes ≡ words.now.key }
+    requires place { IsPlace (setting_of actor.sizes) actor.place }
+    requires called { IsKeyFor actor.sizes.callers (key_of called) }
+    requires seen { IsCallFor actor.sizes.callers (Open seen) }
+    requires asks { Sits actor.sizes actor.number seat.old.me.0 (Forgetting actor.place (forget.Close called seen)) }
+    ensures own { (seat.new.table_id ≡ seat.old.table_id) × (seat.new.me.1 ≡ seat.old.me.1) }
+    ensures closed { HasClosed actor.sizes actor.number actor.place called last (Open seen) seat.old.me.0 seat.new.me.0 result }
+{
+    if close_forgotten(words, seat, actor, called, seen, last) {
+        last_clear(words, seat, actor, called);
+        ForgetAttempt::Closed(called)
+    } else {
+        ForgetAttempt::Missed
+    }
+}
+
+/// Peeks at the call that the key word named, and closes it where it is open, or clears the key word.
+fn forget_on<V>(
+    words: &Words<V>,
+    seat: &mut WordSeat<V>,
+    actor: Actor,
+    called: CallId,
+    last: bool,
+) -> ForgetAttempt
+    requires own { IsSeatOf seat.old.table_id words.now.table_id words.now.key }
+    requires sizes { actor.sizes ≡ words.now.key }
+    requires place { IsPlace (setting_of actor.sizes) actor.place }
+    requires called { IsKeyFor actor.sizes.callers (key_of called) }
+    requires shown { (world_of actor.sizes seat.old.me.0.known.turns).keys actor.place ≡ key_of called }
+    requires asks { Sits actor.sizes actor.number seat.old.me.0 (Forgetting actor.place (forget.Peek called)) }
+    ensures own { (seat.new.table_id ≡ seat.old.table_id) × (seat.new.me.1 ≡ seat.old.me.1) }
+    ensures forgot { HasForgot actor.sizes actor.number actor.place last seat.old.me.0 seat.new.me.0 result }
+{
+    let word = forget_peek(words, seat, actor, called);
+    match opened(word, called.generation) {
+        Some(leader) => close_on(words, seat, actor, called, leader, last),
+        None => clear_on(words, seat, actor, called, last),
+    }
+}
+
+/// Looks, and forgets what it finds.
+fn forget_once<V>(
+    words: &Words<V>,
+    seat: &mut WordSeat<V>,
+    actor: Actor,
+    last: bool,
+) -> ForgetAttempt
+    requires own { IsSeatOf seat.old.table_id words.now.table_id words.now.key }
+    requires sizes { actor.sizes ≡ words.now.key }
+    requires place { IsPlace (setting_of actor.sizes) actor.place }
+    requires may { MayForget actor.sizes actor.number actor.place seat.old.me.0 }
+    ensures own { (seat.new.table_id ≡ seat.old.table_id) × (seat.new.me.1 ≡ seat.old.me.1) }
+    ensures forgot { HasForgot actor.sizes actor.number actor.place last seat.old.me.0 seat.new.me.0 result }
+{
+    let seen = forget_look(words, seat, actor);
+    match seen {
+        KeyState::Never => ForgetAttempt::Idle,
+        KeyState::Names { cleared: true, .. } => ForgetAttempt::Idle,
+        KeyState::Names {
+            caller,
+            generation,
+            cleared: false,
+        } => {
+            let called = CallId { caller, generation };
+            forget_on(words, seat, actor, called, last)
+        }
+    }
+}
+
+/// Tries so often. After the last try that fails the caller has left its Forget.
+pub fn forget_often<V>(
+    words: &Words<V>,
+    seat: &mut WordSeat<V>,
+    actor: Actor,
+    tries: u32,
+) -> ForgetAttempt
+    requires own { IsSeatOf seat.old.table_id words.now.table_id words.now.key }
+    requires sizes { actor.sizes ≡ words.now.key }
+    requires place { IsPlace (setting_of actor.sizes) actor.place }
+    requires free { Sits actor.sizes actor.number seat.old.me.0 Free }
+    ensures own { (seat.new.table_id ≡ seat.old.table_id) × (seat.new.me.1 ≡ seat.old.me.1) }
+    ensures forgot { HasForgottenOften actor.sizes actor.number actor.place tries seat.old.me.0 seat.new.me.0 result }
+{
+    for failed in 0..tries {
+        let attempt = forget_once(words, seat, actor, failed + 1 == tries);
+        match attempt {
+            ForgetAttempt::Missed => {}
+            _ => return attempt,
+        }
+    }
+    ForgetAttempt::Missed
+}

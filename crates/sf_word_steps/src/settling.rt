@@ -1,0 +1,224 @@
+//! The kinds of step of a settle up to its members, and its attempts.
+ghost use Rattle.std.specs.Prelude.{◌≡◌, ℕ, ◌≤◌, [], IsTrue, IsFalse, IfSome, IfNone, is_some};
+ghost use Rattle.sf_words.specs.declared.key_word.KeyState.TheVariants.{Names};
+ghost use Rattle.sf_words.specs.declared.call_word.CallState.TheVariants.{Open};
+ghost use Rattle.sf_schedules.specs.Schedules.{IsPlace};
+ghost use Rattle.sf_schedules.specs.Turns.{after_own_peek, at_members};
+ghost use Rattle.sf_schedules.specs.Events.{settled, peek_events};
+ghost use Rattle.sf_schedules.specs.declared.operation.Stage.TheVariants.{Leading, Settling};
+ghost use Rattle.sf_schedules.specs.declared.operation.SettleStep.TheVariants as settle;
+ghost use Rattle.sf_word_steps.specs.Words.{IsKeyFor, IsCallFor};
+ghost use Rattle.sf_word_steps.specs.View.{setting_of};
+ghost use Rattle.sf_word_steps.specs.Stands.{IsSeatOf, Sits, Goes};
+ghost use Rattle.sf_word_steps.specs.Settles.{MaySettle, IsLeadersWord, Fails, call_of};
+
+use crate::actor::Actor;
+use crate::numbering::{call_index, key_index};
+use crate::rule::{WordSeat, Words};
+use crate::steps::{exchange_turns, load_turns};
+use sf_history::CallId;
+use sf_words::{
+    CallState, CallWord, KeyState, KeyWord, LeaderState, pack_call, pack_key, unpack_call,
+};
+use std::marker::Brand;
+
+/// Loads the own call word, which is open, or forgotten since a Forget closed the call. The first load starts the settle.
+/// A forgotten call takes no joiners any more, so this load settles it.
+fn own_peek<V>(
+    words: &Words<V>,
+    seat: &mut WordSeat<V>,
+    actor: Actor,
+    generation: u32,
+    own: Option<CallId>,
+    value: &V,
+) -> CallState
+    requires own { IsSeatOf seat.old.table_id words.now.table_id words.now.key }
+    requires sizes { actor.sizes ≡ words.now.key }
+    requires by { (1 ≤ actor.number) × (actor.number ≤ actor.sizes.callers) }
+    requires may { MaySettle actor.sizes actor.number actor.place generation own value.now seat.old.me.0 }
+    ensures own { (seat.new.table_id ≡ seat.old.table_id) × (seat.new.me.1 ≡ seat.old.me.1) }
+    ensures told { Goes actor.sizes actor.number seat.old.me.0 seat.new.me.0 (Settling actor.place generation own value.now (after_own_peek result)) (peek_events actor.number (call_of actor.number generation) own value.now result) 0 }
+    ensures leads { IsLeadersWord generation result }
+    ensures range { IsCallFor actor.sizes.callers result }
+{
+    let _ = generation;
+    let _ = own;
+    let found = load_turns::<V, V, Brand>(
+        words,
+        seat,
+        call_index(actor.sizes, actor.number),
+        actor.number,
+        value,
+    );
+    let Some(word) = unpack_call(found) else {
+        unreachable!()
+    };
+    word.state()
+}
+
+/// Exchanges the own call word that was seen open for the same done, and says whether it did: then the call is settled,
+/// with those that the word listed. Who enters the call between makes it fail, as does its Forget.
+fn close_own<V>(
+    words: &Words<V>,
+    seat: &mut WordSeat<V>,
+    actor: Actor,
+    generation: u32,
+    own: Option<CallId>,
+    value: &V,
+    seen: LeaderState,
+) -> bool
+    requires own { IsSeatOf seat.old.table_id words.now.table_id words.now.key }
+    requires sizes { actor.sizes ≡ words.now.key }
+    requires by { (1 ≤ actor.number) × (actor.number ≤ actor.sizes.callers) }
+    requires seen { IsCallFor actor.sizes.callers (Open seen) }
+    requires asks { Sits actor.sizes actor.number seat.old.me.0 (Settling actor.place generation own value.now (settle.Close seen)) }
+    ensures own { (seat.new.table_id ≡ seat.old.table_id) × (seat.new.me.1 ≡ seat.old.me.1) }
+    ensures won { IsTrue result → Goes actor.sizes actor.number seat.old.me.0 seat.new.me.0 (at_members actor.place generation own value.now (is_some seen.top) seen.top) (settled actor.number (call_of actor.number generation) own value.now seen.top) 0 }
+    ensures lost { IsFalse result → Fails actor.sizes actor.number actor.place generation 1 own value.now seat.old.me.0 seat.new.me.0 }
+{
+    let _ = generation;
+    let _ = own;
+    let _ = value;
+    let Some(old) = CallWord::new(CallState::Open(seen)) else {
+        unreachable!()
+    };
+    let Some(new) = CallWord::new(CallState::Done(seen)) else {
+        unreachable!()
+    };
+    let old = pack_call(old);
+    let found = exchange_turns::<V, u32, Brand>(
+        words,
+        seat,
+        call_index(actor.sizes, actor.number),
+        old,
+        pack_call(new),
+        actor.number,
+        &actor.number,
+    );
+    found == old
+}
+
+/// Clears the key word for the Forget that closed the call, where it still names that. A newer call's word stays.
+fn clear_own<V>(
+    words: &Words<V>,
+    seat: &mut WordSeat<V>,
+    actor: Actor,
+    generation: u32,
+    own: Option<CallId>,
+    value: &V,
+    shared: bool,
+    top: Option<u32>,
+)
+    requires own { IsSeatOf seat.old.table_id words.now.table_id words.now.key }
+    requires sizes { actor.sizes ≡ words.now.key }
+    requires by { (1 ≤ actor.number) × (actor.number ≤ actor.sizes.callers) }
+    requires place { IsPlace (setting_of actor.sizes) actor.place }
+    requires generation { 1 ≤ generation }
+    requires number { actor.number ≤ 65535 }
+    requires asks { Sits actor.sizes actor.number seat.old.me.0 (Settling actor.place generation own value.now (settle.Clear shared top)) }
+    ensures own { (seat.new.table_id ≡ seat.old.table_id) × (seat.new.me.1 ≡ seat.old.me.1) }
+    ensures told { Goes actor.sizes actor.number seat.old.me.0 seat.new.me.0 (at_members actor.place generation own value.now shared top) [] 0 }
+{
+    let _ = own;
+    let _ = value;
+    let _ = shared;
+    let _ = top;
+    let Some(old) = KeyWord::new(KeyState::Names {
+        caller: actor.number,
+        generation,
+        cleared: false,
+    }) else {
+        unreachable!()
+    };
+    let Some(new) = KeyWord::new(KeyState::Names {
+        caller: actor.number,
+        generation,
+        cleared: true,
+    }) else {
+        unreachable!()
+    };
+    exchange_turns::<V, u32, Brand>(
+        words,
+        seat,
+        key_index(actor.sizes, actor.place),
+        pack_key(old),
+        pack_key(new),
+        actor.number,
+        &actor.place,
+    );
+}
+
+/// Peeks, and closes the call or clears its key word. Answers the top of the list that is owed letters, or nothing where
+/// the close failed.
+fn settle_once<V>(
+    words: &Words<V>,
+    seat: &mut WordSeat<V>,
+    actor: Actor,
+    generation: u32,
+    own: Option<CallId>,
+    value: &V,
+) -> Option<Option<u32>>
+    requires own { IsSeatOf seat.old.table_id words.now.table_id words.now.key }
+    requires sizes { actor.sizes ≡ words.now.key }
+    requires by { (1 ≤ actor.number) × (actor.number ≤ actor.sizes.callers) }
+    requires place { IsPlace (setting_of actor.sizes) actor.place }
+    requires generation { 1 ≤ generation }
+    requires number { actor.number ≤ 65535 }
+    requires may { MaySettle actor.sizes actor.number actor.place generation own value.now seat.old.me.0 }
+    ensures own { (seat.new.table_id ≡ seat.old.table_id) × (seat.new.me.1 ≡ seat.old.me.1) }
+    ensures settled { IfSome result (λ top. Goes actor.sizes actor.number seat.old.me.0 seat.new.me.0 (at_members actor.place generation own value.now (is_some top) top) (settled actor.number (call_of actor.number generation) own value.now top) 0) }
+    ensures failed { IfNone result (Fails actor.sizes actor.number actor.place generation 1 own value.now seat.old.me.0 seat.new.me.0) }
+{
+    let word = own_peek(words, seat, actor, generation, own, value);
+    match word {
+        CallState::Open(seen) => {
+            if close_own(words, seat, actor, generation, own, value, seen) {
+                return Some(seen.top);
+            }
+            None
+        }
+        CallState::Forgot(seen) => {
+            clear_own(
+                words,
+                seat,
+                actor,
+                generation,
+                own,
+                value,
+                seen.top.is_some(),
+                seen.top,
+            );
+            Some(seen.top)
+        }
+        _ => unreachable!(),
+    }
+}
+
+/// Settles the call, in callers plus one tries at most, and answers the top of the list that is owed letters. Each try
+/// that fails is another caller's enter, or the one Forget of the call.
+pub fn settle_often<V>(
+    words: &Words<V>,
+    seat: &mut WordSeat<V>,
+    actor: Actor,
+    generation: u32,
+    own: Option<CallId>,
+    value: &V,
+) -> Option<u32>
+    requires own { IsSeatOf seat.old.table_id words.now.table_id words.now.key }
+    requires sizes { actor.sizes ≡ words.now.key }
+    requires by { (1 ≤ actor.number) × (actor.number ≤ actor.sizes.callers) }
+    requires place { IsPlace (setting_of actor.sizes) actor.place }
+    requires generation { 1 ≤ generation }
+    requires number { actor.sizes.callers ≤ 65535 }
+    requires leads { Sits actor.sizes actor.number seat.old.me.0 (Leading actor.place generation own) }
+    ensures own { (seat.new.table_id ≡ seat.old.table_id) × (seat.new.me.1 ≡ seat.old.me.1) }
+    ensures settled { Goes actor.sizes actor.number seat.old.me.0 seat.new.me.0 (at_members actor.place generation own value.now (is_some result) result) (settled actor.number (call_of actor.number generation) own value.now result) 0 }
+{
+    for failed in 0..actor.sizes.callers + 1 {
+        match settle_once(words, seat, actor, generation, own, value) {
+            Some(top) => return top,
+            None => {}
+        }
+    }
+    unreachable!()
+}

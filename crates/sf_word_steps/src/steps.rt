@@ -1,0 +1,69 @@
+//! The steps on words. What turns a step is, its caller picks by the arguments that are not read.
+ghost use Rattle.std.specs.Prelude.{◌≡◌, ◌==◌};
+ghost use prog.Atomic.{either};
+ghost use Rattle.sf_word_steps.specs.Words.{index, IsWord, words_in};
+ghost use Rattle.sf_word_steps.specs.Stands.{IsSeatOf};
+ghost use Rattle.sf_word_steps.specs.Plays.{Moves, ToldFound, ToldStored};
+
+use crate::plays::{Finds, Plan, Stores};
+use crate::rule::{WordSeat, Words};
+
+/// Loads a word.
+pub(crate) fn load_turns<V, A, J: Plan<V>>(
+    words: &Words<V>,
+    seat: &mut WordSeat<V>,
+    word: usize,
+    by: u32,
+    about: &A,
+) -> u64
+    requires own { IsSeatOf seat.old.table_id words.now.table_id words.now.key }
+    requires word { IsWord words.now.key J.word × (word ≡ index words.now.key J.word) }
+    requires moves { Moves words.now.key seat.old.me.0 J.word (λ n. n) J.turns }
+    ensures own { seat.new.table_id ≡ seat.old.table_id }
+    ensures told { ToldFound J.word J.turns seat.old.me result seat.new.me }
+{
+    let _ = by;
+    let _ = about;
+    words.load::<Finds<J>>(seat, word)
+}
+
+/// Stores a word.
+pub(crate) fn store_turns<V, A, J: Plan<V>>(
+    words: &Words<V>,
+    seat: &mut WordSeat<V>,
+    word: usize,
+    new: u64,
+    by: u32,
+    about: &A,
+)
+    requires own { IsSeatOf seat.old.table_id words.now.table_id words.now.key }
+    requires word { IsWord words.now.key J.word × (word ≡ index words.now.key J.word) }
+    requires moves { Moves words.now.key seat.old.me.0 J.word (λ _. new) (λ _. J.turns new) }
+    ensures own { seat.new.table_id ≡ seat.old.table_id }
+    ensures told { ToldStored (J.turns new) seat.old.me seat.new.me }
+{
+    let _ = by;
+    let _ = about;
+    words.store::<Stores<J>>(seat, word, new);
+}
+
+/// Exchanges a word, where it is the old one.
+pub(crate) fn exchange_turns<V, A, J: Plan<V>>(
+    words: &Words<V>,
+    seat: &mut WordSeat<V>,
+    word: usize,
+    old: u64,
+    new: u64,
+    by: u32,
+    about: &A,
+) -> u64
+    requires own { IsSeatOf seat.old.table_id words.now.table_id words.now.key }
+    requires word { IsWord words.now.key J.word × (word ≡ index words.now.key J.word) }
+    requires moves { Moves words.now.key seat.old.me.0 J.word (λ n. either (n == old) new n) J.turns }
+    ensures own { seat.new.table_id ≡ seat.old.table_id }
+    ensures told { ToldFound J.word J.turns seat.old.me result seat.new.me }
+{
+    let _ = by;
+    let _ = about;
+    words.compare_exchange::<Finds<J>>(seat, word, old, new)
+}
