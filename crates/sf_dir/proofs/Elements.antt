@@ -10,6 +10,7 @@ use Rattle.std.proofs.lemmas.List.Folds.{list_any-append}
 use Rattle.sf_dir.specs.declared.rule.Entry.{Entry}
 use Rattle.sf_dir.specs.Names.{Name, names_by}
 use Rattle.sf_dir.specs.Rule.{name_of, names_of, own_names, IsNamed, is_named, AllHeard}
+use Rattle.sf_lists.proofs.Ends.{sides}
 
 pub Contains-map : {A B : Type 0} (f : A → B) (xs : List A) (x : A) → Contains xs x → Contains (map f xs) (f x)
 Contains-map f xs x h = (h.0, subst (λ n. h.0 < n) (sym (length-map xs f)) h.1, get_or-map f xs h.0 x ∙ ap f h.2)
@@ -32,9 +33,6 @@ pairs_one {A} {B} f xs x y apart hx hy e = dite (ℕ_discrete hx.0 hy.0)
       | inr lt ↦ apart hy.0 hx.0 y lt hx.1 (ap f (hy.2) ∙ (sym e ∙ ap f (sym (other xs hx.0 y x hx.1 hx.2))))
     ]))
   where
-    sides : (i j : ℕ) → i ≢ j → (i < j) ⊎ (j < i)
-    sides i j d = grind arith
-
     other : (xs : List A) (k : ℕ) (d v : A) → k < length xs → get_or xs k v ≡ v → get_or xs k d ≡ v
     other [] k d v lt e = absurd (omega arith)
     other (z ∷ zs) zero d v lt e = e

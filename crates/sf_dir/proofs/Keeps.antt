@@ -21,16 +21,8 @@ use Rattle.sf_dir.specs.Plays.{Grows, IsWord, Looked, looks, Drew, draws, Wrote,
 use Rattle.sf_dir.proofs.Counts.{count_to_le, count_to_more, count_to_room}
 use Rattle.sf_dir.proofs.Elements.{own_append, heard_longer}
 use Rattle.sf_dir.proofs.Rows.{row_within, rows_differ}
-
--- a function changed at one number
-abbrev pub put : {A : Type 0} → (ℕ → A) → ℕ → A → ℕ → A
-put f i v j = cond (eqb j i) v (f j)
-
-pub put_here : {A : Type 0} (f : ℕ → A) (i : ℕ) (v : A) → put f i v i ≡ v
-put_here f i v = ap (λ b. cond b v (f i)) (eq-eqb i i refl)
-
-pub put_else : {A : Type 0} (f : ℕ → A) (i : ℕ) (v : A) (j : ℕ) → j ≢ i → put f i v j ≡ f j
-put_else f i v j n = ap (λ b. cond b v (f j)) (ne_eqb j i n)
+use Rattle.sf_lists.specs.Functions.{put}
+use Rattle.sf_lists.proofs.Functions.{put_here, put_else}
 
 -- what a step changes of the words, names and holders, as the seat k sees it
 pub record Spares (z : Sizes) (added : List Entry) (ws ws' : List ℕ) (drawn : ℕ) (o o' : Holders) (k : ℕ) : Type 0 where

@@ -24,14 +24,14 @@ use Rattle.sf_dir.specs.Plays.{Tried, publishes}
 use Rattle.sf_dir.specs.Walk.{MayPublish}
 use Rattle.sf_dir.proofs.Counts.{count_to_more}
 use Rattle.sf_dir.proofs.Elements.{Contains-map, Contains-unmap, pairs_one, names_append, own_append, own_one, own_other, named_longer, is_named_none, is_named_here, is_named_else, heard_longer}
-use Rattle.sf_dir.proofs.Keeps.{put, put_here, put_else, seen_all, sees_all, loaded, seats_on, alone_is, stands_alone, drawn_most}
+use Rattle.sf_dir.proofs.Keeps.{seen_all, sees_all, loaded, seats_on, alone_is, stands_alone, drawn_most}
+use Rattle.sf_lists.specs.Functions.{put}
+use Rattle.sf_lists.proofs.Functions.{put_here, put_else}
+use Rattle.sf_lists.proofs.Ends.{sides}
 
 -- two entries of a sound list at one place are of one key
 pub one_key : (z : Sizes) (h : List Entry) (e f : Entry) → IsSound z h → Contains h e → Contains h f → e.place ≡ f.place → e.key ≡ f.key
 one_key z h e f sound he hf same = ap (λ (n : Name). n.key) (pairs_one (λ (n : Name). n.place) (names_of h) (name_of e) (name_of f) (sound.names.distinct_places) (Contains-map name_of h e he) (Contains-map name_of h f hf) same)
-
-sides : (i j : ℕ) → i ≢ j → (i < j) ⊎ (j < i)
-sides i j d = grind arith
 
 -- where the desk has seen another key at each place of the walk before this one, and this one is empty, the key has no name
 pub unnamed_key : (z : Sizes) (h seen rest : List Entry) (key : List ℕ) (passed : ℕ) → h ≡ seen ++ rest → IsSound z h → ¬ (IsNamed h (place_after z.keys key passed))

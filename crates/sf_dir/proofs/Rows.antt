@@ -2,6 +2,7 @@
 use Rattle.std.proofs.Common.{◌≡◌, ◌≢◌, ℕ, suc, ◌+◌, ◌*◌, ◌<◌, ◌≤◌, ◌⊎◌, ⊎_elim, ap, ◌∙◌, mul-le-mul_right, suc-mul, arith}
 use Rattle.sf_dir.specs.declared.rule.Sizes.{Sizes}
 use Rattle.sf_dir.specs.WordIndex.{row_width, row_count, row_at, word_total}
+use Rattle.sf_lists.proofs.Ends.{sides}
 
 -- a row ends before the next one begins
 pub rows_apart : (x y n : ℕ) → x < y → x * n + n ≤ y * n
@@ -16,9 +17,6 @@ rows_differ z r s i j d hi hj e = ⊎_elim
     (λ (lt : r < s). let a : r * row_width z + row_width z ≤ s * row_width z = rows_apart r s (row_width z) lt in absurd (omega arith))
     (λ (lt : s < r). let a : s * row_width z + row_width z ≤ r * row_width z = rows_apart s r (row_width z) lt in absurd (omega arith))
     (sides r s d)
-  where
-    sides : (i j : ℕ) → i ≢ j → (i < j) ⊎ (j < i)
-    sides i j d = grind arith
 
 -- a word of a row is a word of the table
 pub in_row : (z y : Sizes) (row start j word total : ℕ) → y ≡ z → start ≡ row_at y row → total ≡ word_total z → row < row_count z → j < row_width z → word ≡ start + j → word < total

@@ -12,7 +12,10 @@ use Rattle.sf_dir.specs.declared.rule.Entry.{Entry}
 use Rattle.sf_dir.specs.declared.rule.View.{View}
 use Rattle.sf_dir.specs.Rule.{first_view, without_first, first_alone, note_of, both_of, blank, is_named, count_to, Holders, IsView, Holds}
 use Rattle.sf_dir.specs.WordIndex.{counter_at, word_total}
-use Rattle.sf_dir.proofs.Keeps.{put, put_here, put_else, seats_on}
+use Rattle.sf_dir.proofs.Keeps.{seats_on}
+use Rattle.sf_lists.specs.Functions.{put}
+use Rattle.sf_lists.proofs.Functions.{put_here, put_else}
+use Rattle.sf_lists.proofs.Ends.{at_end}
 
 contains_none : {A : Type 0} (x : A) → Contains [] x → ⊥
 contains_none x c = let lt = c.1 in omega arith
@@ -60,13 +63,6 @@ opens z words zeros = (
       spare = λ s q. cc;
     })
     seats (suc k) v e = absurd (some-ne-none v (sym e))
-
--- what stands in a list with one more at its end
-at_end : {A : Type 0} (l : List A) (a b : A) (j : ℕ) → get_elem? (l ++ a ∷ []) j ≡ some b → (get_elem? l j ≡ some b) ⊎ ((j ≡ length l) × (a ≡ b))
-at_end [] a b zero e = inr (refl, some-injective a b e)
-at_end [] a b (suc j) e = absurd (some-ne-none b (sym e))
-at_end (x ∷ xs) a b zero e = inl e
-at_end (x ∷ xs) a b (suc j) e = ⊎_elim (λ (p : get_elem? xs j ≡ some b). inl p) (λ (p : (j ≡ length xs) × (a ≡ b)). inr (ap suc p.0, p.1)) (at_end xs a b j e)
 
 at_same : {A : Type 0} (l : List A) (i j : ℕ) (a b : A) → get_elem? l i ≡ some a → get_elem? (set l i a) j ≡ some b → get_elem? l j ≡ some b
 at_same l i j a b is e = ⊎_elim (λ (p : (j ≡ i) × (a ≡ b)). ap (get_elem? l) p.0 ∙ (is ∙ ap some p.1)) (λ (p : (j ≢ i) × (get_elem? l j ≡ some b)). p.1) (at_set l i j a b e)

@@ -1,6 +1,9 @@
 -- What one desk's walk asks and tells.
 use Rattle.std.specs.Prelude.{◌≡◌, ◌≢◌, ℕ, ◌+◌, ◌<◌, ◌≤◌, ◌⊎◌, List, [], ◌∷◌, length, slice_index, Option, Some, None, Contains}
 use Rattle.atomic_table.specs.Seated.{TableId}
+use Rattle.atomic_table.specs.declared.shared.Shared.{Shared}
+use Rattle.atomic_table.specs.declared.shared.Seat.{Seat}
+use Rattle.sf_dir.specs.declared.rule.Law.{Law}
 use Rattle.sf_dir.specs.declared.rule.Sizes.{Sizes}
 use Rattle.sf_dir.specs.declared.rule.Entry.{Entry}
 use Rattle.sf_dir.specs.declared.rule.Spare.{Spare}
@@ -11,8 +14,8 @@ use Rattle.sf_dir.specs.WordIndex.{IsWithinLimits, row_at, row_width, row_count,
 use Rattle.sf_dir.specs.Plays.{Grows}
 
 -- the seat is of this table, and knows its sizes
-abbrev pub IsOfTable : Sizes → TableId → TableId → View → Type 0
-IsOfTable z table seat v = (seat ≡ table) × (v.sizes ≡ Some z)
+abbrev pub IsOwnSeat : Shared ℕ View Sizes Law → Seat ℕ View → Type 0
+IsOwnSeat words seat = (seat.table_id ≡ words.table_id) × (seat.me.0.sizes ≡ Some words.key)
 
 -- the table has the words that these sizes ask for
 abbrev pub IsLaidOut : Sizes → TableId → Sizes → Type 0

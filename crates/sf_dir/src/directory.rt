@@ -2,7 +2,7 @@
 ghost use Rattle.std.specs.Prelude.{◌≡◌, ◌<◌, ◌≤◌, ◌↔◌, length, IfOk, OnErr, Err, Some, None, [], All};
 ghost use Rattle.std.specs.List.{range_with_len};
 ghost use Rattle.sf_dir.specs.Rule.{without_first};
-ghost use Rattle.sf_dir.specs.Walk.{IsOfTable};
+ghost use Rattle.sf_dir.specs.Walk.{IsOwnSeat};
 ghost use Rattle.sf_dir.specs.Names.{IsNameList, AddsNone, Finds, IsFullFor};
 ghost use Rattle.sf_dir.specs.Known.{IsNewDesk, numbers_of, IsSameDesk, Learns, directory_of, new_desk};
 
@@ -12,20 +12,17 @@ use crate::refusal::Refusal;
 use crate::rule::{Deals, Law, Shows, Sizes, View};
 use crate::steps::{DeskSeat, Words, look};
 use crate::walk::find;
-use crate::word_index::word_total_of;
+use crate::word_index::{NO_PLACE, word_total_of};
 use atomic_table::Table;
-use sf_words::PlaceNo;
+use sf_words::{LARGEST_CALLER, LARGEST_PLACE, LONGEST_KEY, PlaceNo};
 use std::alloc::{AllocError as Memory, Global};
 use std::marker::Model;
 
 /// The most places that a directory may have.
-pub const MOST_KEYS: u32 = 1_048_576;
-
-/// The longest key that a directory may be made for, in bytes.
-pub const LONGEST_KEY: u32 = 250;
+pub const MOST_KEYS: u32 = LARGEST_PLACE;
 
 /// The most desks that a directory may have.
-pub const MOST_DESKS: u32 = 65_535;
+pub const MOST_DESKS: u32 = LARGEST_CALLER;
 
 /// Places for keys: each key that is resolved gets one for good. Clauses see which directory it is, and its sizes.
 #[derive(Drop)]
@@ -47,7 +44,7 @@ impl Model for Directory {
 
 // The next desk, from the seat that stands for those that are not dealt yet.
 fn deal(words: &Words, first: &mut DeskSeat, number: u32) -> Desk
-    requires own { IsOfTable words.now.key words.now.table_id first.old.table_id first.old.me.0 }
+    requires own { IsOwnSeat words.now first.old }
     requires words { 0 < words.now.table_id.words }
     requires next { (first.old.me.0.from ≡ number) × (number < first.old.me.0.to) }
     requires unused { (first.old.me.0.spare ≡ None) × (first.old.me.0.seen ≡ []) }
@@ -130,6 +127,14 @@ impl Directory {
         })
     }
 
+    /// How many places it has, 1 to 1,048,576.
+    pub fn place_count(&self) -> u32
+        ensures count { result ≡ self.now.keys }
+        ensures range { (1 ≤ result) × (result ≤ MOST_KEYS) }
+    {
+        self.sizes.keys as u32
+    }
+
     /// Each of the two desks has then seen what either had. It takes no memory and does not wait.
     pub fn meet(&self, one: &mut Desk, other: &mut Desk)
         requires one { one.old.directory ≡ self.now }
@@ -153,6 +158,6 @@ impl Directory {
         let words = &self.table.shared;
         let note = words.split_seat::<Shows>(&mut from.seat);
         words.join_seat::<Shows>(&mut to.seat, note);
-        look(words, &mut to.seat, 0);
+        look(words, &mut to.seat, NO_PLACE);
     }
 }

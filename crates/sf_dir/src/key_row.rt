@@ -4,7 +4,7 @@ ghost use Rattle.std.specs.Bool.{OnTrue, OnFalse};
 ghost use Rattle.sf_dir.specs.KeyRow.{key_word, words_of};
 ghost use Rattle.sf_dir.specs.WordIndex.{row_width, row_count};
 ghost use Rattle.sf_dir.specs.Plays.{Grows};
-ghost use Rattle.sf_dir.specs.Walk.{IsOfTable, IsLaidOut, IsRowOf, IsRowOfAnother, HoldsSpare, IsWritten};
+ghost use Rattle.sf_dir.specs.Walk.{IsOwnSeat, IsLaidOut, IsRowOf, IsRowOfAnother, HoldsSpare, IsWritten};
 
 use crate::rule::Sizes;
 use crate::steps::{DeskSeat, Words, look, write};
@@ -52,7 +52,7 @@ pub(crate) fn has_key(
     row: u64,
     key: &[u8],
 ) -> bool
-    requires own { IsOfTable words.now.key words.now.table_id seat.old.table_id seat.old.me.0 }
+    requires own { IsOwnSeat words.now seat.old }
     requires limits { IsLaidOut words.now.key words.now.table_id sizes }
     requires row { row < row_count words.now.key }
     requires key { length key.now ≤ words.now.key.key_bytes }
@@ -75,7 +75,7 @@ pub(crate) fn has_key(
 
 /// Writes a key into the desk's spare row, zeros behind it.
 pub(crate) fn write_key(words: &Words, seat: &mut DeskSeat, sizes: Sizes, row: u64, key: &[u8])
-    requires own { IsOfTable words.now.key words.now.table_id seat.old.table_id seat.old.me.0 }
+    requires own { IsOwnSeat words.now seat.old }
     requires limits { IsLaidOut words.now.key words.now.table_id sizes }
     requires spare { HoldsSpare words.now.key seat.old.me.0 (Some row) }
     requires key { length key.now ≤ words.now.key.key_bytes }

@@ -15,13 +15,12 @@ mod place;
 mod refusal;
 mod rule;
 mod steps;
-#[cfg(test)]
-mod tests;
 mod walk;
 mod word_index;
 
 pub use desk::Desk;
-pub use directory::{Directory, LONGEST_KEY, MOST_DESKS, MOST_KEYS};
+pub use directory::{Directory, MOST_DESKS, MOST_KEYS};
 pub use place::Place;
 pub use refusal::Refusal;
+pub use sf_words::LONGEST_KEY;
 pub use std::alloc::AllocError as Memory;

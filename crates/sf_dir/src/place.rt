@@ -4,6 +4,7 @@ ghost use Rattle.std.specs.Prelude.{◌≡◌};
 use crate::directory::Directory;
 use crate::rule::{Shows, View};
 use crate::steps::look;
+use crate::word_index::NO_PLACE;
 use atomic_table::Seat;
 use sf_words::PlaceNo;
 use std::marker::Model;
@@ -60,6 +61,6 @@ impl<'d> Place<'d> {
         let words = &directory.table.shared;
         let note = words.split_seat::<Shows>(&mut other.seat);
         words.join_seat::<Shows>(&mut self.seat, note);
-        look(words, &mut self.seat, 0);
+        look(words, &mut self.seat, NO_PLACE);
     }
 }

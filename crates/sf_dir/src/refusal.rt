@@ -4,10 +4,10 @@ use thiserror::Error;
 /// Why a key got no place: it is too long, or each place has another key.
 #[derive(Clone, Copy, Debug, PartialEq, Eq, Error)]
 pub enum Refusal {
-    /// Refusal 1: the key is longer than the directory's keys may be.
+    /// The key is longer than the directory's keys may be.
     #[error("key too long")]
     KeyTooLong,
-    /// Refusal 2: each place has another key.
+    /// Each place has another key.
     #[error("directory full")]
     Full,
 }

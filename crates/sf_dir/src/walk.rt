@@ -6,13 +6,13 @@ ghost use Rattle.std.specs.Bool.{OnTrue, OnFalse};
 ghost use Rattle.sf_dir.specs.KeyRow.{hash_of, first_index};
 ghost use Rattle.sf_dir.specs.Rule.{IsTaken, IsPlaceWord};
 ghost use Rattle.sf_dir.specs.Plays.{Grows};
-ghost use Rattle.sf_dir.specs.Walk.{IsOfTable, IsLaidOut, IsOneDesk, IsReached, HoldsSpare, Resolves, Passes};
+ghost use Rattle.sf_dir.specs.Walk.{IsOwnSeat, IsLaidOut, IsOneDesk, IsReached, HoldsSpare, Resolves, Passes};
 
 use crate::key_hash::hash;
 use crate::key_row::{has_key, write_key};
 use crate::rule::Sizes;
 use crate::steps::{DeskSeat, Words, draw, look, publish};
-use crate::word_index::counter_of;
+use crate::word_index::{EMPTY, counter_of};
 
 // The index of the place at which the key's walk begins: the hash's upper half, scaled down to the places.
 fn start_of(key: &[u8], keys: u64) -> u64
@@ -39,7 +39,7 @@ fn place_of(start: u64, passed: u64, keys: u64) -> u64
 
 // The desk's spare row, drawn now if it has none.
 fn spare_of(words: &Words, seat: &mut DeskSeat, sizes: Sizes, spare: &mut Option<u64>) -> u64
-    requires own { IsOfTable words.now.key words.now.table_id seat.old.table_id seat.old.me.0 }
+    requires own { IsOwnSeat words.now seat.old }
     requires limits { IsLaidOut words.now.key words.now.table_id sizes }
     requires desk { IsOneDesk words.now.key seat.old.me.0 }
     requires spare { HoldsSpare words.now.key seat.old.me.0 spare.old }
@@ -64,7 +64,7 @@ fn claim(
     place: u64,
     key: &[u8],
 ) -> u64
-    requires own { IsOfTable words.now.key words.now.table_id seat.old.table_id seat.old.me.0 }
+    requires own { IsOwnSeat words.now seat.old }
     requires limits { IsLaidOut words.now.key words.now.table_id sizes }
     requires desk { IsOneDesk words.now.key seat.old.me.0 }
     requires spare { HoldsSpare words.now.key seat.old.me.0 spare.old }
@@ -78,7 +78,7 @@ fn claim(
     let row = spare_of(words, seat, sizes, spare);
     write_key(words, seat, sizes, row, key);
     let found = publish(words, seat, place, row);
-    if found == 0 {
+    if found == EMPTY {
         *spare = None;
     }
     found
@@ -93,7 +93,7 @@ fn occupant(
     place: u64,
     key: &[u8],
 ) -> u64
-    requires own { IsOfTable words.now.key words.now.table_id seat.old.table_id seat.old.me.0 }
+    requires own { IsOwnSeat words.now seat.old }
     requires limits { IsLaidOut words.now.key words.now.table_id sizes }
     requires desk { IsOneDesk words.now.key seat.old.me.0 }
     requires spare { HoldsSpare words.now.key seat.old.me.0 spare.old }
@@ -105,7 +105,7 @@ fn occupant(
     ensures spare { HoldsSpare words.now.key seat.new.me.0 spare.new }
 {
     let found = look(words, seat, place);
-    if found != 0 {
+    if found != EMPTY {
         return found;
     }
     claim(words, seat, sizes, spare, place, key)
@@ -120,7 +120,7 @@ fn visit(
     place: u64,
     key: &[u8],
 ) -> bool
-    requires own { IsOfTable words.now.key words.now.table_id seat.old.table_id seat.old.me.0 }
+    requires own { IsOwnSeat words.now seat.old }
     requires limits { IsLaidOut words.now.key words.now.table_id sizes }
     requires desk { IsOneDesk words.now.key seat.old.me.0 }
     requires spare { HoldsSpare words.now.key seat.old.me.0 spare.old }
@@ -132,7 +132,7 @@ fn visit(
     ensures spare { HoldsSpare words.now.key seat.new.me.0 spare.new }
 {
     let found = occupant(words, seat, sizes, spare, place, key);
-    if found == 0 {
+    if found == EMPTY {
         return true;
     }
     has_key(words, seat, sizes, found - 1, key)
@@ -146,7 +146,7 @@ pub(crate) fn find(
     spare: &mut Option<u64>,
     key: &[u8],
 ) -> Option<u64>
-    requires own { IsOfTable words.now.key words.now.table_id seat.old.table_id seat.old.me.0 }
+    requires own { IsOwnSeat words.now seat.old }
     requires limits { IsLaidOut words.now.key words.now.table_id sizes }
     requires desk { IsOneDesk words.now.key seat.old.me.0 }
     requires spare { HoldsSpare words.now.key seat.old.me.0 spare.old }

@@ -6,6 +6,12 @@ ghost use Rattle.sf_dir.specs.WordIndex.{IsWithinLimits, counter_at, row_at, row
 
 use crate::rule::Sizes;
 
+/// The word that is no place's: a load of it says nothing but what joined seats brought.
+pub(crate) const NO_PLACE: u64 = 0;
+
+/// What stands in the word of a place that no desk has published a row at.
+pub(crate) const EMPTY: u64 = 0;
+
 /// How far the counter lies behind the last place, and the first row behind the counter: 128 bytes, so that whoever
 /// draws or writes a row takes no line of place words from those who look.
 const GAP: u64 = 16;

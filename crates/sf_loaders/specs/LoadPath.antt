@@ -1,6 +1,6 @@
 -- the load path of a cache fill, by cases
 use Rattle.std.specs.Prelude.{◌≡◌, ℕ, ◌≤◌, List, Option, Result, Ok, Err, MatchOption, MatchResult}
-use Rattle.sf_model.specs.declared.call.CallId.{CallId}
+use Rattle.sf_history.specs.declared.call.CallId.{CallId}
 use Rattle.sf_loaders.specs.declared.counts.Counts.{Counts}
 use Rattle.sf_loaders.specs.declared.counts.Source.{Source}
 use Rattle.sf_loaders.specs.declared.counts.Source.TheVariants.{Peer, Local}
@@ -9,19 +9,19 @@ use Rattle.sf_loaders.specs.declared.faults.LocalFault.{LocalFault}
 use Rattle.sf_loaders.specs.declared.load_path.Loaders.{Loaders}
 
 -- what a run answers: a value and who gave it, or the local getter's fault, beside what it counts
-abbrev pub Outcome : Type 0
-Outcome = Result (List ℕ × Source) LocalFault × Counts
+abbrev pub LoadAnswer : Type 0
+LoadAnswer = Result (List ℕ × Source) LocalFault × Counts
 
 -- what every run counts: one load that is no duplicate
 abbrev pub one_load : Counts
 one_load = record { loads_deduped = 1; peer_loads = 0; peer_errors = 0; local_loads = 0; local_load_errors = 0 }
 
 -- the peer's value is the result
-abbrev pub from_peer : List ℕ → Outcome
+abbrev pub from_peer : List ℕ → LoadAnswer
 from_peer value = (Ok (value, Peer), record one_load { peer_loads = 1 })
 
 -- the local getter's answer is the result, after so many faults of a peer
-abbrev pub from_local : ℕ → Result (List ℕ) LocalFault → Outcome
+abbrev pub from_local : ℕ → Result (List ℕ) LocalFault → LoadAnswer
 from_local faults (Ok value) = (Ok (value, Local), record one_load { peer_errors = faults; local_loads = 1 })
 from_local faults (Err fault) = (Err fault, record one_load { peer_errors = faults; local_load_errors = 1 })
 
@@ -37,7 +37,7 @@ module _ {P F L C : Type 0}
     (pick_gives : P → List ℕ → Option ℕ → P → Type 0)
     (fetch_gives : F → ℕ → List ℕ → CallId → Result (List ℕ) PeerFault → F → Type 0)
     (load_gives : L → List ℕ → CallId → Result (List ℕ) LocalFault → L → Type 0)
-    (key : List ℕ) (call : CallId) (old : Loaders P F L C) (outcome : Outcome) (new : Loaders P F L C) where
+    (key : List ℕ) (call : CallId) (old : Loaders P F L C) (outcome : LoadAnswer) (new : Loaders P F L C) where
   -- the local getter is asked once, and its answer is the result
   pub record AsksLocal (faults : ℕ) : Type 0 where
     pub answer : Result (List ℕ) LocalFault

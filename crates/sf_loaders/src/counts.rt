@@ -1,7 +1,7 @@
 //! What one run of the load path counts, and who gave its value.
 
 /// Who gave a value.
-#[derive(Clone, Copy, Debug, PartialEq, Eq)]
+#[derive(Clone, Copy, PartialEq, Eq)]
 pub enum Source {
     /// The peer that the picker named.
     Peer,
@@ -10,7 +10,7 @@ pub enum Source {
 }
 
 /// What one run of the load path adds to groupcache's counters of these names, each 0 or 1.
-#[derive(Clone, Copy, Debug, Default, PartialEq, Eq)]
+#[derive(Clone, Copy, Default, PartialEq, Eq)]
 pub struct Counts {
     /// Loads that were not a duplicate of an open one: 1 in each run.
     pub loads_deduped: u64,

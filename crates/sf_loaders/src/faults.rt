@@ -4,7 +4,7 @@ use bytes::ByteStr;
 use thiserror::Error;
 
 /// Why a peer gave no value.
-#[derive(Clone, Debug, Drop, Error, PartialEq, Eq)]
+#[derive(Debug, Drop, Error)]
 pub enum PeerFault {
     /// It failed, for the reason that the text gives.
     #[error("{0}")]
@@ -15,7 +15,7 @@ pub enum PeerFault {
 }
 
 /// Why the local getter gave no value.
-#[derive(Clone, Debug, Drop, Error, PartialEq, Eq)]
+#[derive(Debug, Drop, Error)]
 pub enum LocalFault {
     /// It failed, for the reason that the text gives.
     #[error("{0}")]

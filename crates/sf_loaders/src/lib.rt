@@ -9,8 +9,6 @@ mod counts;
 mod faults;
 mod load_path;
 pub mod scripted;
-#[cfg(test)]
-mod tests;
 mod traits;
 
 pub use counts::{Counts, Source};

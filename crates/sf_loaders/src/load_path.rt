@@ -7,7 +7,7 @@ use crate::counts::{Counts, Source};
 use crate::faults::LocalFault;
 use crate::traits::{Local, Origin, Peer, Picker};
 use bytes::Bytes;
-use sf_model::CallId;
+use sf_history::CallId;
 
 /// A set of loaders: what one getter of a fill asks for its values.
 #[derive(Drop)]

@@ -6,11 +6,11 @@ ghost use Rattle.sf_loaders.specs.Scripted.{IsAgain, Plays};
 use crate::faults::{LocalFault, PeerFault};
 use crate::traits::{Chance, Local, Origin, Peer, Picker};
 use bytes::{ByteStr, Bytes};
-use sf_model::CallId;
+use sf_history::CallId;
 use std::marker::Model;
 
 /// The origin of scripted values, of which nothing is stated.
-#[derive(Clone, Copy, Debug)]
+#[derive(Clone, Copy)]
 pub struct AnyValue;
 
 impl Origin for AnyValue {
@@ -20,7 +20,7 @@ impl Origin for AnyValue {
 }
 
 /// A picker that names one peer for every key, or none.
-#[derive(Clone, Copy, Debug, PartialEq, Eq)]
+#[derive(Clone, Copy)]
 pub struct FixedPicker {
     /// The peer that it names.
     pub peer: Option<u32>,
@@ -49,7 +49,7 @@ impl Picker for FixedPicker {
 }
 
 /// One answer of a script.
-#[derive(Debug, Drop)]
+#[derive(Drop)]
 pub enum Answer {
     /// The value.
     Value(Bytes),
@@ -149,7 +149,7 @@ impl Local for Script {
 }
 
 /// A source of chance that draws 0 to 9 in turn, and from 0 again after 9.
-#[derive(Debug, Drop)]
+#[derive(Drop)]
 pub struct RoundChance {
     next: u32,
 }

@@ -4,13 +4,13 @@
 //! and its state after. So a caller's contract can say that a loader was asked once and answered this.
 
 ghost use Rattle.std.specs.Prelude.{◌<◌, ℕ, List, Option, Result, IfOk};
-ghost use Rattle.sf_model.specs.declared.call.CallId.{CallId};
+ghost use Rattle.sf_history.specs.declared.call.CallId.{CallId};
 ghost use Rattle.sf_loaders.specs.declared.faults.PeerFault.{PeerFault};
 ghost use Rattle.sf_loaders.specs.declared.faults.LocalFault.{LocalFault};
 
 use crate::faults::{LocalFault, PeerFault};
 use bytes::Bytes;
-use sf_model::CallId;
+use sf_history::CallId;
 
 /// Where a set of loaders gets its values: what their makers state of each value, whichever of them gave it.
 pub trait Origin {

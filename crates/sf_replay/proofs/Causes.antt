@@ -1,13 +1,13 @@
 -- an event has a cause exactly where it may not follow the events before it
 use Rattle.std.proofs.Common.{◌≡◌, ◌≢◌, ℕ, ◌==◌, Bool, true, false, not, List, [], ◌∷◌, inl, inr, Option, Some, None, refl, sym, ap, subst, is_some, IfSome}
 use Rattle.std.proofs.lemmas.Bool.{or_parts, or_from, or_left, or_right, or_cases, and_parts, eqb-true, eq-eqb, cases_Bool}
-use Rattle.sf_model.specs.declared.call.CallId.{CallId}
-use Rattle.sf_model.specs.declared.event.Event.{Event}
-use Rattle.sf_model.specs.declared.event.Event.TheVariants.{Lead, Enter, Forget, Settle, Handed}
-use Rattle.sf_model.specs.Calls.{same_call}
-use Rattle.sf_model.specs.History.{holds_call, leads, open_call, has_joined, was_led, is_settled, is_handed, IsNew}
-use Rattle.sf_model.specs.Legal.{MayFollow}
-use Rattle.sf_model.proofs.LegalHistories.{same_call_is, same_call_self}
+use Rattle.sf_history.specs.declared.call.CallId.{CallId}
+use Rattle.sf_history.specs.declared.event.Event.{Event}
+use Rattle.sf_history.specs.declared.event.Event.TheVariants.{Lead, Enter, Forget, Settle, Handed}
+use Rattle.sf_history.specs.Calls.{same_call}
+use Rattle.sf_history.specs.History.{holds_call, leads, open_call, has_joined, was_led, is_settled, is_handed, IsNew}
+use Rattle.sf_history.specs.Legal.{MayFollow}
+use Rattle.sf_history.proofs.LegalHistories.{same_call_is, same_call_self}
 use Rattle.sf_replay.specs.declared.cause.Cause.{Cause}
 use Rattle.sf_replay.specs.Checker.{cause_if, same_option, own_is, same_mark, is_named, begins, has_begun, first_cause, NoCauseMayFollow}
 

@@ -7,8 +7,8 @@ use Rattle.json.proofs.Printed.Decimals.{IsNumber-decimal}
 use Rattle.serde_json.specs.Data.{Data, number, unsigned, string, boolean, null, array, item, no_items, object, Members, no_members, put}
 use Rattle.serde_json.specs.Read.{of_json, max_depth}
 use Rattle.serde_json.proofs.Numbers.{number_of-decimal}
-use Rattle.sf_model.specs.declared.call.CallId.{CallId}
-use Rattle.sf_model.specs.declared.event.Event.TheVariants.{Lead, Enter, Forget, Settle, Handed}
+use Rattle.sf_history.specs.declared.call.CallId.{CallId}
+use Rattle.sf_history.specs.declared.event.Event.TheVariants.{Lead, Enter, Forget, Settle, Handed}
 use Rattle.sf_replay.specs.Record.{TextEvent, in_range, short, call_from, lead_in, enter_in, forget_in, settle_in, handed_in, event_of_kind, event_in}
 use Rattle.sf_replay.specs.Written.{IsCaller, IsCallWithin, IsWithinLimits}
 use Rattle.sf_replay.proofs.RecordJson.{call_of, option_of, json_of_event}

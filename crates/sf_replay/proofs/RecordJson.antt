@@ -6,8 +6,8 @@ use Rattle.json.specs.Tree.{json_tokens, HasNumbers, depth}
 use Rattle.json.proofs.Printed.Tokens.{tokens-print}
 use Rattle.json.proofs.Printed.Trees.{value-json_tokens, ArePrintable-json_tokens}
 use Rattle.serde_json.specs.Read.{read, of_json, max_depth}
-use Rattle.sf_model.specs.declared.call.CallId.{CallId}
-use Rattle.sf_model.specs.declared.event.Event.TheVariants.{Lead, Enter, Forget, Settle, Handed}
+use Rattle.sf_history.specs.declared.call.CallId.{CallId}
+use Rattle.sf_history.specs.declared.event.Event.TheVariants.{Lead, Enter, Forget, Settle, Handed}
 use Rattle.sf_replay.specs.Record.{TextEvent}
 use Rattle.sf_replay.specs.Written.{record_text}
 

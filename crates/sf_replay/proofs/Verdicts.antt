@@ -1,9 +1,9 @@
 -- the checker's walk: what it keeps, and what it answers
 use Rattle.std.proofs.Common.{◌≡◌, ◌↔◌, ℕ, ◌+◌, ◌<◌, Bool, List, [], ◌∷◌, ◌++◌, length, take, drop, get_or, Some, None, refl, sym, ◌∙◌, ap, subst, arith}
 use Rattle.std.proofs.lemmas.List.{take_more, drop_more, take-append-drop, length-take-le}
-use Rattle.sf_model.specs.declared.event.Event.{Event}
-use Rattle.sf_model.specs.Legal.{IsLegal}
-use Rattle.sf_model.proofs.LegalHistories.{legal_push}
+use Rattle.sf_history.specs.declared.event.Event.{Event}
+use Rattle.sf_history.specs.Legal.{IsLegal}
+use Rattle.sf_history.proofs.LegalHistories.{legal_push}
 use Rattle.sf_replay.specs.declared.cause.Cause.{Cause}
 use Rattle.sf_replay.specs.declared.checking.Verdict.{Verdict}
 use Rattle.sf_replay.specs.declared.checking.Verdict.TheVariants.{Legal, Illegal}

@@ -1,12 +1,12 @@
 -- what the checker answers: the least event that may not follow the events before it, and its first cause
 use Rattle.std.specs.Prelude.{◌≡◌, ◌↔◌, ℕ, ◌+◌, ◌==◌, Bool, true, false, ◌||◌, not, List, ◌∷◌, ◌++◌, length, if◌then◌else◌, Option, Some, None, is_some, codes, decimal}
 use Rattle.std.specs.List.{list_any}
-use Rattle.sf_model.specs.declared.call.CallId.{CallId}
-use Rattle.sf_model.specs.declared.event.Event.{Event}
-use Rattle.sf_model.specs.declared.event.Event.TheVariants.{Lead, Enter, Forget, Settle, Handed}
-use Rattle.sf_model.specs.Calls.{same_call}
-use Rattle.sf_model.specs.History.{holds_call, names, open_call, has_joined, was_led, is_settled, is_handed}
-use Rattle.sf_model.specs.Legal.{MayFollow, IsLegal}
+use Rattle.sf_history.specs.declared.call.CallId.{CallId}
+use Rattle.sf_history.specs.declared.event.Event.{Event}
+use Rattle.sf_history.specs.declared.event.Event.TheVariants.{Lead, Enter, Forget, Settle, Handed}
+use Rattle.sf_history.specs.Calls.{same_call}
+use Rattle.sf_history.specs.History.{holds_call, names, open_call, has_joined, was_led, is_settled, is_handed}
+use Rattle.sf_history.specs.Legal.{MayFollow, IsLegal}
 use Rattle.sf_replay.specs.declared.cause.Cause.{Cause}
 use Rattle.sf_replay.specs.declared.cause.Cause.TheVariants.{LedByAnotherCaller, CallIsNotNew, OwnChannelIsNotNew, KeyHasAnOpenCall, EnteredByAnotherCaller, MemberIsNotNew, CallIsNotTheOpenOne}
 use Rattle.sf_replay.specs.declared.cause.Cause.TheVariants.{ForgetNamesAnotherCall, CallWasNotLed, SettledByACallerThatDidNotLead, CallIsSettledAlready, SharedMarkIsWrong}

@@ -1,4 +1,5 @@
 pub mod Checker
+pub mod Merged
 pub mod Record
 pub mod RecordText
 pub mod Written

@@ -3,7 +3,7 @@
 use std::fmt;
 
 /// Why an event may not follow the events before it.
-#[derive(Clone, Copy, Debug, PartialEq, Eq)]
+#[derive(Clone, Copy, PartialEq, Eq)]
 pub enum Cause {
     /// A lead whose call names another caller than the one that made it.
     LedByAnotherCaller,

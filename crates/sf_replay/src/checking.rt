@@ -1,17 +1,17 @@
 //! Whether a history is legal.
 
 ghost use Rattle.std.specs.Prelude.{◌≡◌, ◌↔◌};
-ghost use Rattle.sf_model.specs.Legal.{IsLegal};
+ghost use Rattle.sf_history.specs.Legal.{IsLegal};
 ghost use Rattle.sf_replay.specs.Checker.{first_cause, lead_cause, enter_cause, forget_cause, settle_cause, handed_cause, same_option, own_is, is_named, IsVerdictOf, NoCauseMayFollow};
 
 use crate::cause::Cause;
 use crate::walk::{has_begun, is_named, is_settled, was_led};
-use sf_model::walk::{is_call, is_handed, is_joined, open_call};
-use sf_model::{CallId, Event, History};
+use sf_history::walk::{is_call, is_handed, is_joined, open_call};
+use sf_history::{CallId, Event, History};
 use std::fmt;
 
 /// What the checker says of a history.
-#[derive(Clone, Copy, Debug, PartialEq, Eq)]
+#[derive(Clone, Copy, PartialEq, Eq)]
 pub enum Verdict {
     /// Each event may follow the events before it.
     Legal,

@@ -3,15 +3,15 @@
 
 mod cause;
 mod checking;
+mod merging;
 mod reading;
 mod record;
-#[cfg(test)]
-mod tests;
 mod walk;
 mod writing;
 
 pub use cause::Cause;
 pub use checking::{Verdict, check, no_cause_may_follow};
+pub use merging::merge;
 pub use reading::{RecordRefusal, failure_is_least_bad, history_is_records, read};
 pub use record::TextEvent;
 pub use writing::write;

@@ -8,12 +8,13 @@ ghost use Rattle.sf_replay.specs.RecordText.{IsRecordRefusal, HistoryIsRecords, 
 
 use crate::record::{TextEvent, event, format};
 use serde_json::Value;
-use sf_model::{History, Memory, Text};
+use sf_history::{History, Memory};
+use sf_text::Text;
 use std::alloc::{AllocFailed, Global};
 use thiserror::Error;
 
 /// Why records are not read.
-#[derive(Clone, Copy, Debug, PartialEq, Eq, Error)]
+#[derive(Clone, Copy, Debug, Error)]
 pub enum RecordRefusal {
     /// The line, counted from 1, is the first that is not what stands there: the format in line 1, and a record in each
     /// further line.

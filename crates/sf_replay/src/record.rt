@@ -7,20 +7,16 @@ ghost use Rattle.sf_replay.specs.Record.{number_in, caller_in, call_in, option_i
 ghost use Rattle.sf_replay.specs.Record.{lead_in, enter_in, forget_in, result_in, settle_in, handed_in, event_of_kind, event_in, format_in};
 
 use serde_json::Value;
-use sf_model::{CallId, Event, Memory, Text};
+use sf_history::{CallId, Event, Memory};
+use sf_text::{Outcome, Text};
+use sf_words::{LARGEST_CALLER, LARGEST_GENERATION, LONGEST_KEY};
 use std::alloc::Global;
 
 /// An event whose key is a text, settled with a text or with an error's.
-pub type TextEvent = Event<Text, Result<Text, Text>>;
-
-/// The longest key of a record, in bytes.
-const KEY_BYTES: usize = 250;
+pub type TextEvent = Event<Text, Outcome>;
 
 /// The newest format of records.
 const NEWEST_FORMAT: u32 = 1;
-
-/// The highest number of a caller.
-const CALLERS: u32 = 65_535;
 
 fn number(value: &Value, max: u32) -> Option<u32>
     ensures { result ≡ number_in max (view value.now) }
@@ -37,8 +33,8 @@ fn call(value: &Value) -> Option<CallId>
     match value.as_array()?.as_slice() {
         [caller, generation] => {
             Some(CallId {
-                caller: number(caller, CALLERS)?,
-                generation: number(generation, u32::MAX)?,
+                caller: number(caller, LARGEST_CALLER)?,
+                generation: number(generation, LARGEST_GENERATION)?,
             })
         }
         _ => None,
@@ -57,7 +53,7 @@ fn has_names(value: &Value, n: usize) -> bool
 fn caller_at(value: &Value, name: &str) -> Option<u32>
     ensures { result ≡ field name.now caller_in (view value.now) }
 {
-    number(value.get(name)?, CALLERS)
+    number(value.get(name)?, LARGEST_CALLER)
 }
 
 fn call_at(value: &Value, name: &str) -> Option<CallId>
@@ -82,7 +78,7 @@ fn key_at<'a>(value: &'a Value, name: &str) -> Option<&'a str>
     ensures { option_map (λ key. key.now) result ≡ field name.now key_in (view value.now) }
 {
     let key = value.get(name)?.as_str()?;
-    if key.len() <= KEY_BYTES {
+    if key.len() <= LONGEST_KEY as usize {
         Some(key)
     } else {
         None

@@ -1,12 +1,12 @@
-//! What the checker asks of a history beside what `sf_model::walk` finds.
+//! What the checker asks of a history beside what `sf_history::walk` finds.
 
 ghost use Rattle.std.specs.Prelude.{◌≡◌};
-ghost use Rattle.sf_model.specs.Calls.{same_call};
-ghost use Rattle.sf_model.specs.History.{holds_call, names, leads, was_led, settles, is_settled};
+ghost use Rattle.sf_history.specs.Calls.{same_call};
+ghost use Rattle.sf_history.specs.History.{holds_call, names, leads, was_led, settles, is_settled};
 ghost use Rattle.sf_replay.specs.Checker.{is_named, begins, has_begun};
 
-use sf_model::walk::is_call;
-use sf_model::{CallId, Event};
+use sf_history::walk::is_call;
+use sf_history::{CallId, Event};
 
 fn names_call<K, V>(event: &Event<K, V>, named: CallId) -> bool
     ensures { result ≡ names named event.now }

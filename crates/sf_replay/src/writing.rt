@@ -7,7 +7,8 @@ ghost use Rattle.sf_replay.specs.Written.{call_json, option_json, result_json, r
 
 use crate::record::TextEvent;
 use serde_json::Value;
-use sf_model::{CallId, Event, History, Memory, Text};
+use sf_history::{CallId, Event, History, Memory};
+use sf_text::Text;
 use std::alloc::Global;
 use std::fmt;
 

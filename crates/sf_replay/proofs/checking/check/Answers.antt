@@ -1,5 +1,5 @@
 use Rattle.std.proofs.Common.{◌+◌, subst}
-use Rattle.sf_model.proofs.LegalHistories.{legal_nil}
+use Rattle.sf_history.proofs.LegalHistories.{legal_nil}
 use Rattle.sf_replay.specs.Checker.{IsFirstFault}
 use Rattle.sf_replay.proofs.Verdicts.{legal_more, fault_here, legal_verdict}
 use Rattle.sf_replay.proofs.checking.check.Goals as goal

@@ -1,5 +1,5 @@
 use Rattle.std.proofs.Common.{take}
-use Rattle.sf_model.specs.Legal.{IsLegal}
+use Rattle.sf_history.specs.Legal.{IsLegal}
 use Rattle.sf_replay.proofs.checking.check.Given as goal
 
 -- the events so far are legal

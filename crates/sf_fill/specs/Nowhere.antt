@@ -1,0 +1,18 @@
+-- names that no directory and no group has: what a pick replaces
+use Rattle.std.specs.Prelude.{[]}
+use Rattle.atomic_table.specs.Seated.{TableId}
+use Rattle.sf_calls.specs.Tokens.{GroupValue}
+use Rattle.sf_dir.specs.Known.{DirectoryId}
+use Rattle.sf_fill.specs.Names.{LedgerNames}
+
+abbrev pub no_table : TableId
+no_table = record { words = 0; slots = 0; views_name = 0; atom = 0; block = 0; offset = 0; slot_names = [] }
+
+abbrev pub no_directory : DirectoryId
+no_directory = record { table = no_table; keys = 0; key_bytes = 0; desks = 0 }
+
+abbrev pub no_group : GroupValue
+no_group = record { table = no_table; sizes = record { places = 0; callers = 0; first = 0 } }
+
+abbrev pub no_ledgers : LedgerNames
+no_ledgers = record { gets = 0; cache_hits = 0; loads = 0; loads_deduped = 0; peer_loads = 0; peer_errors = 0; local_loads = 0; local_load_errors = 0 }

@@ -1,0 +1,117 @@
+//! Keys of all lengths, a full directory, and two desks on two threads.
+
+ghost use Rattle.std.specs.Prelude.{◌≡◌};
+
+use sf_dir::{Desk, Directory, Refusal};
+use std::alloc::Global;
+use std::process::Abort;
+use std::test::Fail;
+use std::thread::{Threads, join};
+
+fn assert_refused(rt: &impl Abort, directory: &Directory, desk: &mut Desk, key: &[u8], due: Refusal)
+    requires { desk.old.directory ≡ directory.now }
+    ensures { desk.new.directory ≡ directory.now }
+{
+    let refusal = directory.resolve(desk, key).err();
+    assert!(rt; refusal == Some(due), "a key of {} bytes", key.len());
+}
+
+// Of one place: a key gets it, another does not, one too long is refused as such, and the first key keeps it.
+fn fill_one_place(rt: &impl Abort, alloc: Global, key: &[u8], other: &[u8]) -> Result<(), Fail> {
+    let (directory, mut desks) = Directory::new(alloc, 1, 250, 1)?;
+    let mut desk = desks.pop().ok_or("no desk")?;
+    assert!(rt; directory.place_count() == 1 && desk.number() == 1 && desks.is_empty());
+    let mut place = directory.resolve(&mut desk, key).map_err(|_| "no place")?;
+    assert_refused(rt, &directory, &mut desk, other, Refusal::Full);
+    assert_refused(rt, &directory, &mut desk, &[7; 251], Refusal::KeyTooLong);
+    let mut same = directory.resolve(&mut desk, key).map_err(|_| "place lost")?;
+    assert!(rt; place.number().number() == 1 && same.number() == place.number());
+    same.agree(&mut place);
+    let again = place.again();
+    assert!(rt; again.number() == same.number());
+    Ok(())
+}
+
+#[test]
+fn key_lengths_and_a_full_directory(rt: HostRuntime) -> Result<(), Fail> {
+    let long = [7u8; 250];
+    fill_one_place(&rt, rt.alloc(), b"", &long)?;
+    fill_one_place(&rt, rt.alloc(), &long, b"")
+}
+
+const KEYS: usize = 100;
+
+// A desk after its round over the keys of 1 to 100 bytes, and the place of each; 0 for a refusal.
+struct Round {
+    desk: Desk,
+    numbers: [u32; KEYS],
+}
+
+fn resolve_all(directory: &Directory, mut desk: Desk, bytes: &[u8; KEYS], backwards: bool) -> Round
+    requires { desk.directory ≡ directory.now }
+    ensures { result.desk.directory ≡ directory.now }
+{
+    let mut numbers = [0; KEYS];
+    for step in 0..KEYS {
+        let index = if backwards { KEYS - 1 - step } else { step };
+        if let Ok(place) = directory.resolve(&mut desk, &bytes[..index + 1]) {
+            numbers[index] = place.number().number();
+        }
+    }
+    Round { desk, numbers }
+}
+
+// One desk goes forwards over the keys and the other backwards, each on a thread.
+fn resolve_on_two<R: Threads + Sync>(
+    rt: &R,
+    directory: &Directory,
+    one: Desk,
+    two: Desk,
+    bytes: &[u8; KEYS],
+) -> (Round, Round)
+    requires one { one.directory ≡ directory.now }
+    requires two { two.directory ≡ directory.now }
+    ensures one { result.0.desk.directory ≡ directory.now }
+    ensures two { result.1.desk.directory ≡ directory.now }
+{
+    join(
+        rt,
+        move || resolve_all(directory, one, bytes, false),
+        move || resolve_all(directory, two, bytes, true),
+    )
+}
+
+fn assert_agree(rt: &impl Abort, first: &[u32; KEYS], second: &[u32; KEYS]) {
+    let mut taken = [false; KEYS + 1];
+    for index in 0..KEYS {
+        let number = first[index] as usize;
+        assert!(rt;
+            1 <= number && number <= KEYS && !taken[number],
+            "key {index}"
+        );
+        taken[number] = true;
+        assert!(rt; first[index] == second[index], "key {index}");
+    }
+}
+
+#[test]
+fn desks_agree(rt: HostRuntime) -> Result<(), Fail> {
+    let bytes = [b'k'; KEYS];
+    let (directory, mut desks) = Directory::new(rt.alloc(), 100, 100, 2)?;
+    let two = desks.pop().ok_or("no second desk")?;
+    let one = desks.pop().ok_or("no first desk")?;
+    let (forwards, backwards) = resolve_on_two(&rt, &directory, one, two, &bytes);
+    let Round {
+        desk: mut one,
+        numbers: first,
+    } = forwards;
+    let Round {
+        desk: mut two,
+        numbers: second,
+    } = backwards;
+    directory.meet(&mut one, &mut two);
+    assert_agree(&rt, &first, &second);
+    assert_refused(&rt, &directory, &mut one, b"another", Refusal::Full);
+    assert_refused(&rt, &directory, &mut two, b"another", Refusal::Full);
+    Ok(())
+}

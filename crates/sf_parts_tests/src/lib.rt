@@ -1,0 +1,26 @@
+//! Tests of the parts: the sequential group and its state in rows, scripts, words, the machine of schedules, the directory,
+//! the caches, the loaders, and records.
+//!
+//! They stand apart from the crates that they test, since a crate with tests is proved twice.
+#![tactic(auto)]
+
+#[cfg(test)]
+mod caches;
+#[cfg(test)]
+mod directory;
+#[cfg(test)]
+mod fill;
+#[cfg(test)]
+mod history;
+#[cfg(test)]
+mod loaders;
+#[cfg(test)]
+mod replay;
+#[cfg(test)]
+mod scripts;
+#[cfg(test)]
+mod state;
+#[cfg(test)]
+mod steps;
+#[cfg(test)]
+mod words;

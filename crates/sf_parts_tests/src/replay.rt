@@ -1,0 +1,308 @@
+//! The rows of the records, and what is written for a history.
+
+use sf_history::{CallId, Event, History};
+use sf_replay::{RecordRefusal, Verdict, check, merge, read, write};
+use std::alloc::{AllocError, Global};
+use std::process::Abort;
+use std::test::Fail;
+
+const LEAD: &str = "{\"e\":\"lead\",\"by\":1,\"k\":\"k\",\"c\":[1,1],\"own\":null}\n";
+
+const ENTER: &str = "{\"e\":\"enter\",\"by\":2,\"k\":\"k\",\"c\":[1,1],\"m\":[2,1]}\n";
+
+const SETTLE_ERROR: &str =
+    "{\"e\":\"settle\",\"by\":1,\"c\":[1,1],\"err\":\"down\",\"shared\":true}\n";
+
+const HANDED: &str = "{\"e\":\"handed\",\"by\":1,\"c\":[1,1]}\n";
+
+/// What is said of these records after the format.
+fn answer(alloc: Global, text: &str) -> Result<String, AllocError> {
+    match read(alloc, text.as_bytes()) {
+        Ok(history) => match check(&history) {
+            Verdict::Legal => {
+                let events = history.len();
+                format!(in alloc; "legal: {events} events")
+            }
+            illegal => format!(in alloc; "{illegal}"),
+        },
+        Err(refusal) => format!(in alloc; "{refusal}"),
+    }
+}
+
+fn after_format(alloc: Global, records: &[&str]) -> Result<String, AllocError> {
+    let mut text = String::from_str(alloc, "{\"format\":1}\n")?;
+    for record in records {
+        text.push_str(record)?;
+    }
+    Ok(text)
+}
+
+// These records, after the format, are answered so.
+fn assert_answer(
+    rt: &impl Abort,
+    alloc: Global,
+    records: &[&str],
+    due: &str,
+) -> Result<(), AllocError> {
+    let said = answer(alloc, after_format(alloc, records)?.as_str())?;
+    assert!(rt; said.as_str() == due, "{said}");
+    Ok(())
+}
+
+#[test]
+fn check_names_the_foreign_settle(rt: HostRuntime) -> Result<(), Fail> {
+    let foreign = "{\"e\":\"settle\",\"by\":2,\"c\":[1,1],\"ok\":\"v\",\"shared\":false}\n";
+    assert_answer(
+        &rt,
+        rt.alloc(),
+        &[LEAD, foreign],
+        "event 2: settled by a caller that did not lead",
+    )?;
+    assert_answer(
+        &rt,
+        rt.alloc(),
+        &[LEAD, "{\"e\":\"settle\",\"by\":2"],
+        "line 3: not a record",
+    )?;
+    assert_answer(&rt, rt.alloc(), &[], "legal: 0 events")?;
+    let said = answer(rt.alloc(), "")?;
+    assert!(rt; said.as_str() == "line 1: not a record");
+    Ok(())
+}
+
+#[test]
+fn wrong_shared_mark(rt: HostRuntime) -> Result<(), Fail> {
+    let shared = "{\"e\":\"settle\",\"by\":1,\"c\":[1,1],\"ok\":\"v\",\"shared\":true}\n";
+    assert_answer(
+        &rt,
+        rt.alloc(),
+        &[LEAD, shared],
+        "event 2: shared mark is wrong",
+    )?;
+    Ok(())
+}
+
+#[test]
+fn idle_forget_beside_an_open_call(rt: HostRuntime) -> Result<(), Fail> {
+    let idle = "{\"e\":\"forget\",\"by\":3,\"k\":\"k\",\"closed\":null}\n";
+    assert_answer(
+        &rt,
+        rt.alloc(),
+        &[LEAD, ENTER, idle],
+        "event 3: forget names another call",
+    )?;
+    Ok(())
+}
+
+#[test]
+fn shared_error_history_is_legal(rt: HostRuntime) -> Result<(), Fail> {
+    assert_answer(
+        &rt,
+        rt.alloc(),
+        &[LEAD, ENTER, SETTLE_ERROR, HANDED],
+        "legal: 4 events",
+    )?;
+    Ok(())
+}
+
+#[test]
+fn written_records_read_back(rt: HostRuntime) -> Result<(), Fail> {
+    let alloc = rt.alloc();
+    let text = after_format(alloc, &[LEAD, ENTER, SETTLE_ERROR, HANDED])?;
+    let history = read(alloc, text.as_bytes())?;
+    let written = write(alloc, &history)?;
+    assert!(rt; written.as_str() == text.as_str());
+    let again = read(alloc, written.as_bytes())?;
+    assert!(rt; again.len() == 4);
+    assert!(rt; write(alloc, &again)?.as_str() == text.as_str());
+    Ok(())
+}
+
+/// Names in any order, white space, escapes, a name written twice, and the greatest numbers.
+#[test]
+fn other_spellings_of_records(rt: HostRuntime) -> Result<(), Fail> {
+    let alloc = rt.alloc();
+    let text =
+        " {\t\"format\" : 1 } \r\n{\"own\":[65535,4294967295],\"k\":\"\\u00e9\\n\",\"by\":9,\"c\":[1,1],\"by\":1,\"e\":\"lead\"}";
+    let history = read(alloc, text.as_bytes())?;
+    let line =
+        "{\"format\":1}\n{\"e\":\"lead\",\"by\":1,\"k\":\"é\\n\",\"c\":[1,1],\"own\":[65535,4294967295]}\n";
+    assert!(rt; write(alloc, &history)?.as_str() == line);
+    Ok(())
+}
+
+/// What is no record, and what is no format.
+#[test]
+fn bad_records(rt: HostRuntime) -> Result<(), Fail> {
+    let alloc = rt.alloc();
+    for record in [
+        "",
+        " ",
+        "[]",
+        "{\"e\":\"handed\",\"by\":0,\"c\":[1,1]}",
+        "{\"e\":\"handed\",\"by\":65536,\"c\":[1,1]}",
+        "{\"e\":\"handed\",\"by\":1.0,\"c\":[1,1]}",
+        "{\"e\":\"handed\",\"by\":1,\"c\":[1,4294967296]}",
+        "{\"e\":\"handed\",\"by\":1,\"c\":[1,1,1]}",
+        "{\"e\":\"handed\",\"by\":1,\"c\":[1,1],\"k\":null}",
+        "{\"e\":\"handed\",\"by\":1}",
+        "{\"e\":\"handled\",\"by\":1,\"c\":[1,1]}",
+        "{\"e\":\"settle\",\"by\":1,\"c\":[1,1],\"ok\":\"v\",\"err\":\"v\",\"shared\":true}",
+        "{\"e\":\"settle\",\"by\":1,\"c\":[1,1],\"shared\":true}",
+        "{\"e\":\"forget\",\"by\":1,\"k\":\"k\"}",
+    ] {
+        assert_answer(&rt, alloc, &[record, "\n", HANDED], "line 2: not a record")?;
+    }
+    for first in [
+        "\n",
+        "{\"format\":2}",
+        "{\"format\":\"1\"}",
+        "{\"format\":1,\"more\":null}",
+        "{}",
+    ] {
+        let said = answer(alloc, first)?;
+        assert!(rt; said.as_str() == "line 1: not a record", "{first}");
+    }
+    assert!(rt;
+        matches!(
+            read(alloc, b"{\"format\":1}\n\xff"),
+            Err(RecordRefusal::BadRecord(2))
+        )
+    );
+    Ok(())
+}
+
+/// The checker at keys and values of other types.
+#[test]
+fn numbers_as_keys(rt: HostRuntime) -> Result<(), Fail> {
+    let call = CallId {
+        caller: 1,
+        generation: 7,
+    };
+    let mut history: History<u32, ()> = History::new(rt.alloc());
+    assert!(rt; check(&history) == Verdict::Legal);
+    history.push(Event::Lead {
+        by: 1,
+        key: 5,
+        call,
+        own: None,
+    })?;
+    history.push(Event::Settle {
+        by: 1,
+        call,
+        result: (),
+        shared: false,
+    })?;
+    assert!(rt; check(&history) == Verdict::Legal);
+    history.push(Event::Forget {
+        by: 2,
+        key: 5,
+        closed: Some(call),
+    })?;
+    let Verdict::Illegal { index, .. } = check(&history) else {
+        return Err(Fail::new("legal"));
+    };
+    assert!(rt; index == 3, "event {index}");
+    Ok(())
+}
+
+// What is compared of an event: its kind, who made it, and its call; no call for a forget that closed nothing.
+fn code_of(event: &Event<u32, ()>) -> [u32; 4] {
+    match event {
+        Event::Lead { by, call, .. } => [1, *by, call.caller, call.generation],
+        Event::Enter { by, call, .. } => [2, *by, call.caller, call.generation],
+        Event::Forget { by, closed, .. } => match closed {
+            Some(call) => [3, *by, call.caller, call.generation],
+            None => [3, *by, 0, 0],
+        },
+        Event::Settle { by, call, .. } => [4, *by, call.caller, call.generation],
+        Event::Handed { by, call } => [5, *by, call.caller, call.generation],
+    }
+}
+
+fn call(caller: u32, generation: u32) -> CallId {
+    CallId { caller, generation }
+}
+
+fn lead(key: u32, call: CallId) -> Event<u32, ()> {
+    let (by, own) = (call.caller, None);
+    Event::Lead { by, key, call, own }
+}
+
+fn enter(key: u32, call: CallId, member: CallId) -> Event<u32, ()> {
+    let by = member.caller;
+    Event::Enter {
+        by,
+        key,
+        call,
+        member,
+    }
+}
+
+fn settle(call: CallId, shared: bool) -> Event<u32, ()> {
+    let (by, result) = (call.caller, ());
+    Event::Settle {
+        by,
+        call,
+        result,
+        shared,
+    }
+}
+
+fn handed(by: u32, call: CallId) -> Event<u32, ()> {
+    Event::Handed { by, call }
+}
+
+/// By keys: forgets that closed nothing, then each call with its parts in order; what nobody led comes last.
+#[test]
+fn logs_merge_by_keys_and_calls(rt: HostRuntime) -> Result<(), Fail> {
+    let alloc = rt.alloc();
+    let (one, two) = (call(1, 1), call(2, 2));
+    let idle = Event::Forget {
+        by: 1,
+        key: 5,
+        closed: None,
+    };
+    let closed = Event::Forget {
+        by: 3,
+        key: 7,
+        closed: Some(one),
+    };
+    let first = vec![in alloc; handed(1, one), settle(one, true), lead(7, one), idle]?;
+    let second = vec![in alloc; lead(5, two), enter(7, one, call(2, 1)), handed(2, two)]?;
+    let third = vec![in alloc; handed(3, call(9, 9)), closed]?;
+    let merged = merge(alloc, vec![in alloc; first, second, third]?)?;
+    let due = [
+        [3, 1, 0, 0],
+        [1, 2, 2, 2],
+        [5, 2, 2, 2],
+        [1, 1, 1, 1],
+        [2, 2, 1, 1],
+        [3, 3, 1, 1],
+        [4, 1, 1, 1],
+        [5, 1, 1, 1],
+        [5, 3, 9, 9],
+    ];
+    assert!(rt; merged.len() == due.len());
+    for (index, event) in merged.events().iter().enumerate() {
+        assert!(rt;
+            due.get(index).copied() == Some(code_of(event)),
+            "event {index}"
+        );
+    }
+    Ok(())
+}
+
+/// What a group did is legal once its logs are merged.
+#[test]
+fn merged_logs_of_a_group_are_legal(rt: HostRuntime) -> Result<(), Fail> {
+    let alloc = rt.alloc();
+    let one = call(1, 1);
+    let first = vec![in alloc; lead(7, one), settle(one, true), handed(1, one)]?;
+    let second = vec![in alloc; enter(7, one, call(2, 1))]?;
+    let merged = merge(alloc, vec![in alloc; second, first]?)?;
+    assert!(rt; merged.len() == 4 && check(&merged) == Verdict::Legal);
+    let no_logs: Vec<Vec<Event<u32, ()>>> = Vec::new(alloc);
+    assert!(rt; merge(alloc, no_logs)?.is_empty());
+    Ok(())
+}

@@ -1,0 +1,159 @@
+//! Rows of the layout both ways, and the numbers of places.
+
+use sf_words::{
+    CallState, CallWord, KeyState, KeyWord, LARGEST_CALLER, LARGEST_PLACE, LeaderState, NextWord,
+    PlaceNo, pack_call, pack_key, pack_next, unpack_call, unpack_key, unpack_next,
+};
+use std::alloc::AllocError;
+use std::process::Abort;
+
+// The number is that of the word that says this.
+fn assert_call(rt: &impl Abort, number: u64, says: CallState) {
+    let read = unpack_call(number).map(CallWord::state);
+    assert!(rt; read == Some(says), "another word is read from {number}");
+    let written = match CallWord::new(says) {
+        Some(word) => pack_call(word),
+        None => u64::MAX,
+    };
+    assert!(rt; written == number, "{written} is written for {number}");
+}
+
+#[test]
+fn words_of_the_layout(rt: HostRuntime) {
+    let leader = LeaderState {
+        generation: 1,
+        own: false,
+        top: Some(2),
+    };
+    let with_own = LeaderState {
+        own: true,
+        ..leader
+    };
+    assert_call(&rt, 0x0000_0001_1000_0002, CallState::Open(leader));
+    assert_call(&rt, 0x0000_0001_1800_0002, CallState::Open(with_own));
+    assert_call(&rt, 0x0000_0001_2000_0002, CallState::Forgot(leader));
+    assert_call(&rt, 0x0000_0001_3000_0002, CallState::Done(leader));
+    assert_call(
+        &rt,
+        0x0000_0001_4000_0000,
+        CallState::Listed { generation: 1 },
+    );
+    assert_call(
+        &rt,
+        0x0000_0001_5000_0000,
+        CallState::Full { generation: 1 },
+    );
+    assert_call(&rt, 0, CallState::Free);
+}
+
+/// Tags 6 and 0, generation 0, bit 20, caller 65,536; tags 4 and 5 with an own channel or a top.
+#[test]
+fn numbers_of_no_call_word(rt: HostRuntime) {
+    for number in [
+        0x0000_0001_6000_0000,
+        0x0000_0001_0000_0000,
+        0x0000_0000_1000_0000,
+        0x0000_0001_1010_0000,
+        0x0000_0001_1001_0000,
+        0x0000_0001_4800_0000,
+        0x0000_0001_5000_0002,
+    ] {
+        assert!(rt; unpack_call(number).is_none(), "{number} is read");
+    }
+}
+
+// The number is that of the word that says this.
+fn assert_key(rt: &impl Abort, number: u64, says: KeyState) {
+    let read = unpack_key(number).map(KeyWord::state);
+    assert!(rt; read == Some(says), "another word is read from {number}");
+    let written = match KeyWord::new(says) {
+        Some(word) => pack_key(word),
+        None => u64::MAX,
+    };
+    assert!(rt; written == number, "{written} is written for {number}");
+}
+
+#[test]
+fn key_words_of_the_layout(rt: HostRuntime) {
+    let called = KeyState::Names {
+        caller: 1,
+        generation: 1,
+        cleared: false,
+    };
+    let cleared = KeyState::Names {
+        caller: 1,
+        generation: 1,
+        cleared: true,
+    };
+    assert_key(&rt, 0x0000_0001_0000_0001, called);
+    assert_key(&rt, 0x0000_0001_8000_0001, cleared);
+    assert_key(&rt, 0, KeyState::Never);
+}
+
+/// Caller 0, generation 0, bit 20, caller 65,536.
+#[test]
+fn numbers_of_no_key_word(rt: HostRuntime) {
+    for number in [
+        0x0000_0001_0000_0000,
+        0x0000_0000_0000_0001,
+        0x0000_0001_0010_0001,
+        0x0000_0001_0001_0000,
+    ] {
+        assert!(rt; unpack_key(number).is_none(), "{number} is read");
+    }
+}
+
+// The number is that of the word that says this.
+fn assert_next(rt: &impl Abort, number: u64, says: Option<u32>) {
+    let read = unpack_next(number).map(NextWord::next);
+    assert!(rt; read == Some(says), "another word is read from {number}");
+    let written = match NextWord::new(says) {
+        Some(word) => pack_next(word),
+        None => u64::MAX,
+    };
+    assert!(rt; written == number, "{written} is written for {number}");
+}
+
+/// Beside them, as no next words: caller 65,536, bit 20, bit 32.
+#[test]
+fn next_words_of_the_layout(rt: HostRuntime) {
+    assert_next(&rt, 0, None);
+    assert_next(&rt, 2, Some(2));
+    assert_next(&rt, 0xffff, Some(LARGEST_CALLER));
+    for number in [0x1_0000, 0x10_0000, 0x1_0000_0000] {
+        assert!(rt; unpack_next(number).is_none(), "{number} is read");
+    }
+}
+
+#[test]
+fn no_word_says_what_is_out_of_range(rt: HostRuntime) {
+    let zero_top = LeaderState {
+        generation: 1,
+        own: false,
+        top: Some(0),
+    };
+    let nobody = KeyState::Names {
+        caller: 0,
+        generation: 1,
+        cleared: false,
+    };
+    assert!(rt; CallWord::new(CallState::Forgot(zero_top)).is_none());
+    assert!(rt; CallWord::new(CallState::Listed { generation: 0 }).is_none());
+    assert!(rt; KeyWord::new(nobody).is_none());
+    assert!(rt; NextWord::new(Some(LARGEST_CALLER + 1)).is_none());
+}
+
+#[test]
+fn places_are_numbered_from_one(rt: HostRuntime) -> Result<(), AllocError> {
+    assert!(rt; LARGEST_PLACE == 1_048_576);
+    assert!(rt; PlaceNo::new(0).is_none());
+    assert!(rt; PlaceNo::new(LARGEST_PLACE + 1).is_none());
+    let largest = PlaceNo::new(LARGEST_PLACE).map(PlaceNo::index);
+    assert!(rt; largest == Some(1_048_575));
+
+    let first = PlaceNo::from_index(0);
+    assert!(rt; PlaceNo::new(1) == Some(first) && first.number() == 1);
+    let last = PlaceNo::from_index(1_048_575);
+    assert!(rt; format!(in rt.alloc(); "{last}")?.as_str() == "1048576");
+    Ok(())
+}

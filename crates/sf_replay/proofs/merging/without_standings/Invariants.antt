@@ -1,0 +1,9 @@
+use Rattle.std.proofs.Common.{◌≡◌, ◌++◌, map, length}
+use Rattle.std.specs.Vec.Iter.{into_iter_items, into_iter_len}
+use Rattle.sf_replay.specs.Merged.{events_of_logs}
+use Rattle.sf_replay.proofs.merging.without_standings.Given as goal
+
+abbrev pub invariant-loop-event : goal.invariant-loop-event
+invariant-loop-event g l = (l.yielded ++ into_iter_items l.event-iterator ≡ l.fn.placed.items)
+    × (l.events.items ≡ map (λ p. p.event) l.yielded)
+    × (into_iter_len l.event-iterator ≡ length (into_iter_items l.event-iterator))
