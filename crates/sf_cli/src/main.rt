@@ -2,17 +2,10 @@
 //! plays a schedule of the step core, and `sfctl check` judges a recorded history.
 #![tactic(auto)]
 
-mod checking;
-mod engines;
-mod outcome;
-mod playing;
-#[cfg(test)]
-mod tests;
 mod usage;
 
-use crate::engines::{check, run, steps};
-use crate::outcome::{Outcome, status};
 use crate::usage::Subcommand;
+use sf_engines::{Ending, check, run, status, steps};
 use std::process::ExitCode;
 use std::rt::Env;
 use std::{env, io};
@@ -33,30 +26,30 @@ fn serve<R: Env + AllocGlobal + Input + Print + Eprint>(rt: &R) -> io::Result<u8
         Ok(words) => words,
         Err(_) => {
             eprintln!(rt; "error: the arguments are no text")?;
-            return Ok(status(Outcome::Refused));
+            return Ok(status(Ending::Refused));
         }
     };
     let asked = match usage::parse(rt.alloc(), words.as_slice()) {
         Ok(asked) => asked,
         Err(usage) => {
             eprint!(rt; "{usage}")?;
-            return Ok(status(Outcome::Refused));
+            return Ok(status(Ending::Refused));
         }
     };
-    let outcome = match asked {
+    let ended = match asked {
         Subcommand::Run => run(rt.alloc(), &mut rt.reader(), &mut io::writer(rt)),
         Subcommand::Steps => steps(rt.alloc(), &mut rt.reader(), &mut io::writer(rt)),
         Subcommand::Check => check(rt.alloc(), &mut rt.reader(), &mut io::writer(rt)),
     };
-    match outcome {
-        Ok(outcome) => Ok(status(outcome)),
+    match ended {
+        Ok(ending) => Ok(status(ending)),
         Err(fault) => {
             eprintln!(rt; "{fault}")?;
-            Ok(status(Outcome::Refused))
+            Ok(status(Ending::Refused))
         }
     }
 }
 
 fn main(rt: HostRuntime) -> ExitCode {
-    ExitCode::from(serve(&rt).unwrap_or(status(Outcome::Refused)))
+    ExitCode::from(serve(&rt).unwrap_or(status(Ending::Refused)))
 }

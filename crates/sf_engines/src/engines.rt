@@ -4,20 +4,21 @@ ghost use Rattle.std.specs.Prelude.{◌≡◌, ◌≢◌, ◌++◌, List, ℕ, I
 ghost use Rattle.std.specs.Io.KnownBytes.{Appends};
 ghost use Rattle.std.specs.Str.Lines.{lines};
 ghost use Rattle.sf_model.specs.declared.refusal.ScriptRefusal.{ScriptRefusal};
-ghost use Rattle.sf_cli.specs.declared.checking.Checked.{Checked};
-ghost use Rattle.sf_cli.specs.Checking.{IsCheckOf, outcome_of, checked_text};
-ghost use Rattle.sf_cli.specs.Playing.{IsTraceText};
+ghost use Rattle.sf_engines.specs.declared.checking.Checked.{Checked};
+ghost use Rattle.sf_engines.specs.Checking.{IsCheckOf, ending_of, checked_text};
+ghost use Rattle.sf_engines.specs.Playing.{IsTraceText};
 ghost use Rattle.sf_model.specs.RefusalText.{refusal_text};
 ghost use Rattle.sf_model.specs.ScriptText.{IsReplyText, IsDue};
-ghost use Rattle.sf_steps.specs.declared.refusal.ScheduleRefusal.{ScheduleRefusal};
+ghost use Rattle.sf_steps.specs.declared.texts.refusal.ScheduleRefusal.{ScheduleRefusal};
 ghost use Rattle.sf_steps.specs.Played.{IsRefusalOf};
 ghost use Rattle.sf_steps.specs.TraceText as trace_texts;
 
-use crate::checking::{Checked, judge, outcome};
-use crate::outcome::Outcome;
+use crate::checking::{Checked, ending, judge};
+use crate::ending::Ending;
 use crate::playing::traced;
-use sf_model::{ReadFault, StreamFault, read_all, run_script, write_all, write_line};
+use sf_model::run_script;
 use sf_steps::ScheduleRefusal;
+use sf_text::{ReadFault, StreamFault, read_all, write_all, write_line};
 use std::alloc::Global;
 use std::io::{Read, Write};
 
@@ -26,17 +27,17 @@ pub fn run<R: Read, W: Write>(
     alloc: Global,
     reader: &mut R,
     writer: &mut W,
-) -> Result<Outcome, StreamFault>
-    ensures answered { IfOk result (λ outcome. outcome ≡ Outcome.Answered → IfSome (R.remaining reader.old) (λ input.
+) -> Result<Ending, StreamFault>
+    ensures answered { IfOk result (λ ending. ending ≡ Ending.Answered → IfSome (R.remaining reader.old) (λ input.
         (text : List ℕ) × IsReplyText input text × Appends (W.contents writer.old) (W.contents writer.new) text)) }
-    ensures refused { IfOk result (λ outcome. outcome ≡ Outcome.Refused → IfSome (R.remaining reader.old) (λ input.
+    ensures refused { IfOk result (λ ending. ending ≡ Ending.Refused → IfSome (R.remaining reader.old) (λ input.
         (refusal : ScriptRefusal) × IsDue input refusal × Appends (W.contents writer.old) (W.contents writer.new) (refusal_text refusal ++ codes "\n"))) }
-    ensures legal { IfOk result (λ outcome. outcome ≢ Outcome.Illegal) }
+    ensures legal { IfOk result (λ ending. ending ≢ Ending.Illegal) }
     ensures unread { IfErr result (λ fault. fault ≡ StreamFault.CannotRead → W.contents writer.new ≡ W.contents writer.old) }
 {
     match run_script(alloc, reader, writer)? {
-        Ok(()) => Ok(Outcome::Answered),
-        Err(_) => Ok(Outcome::Refused),
+        Ok(()) => Ok(Ending::Answered),
+        Err(_) => Ok(Ending::Refused),
     }
 }
 
@@ -45,12 +46,12 @@ pub fn steps<R: Read, W: Write>(
     alloc: Global,
     reader: &mut R,
     writer: &mut W,
-) -> Result<Outcome, StreamFault>
-    ensures answered { IfOk result (λ outcome. outcome ≡ Outcome.Answered → IfSome (R.remaining reader.old) (λ input.
+) -> Result<Ending, StreamFault>
+    ensures answered { IfOk result (λ ending. ending ≡ Ending.Answered → IfSome (R.remaining reader.old) (λ input.
         (text : List ℕ) × IsTraceText input text × Appends (W.contents writer.old) (W.contents writer.new) text)) }
-    ensures refused { IfOk result (λ outcome. outcome ≡ Outcome.Refused → IfSome (R.remaining reader.old) (λ input.
+    ensures refused { IfOk result (λ ending. ending ≡ Ending.Refused → IfSome (R.remaining reader.old) (λ input.
         (refusal : ScheduleRefusal) × IsRefusalOf (lines input) refusal × Appends (W.contents writer.old) (W.contents writer.new) (trace_texts.refusal_text refusal ++ codes "\n"))) }
-    ensures legal { IfOk result (λ outcome. outcome ≢ Outcome.Illegal) }
+    ensures legal { IfOk result (λ ending. ending ≢ Ending.Illegal) }
     ensures unread { IfErr result (λ fault. fault ≡ StreamFault.CannotRead → W.contents writer.new ≡ W.contents writer.old) }
 {
     let played = match read_all(alloc, reader) {
@@ -61,11 +62,11 @@ pub fn steps<R: Read, W: Write>(
     match played {
         Ok(text) => {
             write_all(writer, text.as_str())?;
-            Ok(Outcome::Answered)
+            Ok(Ending::Answered)
         }
         Err(refusal) => {
             write_line(writer, refusal)?;
-            Ok(Outcome::Refused)
+            Ok(Ending::Refused)
         }
     }
 }
@@ -75,9 +76,9 @@ pub fn check<R: Read, W: Write>(
     alloc: Global,
     reader: &mut R,
     writer: &mut W,
-) -> Result<Outcome, StreamFault>
-    ensures checked { IfOk result (λ outcome. IfSome (R.remaining reader.old) (λ input.
-        (checked : Checked) × IsCheckOf input checked × (outcome ≡ outcome_of checked) × Appends (W.contents writer.old) (W.contents writer.new) (checked_text checked ++ codes "\n"))) }
+) -> Result<Ending, StreamFault>
+    ensures checked { IfOk result (λ ending. IfSome (R.remaining reader.old) (λ input.
+        (checked : Checked) × IsCheckOf input checked × (ending ≡ ending_of checked) × Appends (W.contents writer.old) (W.contents writer.new) (checked_text checked ++ codes "\n"))) }
     ensures unread { IfErr result (λ fault. fault ≡ StreamFault.CannotRead → W.contents writer.new ≡ W.contents writer.old) }
 {
     let answer = match read_all(alloc, reader) {
@@ -86,5 +87,5 @@ pub fn check<R: Read, W: Write>(
         Err(ReadFault::CannotRead) => return Err(StreamFault::CannotRead),
     };
     write_line(writer, answer)?;
-    Ok(outcome(answer))
+    Ok(ending(answer))
 }

@@ -1,15 +1,15 @@
 //! What `sfctl check` says of a history that is written as records.
 
 ghost use Rattle.std.specs.Prelude.{◌≡◌};
-ghost use Rattle.sf_cli.specs.Checking.{IsCheckOf, outcome_of};
+ghost use Rattle.sf_engines.specs.Checking.{IsCheckOf, ending_of};
 
-use crate::outcome::Outcome;
+use crate::ending::Ending;
 use sf_replay::{Cause, RecordRefusal, Verdict, check, read};
 use std::alloc::Global;
 use std::fmt;
 
 /// What is said of an input.
-#[derive(Clone, Copy, Debug, PartialEq, Eq)]
+#[derive(Clone, Copy, PartialEq, Eq)]
 pub enum Checked {
     /// Its history is legal and has this many events.
     Legal(u64),
@@ -23,7 +23,7 @@ pub enum Checked {
 
 impl fmt::Display for Checked {
     ghost use Rattle.std.specs.Prelude.{Some};
-    ghost use Rattle.sf_cli.specs.Checking.{checked_text};
+    ghost use Rattle.sf_engines.specs.Checking.{checked_text};
 
     ghost output = { λ checked. Some (checked_text checked) };
 
@@ -53,12 +53,12 @@ pub(crate) fn judge(alloc: Global, input: &[u8]) -> Checked
 }
 
 /// How the program ends after saying it.
-pub(crate) fn outcome(checked: Checked) -> Outcome
-    ensures { result ≡ outcome_of checked }
+pub(crate) fn ending(checked: Checked) -> Ending
+    ensures { result ≡ ending_of checked }
 {
     match checked {
-        Checked::Legal(_) => Outcome::Answered,
-        Checked::Illegal(..) => Outcome::Illegal,
-        Checked::BadRecord(_) | Checked::OutOfMemory => Outcome::Refused,
+        Checked::Legal(_) => Ending::Answered,
+        Checked::Illegal(..) => Ending::Illegal,
+        Checked::BadRecord(_) | Checked::OutOfMemory => Ending::Refused,
     }
 }

@@ -1,7 +1,7 @@
 -- what `sfctl steps` answers
 use Rattle.std.specs.Prelude.{◌≡◌, ℕ, List}
 use Rattle.std.specs.Str.Lines.{lines}
-use Rattle.sf_steps.specs.declared.trace.Step.{Step}
+use Rattle.sf_steps.specs.declared.machine.trace.Step.{Step}
 use Rattle.sf_steps.specs.Played.{IsTraceOf}
 use Rattle.sf_steps.specs.TraceText.{Outcome, trace_text}
 

@@ -1,14 +1,14 @@
 -- what `sfctl check` answers
 use Rattle.std.specs.Prelude.{◌≡◌, ℕ, List, ◌++◌, length, Ok, Err, codes, decimal}
-use Rattle.sf_model.specs.Legal.{IsLegal}
-use Rattle.sf_model.specs.Texts.{same_text}
+use Rattle.sf_history.specs.Legal.{IsLegal}
+use Rattle.sf_text.specs.Texts.{same_text}
 use Rattle.sf_replay.specs.Checker.{IsFirstFault, cause_text}
 use Rattle.sf_replay.specs.Record.{TextEvent}
 use Rattle.sf_replay.specs.RecordText.{history_of}
-use Rattle.sf_cli.specs.declared.checking.Checked.{Checked}
-use Rattle.sf_cli.specs.declared.checking.Checked.TheVariants.{Legal, Illegal, BadRecord, OutOfMemory}
-use Rattle.sf_cli.specs.declared.outcome.Outcome.{Outcome}
-use Rattle.sf_cli.specs.declared.outcome.Outcome.TheVariants as outcome
+use Rattle.sf_engines.specs.declared.checking.Checked.{Checked}
+use Rattle.sf_engines.specs.declared.checking.Checked.TheVariants.{Legal, Illegal, BadRecord, OutOfMemory}
+use Rattle.sf_engines.specs.declared.ending.Ending.{Ending}
+use Rattle.sf_engines.specs.declared.ending.Ending.TheVariants as ending
 
 -- what it says of an input: a legal history and how many events it has, the first fault of an illegal one, or the least line that is no record; want
 -- of memory comes at any time
@@ -26,8 +26,8 @@ checked_text (BadRecord n) = codes "line " ++ (decimal n ++ codes ": not a recor
 checked_text OutOfMemory = codes "out of memory"
 
 -- how it ends
-abbrev pub outcome_of : Checked → Outcome
-outcome_of (Legal n) = outcome.Answered
-outcome_of (Illegal i c) = outcome.Illegal
-outcome_of (BadRecord n) = outcome.Refused
-outcome_of OutOfMemory = outcome.Refused
+abbrev pub ending_of : Checked → Ending
+ending_of (Legal n) = ending.Answered
+ending_of (Illegal i c) = ending.Illegal
+ending_of (BadRecord n) = ending.Refused
+ending_of OutOfMemory = ending.Refused

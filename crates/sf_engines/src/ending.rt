@@ -1,11 +1,11 @@
 //! How a run ends, and its exit status.
 
 ghost use Rattle.std.specs.Prelude.{◌≡◌};
-ghost use Rattle.sf_cli.specs.Outcome.{status_of};
+ghost use Rattle.sf_engines.specs.Ending.{status_of};
 
 /// How an engine ends that could read and write.
-#[derive(Clone, Copy, Debug, PartialEq, Eq)]
-pub enum Outcome {
+#[derive(Clone, Copy, PartialEq, Eq)]
+pub enum Ending {
     /// The input was answered.
     Answered,
     /// The history is illegal.
@@ -15,12 +15,12 @@ pub enum Outcome {
 }
 
 /// The exit status: 0 for an answer, 1 for an illegal history, 2 for input that is refused.
-pub fn status(outcome: Outcome) -> u8
-    ensures { result ≡ status_of outcome }
+pub fn status(ending: Ending) -> u8
+    ensures { result ≡ status_of ending }
 {
-    match outcome {
-        Outcome::Answered => 0,
-        Outcome::Illegal => 1,
-        Outcome::Refused => 2,
+    match ending {
+        Ending::Answered => 0,
+        Ending::Illegal => 1,
+        Ending::Refused => 2,
     }
 }

@@ -3,7 +3,7 @@
 ghost use Rattle.std.specs.Prelude.{IfOk, IfErr, string_bytes};
 ghost use Rattle.std.specs.Str.Lines.{lines};
 ghost use Rattle.sf_steps.specs.Played.{IsRefusalOf};
-ghost use Rattle.sf_cli.specs.Playing.{IsTraceText};
+ghost use Rattle.sf_engines.specs.Playing.{IsTraceText};
 
 use sf_steps::{ScheduleRefusal, play, trace_text};
 use std::alloc::Global;

@@ -1,3 +1,3 @@
-pub mod Outcome
+pub mod Ending
 pub mod Checking
 pub mod Playing

@@ -1,0 +1,11 @@
+//! The worked scripts, schedules and histories, what is refused, and streams that fail: tests of the engines of `sfctl`.
+#![tactic(auto)]
+
+#[cfg(test)]
+mod failing_streams;
+#[cfg(test)]
+mod histories;
+#[cfg(test)]
+mod schedules;
+#[cfg(test)]
+mod scripts;
