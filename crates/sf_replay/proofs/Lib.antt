@@ -1,5 +1,3 @@
-pub mod Causes
-pub mod Verdicts
 pub mod Records
 pub mod Lines
 pub mod RecordJson

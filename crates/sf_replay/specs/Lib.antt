@@ -1,4 +1,3 @@
-pub mod Checker
 pub mod Merged
 pub mod Record
 pub mod RecordText

@@ -1,5 +1,5 @@
 -- a text of records: the history that it holds, or the least line that is not what stands there
-use Rattle.std.specs.Prelude.{◌≡◌, ◌↔◌, ℕ, ◌+◌, ◌==◌, Bool, true, false, List, [], ◌∷◌, ◌++◌, length, map, if◌then◌else◌, Option, Some, None, is_some, option_and_then, Result, Ok, Err, replicate, ⊤}
+use Rattle.std.specs.Prelude.{◌≡◌, ◌↔◌, ℕ, ◌+◌, ◌==◌, Bool, true, false, List, [], ◌∷◌, ◌++◌, length, map, if◌then◌else◌, Option, Some, None, is_some, option_and_then, Result, Ok, Err, replicate, ⊤, codes, decimal}
 use Rattle.std.specs.List.{slice_split}
 use Rattle.std.specs.Str.{is_utf8}
 use Rattle.serde_json.specs.Data.{Data}
@@ -50,6 +50,11 @@ history_of text = history_of_lines (record_lines text)
 abbrev pub IsRecordRefusal : RecordRefusal → Result (List TextEvent) ℕ → Type 0
 IsRecordRefusal (BadRecord line) found = found ≡ Err line
 IsRecordRefusal Memory found = ⊤
+
+-- what is said of records that are not read
+abbrev pub refusal_text : RecordRefusal → List ℕ
+refusal_text (BadRecord line) = codes "line " ++ (decimal line ++ codes ": not a record")
+refusal_text Memory = codes "out of memory"
 
 -- ---- the same in other words
 

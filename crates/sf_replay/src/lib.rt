@@ -1,16 +1,11 @@
 //! Records of histories, and the checker that says whether a history is legal.
 #![tactic(auto)]
 
-mod cause;
-mod checking;
 mod merging;
 mod reading;
 mod record;
-mod walk;
 mod writing;
 
-pub use cause::Cause;
-pub use checking::{Verdict, check, no_cause_may_follow};
 pub use merging::merge;
 pub use reading::{RecordRefusal, failure_is_least_bad, history_is_records, read};
 pub use record::TextEvent;

@@ -11,19 +11,34 @@ use serde_json::Value;
 use sf_history::{History, Memory};
 use sf_text::Text;
 use std::alloc::{AllocFailed, Global};
-use thiserror::Error;
+use std::error::Error;
+use std::fmt;
 
 /// Why records are not read.
-#[derive(Clone, Copy, Debug, Error)]
+#[derive(Clone, Copy, Debug)]
 pub enum RecordRefusal {
     /// The line, counted from 1, is the first that is not what stands there: the format in line 1, and a record in each
     /// further line.
-    #[error("line {0}: not a record")]
     BadRecord(u64),
     /// Memory was refused.
-    #[error("out of memory")]
     Memory,
 }
+
+impl fmt::Display for RecordRefusal {
+    ghost use Rattle.std.specs.Prelude.{Some};
+    ghost use Rattle.sf_replay.specs.RecordText.{refusal_text};
+
+    ghost output = { λ refusal. Some (refusal_text refusal) };
+
+    fn fmt<W: fmt::Write>(&self, f: &mut fmt::Formatter<W>) -> fmt::Result {
+        match self {
+            RecordRefusal::BadRecord(line) => write!(f, "line {line}: not a record"),
+            RecordRefusal::Memory => f.write_str("out of memory"),
+        }
+    }
+}
+
+impl Error for RecordRefusal {}
 
 impl<T: Drop> From<AllocFailed<T>> for RecordRefusal {
     ghost use Rattle.std.specs.Prelude.{◌≡◌};

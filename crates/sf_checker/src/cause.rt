@@ -39,7 +39,7 @@ pub enum Cause {
 
 impl fmt::Display for Cause {
     ghost use Rattle.std.specs.Prelude.{Some};
-    ghost use Rattle.sf_replay.specs.Checker.{cause_text};
+    ghost use Rattle.sf_checker.specs.Checker.{cause_text};
 
     ghost output = { λ c. Some (cause_text c) };
 

@@ -7,12 +7,12 @@ use Rattle.sf_history.specs.declared.event.Event.TheVariants.{Lead, Enter, Forge
 use Rattle.sf_history.specs.Calls.{same_call}
 use Rattle.sf_history.specs.History.{holds_call, names, open_call, has_joined, was_led, is_settled, is_handed}
 use Rattle.sf_history.specs.Legal.{MayFollow, IsLegal}
-use Rattle.sf_replay.specs.declared.cause.Cause.{Cause}
-use Rattle.sf_replay.specs.declared.cause.Cause.TheVariants.{LedByAnotherCaller, CallIsNotNew, OwnChannelIsNotNew, KeyHasAnOpenCall, EnteredByAnotherCaller, MemberIsNotNew, CallIsNotTheOpenOne}
-use Rattle.sf_replay.specs.declared.cause.Cause.TheVariants.{ForgetNamesAnotherCall, CallWasNotLed, SettledByACallerThatDidNotLead, CallIsSettledAlready, SharedMarkIsWrong}
-use Rattle.sf_replay.specs.declared.cause.Cause.TheVariants.{HandedByACallerThatDidNotLead, CallIsNotSettled, CallIsHandedAlready}
-use Rattle.sf_replay.specs.declared.checking.Verdict.{Verdict}
-use Rattle.sf_replay.specs.declared.checking.Verdict.TheVariants.{Legal, Illegal}
+use Rattle.sf_checker.specs.declared.cause.Cause.{Cause}
+use Rattle.sf_checker.specs.declared.cause.Cause.TheVariants.{LedByAnotherCaller, CallIsNotNew, OwnChannelIsNotNew, KeyHasAnOpenCall, EnteredByAnotherCaller, MemberIsNotNew, CallIsNotTheOpenOne}
+use Rattle.sf_checker.specs.declared.cause.Cause.TheVariants.{ForgetNamesAnotherCall, CallWasNotLed, SettledByACallerThatDidNotLead, CallIsSettledAlready, SharedMarkIsWrong}
+use Rattle.sf_checker.specs.declared.cause.Cause.TheVariants.{HandedByACallerThatDidNotLead, CallIsNotSettled, CallIsHandedAlready}
+use Rattle.sf_checker.specs.declared.checking.Verdict.{Verdict}
+use Rattle.sf_checker.specs.declared.checking.Verdict.TheVariants.{Legal, Illegal}
 
 abbrev pub cause_text : Cause → List ℕ
 cause_text LedByAnotherCaller = codes "led by another caller"
@@ -53,6 +53,52 @@ abbrev pub same_mark : Bool → Bool → Bool
 same_mark true b = b
 same_mark false b = not b
 
+-- what a checker has to know of the events before one
+pub record Known (K : Type 0) : Type 0 where
+  -- some Lead or Enter names it
+  pub named : CallId → Bool
+  -- anyone led it
+  pub begun : CallId → Bool
+  -- the caller led it
+  pub led : ℕ → CallId → Bool
+  pub settled : CallId → Bool
+  pub joined : CallId → Bool
+  pub handed : CallId → Bool
+  -- the key's open call
+  pub unsettled : K → Option CallId
+
+module _ {K : Type 0} where
+  -- the causes of each kind of event, in the order in which they are looked at
+  abbrev pub lead_cause : Known K → ℕ → K → CallId → Option CallId → Option Cause
+  lead_cause p by key call own =
+      cause_if (not (by == call.caller)) LedByAnotherCaller
+      (cause_if (p.named call) CallIsNotNew
+      (cause_if (own_is p.named call own) OwnChannelIsNotNew
+      (cause_if (is_some (p.unsettled key)) KeyHasAnOpenCall None)))
+
+  abbrev pub enter_cause : Known K → ℕ → K → CallId → CallId → Option Cause
+  enter_cause p by key call member =
+      cause_if (not (by == member.caller)) EnteredByAnotherCaller
+      (cause_if (p.named member) MemberIsNotNew
+      (cause_if (not (holds_call (p.unsettled key) call)) CallIsNotTheOpenOne None))
+
+  abbrev pub forget_cause : Known K → K → Option CallId → Option Cause
+  forget_cause p key closed = cause_if (not (same_option closed (p.unsettled key))) ForgetNamesAnotherCall None
+
+  abbrev pub settle_cause : Known K → ℕ → CallId → Bool → Option Cause
+  settle_cause p by call shared =
+      cause_if (not (p.begun call)) CallWasNotLed
+      (cause_if (not (p.led by call)) SettledByACallerThatDidNotLead
+      (cause_if (p.settled call) CallIsSettledAlready
+      (cause_if (not (same_mark shared (p.joined call))) SharedMarkIsWrong None)))
+
+  abbrev pub handed_cause : Known K → ℕ → CallId → Option Cause
+  handed_cause p by call =
+      cause_if (not (p.begun call)) CallWasNotLed
+      (cause_if (not (p.led by call)) HandedByACallerThatDidNotLead
+      (cause_if (not (p.settled call)) CallIsNotSettled
+      (cause_if (p.handed call) CallIsHandedAlready None)))
+
 module _ {K V : Type 0} where
   -- some Lead or Enter names it
   abbrev pub is_named : List (Event K V) → CallId → Bool
@@ -69,44 +115,30 @@ module _ {K V : Type 0} where
   abbrev pub has_begun : List (Event K V) → CallId → Bool
   has_begun h c = list_any (begins c) h
 
-  -- the causes of each kind of event, in the order in which they are looked at
-  abbrev pub lead_cause : (K → K → Bool) → List (Event K V) → ℕ → K → CallId → Option CallId → Option Cause
-  lead_cause eq p by key call own =
-      cause_if (not (by == call.caller)) LedByAnotherCaller
-      (cause_if (is_named p call) CallIsNotNew
-      (cause_if (own_is (is_named p) call own) OwnChannelIsNotNew
-      (cause_if (is_some (open_call eq p key)) KeyHasAnOpenCall None)))
+  -- what the events before one say
+  abbrev pub known_by : (K → K → Bool) → List (Event K V) → Known K
+  known_by eq p =
+      record {
+        named = is_named p;
+        begun = has_begun p;
+        led = was_led p;
+        settled = is_settled p;
+        joined = has_joined p;
+        handed = is_handed p;
+        unsettled = open_call eq p;
+      }
 
-  abbrev pub enter_cause : (K → K → Bool) → List (Event K V) → ℕ → K → CallId → CallId → Option Cause
-  enter_cause eq p by key call member =
-      cause_if (not (by == member.caller)) EnteredByAnotherCaller
-      (cause_if (is_named p member) MemberIsNotNew
-      (cause_if (not (holds_call (open_call eq p key) call)) CallIsNotTheOpenOne None))
-
-  abbrev pub forget_cause : (K → K → Bool) → List (Event K V) → K → Option CallId → Option Cause
-  forget_cause eq p key closed = cause_if (not (same_option closed (open_call eq p key))) ForgetNamesAnotherCall None
-
-  abbrev pub settle_cause : List (Event K V) → ℕ → CallId → Bool → Option Cause
-  settle_cause p by call shared =
-      cause_if (not (has_begun p call)) CallWasNotLed
-      (cause_if (not (was_led p by call)) SettledByACallerThatDidNotLead
-      (cause_if (is_settled p call) CallIsSettledAlready
-      (cause_if (not (same_mark shared (has_joined p call))) SharedMarkIsWrong None)))
-
-  abbrev pub handed_cause : List (Event K V) → ℕ → CallId → Option Cause
-  handed_cause p by call =
-      cause_if (not (has_begun p call)) CallWasNotLed
-      (cause_if (not (was_led p by call)) HandedByACallerThatDidNotLead
-      (cause_if (not (is_settled p call)) CallIsNotSettled
-      (cause_if (is_handed p call) CallIsHandedAlready None)))
+  -- the first cause for which the event may not follow events of which this is known, if there is one
+  abbrev pub cause_of : Known K → Event K V → Option Cause
+  cause_of p (Lead by key call own) = lead_cause p by key call own
+  cause_of p (Enter by key call member) = enter_cause p by key call member
+  cause_of p (Forget by key closed) = forget_cause p key closed
+  cause_of p (Settle by call result shared) = settle_cause p by call shared
+  cause_of p (Handed by call) = handed_cause p by call
 
   -- the first cause for which the event may not follow these events, if there is one
   abbrev pub first_cause : (K → K → Bool) → List (Event K V) → Event K V → Option Cause
-  first_cause eq p (Lead by key call own) = lead_cause eq p by key call own
-  first_cause eq p (Enter by key call member) = enter_cause eq p by key call member
-  first_cause eq p (Forget by key closed) = forget_cause eq p key closed
-  first_cause eq p (Settle by call result shared) = settle_cause p by call shared
-  first_cause eq p (Handed by call) = handed_cause p by call
+  first_cause eq p e = cause_of (known_by eq p) e
 
   -- the events before the index (from 1) are legal, the event there may not follow them, and this is its first cause
   pub record IsFirstFault (eq : K → K → Bool) (h : List (Event K V)) (index : ℕ) (cause : Cause) : Type 0 where
@@ -126,3 +158,7 @@ module _ {K V : Type 0} where
 -- an event may follow exactly where it has no cause
 abbrev pub NoCauseMayFollow : (K V : Type 0) → (K → K → Bool) → Type 0
 NoCauseMayFollow K V eq = (p : List (Event K V)) (e : Event K V) → (first_cause eq p e ≡ None) ↔ MayFollow eq p e
+
+-- a history has one verdict
+abbrev pub HasOneVerdict : (K V : Type 0) → (K → K → Bool) → Type 0
+HasOneVerdict K V eq = (h : List (Event K V)) (v w : Verdict) → IsVerdictOf eq h v → IsVerdictOf eq h w → v ≡ w

@@ -1,8 +1,8 @@
 use Rattle.std.proofs.Common.{◌+◌, subst}
 use Rattle.sf_history.proofs.LegalHistories.{legal_nil}
-use Rattle.sf_replay.specs.Checker.{IsFirstFault}
-use Rattle.sf_replay.proofs.Verdicts.{legal_more, fault_here, legal_verdict}
-use Rattle.sf_replay.proofs.checking.check.Goals as goal
+use Rattle.sf_checker.specs.Checker.{IsFirstFault}
+use Rattle.sf_checker.proofs.Verdicts.{legal_more, fault_here, legal_verdict}
+use Rattle.sf_checker.proofs.checking.check.Goals as goal
 
 pub loop-i-init : goal.loop-i-init
 loop-i-init g c = legal_nil g.K.PartialEq.eq

@@ -8,8 +8,8 @@ use Rattle.sf_history.specs.Calls.{same_call}
 use Rattle.sf_history.specs.History.{holds_call, leads, open_call, has_joined, was_led, is_settled, is_handed, IsNew}
 use Rattle.sf_history.specs.Legal.{MayFollow}
 use Rattle.sf_history.proofs.LegalHistories.{same_call_is, same_call_self}
-use Rattle.sf_replay.specs.declared.cause.Cause.{Cause}
-use Rattle.sf_replay.specs.Checker.{cause_if, same_option, own_is, same_mark, is_named, begins, has_begun, first_cause, NoCauseMayFollow}
+use Rattle.sf_checker.specs.declared.cause.Cause.{Cause}
+use Rattle.sf_checker.specs.Checker.{cause_if, same_option, own_is, same_mark, is_named, begins, has_begun, first_cause, NoCauseMayFollow}
 
 -- there is no cause exactly where the test fails and what comes next has none
 none_if : (b : Bool) (cause : Cause) (next : Option Cause) → cause_if b cause next ≡ None → (b ≡ false) × (next ≡ None)

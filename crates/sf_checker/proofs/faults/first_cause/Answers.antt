@@ -1,4 +1,4 @@
-use Rattle.sf_replay.proofs.checking.first_cause.Goals as goal
+use Rattle.sf_checker.proofs.faults.first_cause.Goals as goal
 
 pub returns-in-Lead : goal.returns-in-Lead
 returns-in-Lead g c = rw c.in-Lead.is c.lead_cause.ensures

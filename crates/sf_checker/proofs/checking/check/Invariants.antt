@@ -1,6 +1,6 @@
 use Rattle.std.proofs.Common.{take}
 use Rattle.sf_history.specs.Legal.{IsLegal}
-use Rattle.sf_replay.proofs.checking.check.Given as goal
+use Rattle.sf_checker.proofs.checking.check.Given as goal
 
 -- the events so far are legal
 abbrev pub invariant-loop-i : goal.invariant-loop-i

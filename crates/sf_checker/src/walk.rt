@@ -1,11 +1,12 @@
-//! What the checker asks of a history beside what `sf_history::walk` finds.
+//! Events that are asked by a walk over all of them, with no memory.
 
 ghost use Rattle.std.specs.Prelude.{◌≡◌};
 ghost use Rattle.sf_history.specs.Calls.{same_call};
 ghost use Rattle.sf_history.specs.History.{holds_call, names, leads, was_led, settles, is_settled};
-ghost use Rattle.sf_replay.specs.Checker.{is_named, begins, has_begun};
+ghost use Rattle.sf_checker.specs.Checker.{is_named, begins, has_begun};
 
-use sf_history::walk::is_call;
+use crate::past::Past;
+use sf_history::walk::{self, is_call};
 use sf_history::{CallId, Event};
 
 fn names_call<K, V>(event: &Event<K, V>, named: CallId) -> bool
@@ -19,7 +20,7 @@ fn names_call<K, V>(event: &Event<K, V>, named: CallId) -> bool
 }
 
 /// Whether some lead or enter names it.
-pub(crate) fn is_named<K, V>(events: &[Event<K, V>], named: CallId) -> bool
+fn is_named<K, V>(events: &[Event<K, V>], named: CallId) -> bool
     ensures { result ≡ is_named events.now named }
 {
     events.iter().any(|event| names_call(event, named))
@@ -35,7 +36,7 @@ fn begins_call<K, V>(event: &Event<K, V>, begun: CallId) -> bool
 }
 
 /// Whether anyone led the call.
-pub(crate) fn has_begun<K, V>(events: &[Event<K, V>], call: CallId) -> bool
+fn has_begun<K, V>(events: &[Event<K, V>], call: CallId) -> bool
     ensures { result ≡ has_begun events.now call }
 {
     events.iter().any(|event| begins_call(event, call))
@@ -51,7 +52,7 @@ fn leads_call<K, V>(event: &Event<K, V>, caller: u32, led: CallId) -> bool
 }
 
 /// Whether the caller led the call.
-pub(crate) fn was_led<K, V>(events: &[Event<K, V>], caller: u32, call: CallId) -> bool
+fn was_led<K, V>(events: &[Event<K, V>], caller: u32, call: CallId) -> bool
     ensures { result ≡ was_led events.now caller call }
 {
     events.iter().any(|event| leads_call(event, caller, call))
@@ -67,8 +68,42 @@ fn settles_call<K, V>(event: &Event<K, V>, settled: CallId) -> bool
 }
 
 /// Whether the call is settled.
-pub(crate) fn is_settled<K, V>(events: &[Event<K, V>], call: CallId) -> bool
+fn is_settled<K, V>(events: &[Event<K, V>], call: CallId) -> bool
     ensures { result ≡ is_settled events.now call }
 {
     events.iter().any(|event| settles_call(event, call))
+}
+
+impl<'a, K: Eq, V> Past<'a, K> for &'a [Event<K, V>] {
+    ghost use Rattle.sf_checker.specs.Checker.{known_by};
+
+    ghost known = { λ p. known_by K.eq p.now };
+
+    fn is_named(&self, id: CallId) -> bool {
+        is_named(*self, id)
+    }
+
+    fn has_begun(&self, call: CallId) -> bool {
+        has_begun(*self, call)
+    }
+
+    fn was_led(&self, caller: u32, call: CallId) -> bool {
+        was_led(*self, caller, call)
+    }
+
+    fn is_settled(&self, call: CallId) -> bool {
+        is_settled(*self, call)
+    }
+
+    fn is_joined(&self, call: CallId) -> bool {
+        walk::is_joined(*self, call)
+    }
+
+    fn is_handed(&self, call: CallId) -> bool {
+        walk::is_handed(*self, call)
+    }
+
+    fn open_call(&self, key: &'a K) -> Option<CallId> {
+        walk::open_call(*self, key)
+    }
 }

@@ -4,11 +4,11 @@ use Rattle.std.proofs.lemmas.List.{take_more, drop_more, take-append-drop, lengt
 use Rattle.sf_history.specs.declared.event.Event.{Event}
 use Rattle.sf_history.specs.Legal.{IsLegal}
 use Rattle.sf_history.proofs.LegalHistories.{legal_push}
-use Rattle.sf_replay.specs.declared.cause.Cause.{Cause}
-use Rattle.sf_replay.specs.declared.checking.Verdict.{Verdict}
-use Rattle.sf_replay.specs.declared.checking.Verdict.TheVariants.{Legal, Illegal}
-use Rattle.sf_replay.specs.Checker.{first_cause, IsFirstFault, IsVerdictOf}
-use Rattle.sf_replay.proofs.Causes.{may_follow, no_cause}
+use Rattle.sf_checker.specs.declared.cause.Cause.{Cause}
+use Rattle.sf_checker.specs.declared.checking.Verdict.{Verdict}
+use Rattle.sf_checker.specs.declared.checking.Verdict.TheVariants.{Legal, Illegal}
+use Rattle.sf_checker.specs.Checker.{first_cause, IsFirstFault, IsVerdictOf}
+use Rattle.sf_checker.proofs.Causes.{may_follow, no_cause}
 
 module _ {K V : Type 0} where
   -- the walk goes on past an event that has no cause

@@ -1,0 +1,3 @@
+pub mod Checker
+pub mod Index
+pub mod IndexMaps

@@ -1,0 +1,44 @@
+//! What an index keeps of a call, a member or an own channel that some lead or enter named.
+
+ghost use Rattle.std.specs.Prelude.{◌≡◌};
+ghost use Rattle.sf_checker.specs.Index.{marked};
+
+/// What is known of a name.
+#[derive(Clone, Copy)]
+pub(crate) struct Row {
+    /// Whether it is a call that was led.
+    pub led: bool,
+    pub joined: bool,
+    pub settled: bool,
+    pub handed: bool,
+}
+
+/// What an event says of its call.
+#[derive(Clone, Copy)]
+pub(crate) enum Mark {
+    /// Somebody entered it.
+    Joined,
+    /// It is settled.
+    Settled,
+    /// Its letters are handed out.
+    Handing,
+}
+
+pub(crate) fn marked(mark: Mark, row: Row) -> Row
+    ensures { result ≡ marked mark row }
+{
+    match mark {
+        Mark::Joined => Row {
+            joined: true,
+            ..row
+        },
+        Mark::Settled => Row {
+            settled: true,
+            ..row
+        },
+        Mark::Handing => Row {
+            handed: true,
+            ..row
+        },
+    }
+}

@@ -1,5 +1,0 @@
-use Rattle.sf_replay.proofs.Causes.{no_cause_may_follow}
-use Rattle.sf_replay.proofs.checking.no_cause_may_follow.Goals as goal
-
-pub returns : goal.returns
-returns g c = no_cause_may_follow _ _ g.K.PartialEq.eq
