@@ -2,7 +2,7 @@
 use Rattle.std.specs.Prelude.{◌≡◌, ℕ, List, ◌++◌, length, Ok, Err, codes, decimal}
 use Rattle.sf_history.specs.Legal.{IsLegal}
 use Rattle.sf_text.specs.Texts.{same_text}
-use Rattle.sf_replay.specs.Checker.{IsFirstFault, cause_text}
+use Rattle.sf_checker.specs.Checker.{IsFirstFault, cause_text}
 use Rattle.sf_replay.specs.Record.{TextEvent}
 use Rattle.sf_replay.specs.RecordText.{history_of}
 use Rattle.sf_engines.specs.declared.checking.Checked.{Checked}

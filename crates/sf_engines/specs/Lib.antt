@@ -1,3 +1,4 @@
 pub mod Ending
 pub mod Checking
 pub mod Playing
+pub mod Engines

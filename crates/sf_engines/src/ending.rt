@@ -1,7 +1,9 @@
 //! How a run ends, and its exit status.
 
 ghost use Rattle.std.specs.Prelude.{◌≡◌};
-ghost use Rattle.sf_engines.specs.Ending.{status_of};
+ghost use Rattle.sf_engines.specs.Ending.{exit_status_of, outcome_of, status_of};
+
+use sf_text::StreamFault;
 
 /// How an engine ends that could read and write.
 #[derive(Clone, Copy, PartialEq, Eq)]
@@ -22,5 +24,38 @@ pub fn status(ending: Ending) -> u8
         Ending::Answered => 0,
         Ending::Illegal => 1,
         Ending::Refused => 2,
+    }
+}
+
+/// How the program ends.
+#[derive(Clone, Copy)]
+pub enum Outcome {
+    /// An engine ended that could read and write.
+    Ended(Ending),
+    /// A stream failed.
+    Failed(StreamFault),
+    /// The command line asks for nothing.
+    Usage,
+}
+
+impl Outcome {
+    /// What an engine's end is to the program.
+    pub fn of(ended: Result<Ending, StreamFault>) -> Outcome
+        ensures { result ≡ outcome_of ended }
+    {
+        match ended {
+            Ok(ending) => Outcome::Ended(ending),
+            Err(fault) => Outcome::Failed(fault),
+        }
+    }
+}
+
+/// The exit status of the program: that of the engine's end, and 2 where a stream failed or nothing was asked for.
+pub fn exit_status(outcome: Outcome) -> u8
+    ensures { result ≡ exit_status_of outcome }
+{
+    match outcome {
+        Outcome::Ended(ending) => status(ending),
+        Outcome::Failed(_) | Outcome::Usage => status(Ending::Refused),
     }
 }

@@ -1,8 +1,9 @@
 //! The engines of the subcommands, over any reader and writer.
 
-ghost use Rattle.std.specs.Prelude.{◌≡◌, ◌≢◌, ◌++◌, List, ℕ, IfOk, IfErr, IfSome, codes};
+ghost use Rattle.std.specs.Prelude.{◌≡◌, ◌≢◌, ◌⊎◌, ◌++◌, List, ℕ, IfOk, IfErr, IfSome, codes};
 ghost use Rattle.std.specs.Io.KnownBytes.{Appends};
 ghost use Rattle.std.specs.Str.Lines.{lines};
+ghost use Rattle.sf_text.specs.StreamText.{AppendsPart};
 ghost use Rattle.sf_model.specs.declared.refusal.ScriptRefusal.{ScriptRefusal};
 ghost use Rattle.sf_engines.specs.declared.checking.Checked.{Checked};
 ghost use Rattle.sf_engines.specs.Checking.{IsCheckOf, ending_of, checked_text};
@@ -34,6 +35,8 @@ pub fn run<R: Read, W: Write>(
         (refusal : ScriptRefusal) × IsDue input refusal × Appends (W.contents writer.old) (W.contents writer.new) (refusal_text refusal ++ codes "\n"))) }
     ensures legal { IfOk result (λ ending. ending ≢ Ending.Illegal) }
     ensures unread { IfErr result (λ fault. fault ≡ StreamFault.CannotRead → W.contents writer.new ≡ W.contents writer.old) }
+    ensures part { IfErr result (λ fault. fault ≡ StreamFault.CannotWrite → IfSome (R.remaining reader.old) (λ input.
+        ((text : List ℕ) × IsReplyText input text × AppendsPart (W.contents writer.old) (W.contents writer.new) text) ⊎ ((refusal : ScriptRefusal) × IsDue input refusal))) }
 {
     match run_script(alloc, reader, writer)? {
         Ok(()) => Ok(Ending::Answered),
@@ -53,6 +56,8 @@ pub fn steps<R: Read, W: Write>(
         (refusal : ScheduleRefusal) × IsRefusalOf (lines input) refusal × Appends (W.contents writer.old) (W.contents writer.new) (trace_texts.refusal_text refusal ++ codes "\n"))) }
     ensures legal { IfOk result (λ ending. ending ≢ Ending.Illegal) }
     ensures unread { IfErr result (λ fault. fault ≡ StreamFault.CannotRead → W.contents writer.new ≡ W.contents writer.old) }
+    ensures part { IfErr result (λ fault. fault ≡ StreamFault.CannotWrite → IfSome (R.remaining reader.old) (λ input.
+        ((text : List ℕ) × IsTraceText input text × AppendsPart (W.contents writer.old) (W.contents writer.new) text) ⊎ ((refusal : ScheduleRefusal) × IsRefusalOf (lines input) refusal))) }
 {
     let played = match read_all(alloc, reader) {
         Ok(input) => traced(alloc, input.as_slice()),

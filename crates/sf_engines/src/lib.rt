@@ -3,9 +3,15 @@
 
 mod checking;
 mod ending;
+mod engine;
 mod engines;
+mod hints;
 mod playing;
+mod record_hints;
+mod turn_hints;
 
 pub use checking::Checked;
-pub use ending::{Ending, status};
+pub use ending::{Ending, Outcome, exit_status, status};
+pub use engine::Engine;
 pub use engines::{check, run, steps};
+pub use hints::{Hint, hint_for};

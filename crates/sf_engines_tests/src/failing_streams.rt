@@ -1,81 +1,111 @@
-//! Readers and writers that fail at their n-th call.
+//! Streams that fail at their n-th call, that fail once, and that never end; and answers that are long.
 
-use sf_engines::{Ending, run};
-use sf_text::StreamFault;
+use sf_engines::{Ending, Engine};
+use sf_text::{READS, StreamFault};
 use std::io::{Error, ErrorKind, Read, Result as IoResult, Write};
 use std::test::Fail;
 
-/// A reader of a text that hands out three bytes a call, and fails at its n-th read.
+/// A reader of a text that hands out so many bytes a call, and fails at its n-th read alone.
 #[derive(Drop)]
 struct FailingReader {
     text: &'static [u8],
-    reads_left: u32,
+    bytes_a_call: usize,
+    reads: u32,
+    fails_at: u32,
 }
 
 impl Read for FailingReader {
     fn read(&mut self, buf: &mut [u8]) -> IoResult<usize> {
-        if self.reads_left <= 1 {
+        self.reads = self.reads.saturating_add(1);
+        if self.reads == self.fails_at {
             return Err(Error::from(ErrorKind::Other));
         }
-        self.reads_left -= 1;
-        let n = self.text.len().min(3).min(buf.len());
+        let n = self.text.len().min(self.bytes_a_call).min(buf.len());
         buf[..n].copy_from_slice(&self.text[..n]);
         self.text = &self.text[n..];
         Ok(n)
     }
 }
 
-/// A writer that takes three bytes a call, and fails at its n-th write.
+/// A writer that takes three bytes a call, and fails at its n-th write alone.
 #[derive(Drop)]
 struct FailingWriter {
     written: Vec<u8>,
-    writes_left: u32,
+    writes: u32,
+    fails_at: u32,
+    flushed: bool,
 }
 
 impl Write for FailingWriter {
     fn write(&mut self, buf: &[u8]) -> IoResult<usize> {
-        if self.writes_left <= 1 {
+        self.writes = self.writes.saturating_add(1);
+        if self.writes == self.fails_at {
             return Err(Error::from(ErrorKind::Other));
         }
-        self.writes_left -= 1;
         let n = buf.len().min(3);
         self.written.extend_from_slice(&buf[..n])?;
         Ok(n)
     }
 
     fn flush(&mut self) -> IoResult<()> {
+        self.flushed = true;
         Ok(())
     }
 }
 
+/// A reader that hands out one byte a call and never ends, and counts its calls.
+#[derive(Drop)]
+struct EndlessReader {
+    reads: u32,
+}
+
+impl Read for EndlessReader {
+    fn read(&mut self, buf: &mut [u8]) -> IoResult<usize> {
+        self.reads = self.reads.saturating_add(1);
+        if buf.is_empty() {
+            return Ok(0);
+        }
+        buf[0] = b'\n';
+        Ok(1)
+    }
+}
+
+/// An engine, its input, so many bytes that three reads hand it out, and its answer.
+const ROWS: [(Engine, &[u8], usize, &[u8]); 3] = [
+    (Engine::Run, b"ask 1 key", 3, b"1 lead 1.1\n"),
+    (Engine::Steps, b"do 1 ask 1\nstep 1", 6, b"1 look 1 0\n"),
+    (Engine::Check, b"{\"format\":1}", 4, b"legal: 0 events\n"),
+];
+
 #[test]
 fn failing_reads(rt: HostRuntime) -> Result<(), Fail> {
-    // The script has 9 bytes: three reads of it, and a fourth that meets its end.
-    for n in 1..6 {
-        let mut reader = FailingReader {
-            text: b"ask 1 key",
-            reads_left: n,
-        };
-        let mut written: Vec<u8> = Vec::new(rt.alloc());
-        let ended = run(rt.alloc(), &mut reader, &mut written);
-        if n <= 4 {
-            assert!(rt;
-                matches!(ended, Err(StreamFault::CannotRead)),
-                "read {n} fails otherwise"
-            );
-            assert!(rt;
-                written.is_empty(),
-                "read {n} fails, and something is written"
-            );
-        } else {
-            assert!(rt;
-                matches!(ended, Ok(Ending::Answered)),
-                "read {n} is not reached"
-            );
-            assert!(rt;
-                written.as_slice() == b"1 lead 1.1\n".as_slice(),
-                "another answer"
-            );
+    for (engine, text, bytes_a_call, answer) in ROWS {
+        // Three reads of the text, and a fourth that meets its end.
+        for fails_at in 1..6 {
+            let mut reader = FailingReader {
+                text,
+                bytes_a_call,
+                reads: 0,
+                fails_at,
+            };
+            let mut written: Vec<u8> = Vec::new(rt.alloc());
+            let ended = engine.start(rt.alloc(), &mut reader, &mut written);
+            let reads = reader.reads;
+            if fails_at <= 4 {
+                assert!(rt;
+                    matches!(ended, Err(StreamFault::CannotRead)) && written.is_empty(),
+                    "read {fails_at} fails otherwise"
+                );
+                assert!(rt;
+                    reads == fails_at,
+                    "{reads} reads, of which {fails_at} failed"
+                );
+            } else {
+                assert!(rt;
+                    matches!(ended, Ok(Ending::Answered)) && written.as_slice() == answer,
+                    "another answer where no read fails"
+                );
+            }
         }
     }
     Ok(())
@@ -83,28 +113,62 @@ fn failing_reads(rt: HostRuntime) -> Result<(), Fail> {
 
 #[test]
 fn failing_writes(rt: HostRuntime) -> Result<(), Fail> {
-    // The answer has 11 bytes: four writes.
-    for n in 1..7 {
-        let mut writer = FailingWriter {
-            written: Vec::new(rt.alloc()),
-            writes_left: n,
-        };
-        let ended = run(rt.alloc(), &mut b"ask 1 key".as_slice(), &mut writer);
-        if n <= 4 {
+    for (engine, text, _, answer) in ROWS {
+        for fails_at in 1..12 {
+            let mut writer = FailingWriter {
+                written: Vec::new(rt.alloc()),
+                writes: 0,
+                fails_at,
+                flushed: false,
+            };
+            let ended = engine.start(rt.alloc(), &mut &*text, &mut writer);
             assert!(rt;
-                matches!(ended, Err(StreamFault::CannotWrite)),
-                "write {n} fails otherwise"
+                answer.starts_with(writer.written.as_slice()),
+                "write {fails_at} fails, and what is written is no beginning of the answer"
             );
-        } else {
-            assert!(rt;
-                matches!(ended, Ok(Ending::Answered)),
-                "write {n} is not reached"
-            );
-            assert!(rt;
-                writer.written.as_slice() == b"1 lead 1.1\n".as_slice(),
-                "another answer"
-            );
+            if writer.writes >= fails_at {
+                assert!(rt;
+                    matches!(ended, Err(StreamFault::CannotWrite)) && writer.writes == fails_at,
+                    "write {fails_at} fails otherwise"
+                );
+            } else {
+                assert!(rt;
+                    fails_at > 4
+                        && matches!(ended, Ok(Ending::Answered))
+                        && writer.flushed
+                        && writer.written.as_slice() == answer,
+                    "another answer where write {fails_at} is not reached"
+                );
+            }
         }
     }
+    Ok(())
+}
+
+#[test]
+fn an_endless_input_is_a_failing_read(rt: HostRuntime) -> Result<(), Fail> {
+    let mut reader = EndlessReader { reads: 0 };
+    let mut written: Vec<u8> = Vec::new(rt.alloc());
+    let ended = Engine::Run.start(rt.alloc(), &mut reader, &mut written);
+    assert!(rt;
+        matches!(ended, Err(StreamFault::CannotRead)),
+        "it is read to an end"
+    );
+    assert!(rt;
+        reader.reads == READS && READS == 16_777_216,
+        "another number of reads"
+    );
+    assert!(rt; written.is_empty(), "something is written");
+    Ok(())
+}
+
+#[test]
+fn faults_say_what_failed(rt: HostRuntime) -> Result<(), Fail> {
+    let read = format!(in rt.alloc(); "{}", StreamFault::CannotRead)?;
+    let write = format!(in rt.alloc(); "{}", StreamFault::CannotWrite)?;
+    assert!(rt;
+        read.as_str() == "cannot read" && write.as_str() == "cannot write",
+        "{read}, {write}"
+    );
     Ok(())
 }

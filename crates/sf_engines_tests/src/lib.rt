@@ -4,8 +4,14 @@
 #[cfg(test)]
 mod failing_streams;
 #[cfg(test)]
+mod hints;
+#[cfg(test)]
 mod histories;
+#[cfg(test)]
+mod long_inputs;
 #[cfg(test)]
 mod schedules;
 #[cfg(test)]
 mod scripts;
+#[cfg(test)]
+mod subcommands;

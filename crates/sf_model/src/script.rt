@@ -1,9 +1,11 @@
 //! Scripts: commands to the sequential group, one a line, and the lines that it replies.
 
-ghost use Rattle.std.specs.Prelude.{◌≡◌, ◌≢◌, ℕ, List, ◌∷◌, ◌++◌, Ok, Err, IfOk, IfErr, IfSome, OnOk, All, string_bytes, codes};
+ghost use Rattle.std.specs.Prelude.{◌≡◌, ◌≢◌, ◌⊎◌, ℕ, List, ◌∷◌, ◌++◌, Ok, Err, IfOk, IfErr, IfSome, OnOk, All, string_bytes, codes};
 ghost use Rattle.sf_model.specs.ScriptText.{mark_text, result_text, asked_text, chan_asked_text, settled_text, forgotten_text, taken_text, current_text, line_of, after_line, replies_of, StopsBy, IsReplyText, IsDue};
 ghost use Rattle.sf_model.specs.RefusalText.{refusal_text};
 ghost use Rattle.std.specs.Io.KnownBytes.{Appends};
+ghost use Rattle.sf_text.specs.StreamText.{AppendsPart};
+ghost use Rattle.sf_model.specs.declared.refusal.ScriptRefusal.{ScriptRefusal};
 ghost use Rattle.sf_history.specs.Sequential.{IsCommandOf, IsRefusal};
 
 use crate::grammar::{ScriptCommand, commands};
@@ -158,7 +160,7 @@ fn obey(
 }
 
 /// Obeys all commands in turn, and answers the lines that are replied to them. It stops at the first command that is
-/// refused; those before it have then been obeyed.
+/// refused; what the group is then, no clause says.
 pub fn obey_all(
     alloc: Global,
     group: &mut SeqGroup<Text, Outcome>,
@@ -196,6 +198,10 @@ pub fn run_script<R: Read, W: Write>(
 
     // Where it cannot be read, nothing is written.
     ensures unread { IfErr result (λ fault. fault ≡ StreamFault.CannotRead → W.contents writer.new ≡ W.contents writer.old) }
+
+    // Where it cannot be written, a beginning of the replies is written, or the script is refused.
+    ensures part { IfErr result (λ fault. fault ≡ StreamFault.CannotWrite → IfSome (R.remaining reader.old) (λ input.
+        ((text : List ℕ) × IsReplyText input text × AppendsPart (W.contents writer.old) (W.contents writer.new) text) ⊎ ((refusal : ScriptRefusal) × IsDue input refusal))) }
 {
     let answer = match read_all(alloc, reader) {
         Ok(input) => answer(alloc, input.as_slice()),

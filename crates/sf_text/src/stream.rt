@@ -2,25 +2,40 @@
 
 ghost use Rattle.std.specs.Prelude.{◌≡◌, ◌++◌, IfOk, IfErr, IfSome, OnOk, OnErr, codes};
 ghost use Rattle.std.specs.Io.KnownBytes.{Appends};
+ghost use Rattle.sf_text.specs.StreamText.{AppendsPart};
 
 use std::alloc::{AllocError, Global};
-use std::fmt::Display;
+use std::error::Error;
+use std::fmt::{self, Display};
 use std::io::{Read, Write};
-use thiserror::Error;
 
 /// How often a run may read; where its last read has not met the end, that is a failing read.
 pub const READS: u32 = 16_777_216;
 
 /// Why a run ends with no answer.
-#[derive(Clone, Copy, Debug, PartialEq, Eq, Drop, Error)]
+#[derive(Clone, Copy, Debug, PartialEq, Eq, Drop)]
 pub enum StreamFault {
     /// A read failed, or the last read that is allowed has not met the end. Nothing was written.
-    #[error("cannot read")]
     CannotRead,
     /// A write failed. A part of the answer may have been written.
-    #[error("cannot write")]
     CannotWrite,
 }
+
+impl fmt::Display for StreamFault {
+    ghost use Rattle.std.specs.Prelude.{Some};
+    ghost use Rattle.sf_text.specs.StreamText.{fault_text};
+
+    ghost output = { λ fault. Some (fault_text fault) };
+
+    fn fmt<W: fmt::Write>(&self, f: &mut fmt::Formatter<W>) -> fmt::Result {
+        f.write_str(match self {
+            StreamFault::CannotRead => "cannot read",
+            StreamFault::CannotWrite => "cannot write",
+        })
+    }
+}
+
+impl Error for StreamFault {}
 
 /// Why an input could not be held.
 #[derive(Clone, Copy, Debug, PartialEq, Eq)]
@@ -59,12 +74,30 @@ pub fn read_all<R: Read>(alloc: Global, reader: &mut R) -> Result<Vec<u8>, ReadF
     Err(ReadFault::CannotRead)
 }
 
-/// Writes a whole answer, and hands it on.
+/// Writes a whole answer. A write that fails, or that takes nothing, is not tried again.
+fn write_bytes<W: Write>(writer: &mut W, answer: &[u8]) -> Result<(), StreamFault>
+    ensures ok { OnOk result (Appends (W.contents writer.old) (W.contents writer.new) answer.now) }
+    ensures err { IfErr result (λ fault. fault ≡ StreamFault.CannotWrite) }
+    ensures part { AppendsPart (W.contents writer.old) (W.contents writer.new) answer.now }
+{
+    let mut at = 0;
+    while at < answer.len() {
+        match writer.write(&answer[at..]) {
+            Ok(n) if 0 < n => at += n,
+            _ => return Err(StreamFault::CannotWrite),
+        }
+    }
+    Ok(())
+}
+
+/// Writes a whole answer, and hands it on. Where it fails, a beginning of the answer is written.
 pub fn write_all<W: Write>(writer: &mut W, answer: &str) -> Result<(), StreamFault>
     ensures ok { OnOk result (Appends (W.contents writer.old) (W.contents writer.new) answer.now) }
     ensures err { IfErr result (λ fault. fault ≡ StreamFault.CannotWrite) }
+    ensures part { AppendsPart (W.contents writer.old) (W.contents writer.new) answer.now }
 {
-    if writer.write_all(answer.as_bytes()).is_err() || writer.flush().is_err() {
+    write_bytes(writer, answer.as_bytes())?;
+    if writer.flush().is_err() {
         return Err(StreamFault::CannotWrite);
     }
     Ok(())

@@ -1,0 +1,97 @@
+//! The engines by their names.
+
+ghost use Rattle.std.specs.Prelude.{◌≡◌, ◌≢◌, List, ℕ, IfOk, IfErr, IfSome, None};
+ghost use Rattle.std.specs.Io.KnownBytes.{Appends};
+ghost use Rattle.sf_engines.specs.Engines.{IsWrittenBy, name_of};
+
+use crate::checking::Checked;
+use crate::ending::Ending;
+use crate::engines::{check, run, steps};
+use crate::hints::{Hint, hint_for};
+use sf_text::{ReadFault, StreamFault, read_all, write_line};
+use std::alloc::Global;
+use std::io::{Read, Write};
+
+/// An engine of `sfctl`.
+#[derive(Clone, Copy, PartialEq, Eq)]
+pub enum Engine {
+    /// Obeys a script of commands.
+    Run,
+    /// Plays a schedule of the step core.
+    Steps,
+    /// Says whether a recorded history is legal.
+    Check,
+}
+
+impl Engine {
+    /// The name of the subcommand that starts it.
+    pub fn name(self) -> &'static str
+        ensures { result.now ≡ name_of self }
+    {
+        match self {
+            Engine::Run => "run",
+            Engine::Steps => "steps",
+            Engine::Check => "check",
+        }
+    }
+
+    /// The engine of this name.
+    pub fn named(name: &str) -> Option<Engine>
+        ensures found { IfSome result (λ engine. name.now ≡ name_of engine) }
+        ensures unknown { result ≡ None → (engine : Engine) → name.now ≢ name_of engine }
+    {
+        if name == "run" {
+            Some(Engine::Run)
+        } else if name == "steps" {
+            Some(Engine::Steps)
+        } else if name == "check" {
+            Some(Engine::Check)
+        } else {
+            None
+        }
+    }
+
+    /// Starts it.
+    pub fn start<R: Read, W: Write>(
+        self,
+        alloc: Global,
+        reader: &mut R,
+        writer: &mut W,
+    ) -> Result<Ending, StreamFault>
+        ensures written { IfOk result (λ ending. IfSome (R.remaining reader.old) (λ input.
+            (text : List ℕ) × IsWrittenBy self input ending text × Appends (W.contents writer.old) (W.contents writer.new) text)) }
+        ensures unread { IfErr result (λ fault. fault ≡ StreamFault.CannotRead → W.contents writer.new ≡ W.contents writer.old) }
+    {
+        match self {
+            Engine::Run => run(alloc, reader, writer),
+            Engine::Steps => steps(alloc, reader, writer),
+            Engine::Check => check(alloc, reader, writer),
+        }
+    }
+    /// Starts it as `start` does, and leaves a hint where the input is refused and there is one.
+    pub fn start_with_hint<R: Read, W: Write>(
+        self,
+        alloc: Global,
+        reader: &mut R,
+        writer: &mut W,
+        hinted: &mut Option<Hint>,
+    ) -> Result<Ending, StreamFault>
+        ensures written { IfOk result (λ ending. IfSome (R.remaining reader.old) (λ input.
+            (text : List ℕ) × IsWrittenBy self input ending text × Appends (W.contents writer.old) (W.contents writer.new) text)) }
+        ensures unread { IfErr result (λ fault. fault ≡ StreamFault.CannotRead → W.contents writer.new ≡ W.contents writer.old) }
+    {
+        let input = match read_all(alloc, reader) {
+            Ok(input) => input,
+            Err(ReadFault::OutOfMemory) => {
+                write_line(writer, Checked::OutOfMemory)?;
+                return Ok(Ending::Refused);
+            }
+            Err(ReadFault::CannotRead) => return Err(StreamFault::CannotRead),
+        };
+        let ending = self.start(alloc, &mut input.as_slice(), writer)?;
+        if ending == Ending::Refused {
+            *hinted = hint_for(alloc, self, input.as_slice());
+        }
+        Ok(ending)
+    }
+}

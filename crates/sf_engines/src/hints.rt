@@ -1,0 +1,69 @@
+//! What helps with a line that is refused. No clause says it.
+
+use crate::engine::Engine;
+use crate::record_hints::record_hint;
+use crate::turn_hints::turn_hint;
+use sf_model::{ScriptRefusal, run_script};
+use sf_text::lines;
+use std::alloc::Global;
+use std::fmt;
+
+/// More about a line that is refused: its number, from 1, and what is wrong there or was expected.
+#[derive(Clone, Copy)]
+pub struct Hint {
+    pub(crate) line: u64,
+    pub(crate) says: &'static str,
+}
+
+impl fmt::Display for Hint {
+    fn fmt<W: fmt::Write>(&self, f: &mut fmt::Formatter<W>) -> fmt::Result {
+        let line = self.line;
+        let says = self.says;
+        write!(f, "hint: line {line}: {says}")
+    }
+}
+
+/// More about the line for which an engine refuses an input; none where no line's form is the cause, or memory is refused.
+pub fn hint_for(alloc: Global, engine: Engine, input: &[u8]) -> Option<Hint> {
+    match engine {
+        Engine::Run => command_hint(alloc, input),
+        Engine::Steps => turn_hint(alloc, input),
+        Engine::Check => record_hint(alloc, input),
+    }
+}
+
+/// The place in a list of the line of this number.
+pub(crate) fn index(line: u64) -> usize {
+    line.saturating_sub(1) as usize
+}
+
+fn command_hint(alloc: Global, input: &[u8]) -> Option<Hint> {
+    let mut written: Vec<u8> = Vec::new(alloc);
+    let Ok(Err(ScriptRefusal::BadLine(line))) = run_script(alloc, &mut &*input, &mut written) else {
+        return None;
+    };
+    let Ok(lines) = lines(alloc, input) else {
+        return None;
+    };
+    let refused = lines.get(index(line))?;
+    let refused = str::from_utf8(refused).unwrap_or_default();
+    let says = command_form(refused.split(' ').next().unwrap_or_default());
+    Some(Hint { line, says })
+}
+
+/// The form of the command that begins with this word.
+fn command_form(word: &str) -> &'static str {
+    match word {
+        "ask" => "expected `ask CALLER KEY`; callers are 1 to 65535, keys 1 to 250 bytes",
+        "chan" => "expected `chan CALLER SECOND KEY`; callers are 1 to 65535, keys 1 to 250 bytes",
+        "settle" => {
+            "expected `settle CALLER ok TEXT` or `settle CALLER err TEXT`; callers are 1 to 65535, texts 1 to 250 bytes"
+        }
+        "forget" => "expected `forget CALLER KEY`; callers are 1 to 65535, keys 1 to 250 bytes",
+        "take" => "expected `take CALLER`; callers are 1 to 65535",
+        "current" => {
+            "expected `current KEY CALLER.GENERATION`; callers are 1 to 65535, generations 1 to 4294967295"
+        }
+        _ => "expected ask, chan, settle, forget, take or current",
+    }
+}

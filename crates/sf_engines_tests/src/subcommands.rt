@@ -1,0 +1,46 @@
+//! The engines by their names, and the exit status of every outcome.
+
+use sf_engines::{Ending, Engine, Outcome, exit_status, status};
+use sf_text::StreamFault;
+use std::test::Fail;
+
+#[test]
+fn engines_have_the_names_of_their_subcommands(rt: HostRuntime) -> Result<(), Fail> {
+    let rows = [
+        ("run", Engine::Run),
+        ("steps", Engine::Steps),
+        ("check", Engine::Check),
+    ];
+    for (name, engine) in rows {
+        assert!(rt; engine.name() == name, "{name} is called otherwise");
+        assert!(rt;
+            Engine::named(name) == Some(engine),
+            "{name} is another engine"
+        );
+    }
+    for name in ["", "drive", "help", "Run", "run ", "checks"] {
+        assert!(rt; Engine::named(name).is_none(), "{name} is an engine");
+    }
+    Ok(())
+}
+
+#[test]
+fn exit_statuses(rt: HostRuntime) -> Result<(), Fail> {
+    let rows = [
+        (Outcome::of(Ok(Ending::Answered)), 0),
+        (Outcome::of(Ok(Ending::Illegal)), 1),
+        (Outcome::of(Ok(Ending::Refused)), 2),
+        (Outcome::of(Err(StreamFault::CannotRead)), 2),
+        (Outcome::of(Err(StreamFault::CannotWrite)), 2),
+        (Outcome::Usage, 2),
+    ];
+    for (outcome, expected) in rows {
+        let answered = exit_status(outcome);
+        assert!(rt; answered == expected, "{answered} in place of {expected}");
+    }
+    assert!(rt;
+        status(Ending::Illegal) == 1,
+        "an illegal history has another status"
+    );
+    Ok(())
+}
