@@ -7,3 +7,4 @@ pub mod Notes
 pub mod Same
 pub mod Seen
 pub mod Tokens
+pub mod Afters

@@ -35,5 +35,6 @@ pub mod Ranges
 pub mod StagesWithin
 pub mod Apart
 pub mod Lined
+pub mod Owing
 pub mod Changes
 pub mod Closings

@@ -235,14 +235,14 @@ module _ {V : Type 0} where
       subst (λ (q : List (Turn V)). IsListed (world_after z.first q) k c top l) (append_assoc s (t ∷ []) ts)
       (lists_stay z (s ++ t ∷ []) ts parts k c top l (subst (λ (u : World V). AreOthers u ts c.caller) (sym there) others.1) one)
 
-  callers_run : (z : Setting) (ts : List (Turn V)) (h : List (Event ℕ V)) (w : World V) → Sound z.first h w → IsScheduleFrom z h w ts → AreCallers z w → AreCallers z (run w ts)
+  pub callers_run : (z : Setting) (ts : List (Turn V)) (h : List (Event ℕ V)) (w : World V) → Sound z.first h w → IsScheduleFrom z h w ts → AreCallers z w → AreCallers z (run w ts)
   callers_run z [] h w sound is are = are
   callers_run z (t ∷ ts) h w sound is are = callers_run z ts (h ++ turn_events w t) (turned w t) (turn_sound z h w t sound is.0) is.1 (callers_turn z h w t sound is.0 are)
 
-  waiting : (w : World V) (k : ℕ) (c m : CallId) → Waits w k c m → IsWaiting w k c m
+  pub waiting : (w : World V) (k : ℕ) (c m : CallId) → Waits w k c m → IsWaiting w k c m
   waiting w k c m waits = (ticket_is (w.stages m.caller) k m.generation c waits.0, waits.1)
 
-  chain_listed : (w : World V) (k : ℕ) (c : CallId) (top : Option ℕ) (l : List CallId) → Chain w.nexts top l → Each (Waits w k c) l → IsListed w k c top l
+  pub chain_listed : (w : World V) (k : ℕ) (c : CallId) (top : Option ℕ) (l : List CallId) → Chain w.nexts top l → Each (Waits w k c) l → IsListed w k c top l
   chain_listed w k c None [] chain waits = tt
   chain_listed w k c None (m ∷ l) chain waits = absurd chain
   chain_listed w k c (Some x) [] chain waits = absurd chain

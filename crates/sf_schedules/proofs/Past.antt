@@ -1,6 +1,6 @@
 -- what the history says of itself and of the next generations, kept by each event that is added
-use Rattle.std.proofs.Common.{◌≡◌, ◌≢◌, ℕ, ◌+◌, ◌<◌, true, false, ◌==◌, List, [], ◌∷◌, ◌++◌, inl, inr, Option, Some, None, refl, sym, ◌∙◌, ap, subst, arith, eq-eqb}
-use Rattle.std.proofs.lemmas.Bool.{or_cases, ne_eqb, cases_Bool, cases_eq, true≢false}
+use Rattle.std.proofs.Common.{◌≡◌, ℕ, ◌+◌, ◌<◌, true, false, ◌==◌, List, [], ◌∷◌, ◌++◌, inl, inr, Option, Some, None, refl, sym, ◌∙◌, ap, subst, arith, eq-eqb}
+use Rattle.std.proofs.lemmas.Bool.{or_cases, ne_eqb, cases_Bool, true≢false}
 use Rattle.std.specs.Prelude.{nat_eq, cond}
 use Rattle.std.specs.List.{list_any}
 use Rattle.sf_history.specs.declared.call.CallId.{CallId}
@@ -13,7 +13,7 @@ use Rattle.sf_lists.proofs.Lists.{list_any_push_cases}
 use Rattle.sf_history.proofs.LegalHistories.{same_call_is, next_push, legal_nil, legal_push, open_named, settled_named, handed_settled}
 use Rattle.sf_lists.specs.Functions.{put}
 use Rattle.sf_schedules.proofs.Histories.{opened}
-use Rattle.sf_lists.proofs.Functions.{put_here, put_else, put_cases}
+use Rattle.sf_lists.proofs.Functions.{put_here, put_cases}
 
 -- one more generation of a caller is used
 abbrev one_more : (ℕ → ℕ) → ℕ → ℕ → ℕ

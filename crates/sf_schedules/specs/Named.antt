@@ -1,7 +1,6 @@
 -- whom turns name, and what turns that do not name a caller leave of its events
-use Rattle.std.specs.Prelude.{◌≡◌, ℕ, ◌==◌, ◌⊎◌, List, [], ◌∷◌, ◌++◌, filter}
+use Rattle.std.specs.Prelude.{◌≡◌, ℕ, ◌⊎◌, List, [], ◌∷◌, ◌++◌}
 use Rattle.std.specs.List.{All}
-use Rattle.sf_history.specs.declared.event.Event.{Event}
 use Rattle.sf_history.specs.History.{maker, own_events}
 use Rattle.sf_schedules.specs.declared.operation.Op.TheVariants as op
 use Rattle.sf_schedules.specs.declared.operation.Stage.TheVariants.{Seconding}

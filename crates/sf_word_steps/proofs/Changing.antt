@@ -35,7 +35,7 @@ module _ {V : Type 0} where
   changes_append a xs w [] us = omega arith
   changes_append a xs w (t ∷ ts) us = let more = changes_append a xs (turned w t) ts us in omega (arith, more)
 
-  other : (t : Turn V) (a : ℕ) → (Names t a → ⊥) → is_by a t ≡ false
+  pub other : (t : Turn V) (a : ℕ) → (Names t a → ⊥) → is_by a t ≡ false
   other (turn.Start b (op.Ask k)) a spares = ne_eqb b a spares
   other (turn.Start b (op.Chan second k)) a spares = ne_eqb b a (λ e. spares (inl e))
   other (turn.Start b (op.Settle v)) a spares = ne_eqb b a spares
@@ -45,7 +45,7 @@ module _ {V : Type 0} where
   other (turn.Step b) a spares = ne_eqb b a spares
   other (turn.Leave b) a spares = ne_eqb b a spares
 
-  some_changed : (w : World V) (t : Turn V) (xs : List Word) (x : Word) → HasWord xs x → (code_at (turned w t) x == code_at w x) ≡ false → changes_some w t xs ≡ true
+  pub some_changed : (w : World V) (t : Turn V) (xs : List Word) (x : Word) → HasWord xs x → (code_at (turned w t) x == code_at w x) ≡ false → changes_some w t xs ≡ true
   some_changed w t [] x has is = absurd has
   some_changed w t (y ∷ ys) x (inl here) is = subst (λ (q : Word). (not (code_at (turned w t) q == code_at w q) || changes_some w t ys) ≡ true) (sym here) (ap (λ b. not b || changes_some w t ys) is)
   some_changed w t (y ∷ ys) x (inr there) is = or_true (not (code_at (turned w t) y == code_at w y)) (changes_some w t ys) (some_changed w t ys x there is)

@@ -42,7 +42,7 @@ use Rattle.sf_word_steps.specs.Attempts.{lost_stage}
 use Rattle.sf_word_steps.proofs.Ways.{Ran, ran_then, step_ran, leave_ran, writes_none, writes_call, writes_next, stands, uses, Does, moves_by, goes_by}
 use Rattle.sf_word_steps.proofs.Changing.{changes_append, changed_once, tried_right}
 use Rattle.sf_word_steps.proofs.LookSteps.{asking_alone, stays_by, alike_call, alike_next, lost_by}
-use Rattle.sf_word_steps.proofs.LeadSteps.{lead_turns, lost_world, lost_at, lost_used}
+use Rattle.sf_word_steps.proofs.LeadSteps.{lead_turns, lost_world, lost_cells, lost_at, lost_used}
 
 pub call_test : (x : CallState) (seen : LeaderState) → IsCallState x → IsCallState (word.Open seen) → eqb (call_code x) (call_code (word.Open seen)) ≡ is_open_with seen x
 call_test x seen p q = dite (ℕ_discrete (call_code x) (call_code (word.Open seen)))
@@ -85,6 +85,7 @@ module _ {V : Type 0} where
           events = [];
           ran = step_ran (setting_of z) (history_of z s) w a (stage.Asking k None (ask.ReadyJoin c seen)) sits.caller tt at;
           writes = subst (λ m. Writes z.callers w u (call a) m) (sym (code ∙ ap call_code same)) (writes_call z.callers w u a (word.Listed (w.generations a)) (subst (IsCallFor z.callers) same lawful) refl refl refl);
+          cells = refl;
         },
       ))
 
@@ -109,6 +110,7 @@ module _ {V : Type 0} where
           events = [];
           ran = step_ran (setting_of z) (history_of z s) w a (stage.Asking k None (ask.Link c seen)) sits.caller tt at;
           writes = subst (λ m. Writes z.callers w u (next a) m) (sym code) (writes_next z.callers w u a seen.top lawful refl refl refl);
+          cells = refl;
         },
       ))
 
@@ -165,10 +167,11 @@ module _ {V : Type 0} where
               events = Enter a k c (next_id w a) ∷ [];
               ran = enter_ran z a k c seen s sits.caller at true is;
               writes = subst (λ m. Writes z.callers w (entered w a k c seen a) (call c.caller) m) (sym new_code) (writes_call z.callers w (entered w a k c seen a) c.caller (word.Open (with_top seen a)) lawful refl refl refl);
+              cells = refl;
             },
           ))
       does s n found at false is test = subst (λ t. AreBy {V = V} (a ∷ []) (if t then turn.Step a ∷ [] else (if last then turn.Step a ∷ turn.Leave a ∷ [] else turn.Step a ∷ [])) × Does z s (call c.caller) (either t new n) (if t then turn.Step a ∷ [] else (if last then turn.Step a ∷ turn.Leave a ∷ [] else turn.Step a ∷ []))) (sym test)
-          (lost_by V a last, record { world = lost_world (world_of z s) a k last; events = []; ran = lost_enter_ran z a k c seen s sits.caller at is last; writes = lost_call_writes z.callers (world_of z s) a k c.caller n last found })
+          (lost_by V a last, record { world = lost_world (world_of z s) a k last; events = []; ran = lost_enter_ran z a k c seen s sits.caller at is last; writes = lost_call_writes z.callers (world_of z s) a k c.caller n last found; cells = lost_cells (world_of z s) a k last })
 
   pub enter_won : (z : Sizes) (a k g n old : ℕ) (c : CallId) (seen : LeaderState) (last : Bool) (v w : View V) → Sits z a v (stage.Asking k None (ask.Enter c seen)) → next_in z v a ≡ g → IsCallState (word.Open seen) → old ≡ call_code (word.Open seen) → Found (call c.caller) (lead_turns old a last) z v n w → n ≡ old
       → Goes z a v w (stage.Holding k g c) (Enter a k c (record { caller = a; generation = g }) ∷ []) 1

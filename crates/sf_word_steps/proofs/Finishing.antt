@@ -81,9 +81,10 @@ module _ {V : Type 0} where
             events = settled a (call_of a g) own x seen.top;
             ran = close_ran z a k g own x seen s sits.caller at true is;
             writes = subst (λ m. Writes z.callers w (after_close w a k g own x seen true) (call a) m) (sym new_code) (writes_call z.callers w (after_close w a k g own x seen true) a (word.Done seen) lawful refl refl refl);
+            cells = refl;
           })
       does s n found at false is test = subst (λ t. Does z s (call a) (either t new n) (turn.Step a ∷ [])) (sym test)
-          (record { world = after_close (world_of z s) a k g own x seen false; events = []; ran = close_ran z a k g own x seen s sits.caller at false is; writes = writes_none z.callers (world_of z s) (after_close (world_of z s) a k g own x seen false) (call a) n found refl refl refl })
+          (record { world = after_close (world_of z s) a k g own x seen false; events = []; ran = close_ran z a k g own x seen s sits.caller at false is; writes = writes_none z.callers (world_of z s) (after_close (world_of z s) a k g own x seen false) (call a) n found refl refl refl; cells = refl })
 
   -- a close that nobody joined settles the call and hands it out: the caller is free
   pub close_won : (z : Sizes) (a k g n old : ℕ) (x : V) (seen : LeaderState) (v w : View V) → Sits z a v (stage.Settling k g None x (settle.Close seen)) → IsCallState (word.Open seen) → old ≡ call_code (word.Open seen) → Found (call a) (λ _. turn.Step a ∷ []) z v n w → n ≡ old → seen.top ≡ None

@@ -30,7 +30,7 @@ use Rattle.sf_word_steps.proofs.Changing.{changes_append, changed_once}
 use Rattle.sf_word_steps.proofs.LookSteps.{key_test, lost_by}
 use Rattle.sf_word_steps.proofs.LeadSteps.{lead_turns}
 use Rattle.sf_word_steps.proofs.ForgetLooks.{forgetting_alone}
-use Rattle.sf_word_steps.proofs.ForgetSteps.{missed_world, missed_at, missed_used, missed_writes, missed_ran}
+use Rattle.sf_word_steps.proofs.ForgetSteps.{missed_world, missed_cells, missed_at, missed_used, missed_writes, missed_ran}
 
 module _ {V : Type 0} where
   -- the first clear
@@ -60,10 +60,11 @@ module _ {V : Type 0} where
               events = event.Forget a k None ∷ [];
               ran = clear_ran z a k c s sits.caller at true is;
               writes = subst (λ m. Writes z.callers w (forget_cleared w a k c true) (key k) m) (sym new_code) (writes_key z.callers w (forget_cleared w a k c true) k (cleared_key_of c) lawful refl refl refl);
+              cells = refl;
             },
           ))
       does s n found at false is test = subst (λ t. AreBy {V = V} (a ∷ []) (if t then turn.Step a ∷ [] else (if last then turn.Step a ∷ turn.Leave a ∷ [] else turn.Step a ∷ [])) × Does z s (key k) (either t new n) (if t then turn.Step a ∷ [] else (if last then turn.Step a ∷ turn.Leave a ∷ [] else turn.Step a ∷ []))) (sym test)
-          (lost_by V a last, record { world = missed_world (world_of z s) a k last; events = []; ran = missed_ran z a k s sits.caller (clear_ran z a k c s sits.caller at false is) last; writes = missed_writes z.callers (world_of z s) a k n (key k) last found })
+          (lost_by V a last, record { world = missed_world (world_of z s) a k last; events = []; ran = missed_ran z a k s sits.caller (clear_ran z a k c s sits.caller at false is) last; writes = missed_writes z.callers (world_of z s) a k n (key k) last found; cells = missed_cells (world_of z s) a k last })
 
   pub first_clear_won : (z : Sizes) (a k n old : ℕ) (c : CallId) (last : Bool) (v w : View V) → Sits z a v (stage.Forgetting k (forget.FirstClear c)) → IsKeyState (key_of c) → old ≡ key_code (key_of c) → Found (key k) (lead_turns old a last) z v n w → n ≡ old
       → Goes z a v w stage.Free (event.Forget a k None ∷ []) 0
@@ -123,11 +124,11 @@ module _ {V : Type 0} where
       does s n found at true is test = subst (λ t. Does z s (key k) (either t new n) (turn.Step a ∷ [])) (sym test)
           (let w : World V = world_of z s in
           let u : World V = with_stage (cleared w k c true) a stage.Free in
-          record { world = u; events = []; ran = last_ran z a k c s sits.caller at true is; writes = subst (λ m. Writes z.callers w u (key k) m) (sym new_code) (writes_key z.callers w u k (cleared_key_of c) lawful refl refl refl) })
+          record { world = u; events = []; ran = last_ran z a k c s sits.caller at true is; writes = subst (λ m. Writes z.callers w u (key k) m) (sym new_code) (writes_key z.callers w u k (cleared_key_of c) lawful refl refl refl); cells = refl })
       does s n found at false is test = subst (λ t. Does z s (key k) (either t new n) (turn.Step a ∷ [])) (sym test)
           (let w : World V = world_of z s in
           let u : World V = with_stage (cleared w k c false) a stage.Free in
-          record { world = u; events = []; ran = last_ran z a k c s sits.caller at false is; writes = writes_none z.callers w u (key k) n found refl refl refl })
+          record { world = u; events = []; ran = last_ran z a k c s sits.caller at false is; writes = writes_none z.callers w u (key k) n found refl refl refl; cells = refl })
 
   pub last_clear_told : (z : Sizes) (a k n : ℕ) (c : CallId) (v w : View V) → Sits z a v (stage.Forgetting k (forget.LastClear c)) → Found (key k) (λ _. turn.Step a ∷ []) z v n w → Goes z a v w stage.Free [] 0
   last_clear_told z a k n c v w sits found = at (same_key (w₀.keys k) (key_of c)) refl

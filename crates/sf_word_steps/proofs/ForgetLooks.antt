@@ -90,7 +90,7 @@ module _ {V : Type 0} where
       let w : World V = world_of z s in
       let u : World V = forget_stepped (with_stage w a (stage.Forgetting k (forget.Look false))) a k (forget.Look false) in (
         ((λ b e. inl e), ((λ b e. inl e), tt)),
-        record { world = u; events = look_events a k (w.keys k); ran = started_look z a k s (free.caller) place at; writes = writes_none z.callers w u (key k) n found refl refl refl },
+        record { world = u; events = look_events a k (w.keys k); ran = started_look z a k s (free.caller) place at; writes = writes_none z.callers w u (key k) n found refl refl refl; cells = refl },
       )))
   forget_look_move z a k v place (inr again) = subst (λ ts. Moves z v (key k) (λ n. n) (λ _. ts)) (sym (turns_are z a k v (stage.Forgetting k (forget.Look true)) again))
       (moves_by z a v (stage.Forgetting k (forget.Look true)) (key k) (λ n. n) (λ _. turn.Step a ∷ []) again (forgetting_alone k (forget.Look true))
@@ -98,7 +98,7 @@ module _ {V : Type 0} where
       let w : World V = world_of z s in
       let u : World V = forget_stepped w a k (forget.Look true) in (
         ((λ b e. inl e), tt),
-        record { world = u; events = look_events a k (w.keys k); ran = step_ran (setting_of z) (history_of z s) w a (stage.Forgetting k (forget.Look true)) again.caller tt at; writes = writes_none z.callers w u (key k) n found refl refl refl },
+        record { world = u; events = look_events a k (w.keys k); ran = step_ran (setting_of z) (history_of z s) w a (stage.Forgetting k (forget.Look true)) again.caller tt at; writes = writes_none z.callers w u (key k) n found refl refl refl; cells = refl },
       )))
 
   own_look : (a k : ℕ) (x : KeyState) → own_events {V = V} a (look_events a k x) ≡ look_events a k x
@@ -152,7 +152,7 @@ module _ {V : Type 0} where
       let w : World V = world_of z s in
       let u : World V = forget_stepped w a k (forget.Peek c) in (
         ((λ b e. inl e), tt),
-        record { world = u; events = []; ran = step_ran (setting_of z) (history_of z s) w a (stage.Forgetting k (forget.Peek c)) sits.caller tt at; writes = writes_none z.callers w u (call c.caller) n found refl refl refl },
+        record { world = u; events = []; ran = step_ran (setting_of z) (history_of z s) w a (stage.Forgetting k (forget.Peek c)) sits.caller tt at; writes = writes_none z.callers w u (call c.caller) n found refl refl refl; cells = refl },
       ))
 
   pub forget_peek_told : (z : Sizes) (a k n : ℕ) (c : CallId) (v w : View V) (x : CallState) → Sits z a v (stage.Forgetting k (forget.Peek c)) → Found (call c.caller) (λ _. turn.Step a ∷ []) z v n w

@@ -53,6 +53,10 @@ module _ {V : Type 0} where
   missed_writes n w a k m y true found = writes_none n w (missed_world w a k true) y m found refl refl refl
   missed_writes n w a k m y false found = writes_none n w (missed_world w a k false) y m found refl refl refl
 
+  pub missed_cells : (w : World V) (a k : ℕ) (last : Bool) → (missed_world w a k last).cells ≡ w.cells
+  missed_cells w a k true = refl
+  missed_cells w a k false = refl
+
   -- a failed exchange, from the step that leads back to the look
   pub missed_ran : (z : Sizes) (a k : ℕ) (s : List (Turn V)) → IsCaller (setting_of z) a → Ran (setting_of z) (history_of z s) (world_of z s) (turn.Step a ∷ []) (missed_world (world_of z s) a k false) [] → (last : Bool)
       → Ran (setting_of z) (history_of z s) (world_of z s) (if last then turn.Step a ∷ turn.Leave a ∷ [] else turn.Step a ∷ []) (missed_world (world_of z s) a k last) []
@@ -90,10 +94,11 @@ module _ {V : Type 0} where
               events = event.Forget a k (Some c) ∷ [];
               ran = close_ran z a k c seen s sits.caller at true is;
               writes = subst (λ m. Writes z.callers w (forgot w a k c seen true) (call c.caller) m) (sym new_code) (writes_call z.callers w (forgot w a k c seen true) c.caller (word.Forgot seen) lawful refl refl refl);
+              cells = refl;
             },
           ))
       does s n found at false is test = subst (λ t. AreBy {V = V} (a ∷ []) (if t then turn.Step a ∷ [] else (if last then turn.Step a ∷ turn.Leave a ∷ [] else turn.Step a ∷ [])) × Does z s (call c.caller) (either t new n) (if t then turn.Step a ∷ [] else (if last then turn.Step a ∷ turn.Leave a ∷ [] else turn.Step a ∷ []))) (sym test)
-          (lost_by V a last, record { world = missed_world (world_of z s) a k last; events = []; ran = missed_ran z a k s sits.caller (close_ran z a k c seen s sits.caller at false is) last; writes = missed_writes z.callers (world_of z s) a k n (call c.caller) last found })
+          (lost_by V a last, record { world = missed_world (world_of z s) a k last; events = []; ran = missed_ran z a k s sits.caller (close_ran z a k c seen s sits.caller at false is) last; writes = missed_writes z.callers (world_of z s) a k n (call c.caller) last found; cells = missed_cells (world_of z s) a k last })
 
   pub forget_close_won : (z : Sizes) (a k n old : ℕ) (c : CallId) (seen : LeaderState) (last : Bool) (v w : View V) → Sits z a v (stage.Forgetting k (forget.Close c seen)) → IsCallState (word.Open seen) → old ≡ call_code (word.Open seen) → Found (call c.caller) (lead_turns old a last) z v n w → n ≡ old
       → Goes z a v w (stage.Forgetting k (forget.LastClear c)) (event.Forget a k (Some c) ∷ []) 0

@@ -21,7 +21,9 @@ use Rattle.sf_schedules.specs.Events.{lead_events}
 use Rattle.sf_schedules.specs.Schedules.{IsCaller, IsSchedule}
 use Rattle.sf_lists.proofs.Functions.{put_here}
 use Rattle.sf_schedules.proofs.Compared.{same_key_self}
-use Rattle.sf_schedules.proofs.RightAnswers.{run_append}
+use Rattle.sf_schedules.specs.Afters.{after_of}
+use Rattle.sf_schedules.proofs.Afters.{leads_know_current}
+use Rattle.sf_schedules.proofs.RightAnswers.{run_append, adds_append}
 use Rattle.sf_calls.specs.declared.sizes.Sizes.{Sizes}
 use Rattle.sf_word_steps.specs.declared.view.View.{View}
 use Rattle.sf_word_steps.specs.Words.{key, code_at, IsKeyFor, Writes}
@@ -30,7 +32,7 @@ use Rattle.sf_word_steps.specs.Plays.{Moves, view_after, Made, Found}
 use Rattle.sf_history.specs.History.{own_events}
 use Rattle.sf_word_steps.specs.Stands.{Sits, next_in, Goes}
 use Rattle.sf_word_steps.specs.Changes.{Loses}
-use Rattle.sf_word_steps.specs.Attempts.{lost_stage}
+use Rattle.sf_word_steps.specs.Attempts.{IsAfter, lost_stage}
 use Rattle.sf_word_steps.proofs.Ways.{Ran, ran_then, step_ran, leave_ran, writes_none, writes_key, stands, uses, Does, moves_by, goes_by}
 use Rattle.sf_word_steps.proofs.Changing.{changes_append, changed_once}
 use Rattle.sf_word_steps.proofs.LookSteps.{key_test, lost_by, asking_alone}
@@ -62,6 +64,10 @@ module _ {V : Type 0} where
   lost_writes c w a k n true found = writes_none c w (lost_world w a k true) (key k) n found refl refl refl
   lost_writes c w a k n false found = writes_none c w (lost_world w a k false) (key k) n found refl refl refl
 
+  pub lost_cells : (w : World V) (a k : ℕ) (last : Bool) → (lost_world w a k last).cells ≡ w.cells
+  lost_cells w a k true = refl
+  lost_cells w a k false = refl
+
   pub lead_move : (z : Sizes) (a k g old new : ℕ) (seen : KeyState) (f last : Bool) (v : View V) → Sits z a v (stage.Asking k None (ask.Lead seen f)) → next_in z v a ≡ g → IsKeyState seen → IsKeyFor z.callers (Names a g false) → old ≡ key_code seen → new ≡ key_code (Names a g false)
       → Moves z v (key k) (λ n. either (n == old) new n) (lead_turns old a last)
   lead_move z a k g old new seen f last v sits given seen_lawful lawful old_code new_code = moves_by z a v p (key k) (λ n. either (n == old) new n) (lead_turns old a last) sits (asking_alone k None (ask.Lead seen f))
@@ -84,10 +90,11 @@ module _ {V : Type 0} where
               events = Lead a k (next_id w a) None ∷ [];
               ran = lead_ran z a k seen f s sits.caller at true is;
               writes = subst (λ m. Writes z.callers w (led w a k None) (key k) m) (sym (new_code ∙ ap key_code named)) (writes_key z.callers w (led w a k None) k (Names a (w.generations a) false) (subst (IsKeyFor z.callers) named lawful) refl refl refl);
+              cells = refl;
             },
           ))
       does s n found at used false is test = subst (λ t. AreBy {V = V} (a ∷ []) (if t then turn.Step a ∷ [] else (if last then turn.Step a ∷ turn.Leave a ∷ [] else turn.Step a ∷ [])) × Does z s (key k) (either t new n) (if t then turn.Step a ∷ [] else (if last then turn.Step a ∷ turn.Leave a ∷ [] else turn.Step a ∷ []))) (sym test)
-          (lost_by V a last, record { world = lost_world (world_of z s) a k last; events = []; ran = lost_ran z a k seen f s sits.caller at is last; writes = lost_writes z.callers (world_of z s) a k n last found })
+          (lost_by V a last, record { world = lost_world (world_of z s) a k last; events = []; ran = lost_ran z a k seen f s sits.caller at is last; writes = lost_writes z.callers (world_of z s) a k n last found; cells = lost_cells (world_of z s) a k last })
 
   pub lead_won : (z : Sizes) (a k g n old : ℕ) (seen : KeyState) (f last : Bool) (v w : View V) → Sits z a v (stage.Asking k None (ask.Lead seen f)) → next_in z v a ≡ g → IsKeyState seen → old ≡ key_code seen → Found (key k) (lead_turns old a last) z v n w → n ≡ old
       → Goes z a v w (stage.Leading k g None) (Lead a k (record { caller = a; generation = g }) None ∷ []) 1
@@ -106,6 +113,28 @@ module _ {V : Type 0} where
       cond-true _ _ _ (eq-eqb a a refl) ∙ ap (λ i. Lead a k (record { caller = a; generation = i }) None ∷ []) used in
       goes_by z a v w p (stage.Leading k g None) (turn.Step a ∷ []) (led w₀ a k None) (Lead a k (next_id w₀ a) None ∷ []) (Lead a k (record { caller = a; generation = g }) None ∷ []) 1 sits alone o ran
       (put_here w₀.stages a (stage.Leading k (w₀.generations a) None) ∙ ap (λ i. stage.Leading k i None) used) own (put_here w₀.generations a (w₀.generations a + 1))
+
+  -- the seat then knows the Lead last, and which call was current before it
+  pub lead_after : (z : Sizes) (a k g n old : ℕ) (seen : KeyState) (f last : Bool) (v w : View V) → Sits z a v (stage.Asking k None (ask.Lead seen f)) → next_in z v a ≡ g → IsKeyState seen → old ≡ key_code seen → Found (key k) (lead_turns old a last) z v n w → n ≡ old
+      → IsAfter z k w (Lead a k (record { caller = a; generation = g }) None) (after_of seen f)
+  lead_after z a k g n old seen f last v w sits given seen_lawful old_code found won =
+      let p : Stage V = stage.Asking k None (ask.Lead seen f) in
+      let m = found.0 in
+      let ts : List (Turn V) = turn.Step a ∷ [] in
+      let turns_is : lead_turns old a last n ≡ ts = ap (λ t. if t then turn.Step a ∷ [] else (if last then turn.Step a ∷ turn.Leave a ∷ [] else turn.Step a ∷ [])) (eq-eqb n old won) in
+      let knows : w.known.turns ≡ m.before ++ ts = ap (λ (y : View V). y.known.turns) m.view ∙ ap (λ q. m.before ++ q) turns_is in
+      let w₀ : World V = world_of z m.before in
+      let key_is : w₀.keys k ≡ seen = key_code_one (w₀.keys k) seen (m.comes.lawful.keys k).0 seen_lawful (sym found.1 ∙ (won ∙ old_code)) in
+      let same : same_key (w₀.keys k) seen ≡ true = subst (λ (y : KeyState). same_key y seen ≡ true) (sym key_is) (same_key_self seen) in
+      let alone = asking_alone k None (ask.Lead seen f) in
+      let at = stands z a v p m.before sits alone m.comes in
+      let used : w₀.generations a ≡ g = uses z a v p m.before sits alone m.comes ∙ given in
+      let ran = lead_ran z a k seen f m.before sits.caller at true same in
+      record {
+        before = history_of z m.before;
+        last = ap (history_of z) knows ∙ (adds_append (first_world z.first) m.before ts ∙ ap (λ es. history_of z m.before ++ es) (ran.events ∙ ap (λ i. Lead a k (record { caller = a; generation = i }) None ∷ []) used));
+        current = leads_know_current (setting_of z) m.before m.comes.schedule a k None seen f at same;
+      }
 
   pub lost_at : (w : World V) (a k : ℕ) (last : Bool) → (lost_world w a k last).stages a ≡ lost_stage k last
   lost_at w a k true = put_here (put w.stages a (stage.Asking k None (ask.Look true))) a stage.Free

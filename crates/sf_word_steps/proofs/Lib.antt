@@ -1,3 +1,4 @@
+pub mod Cells
 pub mod Keeps
 pub mod Seats
 pub mod Ways
@@ -12,3 +13,10 @@ pub mod ForgetClears
 pub mod Forgets
 pub mod Finishing
 pub mod SettleSteps
+pub mod HearSteps
+pub mod DeliverSteps
+pub mod ListSteps
+pub mod HandSteps
+pub mod Handing
+pub mod Answered
+pub mod CollectSteps

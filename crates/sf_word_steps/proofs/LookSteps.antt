@@ -67,7 +67,7 @@ module _ {V : Type 0} where
   stage_is z a v p sits = ap (λ o. (world_of (sizes_with o) v.known.turns).stages a) sits.sizes ∙ sits.stage
     where
       sizes_with : Option Sizes → Sizes
-      sizes_with o = sizes_of (record { sizes = o; known = v.known; told = v.told })
+      sizes_with o = sizes_of (record { sizes = o; known = v.known; told = v.told; cells = v.cells })
 
   -- a step that leaves others' words alone
   pub stays_by : (z : Sizes) (a : ℕ) (v w : View V) (p q : Stage V) (ts : List (Turn V)) (u : World V) → Sits z a v p → IsAlone p → (m : Made z v w ts)
@@ -127,7 +127,7 @@ module _ {V : Type 0} where
       let w : World V = world_of z s in
       let u : World V = ask_stepped (with_stage w a (stage.Asking k None (ask.Look false))) a k None (ask.Look false) in (
         ((λ b e. inl e), ((λ b e. inl e), tt)),
-        record { world = u; events = []; ran = started_look z a k s (free.0.caller) place at (subst (λ g. g ≤ 4294967295) (sym used) free.1); writes = writes_none z.callers w u (key k) n found refl refl refl },
+        record { world = u; events = []; ran = started_look z a k s (free.0.caller) place at (subst (λ g. g ≤ 4294967295) (sym used) free.1); writes = writes_none z.callers w u (key k) n found refl refl refl; cells = refl },
       )))
   look_move z a k v place (inr again) = subst (λ ts. Moves z v (key k) (λ n. n) (λ _. ts)) (sym (look_turns_are z a k v (stage.Asking k None (ask.Look true)) again))
       (moves_by z a v (stage.Asking k None (ask.Look true)) (key k) (λ n. n) (λ _. turn.Step a ∷ []) again (asking_alone k None (ask.Look true))
@@ -135,7 +135,7 @@ module _ {V : Type 0} where
       let w : World V = world_of z s in
       let u : World V = ask_stepped w a k None (ask.Look true) in (
         ((λ b e. inl e), tt),
-        record { world = u; events = []; ran = step_ran (setting_of z) (history_of z s) w a (stage.Asking k None (ask.Look true)) again.caller tt at; writes = writes_none z.callers w u (key k) n found refl refl refl },
+        record { world = u; events = []; ran = step_ran (setting_of z) (history_of z s) w a (stage.Asking k None (ask.Look true)) again.caller tt at; writes = writes_none z.callers w u (key k) n found refl refl refl; cells = refl },
       )))
 
   -- what the look found is in the key word, as far as the seat then knows
@@ -183,7 +183,7 @@ module _ {V : Type 0} where
       let w : World V = world_of z s in
       let u : World V = ask_stepped w a k None (ask.Peek c) in (
         ((λ b e. inl e), tt),
-        record { world = u; events = []; ran = step_ran (setting_of z) (history_of z s) w a (stage.Asking k None (ask.Peek c)) sits.caller tt at; writes = writes_none z.callers w u (call c.caller) n found refl refl refl },
+        record { world = u; events = []; ran = step_ran (setting_of z) (history_of z s) w a (stage.Asking k None (ask.Peek c)) sits.caller tt at; writes = writes_none z.callers w u (call c.caller) n found refl refl refl; cells = refl },
       ))
 
   pub peek_told : (z : Sizes) (a k n : ℕ) (c : CallId) (v w : View V) (x : CallState) → Sits z a v (stage.Asking k None (ask.Peek c)) → Found (call c.caller) (λ _. turn.Step a ∷ []) z v n w
@@ -213,6 +213,7 @@ module _ {V : Type 0} where
           events = [];
           ran = step_ran (setting_of z) (history_of z s) w a (stage.Asking k None (ask.ReadyLead seen f)) sits.caller tt at;
           writes = subst (λ m. Writes z.callers w u (call a) m) (sym (code ∙ ap call_code same)) (writes_call z.callers w u a (ready_state (w.generations a)) (subst (IsCallFor z.callers) same lawful) refl refl refl);
+          cells = refl;
         },
       ))
 

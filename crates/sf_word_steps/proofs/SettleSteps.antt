@@ -94,7 +94,7 @@ module _ {V : Type 0} where
       let w : World V = world_of z s in
       let u : World V = settle_stepped (with_stage w a (stage.Settling k g own x settle.Peek)) a k g own x settle.Peek in (
         ((λ b e. inl e), ((λ b e. inl e), tt)),
-        record { world = u; events = peek_events a (call_of a g) own x (w.calls a); ran = first_ran z a k g own x s first.caller at; writes = writes_none z.callers w u (call a) n found refl refl refl },
+        record { world = u; events = peek_events a (call_of a g) own x (w.calls a); ran = first_ran z a k g own x s first.caller at; writes = writes_none z.callers w u (call a) n found refl refl refl; cells = refl },
       )))
   own_peek_move z a k g own x v (inr again) = subst (λ ts. Moves z v (call a) (λ n. n) (λ _. ts)) (sym (turns_are z a x v (stage.Settling k g own x settle.Peek) again))
       (moves_by z a v (stage.Settling k g own x settle.Peek) (call a) (λ n. n) (λ _. turn.Step a ∷ []) again (settling_alone k g own x settle.Peek)
@@ -102,7 +102,7 @@ module _ {V : Type 0} where
       let w : World V = world_of z s in
       let u : World V = settle_stepped w a k g own x settle.Peek in (
         ((λ b e. inl e), tt),
-        record { world = u; events = peek_events a (call_of a g) own x (w.calls a); ran = step_ran (setting_of z) (history_of z s) w a (stage.Settling k g own x settle.Peek) again.caller tt at; writes = writes_none z.callers w u (call a) n found refl refl refl },
+        record { world = u; events = peek_events a (call_of a g) own x (w.calls a); ran = step_ran (setting_of z) (history_of z s) w a (stage.Settling k g own x settle.Peek) again.caller tt at; writes = writes_none z.callers w u (call a) n found refl refl refl; cells = refl },
       )))
 
   pub own_peek_told : (z : Sizes) (a k g n : ℕ) (own : Option CallId) (x : V) (v w : View V) (r : CallState) → MaySettle z a k g own x v → Found (call a) (λ _. settle_turns (stage_in v a) a x) z v n w
@@ -202,11 +202,11 @@ module _ {V : Type 0} where
       does s n found at true is test = subst (λ t. Does z s (key k) (either t new n) (turn.Step a ∷ [])) (sym test)
           (let w : World V = world_of z s in
           let u : World V = with_stage (cleared w k (call_of a g) true) a (at_members k g own x shared top) in
-          record { world = u; events = []; ran = settle_clear_ran z a k g own x shared top s sits.caller at true is; writes = subst (λ m. Writes z.callers w u (key k) m) (sym new_code) (writes_key z.callers w u k (Names a g true) lawful refl refl refl) })
+          record { world = u; events = []; ran = settle_clear_ran z a k g own x shared top s sits.caller at true is; writes = subst (λ m. Writes z.callers w u (key k) m) (sym new_code) (writes_key z.callers w u k (Names a g true) lawful refl refl refl); cells = refl })
       does s n found at false is test = subst (λ t. Does z s (key k) (either t new n) (turn.Step a ∷ [])) (sym test)
           (let w : World V = world_of z s in
           let u : World V = with_stage (cleared w k (call_of a g) false) a (at_members k g own x shared top) in
-          record { world = u; events = []; ran = settle_clear_ran z a k g own x shared top s sits.caller at false is; writes = writes_none z.callers w u (key k) n found refl refl refl })
+          record { world = u; events = []; ran = settle_clear_ran z a k g own x shared top s sits.caller at false is; writes = writes_none z.callers w u (key k) n found refl refl refl; cells = refl })
 
   pub settle_clear_told : (z : Sizes) (a k g n : ℕ) (own : Option CallId) (x : V) (shared : Bool) (top : Option ℕ) (v w : View V) → Sits z a v (stage.Settling k g own x (settle.Clear shared top)) → Found (key k) (λ _. turn.Step a ∷ []) z v n w
       → Goes z a v w (at_members k g own x shared top) [] 0

@@ -31,10 +31,10 @@ use Rattle.sf_calls.specs.declared.sizes.Sizes.{Sizes}
 use Rattle.sf_word_steps.specs.declared.view.View.{View}
 use Rattle.sf_word_steps.specs.Words.{Word, key, call, next, same_word, code_at, IsKeyFor, IsCallFor, IsNextFor, Writes}
 use Rattle.sf_word_steps.specs.View.{Has, setting_of, AreBy, callers_of, all_of, world_of, history_of}
-use Rattle.sf_word_steps.specs.Plays.{Comes, Moves, Made}
+use Rattle.sf_word_steps.specs.Plays.{Comes, Moves, MadeWith, Made}
 use Rattle.sf_calls.specs.Seen.{Adds}
 use Rattle.sf_history.specs.History.{own_events}
-use Rattle.sf_word_steps.specs.Stands.{Sits, next_in, Goes}
+use Rattle.sf_word_steps.specs.Stands.{SitsWith, Sits, next_in, GoesWith, Goes}
 use Rattle.sf_schedules.proofs.Named.{IsAlone, spared_others, spared_stage, spared_generation, others_none, makers_are_callers}
 use Rattle.sf_schedules.proofs.Parts.{schedule_append}
 
@@ -172,19 +172,19 @@ module _ {V : Type 0} where
           through false = refl
 
   -- a seat's own stage and generation are what it knows, whatever others did
-  pub sits_has : (z : Sizes) (a : ℕ) (v : View V) (p : Stage V) → Sits z a v p → Has v.known.callers a
+  pub sits_has : {out : List ℕ} (z : Sizes) (a : ℕ) (v : View V) (p : Stage V) → SitsWith z a v p out → Has v.known.callers a
   sits_has z a v p sits = subst (λ q. Has q a) (sym sits.callers) (inl refl)
 
-  pub all_alone : (z : Sizes) (a : ℕ) (v : View V) (p : Stage V) → Sits z a v p → all_of v ≡ a ∷ []
+  pub all_alone : {out : List ℕ} (z : Sizes) (a : ℕ) (v : View V) (p : Stage V) → SitsWith z a v p out → all_of v ≡ a ∷ []
   all_alone z a v p sits = ap (λ q. v.known.callers ++ callers_of q) sits.told ∙ (append-nil v.known.callers ∙ sits.callers)
 
-  pub stands : (z : Sizes) (a : ℕ) (v : View V) (p : Stage V) (s : List (Turn V)) → Sits z a v p → IsAlone p → Comes z v s → (world_of z s).stages a ≡ p
+  pub stands : {out : List ℕ} (z : Sizes) (a : ℕ) (v : View V) (p : Stage V) (s : List (Turn V)) → SitsWith z a v p out → IsAlone p → Comes z v s → (world_of z s).stages a ≡ p
   stands z a v p s sits alone c =
       let m = c.later in
       let whole : IsSchedule (setting_of z) (v.known.turns ++ m.between) = subst (λ q. IsSchedule (setting_of z) q) m.turns c.schedule in
       ap (λ q. (world_of z q).stages a) m.turns ∙ (spared_stage (setting_of z) v.known.turns m.between a whole (m.others a (sits_has z a v p sits)) (subst IsAlone (sym sits.stage) alone) ∙ sits.stage)
 
-  pub uses : (z : Sizes) (a : ℕ) (v : View V) (p : Stage V) (s : List (Turn V)) → Sits z a v p → IsAlone p → Comes z v s → (world_of z s).generations a ≡ next_in z v a
+  pub uses : {out : List ℕ} (z : Sizes) (a : ℕ) (v : View V) (p : Stage V) (s : List (Turn V)) → SitsWith z a v p out → IsAlone p → Comes z v s → (world_of z s).generations a ≡ next_in z v a
   uses z a v p s sits alone c =
       let m = c.later in
       let whole : IsSchedule (setting_of z) (v.known.turns ++ m.between) = subst (λ q. IsSchedule (setting_of z) q) m.turns c.schedule in
@@ -196,21 +196,26 @@ module _ {V : Type 0} where
     pub events : List (Event ℕ V)
     pub ran : Ran (setting_of z) (history_of z s) (world_of z s) ts world events
     pub writes : Writes z.callers (world_of z s) world x m
+    pub cells : world.cells ≡ (world_of z s).cells
 
   pub moves_by : (z : Sizes) (a : ℕ) (v : View V) (p : Stage V) (x : Word) (f : ℕ → ℕ) (turns : ℕ → List (Turn V)) → Sits z a v p → IsAlone p
       → ((s : List (Turn V)) → Comes z v s → (world_of z s).stages a ≡ p → (world_of z s).generations a ≡ next_in z v a → (n : ℕ) → n ≡ code_at (world_of z s) x → AreBy (a ∷ []) (turns n) × Does z s x (f n) (turns n))
       → Moves z v x f turns
-  moves_by z a v p x f turns sits alone does s c n found small =
-      let d = does s c (stands z a v p s sits alone c) (uses z a v p s sits alone c) n found in (
-        subst (λ who. AreBy who (turns n)) (sym (all_alone z a v p sits)) d.0,
-        d.1.ran.allowed,
-        subst (λ (u : World V). Writes z.callers (world_of z s) u x (f n)) (sym d.1.ran.world) d.1.writes,
-      )
+  moves_by z a v p x f turns sits alone does = (
+    sits.cells,
+    λ s c n found small.
+        let d = does s c (stands z a v p s sits alone c) (uses z a v p s sits alone c) n found in (
+          subst (λ who. AreBy who (turns n)) (sym (all_alone z a v p sits)) d.0,
+          d.1.ran.allowed,
+          subst (λ (u : World V). Writes z.callers (world_of z s) u x (f n)) (sym d.1.ran.world) d.1.writes,
+          ap (λ (u : World V). u.cells) d.1.ran.world ∙ d.1.cells,
+        ),
+  )
 
-  -- what the seat knows after these turns
-  abbrev pub goes_by : (z : Sizes) (a : ℕ) (v w : View V) (p q : Stage V) (ts : List (Turn V)) (u : World V) (es x : List (Event ℕ V)) (given : ℕ) → Sits z a v p → IsAlone p → (m : Made z v w ts)
-      → Ran (setting_of z) (history_of z m.before) (world_of z m.before) ts u es → u.stages a ≡ q → own_events a es ≡ x → u.generations a ≡ (world_of z m.before).generations a + given → Goes z a v w q x given
-  goes_by z a v w p q ts u es x given sits alone m ran at own more =
+  -- what the seat knows after these turns, before which it had these cells out, and after which those
+  abbrev pub goes_with : (z : Sizes) (a : ℕ) (v w : View V) (p q : Stage V) (ts : List (Turn V)) (u : World V) (es x : List (Event ℕ V)) (given : ℕ) (had out : List ℕ) → SitsWith z a v p had → IsAlone p → (m : MadeWith z v w ts out)
+      → Ran (setting_of z) (history_of z m.before) (world_of z m.before) ts u es → u.stages a ≡ q → own_events a es ≡ x → u.generations a ≡ (world_of z m.before).generations a + given → GoesWith z a v w q x given out
+  goes_with z a v w p q ts u es x given had out sits alone m ran at own more =
       let s : List (Turn V) = m.before in
       let between : List (Turn V) = m.comes.later.between in
       let first = first_world z.first in
@@ -237,6 +242,7 @@ module _ {V : Type 0} where
           caller = sits.caller;
           schedule = subst (λ y. IsSchedule (setting_of z) y) (sym turns_is) m.whole;
           stage = ap (λ y. (world_of z y).stages a) turns_is ∙ (ap (λ (y : World V). y.stages a) world_is ∙ at);
+          cells = ap (λ (y : View V). y.cells) m.view;
         };
         turns = between ++ ts;
         knows = turns_is ∙ (ap (λ y. y ++ ts) m.comes.later.turns ∙ append_assoc v.known.turns between ts);
@@ -253,3 +259,8 @@ module _ {V : Type 0} where
           lawful = record { legal = schedules_are_legal (setting_of z) (s ++ ts) m.whole; made = makers_are_callers (setting_of z) (s ++ ts) m.whole };
         });
       }
+
+  -- the same where it has none out
+  abbrev pub goes_by : (z : Sizes) (a : ℕ) (v w : View V) (p q : Stage V) (ts : List (Turn V)) (u : World V) (es x : List (Event ℕ V)) (given : ℕ) → Sits z a v p → IsAlone p → (m : Made z v w ts)
+      → Ran (setting_of z) (history_of z m.before) (world_of z m.before) ts u es → u.stages a ≡ q → own_events a es ≡ x → u.generations a ≡ (world_of z m.before).generations a + given → Goes z a v w q x given
+  goes_by z a v w p q ts u es x given sits alone m ran at own more = goes_with z a v w p q ts u es x given [] [] sits alone m ran at own more

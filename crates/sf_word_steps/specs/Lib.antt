@@ -1,5 +1,6 @@
 pub mod Words
 pub mod View
+pub mod Cells
 pub mod Shows
 pub mod Plays
 pub mod Stands
@@ -7,3 +8,6 @@ pub mod Changes
 pub mod Attempts
 pub mod Forgets
 pub mod Settles
+pub mod Hears
+pub mod Delivers
+pub mod Collects

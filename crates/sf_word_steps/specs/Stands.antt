@@ -17,33 +17,42 @@ use Rattle.sf_calls.specs.Seen.{Adds}
 
 -- a seat at the table of words of a group of these sizes
 abbrev pub IsSeatOf : TableId → TableId → Sizes → Type 0
-IsSeatOf seat table z = (seat ≡ table) × (table.words ≡ words_in z)
+IsSeatOf seat table z = (seat ≡ table) × (table.words ≡ words_in z) × (table.slots ≡ z.callers + 1)
 
 module _ {V : Type 0} where
   -- the stage of a caller, as the seat knows
   abbrev pub stage_in : View V → ℕ → Stage V
   stage_in v a = (world_of (sizes_of v) v.known.turns).stages a
 
-  -- the seat is that of one caller, which is at this stage
-  pub record Sits (z : Sizes) (a : ℕ) (v : View V) (p : Stage V) : Type 0 where
+  -- the seat is that of one caller, which is at this stage, and has these cells out
+  pub record SitsWith (z : Sizes) (a : ℕ) (v : View V) (p : Stage V) (out : List ℕ) : Type 0 where
     pub sizes : v.sizes ≡ Some z
     pub callers : v.known.callers ≡ a ∷ []
     pub told : v.told ≡ []
     pub caller : IsCaller (setting_of z) a
     pub schedule : IsSchedule (setting_of z) v.known.turns
     pub stage : (world_of z v.known.turns).stages a ≡ p
+    pub cells : v.cells ≡ out
+
+  -- the seat is that of one caller, which is at this stage
+  abbrev pub Sits : Sizes → ℕ → View V → Stage V → Type 0
+  Sits z a v p = SitsWith z a v p []
 
   -- its next generation
   abbrev pub next_in : Sizes → View V → ℕ → ℕ
   next_in z v a = (world_of z v.known.turns).generations a
 
-  -- the caller went on to this stage. It added these events, and used so many generations
-  pub record Goes (z : Sizes) (a : ℕ) (v w : View V) (p : Stage V) (x : List (Event ℕ V)) (given : ℕ) : Type 0 where
-    pub sits : Sits z a w p
+  -- the caller went on to this stage, where its seat has these cells out. It added these events, and used so many generations
+  pub record GoesWith (z : Sizes) (a : ℕ) (v w : View V) (p : Stage V) (x : List (Event ℕ V)) (given : ℕ) (out : List ℕ) : Type 0 where
+    pub sits : SitsWith z a w p out
     pub turns : List (Turn V)
     pub knows : w.known.turns ≡ v.known.turns ++ turns
     pub used : next_in z w a ≡ next_in z v a + given
     pub adds : (t : TableId) → Adds (record { table = t; sizes = z }) a (history_of z v.known.turns) (history_of z w.known.turns) x given
+
+  -- the caller went on to this stage. It added these events, and used so many generations
+  abbrev pub Goes : Sizes → ℕ → View V → View V → Stage V → List (Event ℕ V) → ℕ → Type 0
+  Goes z a v w p x given = GoesWith z a v w p x given []
 
   -- where an asking begins, or looks again after a failed exchange
   abbrev pub MayLook : Sizes → ℕ → ℕ → View V → Type 0

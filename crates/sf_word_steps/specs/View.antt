@@ -53,25 +53,25 @@ module _ {V : Type 0} where
 
   -- the view of the seat that deals the callers out
   abbrev pub first_view : Sizes → View V
-  first_view z = record { sizes = Some z; known = claim (range_with_len 1 z.callers) []; told = [] }
+  first_view z = record { sizes = Some z; known = claim (range_with_len 1 z.callers) []; told = []; cells = [] }
 
   -- what is left of a seat when its first caller gets one of its own, and that one
   abbrev pub without_first : View V → View V
-  without_first v = record { sizes = v.sizes; known = claim (rest_of v.known.callers) v.known.turns; told = v.told }
+  without_first v = record { sizes = v.sizes; known = claim (rest_of v.known.callers) v.known.turns; told = v.told; cells = [] }
 
   abbrev pub first_alone : View V → View V
-  first_alone v = record { sizes = v.sizes; known = claim (first_of_all v.known.callers) v.known.turns; told = [] }
+  first_alone v = record { sizes = v.sizes; known = claim (first_of_all v.known.callers) v.known.turns; told = []; cells = [] }
 
   -- a seat that shows what another knows
   abbrev pub note_of : View V → View V
-  note_of v = record { sizes = v.sizes; known = claim [] v.known.turns; told = [] }
+  note_of v = record { sizes = v.sizes; known = claim [] v.known.turns; told = []; cells = [] }
 
   -- a seat that has taken another in, and what that leaves
   abbrev pub both_of : View V → View V → View V
-  both_of v w = record { sizes = v.sizes; known = v.known; told = v.told ++ w.known ∷ w.told }
+  both_of v w = record { sizes = v.sizes; known = v.known; told = v.told ++ w.known ∷ w.told; cells = v.cells }
 
   abbrev pub blank : View V
-  blank = record { sizes = None; known = claim [] []; told = [] }
+  blank = record { sizes = None; known = claim [] []; told = []; cells = [] }
 
   -- the world that a list of turns comes to, and its events
   abbrev pub world_of : Sizes → List (Turn V) → World V

@@ -2,6 +2,7 @@
 ghost use Rattle.std.specs.Prelude.{◌≡◌, ◌≢◌, ℕ, ◌≤◌, None};
 ghost use Rattle.sf_words.specs.declared.call_word.CallState.TheVariants.{Open};
 ghost use Rattle.sf_schedules.specs.Schedules.{IsPlace};
+ghost use Rattle.sf_schedules.specs.Afters.{after_of};
 ghost use Rattle.sf_schedules.specs.World.{is_forgot_in, open_in, key_of};
 ghost use Rattle.sf_schedules.specs.declared.operation.Stage.TheVariants.{Asking, Free};
 ghost use Rattle.sf_schedules.specs.declared.operation.AskStep.TheVariants as ask;
@@ -14,13 +15,14 @@ use crate::actor::Actor;
 use crate::entering::{enter, link, ready_join};
 use crate::leading::{lead, look, peek, ready};
 use crate::rule::{WordSeat, Words};
+use sf_calls::Fit;
 use sf_history::CallId;
 use sf_words::{CallState, KeyState, LeaderState};
 
 /// How an attempt of an asking ended.
 pub enum Attempt {
-    /// The caller leads its new call.
-    Led,
+    /// The caller leads its new call, before which this one was the place's current call.
+    Led(Option<CallId>),
     /// It joined this call.
     Joined(CallId),
     /// Its exchange failed.
@@ -28,7 +30,7 @@ pub enum Attempt {
 }
 
 /// What an open word of this generation says.
-pub(crate) fn opened(word: CallState, generation: u32) -> Option<LeaderState>
+pub fn opened(word: CallState, generation: u32) -> Option<LeaderState>
     ensures { result ≡ open_in generation word }
 {
     match word {
@@ -38,7 +40,7 @@ pub(crate) fn opened(word: CallState, generation: u32) -> Option<LeaderState>
 }
 
 /// Whether a Forget closed the call of this generation.
-fn is_forgot(word: CallState, generation: u32) -> bool
+pub fn is_forgot(word: CallState, generation: u32) -> bool
     ensures { result ≡ is_forgot_in generation word }
 {
     match word {
@@ -47,8 +49,22 @@ fn is_forgot(word: CallState, generation: u32) -> bool
     }
 }
 
+/// The call that was current before a lead, by what its asking read.
+pub fn current_before(seen: KeyState, forgot: bool) -> Option<CallId>
+    ensures { result ≡ after_of seen forgot }
+{
+    match seen {
+        KeyState::Names {
+            caller,
+            generation,
+            cleared: false,
+        } if !forgot => Some(CallId { caller, generation }),
+        _ => None,
+    }
+}
+
 /// Makes the own word ready, and tries the key word that was seen.
-fn lead_on<V>(
+fn lead_on<V: Fit>(
     words: &Words<V>,
     seat: &mut WordSeat<V>,
     actor: Actor,
@@ -69,14 +85,14 @@ fn lead_on<V>(
 {
     ready(words, seat, actor, generation, seen, forgot);
     if lead(words, seat, actor, generation, seen, forgot, last) {
-        Attempt::Led
+        Attempt::Led(current_before(seen, forgot))
     } else {
         Attempt::Lost
     }
 }
 
 /// Makes the own words ready, and tries the leader's call word that was seen.
-fn join_on<V>(
+fn join_on<V: Fit>(
     words: &Words<V>,
     seat: &mut WordSeat<V>,
     actor: Actor,
@@ -105,7 +121,7 @@ fn join_on<V>(
 }
 
 /// Peeks at the call that the key word named, and joins it where it is open, or leads.
-fn follow_on<V>(
+fn follow_on<V: Fit>(
     words: &Words<V>,
     seat: &mut WordSeat<V>,
     actor: Actor,
@@ -141,7 +157,7 @@ fn follow_on<V>(
 }
 
 /// Looks, and leads a new call or joins the open one.
-pub(crate) fn try_once<V>(
+pub(crate) fn try_once<V: Fit>(
     words: &Words<V>,
     seat: &mut WordSeat<V>,
     actor: Actor,
@@ -178,7 +194,7 @@ pub(crate) fn try_once<V>(
 }
 
 /// Tries so often. After the last try that fails the caller has left its asking.
-pub fn try_often<V>(
+pub fn try_often<V: Fit>(
     words: &Words<V>,
     seat: &mut WordSeat<V>,
     actor: Actor,

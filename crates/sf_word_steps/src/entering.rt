@@ -14,12 +14,13 @@ use crate::actor::Actor;
 use crate::numbering::{call_index, next_index};
 use crate::rule::{WordSeat, Words};
 use crate::steps::{exchange_turns, store_turns};
+use sf_calls::Fit;
 use sf_history::CallId;
 use sf_words::{CallState, CallWord, LeaderState, NextWord, pack_call, pack_next};
 use std::marker::Brand;
 
 /// Makes the caller's own word ready to join.
-pub(crate) fn ready_join<V>(
+pub(crate) fn ready_join<V: Fit>(
     words: &Words<V>,
     seat: &mut WordSeat<V>,
     actor: Actor,
@@ -50,7 +51,7 @@ pub(crate) fn ready_join<V>(
 }
 
 /// Points the caller's own next word to the top of the list that was seen.
-pub(crate) fn link<V>(
+pub(crate) fn link<V: Fit>(
     words: &Words<V>,
     seat: &mut WordSeat<V>,
     actor: Actor,
@@ -79,7 +80,7 @@ pub(crate) fn link<V>(
 }
 
 /// Exchanges the leader's call word that was seen, and says whether it did. The last try is followed by the drop.
-pub(crate) fn enter<V>(
+pub(crate) fn enter<V: Fit>(
     words: &Words<V>,
     seat: &mut WordSeat<V>,
     actor: Actor,

@@ -22,6 +22,7 @@ use crate::attempting::opened;
 use crate::numbering::{call_index, key_index};
 use crate::rule::{WordSeat, Words};
 use crate::steps::{exchange_turns, load_turns};
+use sf_calls::Fit;
 use sf_history::CallId;
 use sf_words::{
     CallState, CallWord, KeyState, KeyWord, LeaderState, pack_call, pack_key, unpack_call,
@@ -41,7 +42,7 @@ pub enum ForgetAttempt {
 
 /// Loads the key word of the place. Where it names no call, or one that is cleared, nothing was open, and the Forget is
 /// made.
-fn forget_look<V>(words: &Words<V>, seat: &mut WordSeat<V>, actor: Actor) -> KeyState
+fn forget_look<V: Fit>(words: &Words<V>, seat: &mut WordSeat<V>, actor: Actor) -> KeyState
     requires own { IsSeatOf seat.old.table_id words.now.table_id words.now.key }
     requires sizes { actor.sizes ≡ words.now.key }
     requires place { IsPlace (setting_of actor.sizes) actor.place }
@@ -65,7 +66,7 @@ fn forget_look<V>(words: &Words<V>, seat: &mut WordSeat<V>, actor: Actor) -> Key
 }
 
 /// Loads the call word of the call that the key word named.
-fn forget_peek<V>(
+fn forget_peek<V: Fit>(
     words: &Words<V>,
     seat: &mut WordSeat<V>,
     actor: Actor,
@@ -96,7 +97,7 @@ fn forget_peek<V>(
 
 /// Exchanges the leader's call word that was seen open for the same forgotten, and says whether it did. Who enters the
 /// call between makes it fail. The last try is followed by the drop.
-fn close_forgotten<V>(
+fn close_forgotten<V: Fit>(
     words: &Words<V>,
     seat: &mut WordSeat<V>,
     actor: Actor,
@@ -134,7 +135,7 @@ fn close_forgotten<V>(
 
 /// Exchanges the key word of a call that was found not open for the same cleared, and says whether it did: then nothing
 /// was open. The last try is followed by the drop.
-fn first_clear<V>(
+fn first_clear<V: Fit>(
     words: &Words<V>,
     seat: &mut WordSeat<V>,
     actor: Actor,
@@ -179,7 +180,7 @@ fn first_clear<V>(
 
 /// Clears the key word of the call that this Forget closed, where it still names that. Whether it does is nobody's
 /// matter: its leader clears it too, and an asking leads over it as it is.
-fn last_clear<V>(words: &Words<V>, seat: &mut WordSeat<V>, actor: Actor, called: CallId)
+fn last_clear<V: Fit>(words: &Words<V>, seat: &mut WordSeat<V>, actor: Actor, called: CallId)
     requires own { IsSeatOf seat.old.table_id words.now.table_id words.now.key }
     requires sizes { actor.sizes ≡ words.now.key }
     requires place { IsPlace (setting_of actor.sizes) actor.place }
@@ -214,7 +215,7 @@ fn last_clear<V>(words: &Words<V>, seat: &mut WordSeat<V>, actor: Actor, called:
 }
 
 /// Goes on with a call that was found not open.
-fn clear_on<V>(
+fn clear_on<V: Fit>(
     words: &Words<V>,
     seat: &mut WordSeat<V>,
     actor: Actor,
@@ -237,7 +238,7 @@ fn clear_on<V>(
 }
 
 /// Goes on with a call that was found open.
-fn close_on<V>(
+fn close_on<V: Fit>(
     words: &Words<V>,
     seat: &mut WordSeat<V>,
     actor: Actor,
@@ -263,7 +264,7 @@ fn close_on<V>(
 }
 
 /// Peeks at the call that the key word named, and closes it where it is open, or clears the key word.
-fn forget_on<V>(
+fn forget_on<V: Fit>(
     words: &Words<V>,
     seat: &mut WordSeat<V>,
     actor: Actor,
@@ -287,7 +288,7 @@ fn forget_on<V>(
 }
 
 /// Looks, and forgets what it finds.
-fn forget_once<V>(
+fn forget_once<V: Fit>(
     words: &Words<V>,
     seat: &mut WordSeat<V>,
     actor: Actor,
@@ -316,7 +317,7 @@ fn forget_once<V>(
 }
 
 /// Tries so often. After the last try that fails the caller has left its Forget.
-pub fn forget_often<V>(
+pub fn forget_often<V: Fit>(
     words: &Words<V>,
     seat: &mut WordSeat<V>,
     actor: Actor,

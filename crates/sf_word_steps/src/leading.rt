@@ -1,24 +1,25 @@
 //! The kinds of step of an asking: look, peek, ready, lead. Each is one step on one word.
-ghost use Rattle.std.specs.Prelude.{◌≡◌, ◌≢◌, ℕ, ◌≤◌, false, None, Some, [], ◌∷◌, IsTrue, IsFalse};
-ghost use Rattle.sf_history.specs.declared.event.Event.TheVariants.{Lead};
+ghost use Rattle.std.specs.Prelude.{◌≡◌, ◌≢◌, ℕ, ◌≤◌, false, None, Some, IsTrue, IsFalse};
 ghost use Rattle.sf_words.specs.declared.call_word.LeaderState.{LeaderState};
 ghost use Rattle.sf_words.specs.declared.key_word.KeyState.TheVariants.{Names};
 ghost use Rattle.sf_words.specs.KeyWord.{key_code};
 ghost use Rattle.sf_schedules.specs.Schedules.{IsPlace};
-ghost use Rattle.sf_schedules.specs.declared.operation.Stage.TheVariants.{Asking, Leading};
+ghost use Rattle.sf_schedules.specs.declared.operation.Stage.TheVariants.{Asking};
 ghost use Rattle.sf_schedules.specs.declared.operation.AskStep.TheVariants as ask;
+ghost use Rattle.sf_schedules.specs.Afters.{after_of};
 ghost use Rattle.sf_schedules.specs.Askings.{looked, peeked};
 ghost use Rattle.sf_schedules.specs.World.{is_forgot_in, open_in};
 ghost use Rattle.sf_word_steps.specs.Words.{index, key, call, IsKeyFor, IsCallFor, code_at};
 ghost use Rattle.sf_word_steps.specs.View.{setting_of, world_of};
-ghost use Rattle.sf_word_steps.specs.Stands.{IsSeatOf, Sits, next_in, Goes, MayLook};
+ghost use Rattle.sf_word_steps.specs.Stands.{IsSeatOf, Sits, next_in, MayLook};
 ghost use Rattle.sf_word_steps.specs.Changes.{Stays, Loses};
-ghost use Rattle.sf_word_steps.specs.Attempts.{lost_stage};
+ghost use Rattle.sf_word_steps.specs.Attempts.{lost_stage, HasLedAfter};
 
 use crate::actor::Actor;
 use crate::numbering::{call_index, key_index};
 use crate::rule::{WordSeat, Words};
 use crate::steps::{exchange_turns, load_turns, store_turns};
+use sf_calls::Fit;
 use sf_history::CallId;
 use sf_words::{
     CallState, CallWord, KeyState, KeyWord, LeaderState, pack_call, pack_key, unpack_call,
@@ -27,7 +28,7 @@ use sf_words::{
 use std::marker::Brand;
 
 /// Loads the key word of the place.
-pub(crate) fn look<V>(words: &Words<V>, seat: &mut WordSeat<V>, actor: Actor) -> KeyState
+pub(crate) fn look<V: Fit>(words: &Words<V>, seat: &mut WordSeat<V>, actor: Actor) -> KeyState
     requires own { IsSeatOf seat.old.table_id words.now.table_id words.now.key }
     requires sizes { actor.sizes ≡ words.now.key }
     requires place { IsPlace (setting_of actor.sizes) actor.place }
@@ -51,7 +52,7 @@ pub(crate) fn look<V>(words: &Words<V>, seat: &mut WordSeat<V>, actor: Actor) ->
 }
 
 /// Loads the call word of the call that the key word named.
-pub(crate) fn peek<V>(
+pub(crate) fn peek<V: Fit>(
     words: &Words<V>,
     seat: &mut WordSeat<V>,
     actor: Actor,
@@ -81,7 +82,7 @@ pub(crate) fn peek<V>(
 }
 
 /// Makes the caller's own word ready to lead. What it knows of the key word stays.
-pub(crate) fn ready<V>(
+pub(crate) fn ready<V: Fit>(
     words: &Words<V>,
     seat: &mut WordSeat<V>,
     actor: Actor,
@@ -116,7 +117,7 @@ pub(crate) fn ready<V>(
 }
 
 /// Exchanges the key word that was seen, and says whether it did. The last try is followed by the drop.
-pub(crate) fn lead<V>(
+pub(crate) fn lead<V: Fit>(
     words: &Words<V>,
     seat: &mut WordSeat<V>,
     actor: Actor,
@@ -133,7 +134,7 @@ pub(crate) fn lead<V>(
     requires seen { IsKeyFor actor.sizes.callers seen }
     requires asks { Sits actor.sizes actor.number seat.old.me.0 (Asking actor.place None (ask.Lead seen forgot)) }
     ensures own { (seat.new.table_id ≡ seat.old.table_id) × (seat.new.me.1 ≡ seat.old.me.1) }
-    ensures won { IsTrue result → Goes actor.sizes actor.number seat.old.me.0 seat.new.me.0 (Leading actor.place generation None) (Lead actor.number actor.place (record { caller = actor.number; generation = generation }) None ∷ []) 1 }
+    ensures won { IsTrue result → HasLedAfter actor.sizes actor.number actor.place generation seat.old.me.0 seat.new.me.0 (after_of seen forgot) }
     ensures lost { IsFalse result → Loses actor.sizes actor.number (key actor.place) (key_code seen) seat.old.me.0 seat.new.me.0 (lost_stage actor.place last) }
 {
     let _ = forgot;

@@ -4,26 +4,39 @@
 //! words, and that each seat knows a beginning of that schedule which has all turns of its own callers (`specs/Shows`).
 //! So what a step finds, and what it may do, follows from the laws of schedules.
 //!
-//! The kinds of step are the functions of `leading`, `entering`, `forgetting` and `settling`, and the attempts that they
-//! make up are public: they serve the crate of the group alone, whose tokens carry the seats.
+//! The kinds of step are the functions of `leading`, `entering`, `forgetting`, `settling`, `delivering` and `collecting`,
+//! and what they make up is public, as are the loads of `hearing`, by which a seat knows what another knows: they serve the
+//! crate of the group alone, whose tokens carry the seats. The plain steps are public for askings with a second caller.
 #![tactic(auto)]
 
 mod actor;
 mod attempting;
+mod collecting;
+mod delivering;
 mod entering;
 mod forgetting;
+mod hands;
+mod hearing;
 mod leading;
 mod numbering;
 mod plays;
+mod resting;
 mod rule;
 mod settling;
 mod steps;
 mod view;
 
 pub use actor::Actor;
-pub use attempting::{Attempt, try_often};
+pub use attempting::{Attempt, current_before, is_forgot, opened, try_often};
+pub use collecting::collect;
+pub use delivering::Delivery;
 pub use forgetting::{ForgetAttempt, forget_often};
-pub use numbering::word_count;
+pub use hands::hand_out;
+pub use hearing::{hear_note, take_in};
+pub use numbering::{call_index, key_index, next_index, word_count};
+pub use plays::Plan;
+pub use resting::Resting;
 pub use rule::{Deals, Law, Tells, WordSeat, Words};
 pub use settling::settle_often;
+pub use steps::{exchange_turns, load_turns, store_turns};
 pub use view::{Claim, View};

@@ -13,14 +13,14 @@ pub fn word_count(sizes: Sizes) -> usize
 }
 
 /// The index of a place's key word.
-pub(crate) fn key_index(sizes: Sizes, place: u32) -> usize
+pub fn key_index(sizes: Sizes, place: u32) -> usize
     ensures { result ≡ index sizes (key place) }
 {
     (sizes.callers as usize + 1) * 16 + place as usize
 }
 
 /// The index of a caller's call word, in a group of any sizes.
-pub(crate) fn call_index(sizes: Sizes, caller: u32) -> usize
+pub fn call_index(sizes: Sizes, caller: u32) -> usize
     ensures { result ≡ index sizes (call caller) }
 {
     let _ = sizes;
@@ -28,7 +28,7 @@ pub(crate) fn call_index(sizes: Sizes, caller: u32) -> usize
 }
 
 /// The index of a caller's next word, in a group of any sizes.
-pub(crate) fn next_index(sizes: Sizes, caller: u32) -> usize
+pub fn next_index(sizes: Sizes, caller: u32) -> usize
     ensures { result ≡ index sizes (next caller) }
 {
     let _ = sizes;

@@ -1,23 +1,24 @@
-//! The rule of the table of words: some schedule shows its words, and each seat knows a beginning of it.
+//! The rule of the table of words: some schedule shows its words and cells, and each seat knows a beginning of it.
 use crate::view::View;
 use atomic_table::{Join, Seat, Shared, Split, TableRule};
-use sf_calls::Sizes;
+use sf_calls::{Fit, Sizes};
+use sf_schedules::Letter;
 
-/// The table's words, on which seats step.
-pub type Words<V> = Shared<(), View<V>, Sizes, Law>;
+/// The table's words, on which seats step, and its cells, one a caller, in which letters lie.
+pub type Words<V> = Shared<Option<Letter<V>>, View<V>, Sizes, Law>;
 
 /// A seat at the table.
-pub type WordSeat<V> = Seat<(), View<V>>;
+pub type WordSeat<V> = Seat<Option<Letter<V>>, View<V>>;
 
-/// The rule: some schedule of turns shows the words, and each seat's view is a beginning of it with all turns of the
-/// seat's callers.
+/// The rule: some schedule of turns shows the words and the cells that are at home, and each seat's view is a beginning of
+/// it with all turns of the seat's callers.
 pub struct Law;
 
-impl<V> TableRule<(), View<V>, Sizes> for Law {
+impl<V: Fit> TableRule<Option<Letter<V>>, View<V>, Sizes> for Law {
     ghost use Rattle.sf_word_steps.specs.Shows.{Holds};
     ghost use Rattle.sf_word_steps.specs.View.{first_view};
 
-    ghost holds = { Holds };
+    ghost holds = { Holds V.fits };
 
     ghost first = { first_view };
 }

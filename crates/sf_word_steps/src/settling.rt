@@ -16,6 +16,7 @@ use crate::actor::Actor;
 use crate::numbering::{call_index, key_index};
 use crate::rule::{WordSeat, Words};
 use crate::steps::{exchange_turns, load_turns};
+use sf_calls::Fit;
 use sf_history::CallId;
 use sf_words::{
     CallState, CallWord, KeyState, KeyWord, LeaderState, pack_call, pack_key, unpack_call,
@@ -24,7 +25,7 @@ use std::marker::Brand;
 
 /// Loads the own call word, which is open, or forgotten since a Forget closed the call. The first load starts the settle.
 /// A forgotten call takes no joiners any more, so this load settles it.
-fn own_peek<V>(
+fn own_peek<V: Fit>(
     words: &Words<V>,
     seat: &mut WordSeat<V>,
     actor: Actor,
@@ -58,7 +59,7 @@ fn own_peek<V>(
 
 /// Exchanges the own call word that was seen open for the same done, and says whether it did: then the call is settled,
 /// with those that the word listed. Who enters the call between makes it fail, as does its Forget.
-fn close_own<V>(
+fn close_own<V: Fit>(
     words: &Words<V>,
     seat: &mut WordSeat<V>,
     actor: Actor,
@@ -99,7 +100,7 @@ fn close_own<V>(
 }
 
 /// Clears the key word for the Forget that closed the call, where it still names that. A newer call's word stays.
-fn clear_own<V>(
+fn clear_own<V: Fit>(
     words: &Words<V>,
     seat: &mut WordSeat<V>,
     actor: Actor,
@@ -150,7 +151,7 @@ fn clear_own<V>(
 
 /// Peeks, and closes the call or clears its key word. Answers the top of the list that is owed letters, or nothing where
 /// the close failed.
-fn settle_once<V>(
+fn settle_once<V: Fit>(
     words: &Words<V>,
     seat: &mut WordSeat<V>,
     actor: Actor,
@@ -196,7 +197,7 @@ fn settle_once<V>(
 
 /// Settles the call, in callers plus one tries at most, and answers the top of the list that is owed letters. Each try
 /// that fails is another caller's enter, or the one Forget of the call.
-pub fn settle_often<V>(
+pub fn settle_often<V: Fit>(
     words: &Words<V>,
     seat: &mut WordSeat<V>,
     actor: Actor,

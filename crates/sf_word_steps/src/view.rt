@@ -19,4 +19,6 @@ pub struct View<V> {
     pub known: Claim<V>,
     /// What joined seats brought, until the next step.
     pub told: LinkedList<Claim<V>>,
+    /// The callers whose cells it has taken out of the table, until it gives them back.
+    pub cells: LinkedList<u32>,
 }

@@ -6,7 +6,7 @@ use Rattle.sf_words.specs.KeyWord.{IsKeyState, key_code}
 use Rattle.sf_calls.specs.declared.sizes.Sizes.{Sizes}
 use Rattle.sf_word_steps.specs.Words.{key}
 use Rattle.sf_word_steps.specs.Plays.{Moves}
-use Rattle.sf_word_steps.proofs.LeadSteps.{lead_turns, lead_move, lead_won, lead_lost}
+use Rattle.sf_word_steps.proofs.LeadSteps.{lead_turns, lead_move, lead_won, lead_after, lead_lost}
 use Rattle.sf_word_steps.proofs.leading.lead.Goals as goal
 
 pub exchange_turns-found-requires-clause-moves : goal.exchange_turns-found-requires-clause-moves
@@ -25,9 +25,12 @@ pub returns-clause-won : goal.returns-clause-won
 returns-clause-won g c won =
     let v = c.args.seat.now.me.0 in
     let old_is : c.in-Some.old ≡ c.args.seen = c.in-Some.ensures.1 in
-    let found = c.exchange_turns-found.ensures.told.0 c.args.actor.sizes c.requires.asks.sizes in
-    lead_won c.args.actor.sizes c.args.actor.number c.args.actor.place c.args.generation c.exchange_turns-found.result c.pack_key-old.result c.args.seen c.args.forgot c.args.last v c.exchange_turns-found.new.seat.me.0 c.requires.asks c.requires.generation.1 c.requires.seen.0
-    (c.pack_key-old.ensures.code ∙ ap key_code old_is) found (eqb-true c.exchange_turns-found.result c.pack_key-old.result won)
+    let found = c.exchange_turns-found.ensures.told.0 c.args.actor.sizes c.requires.asks.sizes in (
+      lead_won c.args.actor.sizes c.args.actor.number c.args.actor.place c.args.generation c.exchange_turns-found.result c.pack_key-old.result c.args.seen c.args.forgot c.args.last v c.exchange_turns-found.new.seat.me.0 c.requires.asks c.requires.generation.1 c.requires.seen.0
+          (c.pack_key-old.ensures.code ∙ ap key_code old_is) found (eqb-true c.exchange_turns-found.result c.pack_key-old.result won),
+      lead_after c.args.actor.sizes c.args.actor.number c.args.actor.place c.args.generation c.exchange_turns-found.result c.pack_key-old.result c.args.seen c.args.forgot c.args.last v c.exchange_turns-found.new.seat.me.0 c.requires.asks c.requires.generation.1 c.requires.seen.0
+          (c.pack_key-old.ensures.code ∙ ap key_code old_is) found (eqb-true c.exchange_turns-found.result c.pack_key-old.result won),
+    )
 
 pub returns-clause-lost : goal.returns-clause-lost
 returns-clause-lost g c lost =

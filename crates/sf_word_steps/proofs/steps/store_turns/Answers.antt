@@ -13,6 +13,6 @@ store-requires g c =
     let me = c.args.seat.now.me in (
       c.requires.own.0,
       subst (λ (n : ℕ). c.args.word < n) (sym c.requires.own.1) (subst (λ (n : ℕ). n < words_in z) (sym c.requires.word.1) (word_room z x c.requires.word.0)),
-      subst (λ (i : ℕ). Allows (Holds z) c.args.words.now.table_id.slots c.args.seat.now.id me i (λ _. c.args.new) (λ n w. ToldStored (g.J.Plan.turns c.args.new) me w)) (sym c.requires.word.1)
-          (store_allows z c.args.words.now.table_id.slots c.args.seat.now.id me x c.args.new (g.J.Plan.turns c.args.new) c.requires.word.0 c.requires.moves),
+      subst (λ (i : ℕ). Allows (Holds g.V.Fit.fits z) c.args.words.now.table_id.slots c.args.seat.now.id me i (λ _. c.args.new) (λ n w. ToldStored (g.J.Plan.turns c.args.new) me w)) (sym c.requires.word.1)
+          (store_allows g.V.Fit.fits g.V.Fit.lasts z c.args.words.now.table_id.slots c.args.seat.now.id me x c.args.new (g.J.Plan.turns c.args.new) c.requires.own.2 c.requires.word.0 c.requires.moves),
     )

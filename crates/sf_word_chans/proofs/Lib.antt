@@ -1,0 +1,9 @@
+pub mod Alone
+pub mod Going
+pub mod Counting
+pub mod LookSteps
+pub mod PeekSteps
+pub mod LeadSteps
+pub mod EnterSteps
+pub mod Trying
+pub mod Meeting

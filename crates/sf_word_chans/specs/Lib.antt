@@ -1,0 +1,4 @@
+pub mod Both
+pub mod Changes
+pub mod Attempts
+pub mod Together
