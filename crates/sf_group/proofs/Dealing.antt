@@ -1,19 +1,19 @@
 -- callers that are dealt out, one after the other
-use Rattle.std.proofs.Common.{◌≡◌, ℕ, suc, ◌+◌, ◌-◌, ◌≤◌, List, [], ◌∷◌, ◌++◌, refl, sym, ap, ◌∙◌, subst, false, Option, Some, None, arith}
+use Rattle.std.proofs.Common.{◌≡◌, ℕ, suc, ◌+◌, ◌-◌, ◌≤◌, List, [], ◌∷◌, ◌++◌, refl, sym, ap, ◌∙◌, subst, Option, Some, arith}
 use Rattle.std.specs.List.{range_with_len}
-use Rattle.std.proofs.lemmas.List.Elements.{All-nil}
 use Rattle.std.proofs.lemmas.List.{map-append, map-id}
 use Rattle.std.proofs.lemmas.List.FromFn.{map-range_with_len_more}
 use Rattle.atomic_table.specs.Seated.{TableId}
-use Rattle.sf_history.specs.declared.event.Event.{Event}
+use Rattle.sf_schedules.specs.declared.operation.Stage.TheVariants as stage
 use Rattle.sf_calls.specs.declared.sizes.Sizes.{Sizes}
-use Rattle.sf_group.specs.declared.view.Claim.{Claim}
-use Rattle.sf_group.specs.declared.view.View.{View}
+use Rattle.sf_word_steps.specs.declared.view.Claim.{Claim}
+use Rattle.sf_word_steps.specs.declared.view.View.{View}
 use Rattle.sf_calls.specs.Tokens.{CallerValue}
-use Rattle.sf_group.specs.View.{claim, rest_of, first_of_all, first_view, without_first, first_alone, sizes_of}
+use Rattle.sf_word_steps.specs.View.{claim, rest_of, first_of_all, first_view, without_first, first_alone, sizes_of}
+use Rattle.sf_word_steps.specs.Stands.{Sits, next_in}
 use Rattle.sf_group.specs.Dealing.{IsDealing}
 use Rattle.sf_calls.specs.Making.{new_caller, numbers_of}
-use Rattle.sf_group.specs.Known.{Sits, caller_of}
+use Rattle.sf_group.specs.Known.{caller_of}
 
 -- the numbers that are left begin with the next
 range_first : (n m : ℕ) → n ≤ m → range_with_len n (m + 1 - n) ≡ n ∷ range_with_len (n + 1) (m + 1 - (n + 1))
@@ -29,47 +29,33 @@ module _ {V : Type 0} where
   dealt_callers n z v le d = d.callers ∙ range_first n z.callers le
 
   pub deals_first : (z : Sizes) → IsDealing 1 z (first_view {V = V} z)
-  deals_first z =
-      let all : z.callers ≡ z.callers + 1 - 1 = omega arith in
-      record { sizes = refl; callers = ap (range_with_len 1) all; seen = refl; taken = refl; told = refl; unlocked = refl }
+  deals_first z = let all : z.callers ≡ z.callers + 1 - 1 = omega arith in record { sizes = refl; callers = ap (range_with_len 1) all; turns = refl; told = refl; cells = refl }
 
   pub deals_rest : (n : ℕ) (z : Sizes) (v : View V) → n ≤ z.callers → IsDealing n z v → IsDealing (n + 1) z (without_first v)
-  deals_rest n z v le d = record {
-    sizes = d.sizes;
-    callers = ap rest_of (dealt_callers n z v le d);
-    seen = d.seen;
-    taken = d.taken;
-    told = d.told;
-    unlocked = d.unlocked;
-  }
+  deals_rest n z v le d = record { sizes = d.sizes; callers = ap rest_of (dealt_callers n z v le d); turns = d.turns; told = d.told; cells = refl }
 
-  nothing : (p q : List (Event ℕ V)) (e : Event ℕ V) → [] ≡ p ++ e ∷ q → ⊥
-  nothing [] q e is = cc
-  nothing (x ∷ p) q e is = cc
+  -- the view of one who knows nothing
+  abbrev pub alone : ℕ → Sizes → View V
+  alone a s = record { sizes = Some s; known = claim (a ∷ []) []; told = []; cells = [] }
 
-  pub deals_one : (n next : ℕ) (z : Sizes) (v : View V) → n ≤ z.callers → next ≡ z.first → IsDealing n z v → Sits n next (first_alone v) None None None
-  deals_one n next z v le first d =
-      let known : claim (first_of_all v.known.callers) v.known.seen v.known.taken ≡ claim (n ∷ []) [] [] = ap (λ q. claim (first_of_all q) v.known.seen v.known.taken) (dealt_callers n z v le d) ∙ (ap (λ q. claim (n ∷ []) q v.known.taken) d.seen ∙ ap (λ q. claim (n ∷ []) [] q) d.taken) in
-      let whole : first_alone v ≡ alone n z = ap (λ c. with_known v c) known ∙ ap (λ o. of_sizes n o) d.sizes in
-      subst (λ (u : View V). Sits n next u None None None) (sym whole) record { sizes = refl; callers = refl; told = refl; unlocked = refl; next = first ∙ omega arith; leads = refl; owes = refl; holds = refl; lawful = record { legal = λ p q e is. absurd (nothing p q e is); made = All-nil _ } }
+  whole : (n : ℕ) (z : Sizes) (v : View V) → n ≤ z.callers → IsDealing n z v → first_alone v ≡ alone n z
+  whole n z v le d = ap (λ c. with_known c) known ∙ ap of_sizes d.sizes
     where
-      with_known : View V → Claim V → View V
-      with_known u c = record { sizes = u.sizes; known = c; told = []; locked = false }
+      with_known : Claim V → View V
+      with_known c = record { sizes = v.sizes; known = c; told = []; cells = [] }
 
-      of_sizes : ℕ → Option Sizes → View V
-      of_sizes a o = record { sizes = o; known = claim (a ∷ []) [] []; told = []; locked = false }
+      of_sizes : Option Sizes → View V
+      of_sizes o = record { sizes = o; known = claim (n ∷ []) []; told = []; cells = [] }
 
-      alone : ℕ → Sizes → View V
-      alone a s = record { sizes = Some s; known = claim (a ∷ []) [] []; told = []; locked = false }
+      known : claim (first_of_all v.known.callers) v.known.turns ≡ claim (n ∷ []) []
+      known = ap (λ q. claim (first_of_all q) v.known.turns) (dealt_callers n z v le d) ∙ ap (λ q. claim (n ∷ []) q) d.turns
 
-  pub deals_value : (t : TableId) (n next : ℕ) (z : Sizes) (v : View V) → n ≤ z.callers → IsDealing n z v → caller_of t (first_alone v) n ≡ new_caller (record { table = t; sizes = z }) n
-  deals_value t n next z v le d = ap (λ o. at (sizes_with o) v.known.seen) d.sizes ∙ ap (λ q. at z q) d.seen
-    where
-      sizes_with : Option Sizes → Sizes
-      sizes_with o = sizes_of (record { sizes = o; known = v.known; told = []; locked = false })
+  pub deals_one : (n given : ℕ) (z : Sizes) (v : View V) → 1 ≤ n → n ≤ z.callers → given ≡ z.first → IsDealing n z v → Sits (sizes_of (first_alone v)) n (first_alone v) stage.Free × (given ≡ next_in (sizes_of (first_alone v)) (first_alone v) n)
+  deals_one n given z v low le first d = subst (λ (u : View V). Sits (sizes_of u) n u stage.Free × (given ≡ next_in (sizes_of u) u n)) (sym (whole n z v le d))
+      (record { sizes = refl; callers = refl; told = refl; caller = (low, le); schedule = tt; stage = refl; cells = refl }, first)
 
-      at : Sizes → List (Event ℕ V) → CallerValue V
-      at s q = record { group = record { table = t; sizes = s }; number = n; seen = q; turns = [] }
+  pub deals_value : (t : TableId) (n : ℕ) (z : Sizes) (v : View V) → n ≤ z.callers → IsDealing n z v → caller_of t (first_alone v) n ≡ new_caller (record { table = t; sizes = z }) n
+  deals_value t n z v le d = ap (λ (u : View V). caller_of t u n) (whole n z v le d)
 
   -- the numbers, with one more caller
   pub numbers_more : (callers : List (CallerValue V)) (c : CallerValue V) (n : ℕ) → numbers_of callers ≡ range_with_len 1 n → c.number ≡ n + 1 → numbers_of (callers ++ c ∷ []) ≡ range_with_len 1 (n + 1)

@@ -1,6 +1,12 @@
-pub mod Dealing
+pub use Rattle.sf_calls.specs.Tokens
+pub use Rattle.sf_calls.specs.Seen
+pub use Rattle.sf_calls.specs.Same
+pub use Rattle.sf_calls.specs.Fitting
+pub use Rattle.sf_calls.specs.Begins
+pub use Rattle.sf_calls.specs.Afters
+pub use Rattle.sf_calls.specs.Forgets
+pub use Rattle.sf_calls.specs.Finishes
+pub use Rattle.sf_calls.specs.Making
 pub mod Known
-pub mod Passing
-pub mod Plays
-pub mod Shows
-pub mod View
+pub mod Dealing
+pub mod Calls

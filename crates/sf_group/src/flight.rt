@@ -1,29 +1,38 @@
 //! Flights: callers that lead a call.
 ghost use Rattle.std.specs.Prelude.{◌≡◌};
+ghost use Rattle.sf_calls.specs.Afters.{FollowsCall};
 
-use crate::rule::GroupSeat;
 use sf_history::CallId;
+use sf_word_steps::WordSeat;
 use std::marker::Model;
 
 /// A caller that leads a call, until it settles that. It has to be spent.
 pub struct Flight<V> {
-    pub(crate) seat: GroupSeat<V>,
+    pub(crate) seat: WordSeat<V>,
     pub(crate) number: u32,
     pub(crate) next: u64,
     pub(crate) place: u32,
     pub(crate) call: CallId,
     pub(crate) own: Option<CallId>,
+    pub(crate) after: Option<CallId>,
 }
 
 impl<V> Model for Flight<V> {
+    ghost use Rattle.std.specs.Prelude.{◌≡◌, ◌≤◌, []};
+    ghost use Rattle.sf_schedules.specs.declared.operation.Stage.TheVariants.{Leading};
+    ghost use Rattle.sf_word_steps.specs.View.{sizes_of};
+    ghost use Rattle.sf_word_steps.specs.Stands.{Sits, next_in};
+    ghost use Rattle.sf_group.specs.Known.{flight_of, IsPlaceIn};
     ghost use Rattle.sf_calls.specs.Tokens.{FlightValue};
-    ghost use Rattle.sf_group.specs.Known.{LeadsOn, flight_of};
+    ghost use Rattle.sf_calls.specs.Afters.{FollowsCall};
 
     ghost Value = { FlightValue V };
 
     ghost view = { λ f. flight_of f.seat.table_id f.seat.me.0 f.number f.place f.call f.own };
 
-    ghost invariant = { λ f. LeadsOn f.number f.next f.place f.call f.own f.seat.me };
+    ghost invariant = { λ f. Sits (sizes_of f.seat.me.0) f.number f.seat.me.0 (Leading f.place f.call.generation f.own) × (f.call.caller ≡ f.number)
+        × (f.next ≡ next_in (sizes_of f.seat.me.0) f.seat.me.0 f.number) × (f.seat.me.1 ≡ []) × IsPlaceIn (sizes_of f.seat.me.0) f.place × (1 ≤ f.call.generation)
+        × FollowsCall (flight_of f.seat.table_id f.seat.me.0 f.number f.place f.call f.own) f.after };
 }
 
 impl<V> Flight<V> {
@@ -41,6 +50,13 @@ impl<V> Flight<V> {
         self.place
     }
 
+    /// The call that was current on its place before it, which no Forget had closed; it may have been settled.
+    pub fn after(&self) -> Option<CallId>
+        ensures { FollowsCall self.now result }
+    {
+        self.after
+    }
+
     /// Gives the flight up for good: nothing is added, its call is never settled, and its caller does not come back.
     pub fn abandon(self) {
         let Flight {
@@ -50,6 +66,7 @@ impl<V> Flight<V> {
             place: _,
             call: _,
             own: _,
+            after: _,
         } = self;
     }
 }

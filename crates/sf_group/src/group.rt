@@ -1,50 +1,65 @@
-//! The group, and the calls that make it.
-ghost use Rattle.std.specs.Prelude.{◌≡◌, ◌+◌, ◌≤◌, ◌↔◌, [], IfOk, IsTrue, All};
-ghost use Rattle.std.specs.List.{range_with_len};
+//! The group: its callers' askings, Forgets and settles.
+ghost use Rattle.std.specs.Prelude.{◌≡◌, ◌+◌, ◌≤◌, ◌↔◌, [], IfOk, IfErr, IsTrue};
+ghost use Rattle.std.specs.List.{All, range_with_len};
 ghost use Rattle.sf_calls.specs.Same.{IsPlaceOf};
-ghost use Rattle.sf_group.specs.Dealing.{IsDealing};
-ghost use Rattle.sf_group.specs.View.{IsSeatOf};
+ghost use Rattle.sf_calls.specs.Begins.{HasBegun};
+ghost use Rattle.sf_calls.specs.Forgets.{HasForgotten};
 ghost use Rattle.sf_calls.specs.Making.{IsNewCaller, new_caller, numbers_of};
+ghost use Rattle.sf_word_steps.specs.Stands.{IsSeatOf};
+ghost use Rattle.sf_group.specs.Calls.{HasNotBegun, HasNotForgotten};
+ghost use Rattle.sf_group.specs.Dealing.{IsDealing};
 
 use crate::caller::Caller;
-use crate::rule::{Deals, FREE, GroupSeat, Law, Lock};
-use crate::view::View;
+use crate::flight::Flight;
+use crate::ticket::Ticket;
 use atomic_table::Table;
-use sf_calls::{Fit, MOST_CALLERS, MOST_PLACES, Sizes};
-use sf_history::Memory;
-use sf_state::SeqState;
-use std::alloc::Global;
+use sf_calls::{Begun, Fit, MOST_CALLERS, MOST_PLACES, NotBegun, Sizes};
+use sf_history::{CallId, Forgotten};
+use sf_schedules::Letter as Cell;
+use sf_word_steps::{
+    Actor, Attempt, Deals, ForgetAttempt, Law, Resting, View, WordSeat, Words, forget_often,
+    try_often, word_count,
+};
+use std::alloc::{AllocError, Global};
 use std::marker::Model;
 
-/// Callers that ask for places. Clauses see which group it is, and its sizes.
+/// The most tries of a bounded call.
+pub const MOST_TRIES: u32 = 65_536;
+
+/// Callers that ask for places, over words and without a lock.
+///
+/// The words lie in one table. Its rule, which holds between any two steps of any callers, says that some schedule of
+/// turns shows the words, and that each token knows a beginning of it, with all turns of its own caller.
 #[derive(Drop)]
 pub struct Group<V: Fit> {
-    pub(crate) table: Table<SeqState<V>, View<V>, Sizes, Law, Global>,
+    pub(crate) table: Table<Option<Cell<V>>, View<V>, Sizes, Law, Global>,
     pub(crate) sizes: Sizes,
+    pub(crate) resting: Resting,
 }
 
 impl<V: Fit> Model for Group<V> {
-    ghost use Rattle.std.specs.Prelude.{◌≡◌};
+    ghost use Rattle.std.specs.Prelude.{◌≡◌, ◌+◌, ◌≤◌};
+    ghost use Rattle.sf_word_steps.specs.Words.{words_in};
     ghost use Rattle.sf_calls.specs.Tokens.{GroupValue};
 
     ghost Value = { GroupValue };
 
     ghost view = { λ g. record { table = g.table.shared.table_id; sizes = g.sizes } };
 
-    ghost invariant = { λ g. g.table.shared.table_id.words ≡ 1 };
+    ghost invariant = { λ g. (g.sizes ≡ g.table.shared.key) × (g.table.shared.table_id.words ≡ words_in g.table.shared.key) × (g.sizes.callers ≤ 65535) × (1 ≤ g.sizes.first) × (g.table.shared.table_id.slots ≡ g.table.shared.key.callers + 1) };
 }
 
 // The next caller, from the seat that stands for those that are not dealt out yet.
-fn deal<V: Fit>(lock: &Lock<V>, first: &mut GroupSeat<V>, number: u32, next: u64) -> Caller<V>
-    requires own { IsSeatOf lock.now.table_id first.old.table_id }
-    requires first { IsDealing number lock.now.key first.old.me.0 × (first.old.me.1 ≡ []) }
-    requires number { number ≤ lock.now.key.callers }
-    requires next { next ≡ lock.now.key.first }
+fn deal<V: Fit>(words: &Words<V>, first: &mut WordSeat<V>, number: u32, next: u64) -> Caller<V>
+    requires own { IsSeatOf first.old.table_id words.now.table_id words.now.key }
+    requires first { IsDealing number words.now.key first.old.me.0 × (first.old.me.1 ≡ []) }
+    requires number { (1 ≤ number) × (number ≤ words.now.key.callers) }
+    requires next { next ≡ words.now.key.first }
     ensures own { first.new.table_id ≡ first.old.table_id }
-    ensures first { IsDealing (number + 1) lock.now.key first.new.me.0 × (first.new.me.1 ≡ []) }
-    ensures caller { result ≡ new_caller (record { table = lock.now.table_id; sizes = lock.now.key }) number }
+    ensures first { IsDealing (number + 1) words.now.key first.new.me.0 × (first.new.me.1 ≡ []) }
+    ensures caller { result ≡ new_caller (record { table = words.now.table_id; sizes = words.now.key }) number }
 {
-    let seat = lock.split_seat::<Deals>(first);
+    let seat = words.split_seat::<Deals>(first);
     Caller { seat, number, next }
 }
 
@@ -56,7 +71,7 @@ impl<V: Fit> Group<V> {
         places: u32,
         callers: u32,
         first_generation: u32,
-    ) -> Result<(Group<V>, Vec<Caller<V>>), Memory>
+    ) -> Result<(Group<V>, Vec<Caller<V>>), AllocError>
         requires places { (1 ≤ places) × (places ≤ MOST_PLACES) }
         requires callers { (1 ≤ callers) × (callers ≤ MOST_CALLERS) }
         requires first_generation { 1 ≤ first_generation }
@@ -70,16 +85,13 @@ impl<V: Fit> Group<V> {
             first: first_generation,
         };
         let mut list = Vec::with_capacity(alloc, callers as usize)?;
-        let mut states = Vec::with_capacity(alloc, 1)?;
-        states.push(SeqState::new(alloc, places, callers, first_generation)?)?;
-        let Ok((table, mut first)) = Table::<SeqState<V>, View<V>, Sizes, Law, Global>::new(
+        let zeros = Vec::from_elem(alloc, 0u64, word_count(sizes))?;
+        let (table, mut first) = Table::<Option<Cell<V>>, View<V>, Sizes, Law, Global>::vacant(
             alloc,
-            &[FREE],
-            states,
+            zeros.as_slice(),
+            callers as usize + 1,
             &sizes,
-        ) else {
-            return Err(Memory);
-        };
+        )?;
         for index in 0..callers {
             list.push(deal(
                 &table.shared,
@@ -88,7 +100,14 @@ impl<V: Fit> Group<V> {
                 first_generation as u64,
             ))?;
         }
-        Ok((Group { table, sizes }, list))
+        Ok((
+            Group {
+                table,
+                sizes,
+                resting: Resting::new(),
+            },
+            list,
+        ))
     }
 
     /// Whether the group has a place of this number.
@@ -103,5 +122,83 @@ impl<V: Fit> Group<V> {
         ensures { result ≡ self.now.sizes.places }
     {
         self.sizes.places
+    }
+
+    /// The caller asks for the place: it leads a new call where the place has no open one, and else joins that. Refused
+    /// as spent is a caller that has no generation left, which is looked at first; as busy one whose tries (1 to 65,536)
+    /// all failed, each since another had changed a word between its reading and its exchange.
+    pub fn begin(
+        &self,
+        caller: Caller<V>,
+        place: u32,
+        tries: u32,
+    ) -> Result<Begun<Flight<V>, Ticket<V>>, NotBegun<Caller<V>>>
+        requires own { caller.group ≡ self.now }
+        requires place { IsPlaceOf self.now place }
+        requires tries { (1 ≤ tries) × (tries ≤ MOST_TRIES) }
+        ensures begun { IfOk result (λ begun. HasBegun caller place begun) }
+        ensures refused { IfErr result (λ refused. HasNotBegun caller place tries refused) }
+    {
+        let Caller {
+            mut seat,
+            number,
+            next,
+        } = caller;
+        let Ok(generation) = u32::try_from(next) else {
+            return Err(NotBegun::Spent(Caller { seat, number, next }));
+        };
+        let member = CallId {
+            caller: number,
+            generation,
+        };
+        let actor = Actor {
+            sizes: self.sizes,
+            number,
+            place,
+        };
+        let attempt = try_often(&self.table.shared, &mut seat, actor, generation, tries);
+        match attempt {
+            Attempt::Led(after) => Ok(Begun::Lead(Flight {
+                seat,
+                number,
+                next: next + 1,
+                place,
+                call: member,
+                own: None,
+                after,
+            })),
+            Attempt::Joined(call) => Ok(Begun::Join(Ticket {
+                seat,
+                number,
+                next: next + 1,
+                place,
+                call,
+                member,
+            })),
+            Attempt::Lost => Err(NotBegun::Busy(tries, Caller { seat, number, next })),
+        }
+    }
+
+    /// The caller forgets the place: it closes the place's open call, or finds none. Refused as busy is one whose
+    /// exchanges failed so often.
+    pub fn forget(&self, caller: &mut Caller<V>, place: u32, tries: u32) -> Result<Forgotten, u32>
+        requires own { caller.old.group ≡ self.now }
+        requires place { IsPlaceOf self.now place }
+        requires tries { (1 ≤ tries) × (tries ≤ MOST_TRIES) }
+        ensures forgotten { IfOk result (λ forgotten. HasForgotten caller.old place caller.new forgotten) }
+        ensures refused { IfErr result (λ failed. HasNotForgotten caller.old place tries caller.new failed) }
+    {
+        let actor = Actor {
+            sizes: self.sizes,
+            number: caller.number,
+            place,
+        };
+        let attempt = forget_often(&self.table.shared, &mut caller.seat, actor, tries);
+        match attempt {
+            ForgetAttempt::Idle => return Ok(Forgotten::Idle),
+            ForgetAttempt::Closed(call) => return Ok(Forgotten::Closed(call)),
+            ForgetAttempt::Missed => {}
+        }
+        Err(tries)
     }
 }

@@ -63,7 +63,6 @@ impl<V: Fit> Letter<V> {
     {
         let _ = &self.place;
     }
-
     /// The letter's value and its note. What the letter is known by is known of both.
     pub fn into_parts(self) -> (V, Note<V>)
         ensures value { result.0 ≡ self.value }

@@ -1,13 +1,13 @@
 //! Notes, which show what somebody has seen.
 ghost use Rattle.std.specs.Prelude.{◌≡◌};
 
-use crate::rule::GroupSeat;
+use sf_word_steps::WordSeat;
 use std::marker::Model;
 
 /// A list of events that somebody has seen. It stands for no caller, and what it shows only grows.
 #[derive(Drop)]
 pub struct Note<V> {
-    pub(crate) seat: GroupSeat<V>,
+    pub(crate) seat: WordSeat<V>,
 }
 
 impl<V> Model for Note<V> {

@@ -1,34 +1,17 @@
-//! Notes and letters pass on what one has seen. None of these calls waits, and none takes memory but a copy.
-ghost use Rattle.std.specs.Prelude.{◌≡◌, false, [], IfOk, IfErr, Some};
+//! Notes and letters pass on what one has seen. None of these calls waits or changes a word, and none takes memory but a
+//! copy.
+ghost use Rattle.std.specs.Prelude.{◌≡◌, IfOk, IfErr};
 ghost use Rattle.sf_calls.specs.Seen.{StartsWith};
-ghost use Rattle.sf_group.specs.View.{IsSeatOf, sizes_of};
-ghost use Rattle.sf_group.specs.Known.{letter_of, IsNote};
-ghost use Rattle.sf_group.specs.Passing.{PassesHear};
 ghost use Rattle.sf_calls.specs.Notes.{HasTold, HasLearnt, HasLearntLeading, HasGrown, HasMet, HasLent, HasCopied};
 
 use crate::caller::Caller;
 use crate::flight::Flight;
 use crate::group::Group;
 use crate::letter::Letter;
-use crate::locking::hear;
 use crate::note::Note;
-use crate::rule::{GroupSeat, Lock, Tells};
 use sf_calls::Fit;
-use sf_history::{CallId, Memory};
-
-// The seat sees all, and so also what a note shows.
-fn hear_note<V: Fit>(lock: &Lock<V>, seat: &mut GroupSeat<V>, note: &mut GroupSeat<V>)
-    requires own { (note.old.table_id ≡ lock.now.table_id) × IsSeatOf lock.now.table_id seat.old.table_id }
-    requires seat { (seat.old.me.0.sizes ≡ Some (sizes_of seat.old.me.0)) × (seat.old.me.0.told ≡ []) × (seat.old.me.0.locked ≡ false) × (seat.old.me.1 ≡ []) }
-    requires note { IsNote note.old.me.0 × (note.old.me.1 ≡ []) }
-    ensures own { (seat.new.table_id ≡ seat.old.table_id) × (seat.new.me.1 ≡ []) }
-    ensures heard { PassesHear V.fits seat.old.me.0 note.old.me.0.known.seen seat.new.me.0 }
-    ensures note { (note.new.table_id ≡ note.old.table_id) × (note.new.me ≡ note.old.me) }
-{
-    let again = lock.split_seat::<Tells>(note);
-    lock.join_seat::<Tells>(seat, again);
-    hear(lock, seat);
-}
+use sf_history::Memory;
+use sf_word_steps::{Tells, hear_note};
 
 impl<V: Fit> Group<V> {
     /// A note that shows what the caller has seen.
@@ -47,7 +30,13 @@ impl<V: Fit> Group<V> {
         ensures learnt { HasLearnt caller.old note.old.seen caller.new }
         ensures note { HasGrown note.old note.new }
     {
-        hear_note(&self.table.shared, &mut caller.seat, &mut note.seat);
+        hear_note(
+            &self.table.shared,
+            &mut caller.seat,
+            &mut note.seat,
+            self.sizes,
+            caller.number,
+        );
     }
 
     /// Another note, which shows the same.
@@ -89,33 +78,6 @@ impl<V: Fit> Group<V> {
             note,
         })
     }
-
-    // A letter whose note shows what the seat has seen.
-    pub(crate) fn letter(
-        &self,
-        seat: &mut GroupSeat<V>,
-        place: u32,
-        call: CallId,
-        value: V,
-        shared: bool,
-    ) -> Letter<V>
-        requires own { seat.old.table_id ≡ self.now.table }
-        requires seat { seat.old.me.0.sizes ≡ Some (sizes_of seat.old.me.0) }
-        requires fits { V.fits place call value seat.old.me.0.known.seen }
-        ensures seat { (seat.new.table_id ≡ seat.old.table_id) × (seat.new.me ≡ seat.old.me) }
-        ensures letter { result ≡ letter_of seat.old.table_id seat.old.me.0 place call value shared }
-    {
-        let note = Note {
-            seat: self.table.shared.split_seat::<Tells>(seat),
-        };
-        Letter {
-            place,
-            call,
-            value,
-            shared,
-            note,
-        }
-    }
 }
 
 impl<V: Fit> Flight<V> {
@@ -126,7 +88,13 @@ impl<V: Fit> Flight<V> {
         ensures learnt { HasLearntLeading self.old note.old.seen self.new }
         ensures note { HasGrown note.old note.new }
     {
-        hear_note(&group.table.shared, &mut self.seat, &mut note.seat);
+        hear_note(
+            &group.table.shared,
+            &mut self.seat,
+            &mut note.seat,
+            group.sizes,
+            self.number,
+        );
     }
 }
 

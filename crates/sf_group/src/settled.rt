@@ -1,32 +1,46 @@
 //! Unfinished deliveries: callers that have settled their call, and owe letters of it.
 ghost use Rattle.std.specs.Prelude.{◌≡◌};
 
-use crate::rule::GroupSeat;
+use sf_calls::Fit;
 use sf_history::CallId;
+use sf_word_steps::WordSeat;
 use std::marker::Model;
 
 /// A caller that has settled its call for good, and owes letters of it still. It has to be spent.
-pub struct Settled<V> {
-    pub(crate) seat: GroupSeat<V>,
+pub struct Settled<V: Fit> {
+    pub(crate) seat: WordSeat<V>,
     pub(crate) number: u32,
     pub(crate) next: u64,
     pub(crate) place: u32,
     pub(crate) call: CallId,
+    pub(crate) own: Option<CallId>,
+    pub(crate) value: V,
     pub(crate) shared: bool,
+    // The member with whom the list of those begins that are still owed letters.
+    pub(crate) top: Option<u32>,
 }
 
-impl<V> Model for Settled<V> {
+impl<V: Fit> Model for Settled<V> {
+    ghost use Rattle.std.specs.Prelude.{◌≡◌, []};
+    ghost use Rattle.sf_history.specs.declared.event.Event.TheVariants as event;
+    ghost use Rattle.sf_calls.specs.Seen.{Stands};
+    ghost use Rattle.sf_word_steps.specs.Delivers.{IsOwed};
+    ghost use Rattle.sf_schedules.specs.Turns.{at_members};
+    ghost use Rattle.sf_word_steps.specs.View.{sizes_of, history_of};
+    ghost use Rattle.sf_word_steps.specs.Stands.{Sits, next_in};
+    ghost use Rattle.sf_group.specs.Known.{settled_of};
     ghost use Rattle.sf_calls.specs.Tokens.{SettledValue};
-    ghost use Rattle.sf_group.specs.Known.{OwesOn, settled_of};
 
     ghost Value = { SettledValue V };
 
-    ghost view = { λ s. settled_of s.seat.table_id s.seat.me.0 s.number s.place s.call s.shared };
+    ghost view = { λ s. settled_of s.seat.table_id s.seat.me.0 s.number s.place s.call s.value s.shared };
 
-    ghost invariant = { λ s. OwesOn s.number s.next s.place s.call s.shared s.seat.me };
+    ghost invariant = { λ s. Sits (sizes_of s.seat.me.0) s.number s.seat.me.0 (at_members s.place s.call.generation s.own s.value s.shared s.top) × (s.call.caller ≡ s.number)
+        × (s.next ≡ next_in (sizes_of s.seat.me.0) s.seat.me.0 s.number) × (s.seat.me.1 ≡ []) × IsOwed s.top s.own
+        × V.fits s.place s.call s.value (history_of (sizes_of s.seat.me.0) s.seat.me.0.known.turns) × Stands (event.Settle s.call.caller s.call s.value s.shared) (history_of (sizes_of s.seat.me.0) s.seat.me.0.known.turns) };
 }
 
-impl<V> Settled<V> {
+impl<V: Fit> Settled<V> {
     /// Gives the delivery up for good: nothing is added, the letters still owed never come, and its caller does not come
     /// back.
     pub fn abandon(self) {
@@ -36,7 +50,10 @@ impl<V> Settled<V> {
             next: _,
             place: _,
             call: _,
+            own: _,
+            value: _,
             shared: _,
+            top: _,
         } = self;
     }
 }

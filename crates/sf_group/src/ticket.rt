@@ -1,13 +1,13 @@
 //! Tickets: callers that wait for a letter.
 ghost use Rattle.std.specs.Prelude.{◌≡◌};
 
-use crate::rule::GroupSeat;
 use sf_history::CallId;
+use sf_word_steps::WordSeat;
 use std::marker::Model;
 
 /// A caller that waits for the letter of a call, as a member of it. It has to be spent.
 pub struct Ticket<V> {
-    pub(crate) seat: GroupSeat<V>,
+    pub(crate) seat: WordSeat<V>,
     pub(crate) number: u32,
     pub(crate) next: u64,
     pub(crate) place: u32,
@@ -16,14 +16,19 @@ pub struct Ticket<V> {
 }
 
 impl<V> Model for Ticket<V> {
+    ghost use Rattle.std.specs.Prelude.{◌≡◌, []};
+    ghost use Rattle.sf_schedules.specs.declared.operation.Stage.TheVariants.{Holding};
+    ghost use Rattle.sf_word_steps.specs.View.{sizes_of};
+    ghost use Rattle.sf_word_steps.specs.Stands.{Sits, next_in};
+    ghost use Rattle.sf_group.specs.Known.{ticket_of};
     ghost use Rattle.sf_calls.specs.Tokens.{TicketValue};
-    ghost use Rattle.sf_group.specs.Known.{WaitsOn, ticket_of};
 
     ghost Value = { TicketValue V };
 
     ghost view = { λ t. ticket_of t.seat.table_id t.seat.me.0 t.number t.place t.call t.member };
 
-    ghost invariant = { λ t. WaitsOn t.number t.next t.place t.call t.member t.seat.me };
+    ghost invariant = { λ t. Sits (sizes_of t.seat.me.0) t.number t.seat.me.0 (Holding t.place t.member.generation t.call) × (t.member.caller ≡ t.number)
+        × (t.next ≡ next_in (sizes_of t.seat.me.0) t.seat.me.0 t.number) × (t.seat.me.1 ≡ []) };
 }
 
 impl<V> Ticket<V> {

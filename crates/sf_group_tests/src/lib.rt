@@ -1,18 +1,23 @@
-//! Tests of the group: its calls one after another, the waiting forms, jobs that workers do, and several threads that ask one
-//! group at once.
+//! Tests of the group, whose words lie in one table.
 //!
-//! They stand apart from the crates that they test, since a crate with tests is proved twice.
+//! They stand apart from the crate that they test, since a crate with tests is proved twice.
 #![tactic(auto)]
 
 #[cfg(test)]
-mod group;
+mod afters;
 #[cfg(test)]
-mod holding;
+mod calls;
 #[cfg(test)]
-mod outcome;
+mod chans;
 #[cfg(test)]
-mod serving;
+mod going_on;
+#[cfg(test)]
+mod notes;
+#[cfg(test)]
+mod rows;
+#[cfg(test)]
+mod rows_over_words;
 #[cfg(test)]
 mod sharing;
 #[cfg(test)]
-mod waiting;
+mod two_threads;

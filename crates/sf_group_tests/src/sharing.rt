@@ -1,338 +1,133 @@
-//! One group that several threads ask at once.
-ghost use Rattle.std.specs.Prelude.{◌≡◌, All, IfSome};
-ghost use Rattle.sf_calls.specs.Same.{IsPlaceOf};
+//! Four threads that ask for one place.
 
-use crate::outcome::{Outcome, check_call, id, next_caller};
-use sf_dir::{Desk, Directory};
-use sf_group::{Begun, CallId, Caller, Group, Letter, Spent};
-use sf_wait::{DoFault, begin_wait, do_with, finish_wait, wait};
-use std::marker::Model;
+ghost use Rattle.std.specs.Prelude.{◌≡◌, All};
+ghost use Rattle.sf_group.specs.Same.{IsPlaceOf};
+
+use crate::calls::{Outcome, id, lead, next_caller};
+use sf_group::{Begun, Caller, Finished, Group, NotBegun};
+use std::alloc::Global;
 use std::process::Abort;
-use std::sync::Wait;
-use std::sync::atomic::{AtomicBool, AtomicU32, Ordering};
 use std::test::Fail;
-use std::thread::{join, yield_now};
+use std::thread::join;
 
-const PLACES: u32 = 8;
+const EACH: u32 = 250;
 
-const DOS: u32 = 1_000;
-
-// One of the callers of the group, with the count of all loads.
-#[derive(Drop)]
-struct Worker<'a> {
-    group: &'a Group<Outcome>,
-    caller: Caller<Outcome>,
-    loads: &'a AtomicU32,
+// How an asking ended, after which its caller asks no more.
+enum End {
+    Led,
+    Joined,
+    GaveUp,
 }
 
-impl<'a> Model for Worker<'a> {
-    ghost use Rattle.std.specs.Prelude.{◌≡◌};
-
-    ghost Value = { Unit {0} };
-
-    ghost view = { λ _. tt };
-
-    ghost invariant = { λ w. w.caller.group ≡ w.group.now };
-}
-
-// What one worker's dos came to: how often it led and how often it joined, and how many letters were not as they ought
-// to be.
+// How many askings of a thread ended so.
 #[derive(Clone, Copy)]
 struct Tally {
     led: u32,
     joined: u32,
-    wrong: u32,
+    gave_up: u32,
 }
 
-// Asks for the place. The caller's number is what its load answers.
-fn do_once(
-    rt: &impl Wait,
-    group: &Group<Outcome>,
-    caller: Caller<Outcome>,
-    place: u32,
-    loads: &AtomicU32,
-) -> Option<(Caller<Outcome>, Letter<Outcome>)>
+// A caller asks, with one try each time, until it leads or joins; at most 1,000,000 times.
+fn ask(group: &Group<Outcome>, mut caller: Caller<Outcome>) -> End
     requires own { caller.group ≡ group.now }
-    requires place { IsPlaceOf group.now place }
-    ensures { IfSome result (λ done. done.0.group ≡ group.now) }
+    requires place { IsPlaceOf group.now 1 }
 {
-    let number = caller.number();
-    let load = || {
-        loads.fetch_add(1, Ordering::SeqCst);
-        yield_now();
-        Outcome(number)
-    };
-    match do_with(rt, group, caller, place, load) {
-        Ok(done) => Some(done),
-        Err(DoFault::Held(settled)) => {
-            settled.abandon();
-            None
-        }
-        Err(DoFault::Spent(caller, load)) => {
-            drop(caller);
-            drop(load);
-            None
+    for _ in 0..1_000_000 {
+        match group.begin(caller, 1, 1) {
+            Ok(Begun::Lead(flight)) => {
+                match group.finish(flight, Outcome(1)) {
+                    Finished::Done(_leader, _letter) => {}
+                    Finished::Held(settled) => settled.abandon(),
+                }
+                return End::Led;
+            }
+            Ok(Begun::Join(ticket)) => {
+                ticket.abandon();
+                return End::Joined;
+            }
+            Err(NotBegun::Busy(_, back)) => caller = back,
+            Err(NotBegun::Spent(_back)) => return End::GaveUp,
         }
     }
+    End::GaveUp
 }
 
-// The letter is of this place, and holds what its call's leader loaded; it is of the caller's own call of this
-// generation, or of another's that is then shared.
-fn is_due(letter: &Letter<Outcome>, place: u32, own: CallId) -> bool {
-    let call = letter.call();
-    let mine = call == own;
-    letter.place() == place
-        && letter.value().0 == call.caller
-        && (mine || call.caller != own.caller && letter.shared())
+#[derive(Drop)]
+struct Team<'a> {
+    group: &'a Group<Outcome>,
+    callers: Vec<Caller<Outcome>>,
+    ghost own: { All (λ c. c.group ≡ group.now) callers.items },
+    ghost placed: { IsPlaceOf group.now 1 },
 }
 
-// The tally with one more letter.
-fn tallied(tally: Tally, letter: &Letter<Outcome>, place: u32, own: CallId) -> Tally {
-    let mine = letter.call().caller == own.caller;
-    Tally {
-        led: tally.led.wrapping_add(mine as u32),
-        joined: tally.joined.wrapping_add(!mine as u32),
-        wrong: tally.wrong.wrapping_add(!is_due(letter, place, own) as u32),
-    }
-}
-
-impl<'a> Worker<'a> {
-    // Asks 1,000 times, for one place after another. A caller that does not come back counts as wrong.
-    fn work(self, rt: &(impl Abort + Wait)) -> Tally {
-        let Self {
-            group,
-            caller,
-            loads,
-        } = self;
-        let number = caller.number();
-        let mut caller = caller;
+impl Team<'_> {
+    fn work(self) -> Tally {
+        let Team { group, mut callers } = self;
         let mut tally = Tally {
             led: 0,
             joined: 0,
-            wrong: 0,
+            gave_up: 0,
         };
-        for done in 0..DOS {
-            let place = done % PLACES + 1;
-            if !group.has(place) {
-                panic!(rt; "no place {place}");
-            }
-            let Some((back, letter)) = do_once(rt, group, caller, place, loads) else {
-                panic!(rt; "caller {number} does not come back")
+        for _ in 0..EACH {
+            let Some(caller) = callers.pop() else {
+                break;
             };
-            tally = tallied(tally, &letter, place, id(number, done + 1));
-            caller = back;
+            match ask(group, caller) {
+                End::Led => tally.led = tally.led.wrapping_add(1),
+                End::Joined => tally.joined = tally.joined.wrapping_add(1),
+                End::GaveUp => tally.gave_up = tally.gave_up.wrapping_add(1),
+            }
         }
         tally
     }
 }
 
-fn next_worker<'a>(
+// A team of the next callers.
+fn next_team<'a>(
     rt: &impl Abort,
+    alloc: Global,
     group: &'a Group<Outcome>,
-    callers: &mut Vec<Caller<Outcome>>,
-    loads: &'a AtomicU32,
-) -> Worker<'a>
-    requires { All (λ c. c.group ≡ group.now) callers.old.items }
-    ensures { All (λ c. c.group ≡ group.now) callers.new.items }
+    list: &mut Vec<Caller<Outcome>>,
+) -> Result<Team<'a>, Fail>
+    requires own { All (λ c. c.group ≡ group.now) list.old.items }
+    requires place { IsPlaceOf group.now 1 }
+    ensures { All (λ c. c.group ≡ group.now) list.new.items }
 {
-    let caller = next_caller(rt, group, callers);
-    Worker {
-        group,
-        caller,
-        loads,
+    let mut callers = Vec::new(alloc);
+    for _ in 0..EACH {
+        let Some(caller) = list.pop() else {
+            panic!(rt; "no more callers")
+        };
+        callers.push(caller)?;
     }
+    Ok(Team { group, callers })
 }
 
-fn check_tally(rt: &impl Abort, tally: Tally) -> u32 {
-    let Tally { led, joined, wrong } = tally;
-    assert!(rt; wrong == 0, "{wrong} letters were wrong");
-    assert!(rt; led.wrapping_add(joined) == DOS, "{led} and {joined}");
-    led
-}
-
+// Each asking led or joined, and no call is left open.
 #[test]
-fn four_threads_over_eight_places(rt: HostRuntime) -> Result<(), Fail> {
-    let (group, mut callers) = Group::<Outcome>::new(rt.alloc(), PLACES, 4, 1)?;
-    let loads = AtomicU32::new(0);
-    let four = next_worker(&rt, &group, &mut callers, &loads);
-    let three = next_worker(&rt, &group, &mut callers, &loads);
-    let two = next_worker(&rt, &group, &mut callers, &loads);
-    let one = next_worker(&rt, &group, &mut callers, &loads);
+fn four_threads_on_one_place(rt: HostRuntime) -> Result<(), Fail> {
+    let (group, mut list) = Group::<Outcome>::new(rt.alloc(), 1, 1001, 1)?;
+    let last = next_caller(&rt, &group, &mut list, 1001);
+    let one = next_team(&rt, rt.alloc(), &group, &mut list)?;
+    let two = next_team(&rt, rt.alloc(), &group, &mut list)?;
+    let three = next_team(&rt, rt.alloc(), &group, &mut list)?;
+    let four = next_team(&rt, rt.alloc(), &group, &mut list)?;
     let ((one, two), (three, four)) = join(
         &rt,
-        || join(&rt, || one.work(&rt), || two.work(&rt)),
-        || join(&rt, || three.work(&rt), || four.work(&rt)),
+        || join(&rt, || one.work(), || two.work()),
+        || join(&rt, || three.work(), || four.work()),
     );
-    let mut led: u32 = 0;
+    let mut ended: u32 = 0;
     for tally in [one, two, three, four] {
-        led = led.wrapping_add(check_tally(&rt, tally));
+        let Tally {
+            led,
+            joined,
+            gave_up,
+        } = tally;
+        assert!(rt; gave_up == 0, "{gave_up} askings gave up");
+        ended = ended.wrapping_add(led).wrapping_add(joined);
     }
-    let loads = loads.load(Ordering::SeqCst);
-    assert!(rt; loads == led, "{loads} loads of {led} calls");
-    Ok(())
-}
-
-// A turn of waiting for a flag. At most 1,000,000 of them; whether it was seen.
-fn is_seen(flag: &AtomicBool) -> bool {
-    for _ in 0..1_000_000 {
-        if flag.load(Ordering::SeqCst) {
-            return true;
-        }
-        yield_now();
-    }
-    false
-}
-
-// What the two threads tell each other.
-#[derive(Drop)]
-struct Flags {
-    loading: AtomicBool,
-    joined: AtomicBool,
-    failed: AtomicBool,
-    loads: AtomicU32,
-}
-
-impl Flags {
-    // Waits until the other has joined.
-    fn load(&self) -> Outcome {
-        self.loads.fetch_add(1, Ordering::SeqCst);
-        self.loading.store(true, Ordering::SeqCst);
-        if !is_seen(&self.joined) {
-            self.failed.store(true, Ordering::SeqCst);
-        }
-        Outcome(7)
-    }
-}
-
-// A caller at the place of a key.
-#[derive(Drop)]
-struct Asker<'a> {
-    group: &'a Group<Outcome>,
-    caller: Caller<Outcome>,
-    place: u32,
-    flags: &'a Flags,
-}
-
-impl<'a> Model for Asker<'a> {
-    ghost use Rattle.std.specs.Prelude.{◌≡◌};
-    ghost use Rattle.sf_calls.specs.Same.{IsPlaceOf};
-
-    ghost Value = { Unit {0} };
-
-    ghost view = { λ _. tt };
-
-    ghost invariant = { λ a. (a.caller.group ≡ a.group.now) × IsPlaceOf a.group.now a.place };
-}
-
-impl<'a> Asker<'a> {
-    // The letter of a do whose load waits until the other has joined.
-    fn lead(self, rt: &impl Wait) -> Option<Letter<Outcome>> {
-        let Self {
-            group,
-            caller,
-            place,
-            flags,
-        } = self;
-        match do_with(rt, group, caller, place, || flags.load()) {
-            Ok((_, letter)) => Some(letter),
-            Err(DoFault::Held(settled)) => {
-                settled.abandon();
-                None
-            }
-            Err(DoFault::Spent(caller, load)) => {
-                drop(caller);
-                drop(load);
-                None
-            }
-        }
-    }
-
-    // The letter of a call that it joins while that loads.
-    fn join(self, rt: &impl Wait) -> Option<Letter<Outcome>> {
-        let Self {
-            group,
-            caller,
-            place,
-            flags,
-        } = self;
-        if !is_seen(&flags.loading) {
-            return None;
-        }
-        match begin_wait(rt, group, caller, place) {
-            Ok(Begun::Join(ticket)) => {
-                flags.joined.store(true, Ordering::SeqCst);
-                Some(wait(rt, group, ticket).1)
-            }
-            Ok(Begun::Lead(flight)) => {
-                flight.abandon();
-                None
-            }
-            Err(Spent { back: _ }) => None,
-        }
-    }
-}
-
-// The place that the next desk finds for the key.
-fn next_place(rt: &impl Abort, directory: &Directory, desks: &mut Vec<Desk>) -> u32
-    requires { All (λ d. d.directory ≡ directory.now) desks.old.items }
-    ensures { All (λ d. d.directory ≡ directory.now) desks.new.items }
-{
-    let Some(mut desk) = desks.pop() else {
-        panic!(rt; "no more desks")
-    };
-    match directory.resolve(&mut desk, b"key") {
-        Ok(place) => place.number().number(),
-        Err(_) => panic!(rt; "no place"),
-    }
-}
-
-fn check_shared(rt: &impl Abort, letter: Option<Letter<Outcome>>) {
-    let Some(letter) = letter else {
-        panic!(rt; "no letter")
-    };
-    check_call(rt, letter.call(), id(1, 1));
-    let (Outcome(value), shared) = (letter.value(), letter.shared());
-    assert!(rt;
-        *value == 7 && shared,
-        "its value is {value}, and whether it is shared: {shared}"
-    );
-}
-
-#[test]
-fn two_threads_one_load(rt: HostRuntime) -> Result<(), Fail> {
-    let (directory, mut desks) = Directory::new(rt.alloc(), 4, 8, 2)?;
-    let (group, mut callers) = Group::<Outcome>::new(rt.alloc(), 4, 2, 1)?;
-    let second_place = next_place(&rt, &directory, &mut desks);
-    let place = next_place(&rt, &directory, &mut desks);
-    assert!(rt;
-        group.has(place) && group.has(second_place),
-        "no such place"
-    );
-    let flags = Flags {
-        loading: AtomicBool::new(false),
-        joined: AtomicBool::new(false),
-        failed: AtomicBool::new(false),
-        loads: AtomicU32::new(0),
-    };
-    let second = Asker {
-        group: &group,
-        caller: next_caller(&rt, &group, &mut callers),
-        place: second_place,
-        flags: &flags,
-    };
-    let first = Asker {
-        group: &group,
-        caller: next_caller(&rt, &group, &mut callers),
-        place,
-        flags: &flags,
-    };
-    let (first, second) = join(&rt, || first.lead(&rt), || second.join(&rt));
-    check_shared(&rt, first);
-    check_shared(&rt, second);
-    let (loads, failed) = (
-        flags.loads.load(Ordering::SeqCst),
-        flags.failed.load(Ordering::SeqCst),
-    );
-    assert!(rt; loads == 1 && !failed, "{loads} loads");
+    assert!(rt; ended == 1000, "{ended} askings ended");
+    lead(&rt, &group, last, 1, id(1001, 1)).abandon();
     Ok(())
 }

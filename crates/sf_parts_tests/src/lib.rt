@@ -1,4 +1,4 @@
-//! Tests of the parts: the sequential group and its state in rows, scripts, words, the machine of schedules, the directory,
+//! Tests of the parts: the sequential group, scripts, words, the machine of schedules, the directory,
 //! the caches, the loaders, and records.
 //!
 //! They stand apart from the crates that they test, since a crate with tests is proved twice.
@@ -18,8 +18,6 @@ mod loaders;
 mod replay;
 #[cfg(test)]
 mod scripts;
-#[cfg(test)]
-mod state;
 #[cfg(test)]
 mod steps;
 #[cfg(test)]

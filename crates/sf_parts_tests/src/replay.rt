@@ -1,7 +1,8 @@
 //! The rows of the records, and what is written for a history.
 
+use sf_checker::{Verdict, check, check_indexed};
 use sf_history::{CallId, Event, History};
-use sf_replay::{RecordRefusal, Verdict, check, merge, read, write};
+use sf_replay::{RecordRefusal, merge, read, write};
 use std::alloc::{AllocError, Global};
 use std::process::Abort;
 use std::test::Fail;
@@ -15,15 +16,19 @@ const SETTLE_ERROR: &str =
 
 const HANDED: &str = "{\"e\":\"handed\",\"by\":1,\"c\":[1,1]}\n";
 
-/// What is said of these records after the format.
+/// What is said of these records after the format, by both checkers.
 fn answer(alloc: Global, text: &str) -> Result<String, AllocError> {
     match read(alloc, text.as_bytes()) {
-        Ok(history) => match check(&history) {
-            Verdict::Legal => {
+        Ok(history) => match (check(&history), check_indexed(alloc, &history)) {
+            (verdict, Ok(indexed)) if verdict != indexed => {
+                format!(in alloc; "{verdict}, but with an index: {indexed}")
+            }
+            (_, Err(_)) => format!(in alloc; "no index"),
+            (Verdict::Legal, _) => {
                 let events = history.len();
                 format!(in alloc; "legal: {events} events")
             }
-            illegal => format!(in alloc; "{illegal}"),
+            (illegal, _) => format!(in alloc; "{illegal}"),
         },
         Err(refusal) => format!(in alloc; "{refusal}"),
     }

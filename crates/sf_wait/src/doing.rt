@@ -11,7 +11,7 @@ use sf_group::{Begun, Caller, Finished, Group, Letter, Settled, Ticket};
 use std::sync::Wait;
 
 /// Why a do has no letter.
-pub enum DoFault<V, F> {
+pub enum DoFault<V: Fit, F> {
     /// The caller has no generation left. It comes back with its load, which was not called.
     Spent(Caller<V>, F),
     /// The caller led, and its call is settled; memory for a letter's copy was refused, so letters are owed still.

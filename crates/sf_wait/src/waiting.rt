@@ -5,12 +5,12 @@ ghost use Rattle.sf_calls.specs.Begins.{HasBegun, HasChanBegun, IsRefusedSpent, 
 ghost use Rattle.sf_calls.specs.Forgets.{HasForgotten};
 ghost use Rattle.sf_calls.specs.Finishes.{HasFinished, HasGoneOn, IsReady};
 
-use sf_calls::{Fit, Spent};
+use sf_calls::{Fit, NotBegun, Spent};
 use sf_group::{
-    Begun, Caller, ChanBegun, Finished, Flight, Forgotten, Group, Letter, Polled, Settled, Ticket,
+    Begun, Caller, ChanBegun, Finished, Flight, Forgotten, Group, Letter, MOST_TRIES, Polled,
+    Settled, Ticket,
 };
 use std::sync::Wait;
-use std::thread::yield_now;
 
 /// The caller asks for the place: it leads a new call where the place has no open one, and else joins that. Refused is a
 /// caller that has no generation left.
@@ -25,7 +25,15 @@ pub fn begin_wait<V: Fit, R: Wait>(
     ensures begun { IfOk result (λ begun. HasBegun caller place begun) }
     ensures spent { IfErr result (λ refused. IsRefusedSpent caller refused.back) }
 {
-    group.locked_begin(rt, caller, place)
+    let mut asking = caller;
+    for _ in rt.forever() {
+        match group.begin(asking, place, MOST_TRIES) {
+            Ok(begun) => return Ok(begun),
+            Err(NotBegun::Busy(_, back)) => asking = back,
+            Err(NotBegun::Spent(back)) => return Err(Spent { back }),
+        }
+    }
+    unreachable!()
 }
 
 /// The caller asks for the place with a second caller. Where the place has no open call, the caller leads a new one, and
@@ -44,7 +52,19 @@ pub fn begin_chan_wait<V: Fit, R: Wait>(
     ensures begun { IfOk result (λ begun. HasChanBegun caller second place begun) }
     ensures spent { IfErr result (λ refused. AreRefusedSpent caller second refused.back.0 refused.back.1) }
 {
-    group.locked_begin_chan(rt, caller, second, place)
+    let mut asking = caller;
+    let mut other = second;
+    for _ in rt.forever() {
+        match group.begin_chan(asking, other, place, MOST_TRIES) {
+            Ok(begun) => return Ok(begun),
+            Err(NotBegun::Busy(_, (back, second_back))) => {
+                asking = back;
+                other = second_back;
+            }
+            Err(NotBegun::Spent(back)) => return Err(Spent { back }),
+        }
+    }
+    unreachable!()
 }
 
 /// The second caller waits for the place's letter by a ticket. Where the place has no open call, the caller leads a new
@@ -76,7 +96,8 @@ pub fn finish_wait<V: Fit, R: Wait>(
     requires fits { V.fits flight.place flight.call value flight.seen }
     ensures { HasFinished V.fits flight value result }
 {
-    group.locked_finish(rt, flight, value)
+    let _ = rt;
+    group.finish(flight, value)
 }
 
 /// Goes on with a delivery for whose letters memory was refused.
@@ -84,7 +105,8 @@ pub fn go_on_wait<V: Fit, R: Wait>(rt: &R, group: &Group<V>, settled: Settled<V>
     requires { settled.group ≡ group.now }
     ensures { HasGoneOn V.fits settled result }
 {
-    group.locked_go_on(rt, settled)
+    let _ = rt;
+    group.go_on(settled)
 }
 
 /// The caller forgets the place, which closes its open call, if it has one.
@@ -98,7 +120,12 @@ pub fn forget_wait<V: Fit, R: Wait>(
     requires place { IsPlaceOf group.now place }
     ensures { HasForgotten caller.old place caller.new result }
 {
-    group.locked_forget(rt, caller, place)
+    for _ in rt.forever() {
+        if let Ok(forgotten) = group.forget(caller, place, MOST_TRIES) {
+            return forgotten;
+        }
+    }
+    unreachable!()
 }
 
 /// Waits for the ticket's letter. The caller is then free.
@@ -108,11 +135,11 @@ pub fn wait<V: Fit, R: Wait>(rt: &R, group: &Group<V>, ticket: Ticket<V>) -> (Ca
 {
     let mut waiting = ticket;
     for _ in rt.forever() {
-        match group.locked_poll(rt, waiting) {
+        match group.poll(waiting) {
             Polled::Ready(caller, letter) => return (caller, letter),
             Polled::Pending(pending) => waiting = pending,
         }
-        yield_now();
+        group.rest(rt, &waiting);
     }
     unreachable!()
 }

@@ -1,28 +1,34 @@
-use Rattle.std.proofs.Common.{◌∙◌, subst}
-use Rattle.sf_calls.specs.Tokens.{FlightValue, NoteValue}
+use Rattle.std.proofs.Common.{◌≡◌, [], ap, sym, ◌∙◌, subst}
+use Rattle.sf_calls.specs.declared.sizes.Sizes.{Sizes}
+use Rattle.sf_calls.specs.Tokens.{GroupValue, FlightValue, NoteValue}
 use Rattle.sf_calls.specs.Notes.{HasLearntLeading}
+use Rattle.sf_word_steps.specs.View.{sizes_of, history_of}
+use Rattle.sf_word_steps.specs.Hears.{HasHeard}
 use Rattle.sf_group.specs.Known.{flight_of}
-use Rattle.sf_group.proofs.Holding.{has_alone}
-use Rattle.sf_group.proofs.PlainRows.{sits_still, place_goes_on, own_stays, learnt_leading_row}
+use Rattle.sf_group.proofs.NoteRows.{leading_alone, leads_still, learnt_leading_row, follows_still}
+use Rattle.sf_word_steps.proofs.HearSteps.{heard_goes}
+use Rattle.sf_schedules.specs.declared.operation.Stage.TheVariants as stage
 use Rattle.sf_group.proofs.flight.Flight.learn.Goals as goal
 
 pub invariant_of-self : goal.invariant_of-self
 invariant_of-self g c =
-    let h = c.hear_note.ensures.heard in
-    let v = c.self.inside.seat.me.0 in
+    let f = c.self.inside in
+    let v = f.seat.me.0 in
     let w = c.hear_note.new.seat.me.0 in
-    let was = c.self.invariant in record {
-      sits = sits_still g.V.Fit.fits v w (h.0) c.self.inside.number c.self.inside.next _ _ _ h.1 was.mine tt was.sits;
-      empty = c.hear_note.ensures.own.1;
-      mine = was.mine;
-      place = place_goes_on g.V.Fit.fits v w (h.0) _ _ c.self.inside.call c.self.inside.place h.1 was.place;
-      channel = own_stays g.V.Fit.fits v w (h.0) c.self.inside.call c.self.inside.number h.1 was.mine (has_alone v c.self.inside.number was.sits.callers) ∙ was.channel;
-    }
+    let was = c.self.invariant in
+    let same : sizes_of v ≡ c.group.inside.sizes = ap (λ (x : FlightValue _). x.group.sizes) c.self.view_is ∙ ap (λ (x : GroupValue). x.sizes) (c.requires.own ∙ sym c.group.view_is) in
+    let heard = subst (λ (z : Sizes). HasHeard z v c.note.inside.seat.me.0.known.turns w) (sym same) c.hear_note.ensures.heard in
+    let leads = leads_still f.number f.call.generation f.place f.next f.own v w was.2 was.0 heard.made was.4 in
+    (leads.0, was.1, leads.1, c.hear_note.ensures.own.1 ∙ was.3, leads.2, was.5, follows_still f.seat.table_id c.hear_note.new.seat.table_id f.number f.place 0 f.call f.own f.after v w (stage.Leading f.place f.call.generation f.own) [] (heard_goes (sizes_of v) f.number v w (stage.Leading f.place f.call.generation f.own) was.0 (leading_alone f.place f.call.generation f.own) heard.made) was.6)
 
 pub returns-clause-learnt : goal.returns-clause-learnt
 returns-clause-learnt g c =
-    let v = c.self.inside.seat.me.0 in
+    let f = c.self.inside in
+    let n = c.note.inside.seat.me.0 in
     let w = c.hear_note.new.seat.me.0 in
-    subst (λ (n : NoteValue _). HasLearntLeading c.args.self.now n.seen (flight_of c.hear_note.new.seat.table_id w c.self.inside.number c.self.inside.place c.self.inside.call c.self.inside.own)) c.note.view_is
-    (subst (λ (x : FlightValue _). HasLearntLeading x c.note.inside.seat.me.0.known.seen (flight_of c.hear_note.new.seat.table_id w c.self.inside.number c.self.inside.place c.self.inside.call c.self.inside.own)) c.self.view_is
-    (learnt_leading_row g.V.Fit.fits c.self.inside.seat.table_id c.hear_note.new.seat.table_id v w c.self.inside.number c.self.inside.next c.self.inside.place c.self.inside.call c.self.inside.own c.note.inside.seat.me.0.known.seen c.hear_note.ensures.own.0 c.self.invariant.sits c.hear_note.ensures.heard))
+    let same : sizes_of f.seat.me.0 ≡ c.group.inside.sizes = ap (λ (x : FlightValue _). x.group.sizes) c.self.view_is ∙ ap (λ (x : GroupValue). x.sizes) (c.requires.own ∙ sym c.group.view_is) in
+    let noted : sizes_of n ≡ c.group.inside.sizes = ap (λ (x : NoteValue _). x.group.sizes) c.note.view_is ∙ ap (λ (x : GroupValue). x.sizes) (c.requires.note ∙ sym c.group.view_is) in
+    let heard = subst (λ (z : Sizes). HasHeard z f.seat.me.0 n.known.turns w) (sym same) c.hear_note.ensures.heard in
+    subst (λ (x : NoteValue _). HasLearntLeading c.args.self.now x.seen (flight_of c.hear_note.new.seat.table_id w f.number f.place f.call f.own)) c.note.view_is
+    (subst (λ (x : FlightValue _). HasLearntLeading x (history_of (sizes_of n) n.known.turns) (flight_of c.hear_note.new.seat.table_id w f.number f.place f.call f.own)) c.self.view_is
+    (learnt_leading_row f.seat.table_id c.hear_note.new.seat.table_id f.number f.call.generation f.place f.call f.own f.seat.me.0 n w c.hear_note.ensures.own.0 (noted ∙ sym same) c.self.invariant.0 heard))

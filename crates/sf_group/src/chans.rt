@@ -1,0 +1,125 @@
+//! Askings with a second caller.
+ghost use Rattle.std.specs.Prelude.{◌≡◌, ◌<◌, ◌≤◌, ◌⊎◌, IfOk, IfErr, IfSome, IfNone};
+ghost use Rattle.sf_calls.specs.Same.{IsPlaceOf};
+ghost use Rattle.sf_calls.specs.Begins.{HasChanBegun};
+ghost use Rattle.sf_group.specs.Calls.{HasNotBegunChan};
+
+use crate::caller::Caller;
+use crate::flight::Flight;
+use crate::group::{Group, MOST_TRIES};
+use crate::ticket::Ticket;
+use sf_calls::{ChanBegun, Fit, NotBegun};
+use sf_history::CallId;
+use sf_word_chans::{Askers, ask_together};
+use sf_word_steps::Attempt;
+
+// The generations that two callers use next. None where either is spent.
+fn generations(next: u64, second_next: u64) -> Option<(u32, u32)>
+    ensures given { IfSome result (λ given. (given.0 ≡ next) × (given.1 ≡ second_next) × (next ≤ 4294967295) × (second_next ≤ 4294967295)) }
+    ensures spent { IfNone result ((4294967295 < next) ⊎ (4294967295 < second_next)) }
+{
+    let Ok(generation) = u32::try_from(next) else {
+        return None;
+    };
+    let Ok(second_generation) = u32::try_from(second_next) else {
+        return None;
+    };
+    Some((generation, second_generation))
+}
+
+impl<V: Fit> Group<V> {
+    /// The caller asks for the place with a second caller. Where the place has no open call, the caller leads a new one,
+    /// and the second holds its own channel; else the second joins the open one, and the caller stays free. Both have then
+    /// seen what either had. Refused as spent where either has no generation left, which is looked at first; as busy where
+    /// all tries (1 to 65,536) failed, each since another had changed a word between its reading and its exchange.
+    pub fn begin_chan(
+        &self,
+        caller: Caller<V>,
+        second: Caller<V>,
+        place: u32,
+        tries: u32,
+    ) -> Result<ChanBegun<Flight<V>, Ticket<V>, Caller<V>>, NotBegun<(Caller<V>, Caller<V>)>>
+        requires caller { caller.group ≡ self.now }
+        requires second { second.group ≡ self.now }
+        requires place { IsPlaceOf self.now place }
+        requires tries { (1 ≤ tries) × (tries ≤ MOST_TRIES) }
+        ensures begun { IfOk result (λ begun. HasChanBegun caller second place begun) }
+        ensures refused { IfErr result (λ refused. HasNotBegunChan caller second place tries refused) }
+    {
+        let Some((generation, second_generation)) = generations(caller.next, second.next) else {
+            return Err(NotBegun::Spent((caller, second)));
+        };
+        let Caller { seat, number, next } = caller;
+        let Caller {
+            seat: second_seat,
+            number: second_number,
+            next: second_next,
+        } = second;
+        let askers = Askers {
+            sizes: self.sizes,
+            number,
+            second: second_number,
+            place,
+            generation,
+            second_generation,
+        };
+        let call = CallId {
+            caller: number,
+            generation,
+        };
+        let member = CallId {
+            caller: second_number,
+            generation: second_generation,
+        };
+        let (attempt, seat, second_seat) = ask_together(
+            &self.table.shared,
+            seat,
+            second_seat,
+            askers,
+            tries,
+        );
+        match attempt {
+            Attempt::Led(after) => Ok(ChanBegun::Led(
+                Flight {
+                    seat,
+                    number,
+                    next: next + 1,
+                    place,
+                    call,
+                    own: Some(member),
+                    after,
+                },
+                Ticket {
+                    seat: second_seat,
+                    number: second_number,
+                    next: second_next + 1,
+                    place,
+                    call,
+                    member,
+                },
+            )),
+            Attempt::Joined(open) => Ok(ChanBegun::Joined(
+                Ticket {
+                    seat: second_seat,
+                    number: second_number,
+                    next: second_next + 1,
+                    place,
+                    call: open,
+                    member,
+                },
+                Caller { seat, number, next },
+            )),
+            Attempt::Lost => Err(NotBegun::Busy(
+                tries,
+                (
+                    Caller { seat, number, next },
+                    Caller {
+                        seat: second_seat,
+                        number: second_number,
+                        next: second_next,
+                    },
+                ),
+            )),
+        }
+    }
+}

@@ -1,0 +1,207 @@
+//! Calls that settle, and by which letters come: finish, go_on and poll.
+ghost use Rattle.std.specs.Prelude.{◌≡◌, Some};
+ghost use Rattle.sf_calls.specs.Finishes.{HasFinished, HasGoneOn, HasPolled};
+ghost use Rattle.sf_word_steps.specs.View.{sizes_of, history_of};
+ghost use Rattle.sf_group.specs.Calls.{HasClosed, HasKnown};
+ghost use Rattle.sf_group.specs.Known.{letter_of};
+
+use crate::caller::Caller;
+use crate::flight::Flight;
+use crate::group::Group;
+use crate::letter::Letter;
+use crate::note::Note;
+use crate::settled::Settled;
+use crate::ticket::Ticket;
+use sf_calls::{Finished, Fit, Polled};
+use sf_history::CallId;
+use sf_word_steps::{Actor, Delivery, Tells, WordSeat, collect, hand_out, settle_often};
+use std::sync::Wait;
+
+impl<V: Fit> Group<V> {
+    /// The leader settles its call with the value, for good, and hands a letter to each that joined and to the own channel:
+    /// then it is free again, with its own letter. Each letter to another takes a copy of the value; where there is no memory
+    /// for one, the delivery is still to be gone on with. It settles in at most one try more than there are callers, since
+    /// each of its tries that fails is another caller's joining, or the call's one Forget. The value has to fit the call, by
+    /// what the leader has seen.
+    pub fn finish(&self, flight: Flight<V>, value: V) -> Finished<Caller<V>, Letter<V>, Settled<V>>
+        requires own { flight.group ≡ self.now }
+        requires fits { V.fits flight.place flight.call value flight.seen }
+        ensures finished { HasFinished V.fits flight value result }
+        ensures closed { HasClosed flight result }
+    {
+        let Flight {
+            mut seat,
+            number,
+            next,
+            place,
+            call,
+            own,
+            after: _,
+        } = flight;
+        let actor = Actor {
+            sizes: self.sizes,
+            number,
+            place,
+        };
+        let top = settle_often(
+            &self.table.shared,
+            &mut seat,
+            actor,
+            call.generation,
+            own,
+            &value,
+        );
+        if top.is_some() || own.is_some() {
+            return self.hand_on(Settled {
+                seat,
+                number,
+                next,
+                place,
+                call,
+                own,
+                value,
+                shared: top.is_some(),
+                top,
+            });
+        }
+        let letter = self.letter(&mut seat, place, call, value, false);
+        Finished::Done(Caller { seat, number, next }, letter)
+    }
+
+    /// Goes on with a delivery that lacked memory, from where it stands. No letter is handed out twice.
+    pub fn go_on(&self, settled: Settled<V>) -> Finished<Caller<V>, Letter<V>, Settled<V>>
+        requires own { settled.group ≡ self.now }
+        ensures { HasGoneOn V.fits settled result }
+    {
+        self.hand_on(settled)
+    }
+
+    /// Looks for the letter of the ticket's call, once. Where it is there, the caller has it and is free again.
+    pub fn poll(&self, ticket: Ticket<V>) -> Polled<Caller<V>, Letter<V>, Ticket<V>>
+        requires own { ticket.group ≡ self.now }
+        ensures { HasPolled V.fits ticket result }
+    {
+        let Ticket {
+            mut seat,
+            number,
+            next,
+            place,
+            call,
+            member,
+        } = ticket;
+        let actor = Actor {
+            sizes: self.sizes,
+            number,
+            place,
+        };
+        let Some(cell) = collect(
+            &self.table.shared,
+            &mut seat,
+            actor,
+            member.generation,
+            call,
+        ) else {
+            return Polled::Pending(Ticket {
+                seat,
+                number,
+                next,
+                place,
+                call,
+                member,
+            });
+        };
+        let letter = self.letter(&mut seat, place, call, cell.value, cell.shared);
+        Polled::Ready(Caller { seat, number, next }, letter)
+    }
+
+    /// Sleeps while the ticket's letter is not there, until its delivery. It may come back at any time, and promises
+    /// nothing: who rests polls again.
+    pub fn rest<R: Wait>(&self, rt: &R, ticket: &Ticket<V>)
+        requires own { ticket.now.group ≡ self.now }
+    {
+        self.resting
+            .rest(rt, &self.table.shared, self.sizes, ticket.member);
+    }
+
+    // Hands out what is owed.
+    fn hand_on(&self, settled: Settled<V>) -> Finished<Caller<V>, Letter<V>, Settled<V>>
+        requires own { settled.group ≡ self.now }
+        ensures gone { HasGoneOn V.fits settled result }
+        ensures known { HasKnown settled result }
+    {
+        let Settled {
+            mut seat,
+            number,
+            next,
+            place,
+            call,
+            own,
+            mut value,
+            shared,
+            top,
+        } = settled;
+        let actor = Actor {
+            sizes: self.sizes,
+            number,
+            place,
+        };
+        let delivery = Delivery {
+            generation: call.generation,
+            own,
+            shared,
+        };
+        match hand_out(
+            &self.table.shared,
+            &self.resting,
+            &mut seat,
+            actor,
+            delivery,
+            &mut value,
+            top,
+        ) {
+            Ok(()) => {}
+            Err(left) => {
+                return Finished::Held(Settled {
+                    seat,
+                    number,
+                    next,
+                    place,
+                    call,
+                    own,
+                    value,
+                    shared,
+                    top: left,
+                });
+            }
+        }
+        let letter = self.letter(&mut seat, place, call, value, shared);
+        Finished::Done(Caller { seat, number, next }, letter)
+    }
+
+    // A letter whose note shows what the seat has seen.
+    fn letter(
+        &self,
+        seat: &mut WordSeat<V>,
+        place: u32,
+        call: CallId,
+        value: V,
+        shared: bool,
+    ) -> Letter<V>
+        requires own { seat.old.table_id ≡ self.now.table }
+        requires seat { seat.old.me.0.sizes ≡ Some (sizes_of seat.old.me.0) }
+        requires fits { V.fits place call value (history_of (sizes_of seat.old.me.0) seat.old.me.0.known.turns) }
+        ensures seat { (seat.new.table_id ≡ seat.old.table_id) × (seat.new.me ≡ seat.old.me) }
+        ensures letter { result ≡ letter_of seat.old.table_id seat.old.me.0 place call value shared }
+    {
+        let note = Note {
+            seat: self.table.shared.split_seat::<Tells>(seat),
+        };
+        Letter {
+            place,
+            call,
+            value,
+            shared,
+            note,
+        }
+    }
+}
