@@ -3,3 +3,12 @@ pub mod Nowhere
 pub mod FillValue
 pub mod Ledgers
 pub mod Totals
+pub mod Settled
+pub mod GetterValue
+pub mod Made
+pub mod Resolving
+pub mod Owing
+pub mod Found
+pub mod Gets
+pub mod Reloads
+pub mod Counted

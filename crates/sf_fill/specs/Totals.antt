@@ -1,5 +1,6 @@
 -- what a fill counts, over all its getters
-use Rattle.std.specs.Prelude.{◌≡◌, ℕ, ◌+◌, ◌≤◌}
+use Rattle.std.specs.Prelude.{◌≡◌, ℕ, ◌+◌, ◌≤◌, List}
+use Rattle.std.specs.List.{sum_by}
 use Rattle.sf_fill.specs.declared.totals.Totals.{Totals}
 use Rattle.sf_fill.specs.declared.totals.GetCounts.{GetCounts}
 use Rattle.sf_fill.specs.declared.totals.Ledgers.{Ledgers}
@@ -18,6 +19,10 @@ pub record IsWithinGets (c : Totals) : Type 0 where
 -- each counter rose by as much
 abbrev pub plus : Totals → Totals → Totals
 plus a b = record { gets = a.gets + b.gets; cache_hits = a.cache_hits + b.cache_hits; loads = a.loads + b.loads; loads_deduped = a.loads_deduped + b.loads_deduped; peer_loads = a.peer_loads + b.peer_loads; peer_errors = a.peer_errors + b.peer_errors; local_loads = a.local_loads + b.local_loads; local_load_errors = a.local_load_errors + b.local_load_errors }
+
+-- for each counter, the sum over all
+abbrev pub sums_of : List Totals → Totals
+sums_of all = record { gets = sum_by (λ (t : Totals). t.gets) all; cache_hits = sum_by (λ (t : Totals). t.cache_hits) all; loads = sum_by (λ (t : Totals). t.loads) all; loads_deduped = sum_by (λ (t : Totals). t.loads_deduped) all; peer_loads = sum_by (λ (t : Totals). t.peer_loads) all; peer_errors = sum_by (λ (t : Totals). t.peer_errors) all; local_loads = sum_by (λ (t : Totals). t.local_loads) all; local_load_errors = sum_by (λ (t : Totals). t.local_load_errors) all }
 
 -- a get is counted once, and no other counter rises by more
 pub record IsOfOneGet (c : GetCounts) : Type 0 where

@@ -1,15 +1,47 @@
-//! Parts of a fill: who is named by what, what a fill settles its calls with, and its counters.
+//! Fills: what groupcache does for a missing key, over a group of callers.
+//!
+//! A getter gets a key: it looks in two caches, and else leads the key's call and loads, or waits for the one that leads it.
+//! A reload forgets a key, so that the next get loads it again. Getters stand side by side, one a thread; a lock is held to
+//! look, to put and to count, and never while one loads or waits.
+//!
+//! | To | Call |
+//! | --- | --- |
+//! | make a fill and its getters | `Fill::new`, with all its parts; which directory, group and ledgers they are is named by `Naming` |
+//! | get, reload | `get`, `reload` |
+//! | go on with a delivery that was refused memory | `owes`, `settle_up` |
+//! | count | `Fill::book` while it runs, `gather` at the end |
+//! | see what happened | `take_log` |
+//! | spend a getter | `end`, or `gather` |
 #![tactic(auto)]
 
+mod cached;
 mod counting;
+mod fault;
+mod fill;
+mod found;
+mod getter;
+mod getting;
+mod leading;
+mod log;
+mod looking;
+mod making;
 mod naming;
+mod owing;
+mod reloading;
+mod standing;
 mod totals;
 mod value;
+mod view;
 
 pub use counting::{Account, Parts, Tally, open};
+pub use fault::{GetRefusal, LoadFault};
+pub use fill::Fill;
+pub use getter::Getter;
+pub use making::FillParts;
 pub use naming::{
     CacheHits, Gets, Loads, LoadsDeduped, LocalLoadErrors, LocalLoads, Naming, PeerErrors,
     PeerLoads,
 };
 pub use totals::{Accounts, AllParts, GetCounts, Ledgers, Tallies, Totals};
 pub use value::FillValue;
+pub use view::View;

@@ -13,7 +13,7 @@ use std::marker::Model;
 use std::sync::ledger::Blank;
 
 /// The sums of groupcache's counters of these names, over all getters of a fill.
-#[derive(Clone, Copy)]
+#[derive(Clone, Copy, PartialEq, Eq)]
 pub struct Totals {
     /// Gets.
     pub gets: u128,

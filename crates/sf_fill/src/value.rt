@@ -46,6 +46,31 @@ impl<'d, D: Naming, O: Origin> FillValue<'d, D, O> {
         }
     }
 
+    /// The place, the call whose run loaded the bytes, and the bytes or why there are none.
+    pub fn into_parts(self) -> (Place<'d>, CallId, Result<Bytes, LocalFault>)
+        ensures place { (result.0 ≡ self.entry.place) × (self.entry.place.directory ≡ D.directory) }
+        ensures root { result.1 ≡ self.entry.root }
+        ensures result { result.2 ≡ self.entry.result }
+        ensures loaded { IfOk self.entry.result (λ bytes. O.loaded self.entry.place.key self.entry.root bytes) }
+    {
+        let FillValue {
+            place,
+            root,
+            result,
+            of: _,
+            from: _,
+        } = self;
+        (place, root, result)
+    }
+
+    /// How many bytes there are; none where there is a fault in their place.
+    pub fn byte_count(&self) -> Option<usize> {
+        match &self.result {
+            Ok(bytes) => Some(bytes.len()),
+            Err(_) => None,
+        }
+    }
+
     /// Shows that the value is of the place's key, where both are of one number.
     pub fn agree(&mut self, place: &mut Place<'d>)
         requires directory { place.old.directory ≡ D.directory }

@@ -10,7 +10,7 @@ use std::fmt;
 use std::marker::Model;
 
 /// The number of a place, 1 to 1,048,576. Clauses see it as that number.
-#[derive(Clone, Copy, Debug, PartialEq, Eq)]
+#[derive(Clone, Copy, Debug, PartialEq, Eq, PartialOrd, Ord)]
 pub struct PlaceNo {
     number: u32,
 }

@@ -1,0 +1,103 @@
+-- what a get of a free caller comes to
+use Rattle.std.specs.Prelude.{◌≡◌, ℕ, ◌⊎◌, List, Result, Ok, Err}
+use Rattle.sf_history.specs.declared.call.CallId.{CallId}
+use Rattle.sf_calls.specs.declared.outcomes.Finished.{Finished}
+use Rattle.sf_calls.specs.declared.outcomes.Finished.TheVariants.{Done, Held}
+use Rattle.sf_calls.specs.Tokens.{GroupValue, CallerValue, FlightValue, SettledValue, TicketValue, LetterValue}
+use Rattle.sf_calls.specs.Begins.{HasLed, HasJoined, IsRefusedSpent}
+use Rattle.sf_calls.specs.Finishes.{IsDone, IsHeld, IsReady}
+use Rattle.sf_calls.specs.Notes.{HasLent}
+use Rattle.sf_dir.specs.Known.{PlaceState}
+use Rattle.sf_loaders.specs.LoadPath.{LoadAnswer}
+use Rattle.sf_loaders.specs.declared.counts.Counts.{Counts}
+use Rattle.sf_loaders.specs.declared.counts.Source.{Source}
+use Rattle.sf_loaders.specs.declared.counts.Source.TheVariants.{Peer, Local}
+use Rattle.sf_loaders.specs.declared.faults.LocalFault.{LocalFault}
+use Rattle.sf_loaders.specs.declared.load_path.Loaders.{Loaders}
+use Rattle.sf_fill.specs.declared.found.Found.{Found}
+use Rattle.sf_fill.specs.declared.found.Found.TheVariants.{Kept, Uncopied, Spent, Joined, Led}
+use Rattle.sf_fill.specs.declared.totals.GetCounts.{GetCounts}
+use Rattle.sf_fill.specs.FillValue.{Filled, FitsFill}
+use Rattle.sf_fill.specs.Settled.{IsKeptLetter, HasKeptLetter}
+
+abbrev pub no_run : Counts
+no_run = record { loads_deduped = 0; peer_loads = 0; peer_errors = 0; local_loads = 0; local_load_errors = 0 }
+
+-- a get that a cache answers, one that asks the group, one whose leader finds a value in a cache, and one that neither asks nor hits
+abbrev pub hit_counts : GetCounts
+hit_counts = record { gets = 1; cache_hits = 1; loads = 0; run = no_run }
+
+abbrev pub load_counts : Counts → GetCounts
+load_counts run = record { gets = 1; cache_hits = 0; loads = 1; run = run }
+
+abbrev pub second_look_counts : GetCounts
+second_look_counts = record { gets = 1; cache_hits = 1; loads = 1; run = no_run }
+
+abbrev pub get_alone : GetCounts
+get_alone = record { gets = 1; cache_hits = 0; loads = 0; run = no_run }
+
+-- the bytes without who gave them
+abbrev pub bytes_in : Result (List ℕ × Source) LocalFault → Result (List ℕ) LocalFault
+bytes_in (Ok found) = Ok found.0
+bytes_in (Err fault) = Err fault
+
+-- a cache had the value for the place, or had one for which memory was refused
+abbrev pub IsFromCache : GroupValue → PlaceState → CallId → Filled → Type 0
+IsFromCache g p call v =
+    ((l : LetterValue Filled) × IsKeptLetter g p.number l × (v ≡ l.value))
+    ⊎ (HasKeptLetter g p.number × (v ≡ record { place = p; root = call; result = Err LocalFault.Memory }))
+
+-- the leader settled its call with the value; its letter's note may show more by now
+abbrev pub HasSettled : FlightValue Filled → Filled → Finished (CallerValue Filled) (LetterValue Filled) (SettledValue Filled) → Type 0
+HasSettled f v (Done c m) = (l : LetterValue Filled) × IsDone FitsFill f v c l × HasLent l m
+HasSettled f v (Held s) = IsHeld f v s
+
+-- a draw, whatever it gave
+abbrev pub IsDraw : {C : Type 0} → (C → ℕ → C → Type 0) → C → C → Type 0
+IsDraw gives old new = (draw : ℕ) × gives old draw new
+
+module _ {C : Type 0} (draws : C → C → Type 0) where
+  -- one draw at most is made where a peer gave the value, and else none
+  abbrev pub DrawsFor : Source → C → C → Type 0
+  DrawsFor Peer old new = (new ≡ old) ⊎ draws old new
+  DrawsFor Local old new = new ≡ old
+
+  abbrev pub HasDrawn : Result (List ℕ × Source) LocalFault → C → C → Type 0
+  HasDrawn (Ok found) old new = DrawsFor found.1 old new
+  HasDrawn (Err fault) old new = new ≡ old
+
+module _ {P F L C : Type 0} (path : CallId → Loaders P F L C → LoadAnswer → Loaders P F L C → Type 0) (draws : C → C → Type 0) where
+  -- the loaders gave the value for the run of the call, and then there may have been a draw
+  pub record IsLoaded (p : PlaceState) (call : CallId) (old new : Loaders P F L C) (v : Filled) (n : GetCounts) : Type 0 where
+    pub outcome : LoadAnswer
+    pub after : Loaders P F L C
+    pub asked : path call old outcome after
+    pub value : v ≡ record { place = p; root = call; result = bytes_in outcome.0 }
+    pub counts : n ≡ load_counts outcome.1
+    pub drawn : HasDrawn draws outcome.0 after.chance new.chance
+    pub rest : new ≡ record after { chance = new.chance }
+
+  -- a cache had it, and no loader was asked
+  pub record IsSecondLook (g : GroupValue) (p : PlaceState) (call : CallId) (old new : Loaders P F L C) (v : Filled) (n : GetCounts) : Type 0 where
+    pub value : IsFromCache g p call v
+    pub counts : n ≡ second_look_counts
+    pub unasked : new ≡ old
+
+  abbrev pub IsSource : GroupValue → PlaceState → CallId → Loaders P F L C → Loaders P F L C → Filled → GetCounts → Type 0
+  IsSource g p call old new v n = IsLoaded p call old new v n ⊎ IsSecondLook g p call old new v n
+
+  -- the caller led the place's next call, and settled it with a value of that source
+  pub record HasRun (p : PlaceState) (c : CallerValue Filled) (old new : Loaders P F L C) (finished : Finished (CallerValue Filled) (LetterValue Filled) (SettledValue Filled)) (n : GetCounts) : Type 0 where
+    pub flight : FlightValue Filled
+    pub value : Filled
+    pub led : HasLed c p.number flight
+    pub source : IsSource c.group p flight.call old new value n
+    pub settled : HasSettled flight value finished
+
+  -- a hit leaves the caller as it was; a joiner has the open call's letter; who has no generation left did nothing
+  abbrev pub HasFound : PlaceState → CallerValue Filled → Loaders P F L C → Loaders P F L C → Found Filled → Type 0
+  HasFound p c old new (Kept d l) = (d ≡ c) × (new ≡ old) × IsKeptLetter c.group p.number l
+  HasFound p c old new (Uncopied d) = (d ≡ c) × (new ≡ old) × HasKeptLetter c.group p.number
+  HasFound p c old new (Spent d) = IsRefusedSpent c d × (new ≡ old)
+  HasFound p c old new (Joined d l) = (new ≡ old) × ((t : TicketValue Filled) × HasJoined c p.number t × IsReady FitsFill t d l)
+  HasFound p c old new (Led finished n) = HasRun p c old new finished n

@@ -1,0 +1,100 @@
+-- how gets end
+use Rattle.std.specs.Prelude.{◌≡◌, ℕ, ◌⊎◌, List, Result, Ok, Err}
+use Rattle.sf_history.specs.declared.call.CallId.{CallId}
+use Rattle.sf_calls.specs.declared.outcomes.Finished.TheVariants.{Done, Held}
+use Rattle.sf_calls.specs.Tokens.{CallerValue, LetterValue}
+use Rattle.sf_dir.specs.Known.{DirectoryId, DeskState, PlaceState}
+use Rattle.sf_dir.specs.declared.refusal.Refusal.{Refusal}
+use Rattle.sf_dir.specs.declared.refusal.Refusal.TheVariants as refusal
+use Rattle.sf_loaders.specs.LoadPath.{LoadAnswer}
+use Rattle.sf_loaders.specs.declared.faults.LocalFault.{LocalFault}
+use Rattle.sf_loaders.specs.declared.faults.LocalFault.TheVariants as local
+use Rattle.sf_loaders.specs.declared.load_path.Loaders.{Loaders}
+use Rattle.sf_fill.specs.declared.fault.LoadFault.{LoadFault}
+use Rattle.sf_fill.specs.declared.fault.LoadFault.TheVariants as fault
+use Rattle.sf_fill.specs.declared.fault.GetRefusal.TheVariants as refused
+use Rattle.sf_fill.specs.declared.found.Found.{Found}
+use Rattle.sf_fill.specs.declared.found.Found.TheVariants.{Kept, Uncopied, Spent, Joined, Led}
+use Rattle.sf_fill.specs.declared.standing.Standing.{Standing}
+use Rattle.sf_fill.specs.declared.standing.Standing.TheVariants.{Free, Owing}
+use Rattle.sf_fill.specs.declared.totals.GetCounts.{GetCounts}
+use Rattle.sf_fill.specs.FillValue.{Filled}
+use Rattle.sf_fill.specs.Found.{HasFound, hit_counts, load_counts, get_alone, no_run}
+use Rattle.sf_fill.specs.GetterValue.{GetterValue}
+use Rattle.sf_fill.specs.Owing.{HasSettledUp}
+use Rattle.sf_fill.specs.Resolving.{IsSeeing, IsPlaceOfKey, IsRefusedKey}
+use Rattle.sf_fill.specs.Totals.{with_counts}
+
+abbrev pub GetAnswer : Type 0
+GetAnswer = Result (LetterValue Filled) LoadFault
+
+-- what is answered of a letter: itself where it has bytes, and else its fault
+abbrev pub answer_by : LetterValue Filled → Result (List ℕ) LocalFault → GetAnswer
+answer_by l (Ok bytes) = Ok l
+answer_by l (Err (local.Failed text)) = Err (fault.Local text)
+answer_by l (Err local.Memory) = Err fault.Memory
+
+abbrev pub answer_in : LetterValue Filled → GetAnswer
+answer_in l = answer_by l l.value.result
+
+abbrev pub refusal_of : Refusal → LoadFault
+refusal_of refusal.KeyTooLong = fault.Refused refused.KeyTooLong
+refusal_of refusal.Full = fault.Refused refused.Full
+
+-- where the caller then stands, what is counted, and what is answered
+abbrev pub Reply : Type 0
+Reply = Standing Filled × GetCounts × GetAnswer
+
+abbrev pub reply_of : Found Filled → Reply
+reply_of (Kept c l) = (Free c, hit_counts, answer_in l)
+reply_of (Uncopied c) = (Free c, hit_counts, Err fault.Memory)
+reply_of (Spent c) = (Free c, load_counts no_run, Err (fault.Refused refused.Spent))
+reply_of (Joined c l) = (Free c, load_counts no_run, answer_in l)
+reply_of (Led (Done c l) n) = (Free c, n, answer_in l)
+reply_of (Led (Held s) n) = (Owing s, n, Err fault.Memory)
+
+-- what it counts
+abbrev pub counts_of : Found Filled → GetCounts
+counts_of found = (reply_of found).1
+
+-- a letter that was found is of the place
+abbrev pub IsOfPlace : ℕ → Found Filled → Type 0
+IsOfPlace k (Kept c l) = l.place ≡ k
+IsOfPlace k (Uncopied c) = Unit {0}
+IsOfPlace k (Spent c) = Unit {0}
+IsOfPlace k (Joined c l) = l.place ≡ k
+IsOfPlace k (Led (Done c l) n) = l.place ≡ k
+IsOfPlace k (Led (Held s) n) = Unit {0}
+
+module _ {P F L C : Type 0} (path : CallId → Loaders P F L C → LoadAnswer → Loaders P F L C → Type 0) (draws : C → C → Type 0) (d : DirectoryId) (key : List ℕ) where
+  -- the key is refused, and nothing else is done
+  pub record IsRefusedGet (c : CallerValue Filled) (desk after : DeskState) (old new : Loaders P F L C) (reply : Reply) : Type 0 where
+    pub refusal : Refusal
+    pub cause : IsRefusedKey d key desk after refusal
+    pub unasked : new ≡ old
+    pub reply_is : reply ≡ (Free c, get_alone, Err (refusal_of refusal))
+
+  -- the key has a place, for which this was found
+  pub record IsFoundGet (c : CallerValue Filled) (desk after : DeskState) (old new : Loaders P F L C) (reply : Reply) : Type 0 where
+    pub place : PlaceState
+    pub resolved : IsPlaceOfKey d key desk after place
+    pub found : Found Filled
+    pub found_so : HasFound path draws place c old new found
+    pub reply_is : reply ≡ reply_of found
+
+  -- a get of a free caller
+  abbrev pub HasReplied : CallerValue Filled → DeskState → DeskState → Loaders P F L C → Loaders P F L C → Reply → Type 0
+  HasReplied c desk after old new reply = IsRefusedGet c desk after old new reply ⊎ IsFoundGet c desk after old new reply
+
+  -- the get of a caller that has settled up; where it owes letters still, the get is counted alone
+  abbrev pub GetsFrom : Standing Filled → DeskState → DeskState → Loaders P F L C → Loaders P F L C → Reply → Type 0
+  GetsFrom (Owing s) desk after old new reply = (after ≡ desk) × (new ≡ old) × (reply ≡ (Owing s, get_alone, Err fault.Memory))
+  GetsFrom (Free c) desk after old new reply = IsSeeing d desk after × HasReplied c desk after old new reply
+
+  -- what was owed is delivered first, if it can be
+  pub record HasGot (old new : GetterValue P F L C) (answer : GetAnswer) : Type 0 where
+    pub middle : GetterValue P F L C
+    pub settled : HasSettledUp old middle
+    pub counts : GetCounts
+    pub got : GetsFrom middle.standing middle.desk new.desk middle.loaders new.loaders (new.standing, counts, answer)
+    pub counted : new.counted ≡ with_counts old.counted counts

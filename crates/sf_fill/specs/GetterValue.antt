@@ -1,0 +1,40 @@
+-- what contracts see of a getter
+use Rattle.std.specs.Prelude.{◌≡◌, ℕ, Bool, true, false, List}
+use Rattle.sf_history.specs.declared.event.Event.{Event}
+use Rattle.sf_calls.specs.Tokens.{GroupValue, CallerValue}
+use Rattle.sf_dir.specs.Known.{DeskState}
+use Rattle.sf_loaders.specs.declared.load_path.Loaders.{Loaders}
+use Rattle.sf_fill.specs.declared.standing.Standing.{Standing}
+use Rattle.sf_fill.specs.declared.standing.Standing.TheVariants.{Free, Owing}
+use Rattle.sf_fill.specs.declared.totals.Totals.{Totals}
+use Rattle.sf_fill.specs.FillValue.{Filled}
+use Rattle.sf_fill.specs.Ledgers.{nothing_counted}
+
+-- its desk, its caller, which is free or owes letters, its loaders, and what it has counted
+pub record GetterValue (P F L C : Type 0) : Type 0 where
+  pub desk : DeskState
+  pub standing : Standing Filled
+  pub loaders : Loaders P F L C
+  pub counted : Totals
+
+module _ {V : Type 0} where
+  abbrev pub number_of : Standing V → ℕ
+  number_of (Free caller) = caller.number
+  number_of (Owing settled) = settled.number
+
+  abbrev pub seen_of : Standing V → List (Event ℕ V)
+  seen_of (Free caller) = caller.seen
+  seen_of (Owing settled) = settled.seen
+
+  abbrev pub IsOfGroup : GroupValue → Standing V → Type 0
+  IsOfGroup g (Free caller) = caller.group ≡ g
+  IsOfGroup g (Owing settled) = settled.group ≡ g
+
+  abbrev pub is_owing : Standing V → Bool
+  is_owing (Free caller) = false
+  is_owing (Owing settled) = true
+
+module _ {P F L C : Type 0} where
+  -- the getter of a desk, a caller and loaders, which has counted nothing
+  abbrev pub new_getter : DeskState → CallerValue Filled → Loaders P F L C → GetterValue P F L C
+  new_getter desk caller loaders = record { desk = desk; standing = Free caller; loaders = loaders; counted = nothing_counted }

@@ -1,0 +1,97 @@
+//! Fills, and what lies under their lock.
+ghost use Rattle.std.specs.Prelude.{◌≡◌, ◌<◌, map, vec_len};
+ghost use Rattle.sf_fill.specs.Totals.{sums_of};
+ghost use Rattle.sf_fill.specs.GetterValue.{GetterValue};
+
+use crate::cached::Cached;
+use crate::getter::Getter;
+use crate::naming::Naming;
+use crate::totals::{Accounts, AllParts, Totals};
+use crate::value::FillValue;
+use sf_caches::Caches;
+use sf_dir::Directory;
+use sf_group::Group;
+use sf_loaders::Origin;
+use std::marker::Model;
+use std::sync::{Mutex, Wait};
+
+/// What lies under the lock: the letters that are kept, and what all getters have counted.
+#[derive(Drop)]
+pub(crate) struct Kept<'d, D: Naming, N: Naming, O: Origin> {
+    pub(crate) caches: Caches<Cached<'d, D, N, O>>,
+    pub(crate) accounts: Accounts<N>,
+}
+
+impl<'d, D: Naming, N: Naming, O: Origin> Model for Kept<'d, D, N, O> {
+    ghost use Rattle.std.specs.Prelude.{◌≡◌, ℕ};
+
+    ghost Value = { ℕ };
+
+    ghost view = { λ k. k.caches.places };
+
+    // The caches have the group's places.
+    ghost invariant = { λ k. k.caches.places ≡ N.group.sizes.places };
+}
+
+/// Two caches of a group's answers, which getters fill: groupcache's `Group`. A lock is held to look, to put and to count,
+/// and never while a getter loads or waits for a letter.
+#[derive(Drop)]
+pub struct Fill<'d, D: Naming, N: Naming, O: Origin> {
+    pub(crate) directory: &'d Directory,
+    pub(crate) group: Group<FillValue<'d, D, O>>,
+    pub(crate) kept: Mutex<Kept<'d, D, N, O>>,
+    pub(crate) limit: i64,
+}
+
+impl<'d, D: Naming, N: Naming, O: Origin> Model for Fill<'d, D, N, O> {
+    ghost use Rattle.std.specs.Prelude.{◌≡◌};
+    ghost use Rattle.sf_calls.specs.Tokens.{GroupValue};
+
+    ghost Value = { GroupValue };
+
+    ghost view = { λ f. f.group };
+
+    // It has a place for each key of its directory.
+    ghost invariant = { λ f. (f.group ≡ N.group) × (f.directory.now ≡ N.directory) × (D.directory ≡ N.directory) × (N.group.sizes.places ≡ N.directory.keys) };
+}
+
+impl<'d, D: Naming, N: Naming, O: Origin> Fill<'d, D, N, O> {
+    /// What all getters have counted so far.
+    pub fn book<R: Wait>(&self, rt: &R) -> Totals {
+        self.kept.lock(rt).accounts.totals()
+    }
+
+    /// Spends all getters, and answers the book's numbers: for each counter, the sum of what they counted. All are as many
+    /// as there are parts.
+    pub fn gather<R: Wait, P: Drop, F: Drop, L: Drop, C: Drop>(
+        &self,
+        rt: &R,
+        getters: Vec<Getter<'d, D, N, O, P, F, L, C>>,
+    ) -> Totals
+        requires all { vec_len getters ≡ N.getters }
+        requires some { 0 < vec_len getters }
+        ensures { result ≡ sums_of (map (λ (g : GetterValue P F L C). g.counted) getters.entry.items) }
+    {
+        let mut all = sum_up(getters);
+        self.kept.lock(rt).accounts.gathered(&mut all)
+    }
+}
+
+// The parts of all these getters, which are spent.
+fn sum_up<'d, D: Naming, N: Naming, O: Origin, P: Drop, F: Drop, L: Drop, C: Drop>(
+    getters: Vec<Getter<'d, D, N, O, P, F, L, C>>,
+) -> AllParts<N>
+    requires { 0 < vec_len getters }
+    ensures { result ≡ record { parts = vec_len getters.entry; counted = sums_of (map (λ (g : GetterValue P F L C). g.counted) getters.entry.items) } }
+{
+    let mut getters = getters;
+    let Some(last) = getters.pop() else {
+        unreachable!()
+    };
+    let mut all = AllParts::of(last.into_tallies());
+    'rest: while let Some(getter) = getters.pop() {
+        all.take(getter.into_tallies());
+    }
+    getters.destroy_empty();
+    all
+}

@@ -1,0 +1,260 @@
+//! Gets.
+ghost use Rattle.std.specs.Prelude.{◌≡◌, ◌<◌, ◌-◌, ◌^◌, Err, IfOk};
+ghost use Rattle.sf_calls.specs.Same.{IsPlaceOf};
+ghost use Rattle.sf_loaders.specs.LoadPath.{IsLoadOf};
+ghost use Rattle.sf_fill.specs.declared.fault.LoadFault.{LoadFault};
+ghost use Rattle.sf_fill.specs.declared.fault.GetRefusal.{GetRefusal};
+ghost use Rattle.sf_fill.specs.Found.{HasFound, IsDraw};
+ghost use Rattle.sf_fill.specs.Counted.{IsCounted};
+ghost use Rattle.sf_fill.specs.Gets.{GetsFrom, HasReplied, HasGot, IsOfPlace, counts_of, reply_of};
+ghost use Rattle.sf_fill.specs.GetterValue.{IsOfGroup};
+ghost use Rattle.sf_fill.specs.Resolving.{IsSeeing};
+ghost use Rattle.sf_fill.specs.Totals.{IsOfOneGet};
+
+use crate::fault::{GetRefusal, LoadFault, of_key};
+use crate::fill::Fill;
+use crate::found::Found;
+use crate::getter::Getter;
+use crate::leading::{NO_RUN, Sourced};
+use crate::log::Log;
+use crate::looking::InCache;
+use crate::naming::Naming;
+use crate::standing::Standing;
+use crate::totals::GetCounts;
+use crate::value::FillValue;
+use crate::view::{View, show};
+use sf_dir::{Desk, Place};
+use sf_group::{Begun, Caller, Event, Finished, Spent};
+use sf_loaders::{Chance, Loaders, Local, Origin, Peer, Picker};
+use sf_wait::{begin_wait, wait};
+use std::sync::Wait;
+
+const GET_ALONE: GetCounts = GetCounts {
+    gets: 1,
+    cache_hits: 0,
+    loads: 0,
+    run: NO_RUN,
+};
+
+const HIT: GetCounts = GetCounts {
+    cache_hits: 1,
+    ..GET_ALONE
+};
+
+const LOAD: GetCounts = GetCounts {
+    loads: 1,
+    ..GET_ALONE
+};
+
+/// Where a getter's caller stands after a get, what the get counts, and what it answers.
+type Reply<'d, D, O> = (
+    Standing<FillValue<'d, D, O>>,
+    GetCounts,
+    Result<View<'d, D, O>, LoadFault>,
+);
+
+// What a get answers that found this.
+fn reply<'d, D: Naming, O: Origin>(
+    found: Found<FillValue<'d, D, O>>,
+    place: &mut Place<'d>,
+) -> Reply<'d, D, O>
+    requires directory { place.old.directory ≡ D.directory }
+    requires of_place { IsOfPlace place.old.number found }
+    ensures reply { result ≡ reply_of found.entry }
+    ensures keyed { IfOk result.2 (λ view. view.value.place ≡ place.old) }
+{
+    match found {
+        Found::Kept(caller, letter) => (Standing::Free(caller), HIT, show(letter, place)),
+        Found::Uncopied(caller) => (Standing::Free(caller), HIT, Err(LoadFault::Memory)),
+        Found::Spent(caller) => (
+            Standing::Free(caller),
+            LOAD,
+            Err(LoadFault::Refused(GetRefusal::Spent)),
+        ),
+        Found::Joined(caller, letter) => (Standing::Free(caller), LOAD, show(letter, place)),
+        Found::Led(finished, counts) => match finished {
+            Finished::Done(caller, letter) => {
+                (Standing::Free(caller), counts, show(letter, place))
+            }
+            Finished::Held(settled) => (Standing::Owing(settled), counts, Err(LoadFault::Memory)),
+        },
+    }
+}
+
+impl<'d, D: Naming, N: Naming, O: Origin> Fill<'d, D, N, O> {
+    // Looks for the place's letter in the caches, and else asks the group: loads the key where the caller leads, and else
+    // waits for the letter.
+    fn find<R: Wait, P, F, L, C>(
+        &self,
+        rt: &R,
+        caller: Caller<FillValue<'d, D, O>>,
+        place: &mut Place<'d>,
+        key: &[u8],
+        loaders: &mut Loaders<P, F, L, C>,
+        log: &mut Log,
+    ) -> Found<FillValue<'d, D, O>>
+    where
+        P: Picker,
+        F: Peer<Origin = O>,
+        L: Local<Origin = O>,
+        C: Chance,
+        requires caller { caller.group ≡ N.group }
+        requires place { (place.old.directory ≡ D.directory) × (place.old.key ≡ key.now) × IsPlaceOf N.group place.old.number }
+        ensures found { HasFound (IsLoadOf P.pick_gives F.fetch_gives L.load_gives key.now) (IsDraw C.draw_gives) place.old caller.entry loaders.old loaders.new result }
+        ensures of_place { IsOfPlace place.old.number result }
+        ensures one { IsOfOneGet (counts_of result) }
+        ensures same { place.new ≡ place.old }
+    {
+        let number = place.number();
+        if let Some(InCache { copy, which: _ }) = self.look(rt, number.number()) {
+            return match copy {
+                Ok(letter) => Found::Kept(caller, letter),
+                Err(_) => Found::Uncopied(caller),
+            };
+        }
+        match begin_wait(rt, &self.group, caller, number.number()) {
+            Ok(Begun::Lead(flight)) => {
+                let call = flight.call();
+                log.add(Event::Lead {
+                    by: call.caller,
+                    key: number,
+                    call,
+                    own: None,
+                });
+                let Sourced {
+                    value,
+                    keep,
+                    counts,
+                } = self.source(rt, call, place.again(), key, loaders);
+                let finished = self.settle(rt, flight, value, keep, key.len());
+                log.add_finished(call, &finished);
+                Found::Led(finished, counts)
+            }
+            Ok(Begun::Join(ticket)) => {
+                log.add(Event::Enter {
+                    by: ticket.member().caller,
+                    key: number,
+                    call: ticket.call(),
+                    member: ticket.member(),
+                });
+                let (caller, letter) = wait(rt, &self.group, ticket);
+                Found::Joined(caller, letter)
+            }
+            Err(Spent { back }) => Found::Spent(back),
+        }
+    }
+
+    // Gets the key's value for a free caller.
+    fn get_free<R: Wait, P, F, L, C>(
+        &self,
+        rt: &R,
+        caller: Caller<FillValue<'d, D, O>>,
+        desk: &mut Desk,
+        key: &[u8],
+        loaders: &mut Loaders<P, F, L, C>,
+        log: &mut Log,
+    ) -> Reply<'d, D, O>
+    where
+        P: Picker,
+        F: Peer<Origin = O>,
+        L: Local<Origin = O>,
+        C: Chance,
+        requires caller { caller.group ≡ N.group }
+        requires desk { desk.old.directory ≡ N.directory }
+        ensures reply { HasReplied (IsLoadOf P.pick_gives F.fetch_gives L.load_gives key.now) (IsDraw C.draw_gives) N.directory key.now caller.entry desk.old desk.new loaders.old loaders.new result }
+        ensures desk { IsSeeing N.directory desk.old desk.new }
+        ensures keyed { IfOk result.2 (λ view. view.value.place.key ≡ key.now) }
+        ensures one { IsOfOneGet result.1 }
+    {
+        match self.directory.resolve(desk, key) {
+            Err(refusal) => (Standing::Free(caller), GET_ALONE, Err(of_key(refusal))),
+            Ok(mut place) => {
+                let found = self.find(rt, caller, &mut place, key, loaders, log);
+                reply(found, &mut place)
+            }
+        }
+    }
+
+    // Gets the key's value, unless the caller owes letters.
+    fn get_standing<R: Wait, P, F, L, C>(
+        &self,
+        rt: &R,
+        standing: Standing<FillValue<'d, D, O>>,
+        desk: &mut Desk,
+        key: &[u8],
+        loaders: &mut Loaders<P, F, L, C>,
+        log: &mut Log,
+    ) -> Reply<'d, D, O>
+    where
+        P: Picker,
+        F: Peer<Origin = O>,
+        L: Local<Origin = O>,
+        C: Chance,
+        requires group { IsOfGroup N.group standing }
+        requires desk { desk.old.directory ≡ N.directory }
+        ensures reply { GetsFrom (IsLoadOf P.pick_gives F.fetch_gives L.load_gives key.now) (IsDraw C.draw_gives) N.directory key.now standing.entry desk.old desk.new loaders.old loaders.new result }
+        ensures group { IsOfGroup N.group result.0 }
+        ensures desk { desk.new.directory ≡ N.directory }
+        ensures keyed { IfOk result.2 (λ view. view.value.place.key ≡ key.now) }
+        ensures one { IsOfOneGet result.1 }
+    {
+        match standing {
+            Standing::Owing(settled) => {
+                (Standing::Owing(settled), GET_ALONE, Err(LoadFault::Memory))
+            }
+            Standing::Free(caller) => self.get_free(rt, caller, desk, key, loaders, log),
+        }
+    }
+
+    /// Gets the key's value: from a cache, or by leading the key's call, or from the call that another leads. What the getter
+    /// owes is delivered first; where that is refused memory, so is the get. One whose Gets stand at the greatest `u64` is
+    /// refused, and not counted.
+    pub fn get<R: Wait, P, F, L, C>(
+        &self,
+        rt: &R,
+        getter: Getter<'d, D, N, O, P, F, L, C>,
+        key: &[u8],
+    ) -> (
+        Getter<'d, D, N, O, P, F, L, C>,
+        Result<View<'d, D, O>, LoadFault>,
+    )
+    where
+        P: Picker,
+        F: Peer<Origin = O>,
+        L: Local<Origin = O>,
+        C: Chance,
+        ensures got { getter.entry.counted.gets < 2 ^ 64 - 1 → HasGot (IsLoadOf P.pick_gives F.fetch_gives L.load_gives key.now) (IsDraw C.draw_gives) N.directory key.now getter.entry result.0 result.1 }
+        ensures counted { getter.entry.counted.gets < 2 ^ 64 - 1 → IsCounted getter.entry result.0 result.1 }
+        ensures keyed { IfOk result.1 (λ view. view.value.place.key ≡ key.now) }
+        ensures full { getter.entry.counted.gets ≡ 2 ^ 64 - 1 → (result.0 ≡ getter.entry) × (result.1 ≡ Err (LoadFault.Refused GetRefusal.Spent)) }
+    {
+        if getter.is_full() {
+            return (getter, Err(LoadFault::Refused(GetRefusal::Spent)));
+        }
+        let (getter, _delivered) = getter.settle_up(rt, self);
+        let Getter {
+            mut desk,
+            standing,
+            mut loaders,
+            mut tallies,
+            mut log,
+        } = getter;
+        let (standing, counts, answer) = self.get_standing(
+            rt,
+            standing,
+            &mut desk,
+            key,
+            &mut loaders,
+            &mut log,
+        );
+        self.enter(rt, &mut tallies, counts);
+        let getter = Getter {
+            desk,
+            standing,
+            loaders,
+            tallies,
+            log,
+        };
+        (getter, answer)
+    }
+}

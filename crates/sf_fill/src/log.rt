@@ -1,0 +1,67 @@
+//! What a getter's calls added to the group's history, as far as there is room for it.
+
+use sf_calls::Fit;
+use sf_group::{Event, Finished, Forgotten};
+use sf_history::CallId;
+use sf_words::PlaceNo;
+use std::alloc::{AllocError, Global};
+use std::mem;
+
+/// Events of one caller, oldest first. Room for them is taken once; those beyond it are not kept.
+#[derive(Drop)]
+pub(crate) struct Log {
+    events: Vec<Event<PlaceNo, ()>>,
+    alloc: Global,
+}
+
+impl Log {
+    // A log with room for so many events.
+    pub(crate) fn with_room(alloc: Global, room: usize) -> Result<Log, AllocError> {
+        Ok(Log {
+            events: Vec::with_capacity(alloc, room)?,
+            alloc,
+        })
+    }
+
+    // The event, where there is room for it.
+    pub(crate) fn add(&mut self, event: Event<PlaceNo, ()>) {
+        if self.events.len() < self.events.capacity() {
+            self.events.push_reserved(event);
+        }
+    }
+
+    // How a finish ended of a call that nobody has a channel of: what was settled, and what was handed out.
+    pub(crate) fn add_finished<V: Fit>(&mut self, call: CallId, finished: &Finished<V>) {
+        // A delivery is owed only where somebody joined.
+        let shared = match finished {
+            Finished::Done(_, letter) => letter.shared(),
+            Finished::Held(_) => true,
+        };
+        self.add(Event::Settle {
+            by: call.caller,
+            call,
+            result: (),
+            shared,
+        });
+        if let Finished::Done(_, _) = finished {
+            self.add(Event::Handed {
+                by: call.caller,
+                call,
+            });
+        }
+    }
+
+    // A Forget of the place by the caller of this number.
+    pub(crate) fn add_forget(&mut self, by: u32, key: PlaceNo, forgotten: Forgotten) {
+        let closed = match forgotten {
+            Forgotten::Closed(call) => Some(call),
+            Forgotten::Idle => None,
+        };
+        self.add(Event::Forget { by, key, closed });
+    }
+
+    // The events; there is no room from then on.
+    pub(crate) fn take(&mut self) -> Vec<Event<PlaceNo, ()>> {
+        mem::replace(&mut self.events, Vec::new(self.alloc))
+    }
+}

@@ -1,0 +1,133 @@
+//! What getters do under the lock: they look for letters, put them, take them out, and count.
+ghost use Rattle.std.specs.Prelude.{◌≡◌, ◌≤◌, ◌<◌, ◌^◌, ◌-◌, IfSome, IfOk, IfErr};
+ghost use Rattle.sf_calls.specs.Notes.{HasLent};
+ghost use Rattle.sf_calls.specs.Same.{IsPlaceOf};
+ghost use Rattle.sf_fill.specs.Settled.{IsSettled, IsKeptLetter, HasKeptLetter};
+ghost use Rattle.sf_fill.specs.Totals.{with_counts, IsOfOneGet};
+
+use crate::cached::Cached;
+use crate::fill::{Fill, Kept};
+use crate::naming::Naming;
+use crate::totals::{GetCounts, Tallies};
+use crate::value::FillValue;
+use sf_caches::Which;
+use sf_group::{Group, Letter, Memory};
+use sf_loaders::Origin;
+use std::sync::Wait;
+
+/// A letter that a cache has: a copy of it, which may have been refused memory, and which cache that is.
+pub(crate) struct InCache<V: sf_group::Fit> {
+    pub(crate) copy: Result<Letter<V>, Memory>,
+    pub(crate) which: Which,
+}
+
+impl<'d, D: Naming, N: Naming, O: Origin> Kept<'d, D, N, O> {
+    // A copy of the letter that the cache has for the place, which becomes its most recent.
+    fn copy_from(
+        &mut self,
+        group: &Group<FillValue<'d, D, O>>,
+        which: Which,
+        place: u32,
+    ) -> Option<Result<Letter<FillValue<'d, D, O>>, Memory>>
+        requires { group.now ≡ N.group }
+        ensures copied { IfSome result (λ copied. IfOk copied (IsKeptLetter N.group place)) }
+        ensures refused { IfSome result (λ copied. IfErr copied (λ _. HasKeptLetter N.group place)) }
+    {
+        let cached = self.caches.look(which, place)?;
+        if cached.place() != place {
+            return None;
+        }
+        cached.known();
+        Some(cached.copy(group))
+    }
+
+    // Puts a letter into a cache; nothing is put where memory is refused.
+    fn put(
+        &mut self,
+        which: Which,
+        place: u32,
+        key_len: usize,
+        value_len: usize,
+        letter: Letter<FillValue<'d, D, O>>,
+    )
+        requires place { IsPlaceOf N.group place }
+        requires group { letter.group ≡ N.group }
+        requires settled { IsSettled letter }
+    {
+        let _ = self
+            .caches
+            .put(which, place, key_len, value_len, Cached::new(letter));
+    }
+
+    // Takes the place's letters out of both caches.
+    fn remove(&mut self, place: u32) {
+        self.caches.remove(Which::Main, place);
+        self.caches.remove(Which::Hot, place);
+    }
+
+    // Enters what a get counted.
+    fn enter(&mut self, tallies: &mut Tallies<N>, counts: GetCounts)
+        requires room { tallies.old.gets < 2 ^ 64 - 1 }
+        requires one { IsOfOneGet counts }
+        ensures { tallies.new ≡ with_counts tallies.old counts }
+    {
+        self.accounts.enter(tallies, counts);
+    }
+}
+
+impl<'d, D: Naming, N: Naming, O: Origin> Fill<'d, D, N, O> {
+    // A copy of the letter that main, or else hot, has for the place. A limit that keeps nothing skips the look.
+    pub(crate) fn look<R: Wait>(&self, rt: &R, place: u32) -> Option<InCache<FillValue<'d, D, O>>>
+        ensures copied { IfSome result (λ found. IfOk found.copy (IsKeptLetter N.group place)) }
+        ensures refused { IfSome result (λ found. IfErr found.copy (λ _. HasKeptLetter N.group place)) }
+    {
+        if self.limit <= 0 {
+            return None;
+        }
+        let mut kept = self.kept.lock(rt);
+        for which in [Which::Main, Which::Hot] {
+            if let Some(copy) = kept.copy_from(&self.group, which, place) {
+                return Some(InCache { copy, which });
+            }
+        }
+        None
+    }
+
+    // Puts a copy of the letter into a cache; where memory for it is refused, nothing is put. The letter's note may show
+    // more then.
+    pub(crate) fn put<R: Wait>(
+        &self,
+        rt: &R,
+        which: Which,
+        key_len: usize,
+        value_len: usize,
+        letter: &mut Letter<FillValue<'d, D, O>>,
+    )
+        requires place { IsPlaceOf N.group letter.old.place }
+        requires group { letter.old.group ≡ N.group }
+        requires settled { IsSettled letter.old }
+        ensures { HasLent letter.old letter.new }
+    {
+        let place = letter.place();
+        if let Ok(copy) = self.group.copy(letter) {
+            let mut kept = self.kept.lock(rt);
+            kept.put(which, place, key_len, value_len, copy);
+        }
+    }
+
+    // Takes the place's letters out of both caches.
+    pub(crate) fn remove<R: Wait>(&self, rt: &R, place: u32) {
+        let mut kept = self.kept.lock(rt);
+        kept.remove(place);
+    }
+
+    // Enters what a get counted.
+    pub(crate) fn enter<R: Wait>(&self, rt: &R, tallies: &mut Tallies<N>, counts: GetCounts)
+        requires room { tallies.old.gets < 2 ^ 64 - 1 }
+        requires one { IsOfOneGet counts }
+        ensures { tallies.new ≡ with_counts tallies.old counts }
+    {
+        let mut kept = self.kept.lock(rt);
+        kept.enter(tallies, counts);
+    }
+}

@@ -1,0 +1,148 @@
+//! How a fill is made.
+ghost use Rattle.std.specs.Prelude.{◌≡◌, ◌≤◌, [], IfOk, IfErr, vec_len, vec_capacity};
+ghost use Rattle.sf_fill.specs.Made.{AreOfDirectory, AreOfGroup, new_getters};
+ghost use Rattle.sf_fill.specs.Totals.{AreNamed};
+
+use crate::cached::Cached;
+use crate::fill::{Fill, Kept};
+use crate::getter::Getter;
+use crate::log::Log;
+use crate::naming::Naming;
+use crate::standing::Standing;
+use crate::totals::{Accounts, Ledgers};
+use crate::value::FillValue;
+use sf_caches::Caches;
+use sf_dir::{Desk, Directory};
+use sf_group::{Caller, Group, Memory};
+use sf_loaders::{Loaders, Origin};
+use std::alloc::Global;
+use std::sync::Mutex;
+
+/// What a fill is made of, which comes back where memory is refused.
+#[derive(Drop)]
+pub struct FillParts<'d, D: Naming, O: Origin, P, F, L, C> {
+    /// Resolve keys, one a getter.
+    pub desks: Vec<Desk>,
+    /// Whose letters are kept.
+    pub group: Group<FillValue<'d, D, O>>,
+    /// Ask the group, one a getter.
+    pub callers: Vec<Caller<FillValue<'d, D, O>>>,
+    /// What getters ask for values, a set a getter.
+    pub loaders: Vec<Loaders<P, F, L, C>>,
+    /// One a counter.
+    pub ledgers: Ledgers,
+}
+
+/// All memory that a fill takes when it is made.
+struct Rooms<'d, D: Naming, N: Naming, O: Origin, P, F, L, C> {
+    caches: Caches<Cached<'d, D, N, O>>,
+    getters: Vec<Getter<'d, D, N, O, P, F, L, C>>,
+    logs: Vec<Log>,
+}
+
+// Takes all memory that a fill needs.
+fn reserve<'d, D: Naming, N: Naming, O: Origin, P, F, L, C>(
+    alloc: Global,
+    limit: i64,
+    places: u32,
+    getters: usize,
+    log: usize,
+) -> Result<Rooms<'d, D, N, O, P, F, L, C>, Memory>
+    requires { 1 ≤ places }
+    ensures getters { IfOk result (λ r. (r.getters.items ≡ []) × (getters ≤ vec_capacity r.getters)) }
+    ensures places { IfOk result (λ r. r.caches.places ≡ places) }
+    ensures logs { IfOk result (λ r. vec_len r.logs ≡ getters) }
+{
+    let caches = Caches::new(alloc, limit, places)?;
+    let mut logs = Vec::with_capacity(alloc, getters)?;
+    for index in 0..getters {
+        let _ = index;
+        logs.push(Log::with_room(alloc, log)?)?;
+    }
+    let Ok(list) = Vec::with_capacity(alloc, getters) else {
+        return Err(Memory);
+    };
+    Ok(Rooms {
+        caches,
+        getters: list,
+        logs,
+    })
+}
+
+impl<'d, D: Naming, N: Naming, O: Origin> Fill<'d, D, N, O> {
+    /// A fill of the directory and the group, which have as many places, and its getters, one for each desk, caller and set
+    /// of loaders, 1 to 65,535. What the caches keep is within `limit` bytes, and nothing where that is 0 or less. Each
+    /// getter logs `log` events at most. Where memory is refused, all comes back.
+    pub fn new<P: Drop, F: Drop, L: Drop, C: Drop>(
+        alloc: Global,
+        directory: &'d Directory,
+        parts: FillParts<'d, D, O, P, F, L, C>,
+        limit: i64,
+        log: usize,
+    ) -> Result<
+        (Fill<'d, D, N, O>, Vec<Getter<'d, D, N, O, P, F, L, C>>),
+        FillParts<'d, D, O, P, F, L, C>,
+    >
+        requires directory { (directory.now ≡ N.directory) × (D.directory ≡ N.directory) }
+        requires group { (parts.group ≡ N.group) × (N.group.sizes.places ≡ N.directory.keys) }
+        requires getters { (1 ≤ N.getters) × (N.getters ≤ 65535) }
+        requires desks { (vec_len parts.desks ≡ N.getters) × AreOfDirectory N.directory parts.desks.items }
+        requires callers { (vec_len parts.callers ≡ N.getters) × AreOfGroup N.group parts.callers.items }
+        requires loaders { vec_len parts.loaders ≡ N.getters }
+        requires ledgers { AreNamed N.ledgers N.getters parts.ledgers }
+        ensures made { IfOk result (λ made. (made.0 ≡ N.group) × (made.1.items ≡ new_getters parts.entry.desks.items parts.entry.callers.items parts.entry.loaders.items)) }
+        ensures count { IfOk result (λ made. vec_len made.1 ≡ N.getters) }
+        ensures refused { IfErr result (λ back. back ≡ parts.entry) }
+    {
+        let FillParts {
+            mut desks,
+            group,
+            mut callers,
+            mut loaders,
+            ledgers,
+        } = parts;
+        let count = desks.len();
+        let Ok(rooms) = reserve(alloc, limit, directory.place_count(), count, log) else {
+            return Err(FillParts {
+                desks,
+                group,
+                callers,
+                loaders,
+                ledgers,
+            });
+        };
+        let Rooms {
+            caches,
+            mut getters,
+            mut logs,
+        } = rooms;
+        let (accounts, mut all) = Accounts::open(ledgers, count as u64);
+        'deal: while let Some(desk) = desks.pop() {
+            let Some(caller) = callers.pop() else {
+                unreachable!()
+            };
+            let Some(loaders) = loaders.pop() else {
+                unreachable!()
+            };
+            let Some(log) = logs.pop() else {
+                unreachable!()
+            };
+            getters.push_reserved(Getter {
+                desk,
+                standing: Standing::Free(caller),
+                loaders,
+                tallies: all.deal(),
+                log,
+            });
+        }
+        getters.reverse();
+        let kept = Mutex::new(Kept { caches, accounts });
+        let fill = Fill {
+            directory,
+            group,
+            kept,
+            limit,
+        };
+        Ok((fill, getters))
+    }
+}

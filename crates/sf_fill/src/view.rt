@@ -1,0 +1,98 @@
+//! What a get answers.
+ghost use Rattle.std.specs.Prelude.{◌≡◌, Ok, IfOk};
+ghost use Rattle.sf_calls.specs.Finishes.{FitsLetter};
+ghost use Rattle.sf_fill.specs.FillValue.{FitsFill};
+ghost use Rattle.sf_fill.specs.Gets.{answer_in};
+
+use crate::fault::LoadFault;
+use crate::naming::Naming;
+use crate::value::FillValue;
+use bytes::Bytes;
+use sf_dir::Place;
+use sf_group::{Letter, Note};
+use sf_history::CallId;
+use sf_loaders::{LocalFault, Origin};
+use std::marker::Model;
+
+/// A letter that brings bytes, which are what the origin states of its place's key and its root.
+#[derive(Drop)]
+pub struct View<'d, D: Naming, O: Origin> {
+    place: Place<'d>,
+    root: CallId,
+    bytes: Bytes,
+    call: CallId,
+    shared: bool,
+    note: Note<FillValue<'d, D, O>>,
+}
+
+impl<'d, D: Naming, O: Origin> Model for View<'d, D, O> {
+    ghost use Rattle.std.specs.Prelude.{Ok};
+    ghost use Rattle.sf_calls.specs.Tokens.{LetterValue};
+    ghost use Rattle.sf_fill.specs.FillValue.{Filled};
+
+    ghost Value = { LetterValue Filled };
+
+    ghost view = { λ v. record { group = v.note.group; seen = v.note.seen; place = v.place.number; call = v.call; value = record { place = v.place; root = v.root; result = Ok v.bytes }; shared = v.shared } };
+
+    ghost invariant = { λ v. O.loaded v.place.key v.root v.bytes };
+}
+
+impl<'d, D: Naming, O: Origin> View<'d, D, O> {
+    /// The bytes.
+    pub fn bytes(&self) -> &Bytes
+        ensures { Ok result.now ≡ self.now.value.result }
+    {
+        &self.bytes
+    }
+
+    /// The call that was settled with them.
+    pub fn call(&self) -> CallId
+        ensures { result ≡ self.now.call }
+    {
+        self.call
+    }
+
+    /// The call whose run loaded them.
+    pub fn root(&self) -> CallId
+        ensures { result ≡ self.now.value.root }
+    {
+        self.root
+    }
+
+    /// Whether somebody joined the call.
+    pub fn shared(&self) -> bool
+        ensures { result ≡ self.now.shared }
+    {
+        self.shared
+    }
+}
+
+// What a letter of the place answers: its bytes, or why there are none. The letter's value is of the place's key.
+pub(crate) fn show<'d, D: Naming, O: Origin>(
+    letter: Letter<FillValue<'d, D, O>>,
+    place: &mut Place<'d>,
+) -> Result<View<'d, D, O>, LoadFault>
+    requires directory { place.old.directory ≡ D.directory }
+    requires number { place.old.number ≡ letter.place }
+    ensures answer { result ≡ answer_in letter.entry }
+    ensures keyed { IfOk result (λ view. view.value.place ≡ place.old) }
+    ensures same { place.new ≡ place.old }
+{
+    let call = letter.call();
+    let shared = letter.shared();
+    let (mut value, note) = letter.into_parts();
+    value.agree(place);
+    let (own, root, result) = value.into_parts();
+    match result {
+        Ok(bytes) => Ok(View {
+            place: own,
+            root,
+            bytes,
+            call,
+            shared,
+            note,
+        }),
+        Err(LocalFault::Failed(text)) => Err(LoadFault::Local(text)),
+        Err(LocalFault::Memory) => Err(LoadFault::Memory),
+    }
+}

@@ -1,0 +1,104 @@
+//! Drives, and the words that ask for one.
+
+use sf_checker::{Cause, Verdict};
+use sf_drive::{DriveLine, Report, drive, drive_line, status};
+use std::alloc::{AllocError, Global};
+use std::process::Abort;
+use std::sync::Wait;
+use std::test::Fail;
+use std::thread::Threads;
+
+// What the words ask for, after the subcommand's name.
+fn line(alloc: Global, words: &[&str]) -> Result<Option<DriveLine>, AllocError> {
+    let mut list = Vec::new(alloc);
+    list.push(String::from_str(alloc, "drive")?)?;
+    for word in words {
+        list.push(String::from_str(alloc, word)?)?;
+    }
+    Ok(drive_line(alloc, list.as_slice()).ok())
+}
+
+fn check_line(
+    rt: &impl Abort,
+    alloc: Global,
+    words: &[&str],
+    wanted: Option<[u32; 3]>,
+) -> Result<(), AllocError> {
+    let is = match line(alloc, words)? {
+        Some(line) => Some([line.threads, line.keys, line.gets]),
+        None => None,
+    };
+    assert!(rt; is == wanted, "{} words", words.len());
+    Ok(())
+}
+
+#[test]
+fn drive_lines(rt: HostRuntime) -> Result<(), Fail> {
+    let alloc = rt.alloc();
+    check_line(&rt, alloc, &[], Some([4, 8, 100]))?;
+    let greatest = ["--threads", "64", "--keys", "1000", "--gets", "100000"];
+    check_line(&rt, alloc, &greatest, Some([64, 1000, 100_000]))?;
+    check_line(&rt, alloc, &["--threads", "65"], None)?;
+    check_line(&rt, alloc, &["--threads", "0"], None)?;
+    check_line(&rt, alloc, &["--keys", "1001"], None)?;
+    check_line(&rt, alloc, &["--gets", "100001"], None)?;
+    check_line(&rt, alloc, &["--threads", "2", "--threads", "2"], None)?;
+    check_line(&rt, alloc, &["--help"], None)?;
+    Ok(())
+}
+
+// A drive of these words passes, and writes this.
+fn check_drive<R: Abort + Wait + Threads + Sync>(
+    rt: &R,
+    alloc: Global,
+    words: &[&str],
+    wanted: &str,
+) -> Result<(), Fail> {
+    let Some(line) = line(alloc, words)? else {
+        panic!(rt; "no parse");
+    };
+    let mut written = Vec::new(alloc);
+    let Ok(ending) = drive(rt, alloc, &mut written, line) else {
+        panic!(rt; "it cannot write");
+    };
+    assert!(rt; written.as_slice() == wanted.as_bytes(), "what is written");
+    assert!(rt; status(ending) == 0, "the status");
+    Ok(())
+}
+
+#[test]
+fn drive_prints_its_four_lines(rt: HostRuntime) -> Result<(), Fail> {
+    let alloc = rt.alloc();
+    let one = ["--threads", "1", "--keys", "1", "--gets", "10"];
+    let lines = "gets 10\nanswers 10\ntotals equal\nhistory legal\n";
+    check_drive(&rt, alloc, &one, lines)?;
+    let four = ["--threads", "4", "--keys", "8", "--gets", "100"];
+    let lines = "gets 400\nanswers 400\ntotals equal\nhistory legal\n";
+    check_drive(&rt, alloc, &four, lines)
+}
+
+// With as many keys as this the caches drop entries.
+#[test]
+fn drive_over_many_keys(rt: HostRuntime) -> Result<(), Fail> {
+    let many = ["--threads", "2", "--keys", "1000", "--gets", "300"];
+    let lines = "gets 600\nanswers 600\ntotals equal\nhistory legal\n";
+    check_drive(&rt, rt.alloc(), &many, lines)
+}
+
+#[test]
+fn failed_drives_say_what_failed(rt: HostRuntime) -> Result<(), Fail> {
+    let report = Report {
+        gets: 3,
+        answers: 2,
+        totals_equal: false,
+        verdict: Verdict::Illegal {
+            index: 5,
+            cause: Cause::SharedMarkIsWrong,
+        },
+    };
+    let text = format!(in rt.alloc(); "{report}")?;
+    let wanted = "gets 3\nanswers 2\ntotals differ\nevent 5: shared mark is wrong";
+    assert!(rt; text.as_str() == wanted, "{text}");
+    assert!(rt; status(report.ending()) == 1, "the status");
+    Ok(())
+}

@@ -1,0 +1,15 @@
+//! Tests of fills: getters one after another, and side by side while one of them loads.
+//!
+//! They stand apart from the crates that they test, since a crate with tests is proved twice.
+#![tactic(auto)]
+
+#[cfg(test)]
+mod drives;
+#[cfg(test)]
+mod loaders;
+#[cfg(test)]
+mod rows;
+#[cfg(test)]
+mod steps;
+#[cfg(test)]
+mod trial;

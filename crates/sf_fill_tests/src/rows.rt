@@ -1,0 +1,145 @@
+//! What getters say, and what is counted.
+
+use crate::steps::Step;
+use crate::steps::Step::{AwaitLoad, Get, Reload, SettleUp, TakeLog, TellAnswered};
+use crate::trial::{Gives, Outcome, Setting, try_out};
+use sf_fill::Totals;
+use std::process::Abort;
+use std::test::Fail;
+
+const SETTING: Setting = Setting {
+    places: 8,
+    limit: 100,
+    peer: Gives::Absent,
+    local: Gives::Value,
+    key_bytes: 4,
+    steps: [&[], &[]],
+    beside: false,
+    ends: false,
+};
+
+// The counters in their order: gets, cache hits, loads, loads deduped, peer loads, peer errors, local loads, local load
+// errors.
+fn counters(totals: Totals) -> [u128; 8] {
+    [
+        totals.gets,
+        totals.cache_hits,
+        totals.loads,
+        totals.loads_deduped,
+        totals.peer_loads,
+        totals.peer_errors,
+        totals.local_loads,
+        totals.local_load_errors,
+    ]
+}
+
+fn check(rt: &impl Abort, outcome: &Outcome, said: [&str; 2], counted: [u128; 8]) {
+    for (is, wanted) in outcome.said.iter().zip(said.iter()) {
+        assert!(rt; is.as_str() == *wanted, "{is}");
+    }
+    assert!(rt; counters(outcome.book) == counted, "the book");
+    assert!(rt; counters(outcome.gathered) == counted, "what is gathered");
+}
+
+#[test]
+fn reload_makes_a_third_get_load_again(rt: HostRuntime) -> Result<(), Fail> {
+    const STEPS: [Step; 5] = [Get("a"), Get("a"), Reload("a"), Get("a"), TakeLog];
+    let setting = Setting {
+        steps: [&STEPS, &[]],
+        ..SETTING
+    };
+    let outcome = try_out(&rt, rt.alloc(), setting)?;
+    let said = "a v=true 1.1 root=1.1 shared=false\n\
+        a v=true 1.1 root=1.1 shared=false\n\
+        reload a idle\n\
+        a v=true 1.2 root=1.2 shared=false\n\
+        lead 1 1.1; settle 1 1.1 false; handed 1 1.1; forget 1; \
+        lead 1 1.2; settle 1 1.2 false; handed 1 1.2; log\n";
+    check(&rt, &outcome, [said, ""], [3, 1, 2, 2, 0, 0, 2, 0]);
+    Ok(())
+}
+
+#[test]
+fn failed_peer_then_a_hit_for_the_second_getter(rt: HostRuntime) -> Result<(), Fail> {
+    let setting = Setting {
+        peer: Gives::Fault,
+        steps: [&[Get("a")], &[Get("a"), SettleUp]],
+        ..SETTING
+    };
+    let outcome = try_out(&rt, rt.alloc(), setting)?;
+    let first = "a v=true 1.1 root=1.1 shared=false\n";
+    let second = "a v=true 1.1 root=1.1 shared=false\nowes=false settled=true\n";
+    check(&rt, &outcome, [first, second], [2, 1, 1, 1, 0, 1, 1, 0]);
+    Ok(())
+}
+
+#[test]
+fn local_fault_is_answered_and_not_kept(rt: HostRuntime) -> Result<(), Fail> {
+    let setting = Setting {
+        local: Gives::Fault,
+        steps: [&[Get("a")], &[Get("a")]],
+        ends: true,
+        ..SETTING
+    };
+    let outcome = try_out(&rt, rt.alloc(), setting)?;
+    check(
+        &rt,
+        &outcome,
+        ["a down\n", "a down\n"],
+        [2, 0, 2, 2, 0, 0, 0, 2],
+    );
+    Ok(())
+}
+
+// The first draw is 0, so the peer's first value is kept; its second is not.
+#[test]
+fn one_in_ten_of_the_peers_values(rt: HostRuntime) -> Result<(), Fail> {
+    const STEPS: [Step; 4] = [Get("a"), Get("a"), Get("b"), Get("b")];
+    let setting = Setting {
+        peer: Gives::Value,
+        steps: [&STEPS, &[]],
+        ..SETTING
+    };
+    let outcome = try_out(&rt, rt.alloc(), setting)?;
+    let said = "a v=true 1.1 root=1.1 shared=false\n\
+        a v=true 1.1 root=1.1 shared=false\n\
+        b v=true 1.2 root=1.2 shared=false\n\
+        b v=true 1.3 root=1.3 shared=false\n";
+    check(&rt, &outcome, [said, ""], [4, 1, 3, 3, 3, 0, 0, 0]);
+    Ok(())
+}
+
+#[test]
+fn refused_keys_and_no_room(rt: HostRuntime) -> Result<(), Fail> {
+    const STEPS: [Step; 5] = [Get("a"), Get("b"), Get("long!"), Get("a"), Reload("b")];
+    let setting = Setting {
+        places: 1,
+        limit: 0,
+        steps: [&STEPS, &[]],
+        ..SETTING
+    };
+    let outcome = try_out(&rt, rt.alloc(), setting)?;
+    let said = "a v=true 1.1 root=1.1 shared=false\n\
+        b directory full\n\
+        long! key too long\n\
+        a v=true 1.2 root=1.2 shared=false\n\
+        reload b directory full\n";
+    check(&rt, &outcome, [said, ""], [4, 0, 2, 2, 0, 0, 2, 0]);
+    Ok(())
+}
+
+// The load of `a` waits until a get of `b` was answered.
+#[test]
+fn load_holds_no_lock(rt: HostRuntime) -> Result<(), Fail> {
+    let setting = Setting {
+        steps: [&[Get("a")], &[AwaitLoad, Get("b"), TellAnswered]],
+        beside: true,
+        ..SETTING
+    };
+    let outcome = try_out(&rt, rt.alloc(), setting)?;
+    assert!(rt; !outcome.failed, "a wait was given up");
+    let first = "a v=true 1.1 root=1.1 shared=false\n";
+    let second = "b v=true 2.1 root=2.1 shared=false\n";
+    check(&rt, &outcome, [first, second], [2, 0, 2, 2, 0, 0, 2, 0]);
+    Ok(())
+}

@@ -1,0 +1,148 @@
+//! What getters do in a test, and what they say of it.
+
+use crate::loaders::{Flags, Waiting};
+use bytes::Bytes;
+use sf_fill::{Fill, Getter, LoadFault, Naming, View};
+use sf_group::{Event, Forgotten};
+use sf_loaders::scripted::{AnyValue, FixedPicker, RoundChance, Script};
+use sf_words::PlaceNo;
+use std::alloc::Global;
+use std::fmt::Write;
+use std::sync::Wait;
+use std::sync::atomic::Ordering;
+
+/// One step of a getter.
+#[derive(Clone, Copy)]
+pub enum Step {
+    /// Gets the key.
+    Get(&'static str),
+    /// Reloads the key.
+    Reload(&'static str),
+    /// Settles up.
+    SettleUp,
+    /// Hands out its log.
+    TakeLog,
+    /// Waits until the other loads.
+    AwaitLoad,
+    /// Tells the other that it was answered.
+    TellAnswered,
+}
+
+/// A getter of a test.
+pub type TestGetter<'d, 'f, D, N> = Getter<
+    'd,
+    D,
+    N,
+    AnyValue,
+    FixedPicker,
+    Script,
+    Waiting<'f>,
+    RoundChance,
+>;
+
+/// A getter that is to make these steps.
+pub struct Turns<'a, 'd, 'f, D: Naming, N: Naming> {
+    pub fill: &'a Fill<'d, D, N, AnyValue>,
+    pub getter: TestGetter<'d, 'f, D, N>,
+    pub steps: &'static [Step],
+    pub flags: &'f Flags,
+    pub alloc: Global,
+}
+
+impl<'a, 'd, 'f, D: Naming, N: Naming> Drop for Turns<'a, 'd, 'f, D, N> {
+    fn drop(self) {
+        let Turns {
+            fill: _,
+            getter,
+            steps: _,
+            flags: _,
+            alloc: _,
+        } = self;
+        getter.end();
+    }
+}
+
+// What a get answers: the bytes, the call and whether it is shared. Where memory is refused, the text is short.
+fn say_view<'d, D: Naming>(
+    said: &mut String,
+    key: &str,
+    answer: &Result<View<'d, D, AnyValue>, LoadFault>,
+) {
+    let _ = match answer {
+        Ok(view) => {
+            let call = view.call();
+            let root = view.root();
+            let shared = view.shared();
+            let bytes: &Bytes = view.bytes();
+            let is_v = bytes.as_slice() == b"v".as_slice();
+            write!(said, "{key} v={is_v} {call} root={root} shared={shared}\n")
+        }
+        Err(fault) => write!(said, "{key} {fault}\n"),
+    };
+}
+
+fn say_forgot(said: &mut String, key: &str, answer: &Result<Forgotten, LoadFault>) {
+    let _ = match answer {
+        Ok(Forgotten::Closed(call)) => write!(said, "reload {key} {call}\n"),
+        Ok(Forgotten::Idle) => write!(said, "reload {key} idle\n"),
+        Err(fault) => write!(said, "reload {key} {fault}\n"),
+    };
+}
+
+fn say_events(said: &mut String, log: &[Event<PlaceNo, ()>]) {
+    for event in log {
+        let _ = match event {
+            Event::Lead { by, call, .. } => write!(said, "lead {by} {call}; "),
+            Event::Enter { by, member, .. } => write!(said, "enter {by} {member}; "),
+            Event::Forget { by, .. } => write!(said, "forget {by}; "),
+            Event::Settle {
+                by,
+                call,
+                shared,
+                ..
+            } => write!(said, "settle {by} {call} {shared}; "),
+            Event::Handed { by, call } => write!(said, "handed {by} {call}; "),
+        };
+    }
+    let _ = said.push_str("log\n");
+}
+
+impl<'a, 'd, 'f, D: Naming, N: Naming> Turns<'a, 'd, 'f, D, N> {
+    /// The getter when its steps are made, and what it says of them.
+    pub fn run(self, rt: &impl Wait) -> (TestGetter<'d, 'f, D, N>, String) {
+        let Turns {
+            fill,
+            getter,
+            steps,
+            flags,
+            alloc,
+        } = self;
+        let mut getter = getter;
+        let mut said = String::new(alloc);
+        for step in steps {
+            match *step {
+                Step::Get(key) => {
+                    let (back, answer) = fill.get(rt, getter, key.as_bytes());
+                    say_view(&mut said, key, &answer);
+                    getter = back;
+                }
+                Step::Reload(key) => {
+                    let (back, answer) = fill.reload(rt, getter, key.as_bytes());
+                    say_forgot(&mut said, key, &answer);
+                    getter = back;
+                }
+                Step::SettleUp => {
+                    let owed = getter.owes();
+                    let (back, outcome) = getter.settle_up(rt, fill);
+                    let settled = outcome.is_ok();
+                    let _ = write!(&mut said, "owes={owed} settled={settled}\n");
+                    getter = back;
+                }
+                Step::TakeLog => say_events(&mut said, getter.take_log().as_slice()),
+                Step::AwaitLoad => flags.wait_for(&flags.loading),
+                Step::TellAnswered => flags.answered.store(true, Ordering::SeqCst),
+            }
+        }
+        (getter, said)
+    }
+}
