@@ -1,13 +1,23 @@
 //! `sfctl`: singleflight with Forget at the command line. `sfctl run` obeys a script of commands, `sfctl steps`
-//! plays a schedule of the step core, and `sfctl check` judges a recorded history.
+//! plays a schedule of the step core, `sfctl check` judges a recorded history, and `sfctl drive` gets keys of one fill on
+//! several threads.
 #![tactic(auto)]
 
 mod usage;
 
+ghost use Rattle.std.specs.Prelude.{◌≡◌, IfOk, IfErr};
+ghost use Rattle.sf_drive.specs.Reports as drive;
+ghost use Rattle.sf_engines.specs.Ending.{exit_status_of, outcome_of};
+
 use crate::usage::Subcommand;
-use sf_engines::{Ending, check, run, status, steps};
+use sf_drive::{DriveEnding, drive, status as drive_status};
+use sf_engines::{Ending, Engine, Outcome, exit_status};
+use sf_text::StreamFault;
+use std::fmt::Display;
 use std::process::ExitCode;
 use std::rt::Env;
+use std::sync::Wait;
+use std::thread::Threads;
 use std::{env, io};
 
 /// The words of the command line; the program's name comes first, and is `sfctl` wherever the file lies.
@@ -20,36 +30,66 @@ fn words(rt: &(impl Env + AllocGlobal)) -> io::Result<Vec<String>> {
     Ok(words)
 }
 
+/// Says what is wrong with the command line on standard error, as far as that can be written, and answers the exit status.
+fn misused<D: Display + Drop>(rt: &impl Eprint, said: D) -> u8
+    ensures { result ≡ exit_status_of Outcome.Usage }
+{
+    let _ = eprint!(rt; "{said}");
+    exit_status(Outcome::Usage)
+}
+
+/// Says on standard error that a stream failed, where one did, and answers the exit status of an engine's end.
+fn ended(rt: &impl Eprint, ended: Result<Ending, StreamFault>) -> u8
+    ensures { result ≡ exit_status_of (outcome_of ended) }
+{
+    if let Err(fault) = ended {
+        let _ = eprintln!(rt; "{fault}");
+    }
+    exit_status(Outcome::of(ended))
+}
+
+/// Starts an engine on standard input and standard output, says a hint on standard error where it leaves one, and answers
+/// the exit status.
+fn answer<R: AllocGlobal + Input + Print + Eprint>(rt: &R, engine: Engine) -> u8 {
+    let mut hinted = None;
+    let answered = engine.start_with_hint(
+        rt.alloc(),
+        &mut rt.reader(),
+        &mut io::writer(rt),
+        &mut hinted,
+    );
+    if let Some(hint) = hinted {
+        let _ = eprintln!(rt; "{hint}");
+    }
+    ended(rt, answered)
+}
+
+/// The same of a drive.
+fn driven(rt: &impl Eprint, driven: Result<DriveEnding, StreamFault>) -> u8
+    ensures drove { IfOk driven (λ ending. result ≡ drive.status_of ending) }
+    ensures failed { IfErr driven (λ fault. result ≡ exit_status_of (Outcome.Failed fault)) }
+{
+    match driven {
+        Ok(ending) => drive_status(ending),
+        Err(fault) => ended(rt, Err(fault)),
+    }
+}
+
 /// Does what the command line asks for, and answers the exit status.
-fn serve<R: Env + AllocGlobal + Input + Print + Eprint>(rt: &R) -> io::Result<u8> {
+fn serve<R: Env + AllocGlobal + Input + Print + Eprint + Wait + Threads + Sync>(rt: &R) -> u8 {
     let words = match words(rt) {
         Ok(words) => words,
-        Err(_) => {
-            eprintln!(rt; "error: the arguments are no text")?;
-            return Ok(status(Ending::Refused));
-        }
+        Err(_) => return misused(rt, "error: the arguments are no text\n"),
     };
-    let asked = match usage::parse(rt.alloc(), words.as_slice()) {
-        Ok(asked) => asked,
-        Err(usage) => {
-            eprint!(rt; "{usage}")?;
-            return Ok(status(Ending::Refused));
+    match usage::parse(rt.alloc(), words.as_slice()) {
+        Ok(Subcommand::Engine(engine)) => answer(rt, engine),
+        Ok(Subcommand::Drive(line)) => {
+            driven(rt, drive(rt, rt.alloc(), &mut io::writer(rt), line))
         }
-    };
-    let ended = match asked {
-        Subcommand::Run => run(rt.alloc(), &mut rt.reader(), &mut io::writer(rt)),
-        Subcommand::Steps => steps(rt.alloc(), &mut rt.reader(), &mut io::writer(rt)),
-        Subcommand::Check => check(rt.alloc(), &mut rt.reader(), &mut io::writer(rt)),
-    };
-    match ended {
-        Ok(ending) => Ok(status(ending)),
-        Err(fault) => {
-            eprintln!(rt; "{fault}")?;
-            Ok(status(Ending::Refused))
-        }
+        Err(usage) => misused(rt, usage),
     }
 }
 
 fn main(rt: HostRuntime) -> ExitCode {
-    ExitCode::from(serve(&rt).unwrap_or(status(Ending::Refused)))
+    ExitCode::from(serve(&rt))
 }

@@ -1,0 +1,278 @@
+//! A drive: its fill, its threads, and what comes of them.
+ghost use Rattle.std.specs.Prelude.{◌≡◌, ◌≢◌, ◌*◌, ◌++◌, ◌≤◌, IfOk, codes, vec_len, vec_capacity};
+ghost use Rattle.std.specs.Io.KnownBytes.{Appends};
+ghost use Rattle.sf_drive.specs.declared.report.DriveEnding.{DriveEnding};
+ghost use Rattle.sf_drive.specs.declared.report.Report.{Report};
+ghost use Rattle.sf_drive.specs.Reports.{ending_of, report_text};
+ghost use Rattle.sf_fill.specs.Made.{AreOfDirectory, AreOfGroup};
+ghost use Rattle.sf_fill.specs.Totals.{AreNamed};
+
+use crate::jobs::{DriveGetter, Ended, Entry, Job};
+use crate::line::DriveLine;
+use crate::loaders::{AnyKey, OddPicker, ThirdFails, Values};
+use crate::report::{DriveEnding, Report};
+use sf_checker::{check, check_indexed};
+use sf_dir::{Desk, Directory, LONGEST_KEY};
+use sf_fill::{Fill, FillParts, FillValue, Ledgers, Naming};
+use sf_group::{Event, Group, Memory};
+use sf_loaders::Loaders;
+use sf_loaders::scripted::RoundChance;
+use sf_replay::merge;
+use sf_text::{StreamFault, write_all, write_line};
+use sf_words::PlaceNo;
+use std::alloc::Global;
+use std::fmt::Write as _;
+use std::io::Write;
+use std::marker::Brand;
+use std::sync::Wait;
+use std::sync::ledger::Blank;
+use std::thread::{Threads, map_vec};
+
+/// What the caches of a drive keep, in bytes.
+const LIMIT: i64 = 1_000;
+
+/// What a drive's getters are made of.
+type DriveParts<'d, D> = FillParts<'d, D, Values, OddPicker, ThirdFails, AnyKey, RoundChance>;
+
+// The keys `k0`, `k1` and so on, with their values.
+fn entries(alloc: Global, keys: u32) -> Result<Vec<Entry>, Memory> {
+    let mut entries = Vec::new(alloc);
+    for number in 0..keys {
+        let mut key = String::new(alloc);
+        let mut value = String::new(alloc);
+        if write!(key, "k{number}").is_err() || write!(value, "v:k{number}").is_err() {
+            return Err(Memory);
+        }
+        entries.push(Entry { key, value })?;
+    }
+    Ok(entries)
+}
+
+// Spends all getters.
+fn end_all<'d, D: Naming, N: Naming>(getters: Vec<DriveGetter<'d, D, N>>) {
+    let mut getters = getters;
+    'rest: while let Some(getter) = getters.pop() {
+        getter.end();
+    }
+    getters.destroy_empty();
+}
+
+/// The jobs of the threads, and the list in which their getters were, which has room for them still.
+type HandedOut<'a, 'd, D, N> = (Vec<Job<'a, 'd, D, N>>, Vec<DriveGetter<'d, D, N>>);
+
+// A job for each getter.
+fn hand_out<'a, 'd, D: Naming, N: Naming>(
+    alloc: Global,
+    fill: &'a Fill<'d, D, N, Values>,
+    getters: Vec<DriveGetter<'d, D, N>>,
+    entries: &'a [Entry],
+    line: DriveLine,
+) -> Result<HandedOut<'a, 'd, D, N>, Memory>
+    requires { vec_len getters ≡ line.threads }
+    ensures jobs { IfOk result (λ out. vec_len out.0 ≡ line.threads) }
+    ensures getters { IfOk result (λ out. (vec_len out.1 ≡ 0) × (line.threads ≤ vec_capacity out.1)) }
+{
+    let mut getters = getters;
+    let Ok(mut jobs) = Vec::with_capacity(alloc, getters.len()) else {
+        end_all(getters);
+        return Err(Memory);
+    };
+    'hand: while let Some(getter) = getters.pop() {
+        jobs.push_reserved(Job {
+            fill,
+            getter,
+            entries,
+            thread: getters.len() as u32,
+            line,
+        });
+    }
+    Ok((jobs, getters))
+}
+
+/// What the threads did, in all.
+struct Back<'d, D: Naming, N: Naming> {
+    getters: Vec<DriveGetter<'d, D, N>>,
+    logs: Vec<Vec<Event<PlaceNo, ()>>>,
+    /// How many gets answered the key's value.
+    answers: u64,
+    /// Whether no getter owes.
+    settled: bool,
+}
+
+// Takes all getters back, with their logs.
+fn take_back<'d, D: Naming, N: Naming>(
+    ended: Vec<Ended<'d, D, N>>,
+    getters: Vec<DriveGetter<'d, D, N>>,
+    logs: Vec<Vec<Event<PlaceNo, ()>>>,
+) -> Back<'d, D, N>
+    requires getters { (vec_len getters ≡ 0) × (vec_len ended ≤ vec_capacity getters) }
+    requires logs { (vec_len logs ≡ 0) × (vec_len ended ≤ vec_capacity logs) }
+    ensures { vec_len result.getters ≡ vec_len ended.entry }
+{
+    let mut ended = ended;
+    let mut getters = getters;
+    let mut logs = logs;
+    let mut answers: u64 = 0;
+    let mut settled = true;
+    'back: while let Some(end) = ended.pop() {
+        let (mut getter, right, owes_nothing) = end.into_parts();
+        answers = answers.saturating_add(right as u64);
+        settled = settled && owes_nothing;
+        logs.push_reserved(getter.take_log());
+        getters.push_reserved(getter);
+    }
+    Back {
+        getters,
+        logs,
+        answers,
+        settled,
+    }
+}
+
+// All is named here: the fill, its threads, and what they found.
+fn with_all<'d, D: Naming + Send + Sync, N: Naming + Send + Sync, R: Wait + Threads + Sync>(
+    rt: &R,
+    alloc: Global,
+    directory: &'d Directory,
+    parts: DriveParts<'d, D>,
+    entries: &[Entry],
+    line: DriveLine,
+) -> Result<Report, Memory>
+    requires directory { (directory.now ≡ N.directory) × (D.directory ≡ N.directory) }
+    requires group { (parts.group ≡ N.group) × (N.group.sizes.places ≡ N.directory.keys) }
+    requires getters { N.getters ≡ line.threads }
+    requires desks { (vec_len parts.desks ≡ N.getters) × AreOfDirectory N.directory parts.desks.items }
+    requires callers { (vec_len parts.callers ≡ N.getters) × AreOfGroup N.group parts.callers.items }
+    requires loaders { vec_len parts.loaders ≡ N.getters }
+    requires ledgers { AreNamed N.ledgers N.getters parts.ledgers }
+    ensures { IfOk result (λ report. report.gets ≡ line.threads * line.gets) }
+{
+    let logs = Vec::with_capacity(alloc, line.threads as usize)?;
+    let room = 4 * line.gets as usize;
+    let made = Fill::<'d, D, N, Values>::new(alloc, directory, parts, LIMIT, room);
+    let Ok((fill, getters)) = made else {
+        return Err(Memory);
+    };
+    let (jobs, getters) = hand_out(alloc, &fill, getters, entries, line)?;
+    let Ok(ended) = map_vec(rt, jobs, &|job: Job<D, N>| job.run(rt)) else {
+        getters.destroy_empty();
+        return Err(Memory);
+    };
+    let Back {
+        getters,
+        logs,
+        answers,
+        settled,
+    } = take_back(ended, getters, logs);
+    let book = fill.book(rt);
+    let gathered = fill.gather(rt, getters);
+    if !settled {
+        return Err(Memory);
+    }
+    let history = merge(alloc, logs)?;
+    Ok(Report {
+        gets: line.threads as u64 * line.gets as u64,
+        answers,
+        totals_equal: gathered == book,
+        verdict: match check_indexed(alloc, &history) {
+            Ok(verdict) => verdict,
+            Err(_) => check(&history),
+        },
+    })
+}
+
+// The loaders of so many getters.
+fn loaders(
+    alloc: Global,
+    getters: u32,
+) -> Result<Vec<Loaders<OddPicker, ThirdFails, AnyKey, RoundChance>>, Memory>
+    ensures { IfOk result (λ sets. vec_len sets ≡ getters) }
+{
+    let mut sets = Vec::new(alloc);
+    for getter in 0..getters {
+        let _ = getter;
+        sets.push(Loaders {
+            picker: OddPicker,
+            peer: ThirdFails { alloc, fetched: 0 },
+            local: AnyKey { alloc },
+            chance: RoundChance::default(),
+        })?;
+    }
+    Ok(sets)
+}
+
+// The directory is named here, and the group made.
+fn with_directory<'d, D: Naming + Send + Sync, R: Wait + Threads + Sync>(
+    rt: &R,
+    alloc: Global,
+    directory: &'d Directory,
+    desks: Vec<Desk>,
+    line: DriveLine,
+) -> Result<Report, Memory>
+    requires directory { (directory.now ≡ D.directory) × (directory.now.keys ≡ line.keys) }
+    requires desks { (vec_len desks ≡ line.threads) × AreOfDirectory directory.now desks.items }
+    ensures { IfOk result (λ report. report.gets ≡ line.threads * line.gets) }
+{
+    let (group, callers) = Group::<FillValue<'d, D, Values>>::new(
+        alloc,
+        line.keys,
+        line.threads,
+        1,
+    )?;
+    let threads = line.threads as u64;
+    let parts = FillParts {
+        desks,
+        group,
+        callers,
+        loaders: loaders(alloc, line.threads)?,
+        ledgers: Ledgers {
+            gets: Blank::new(threads),
+            cache_hits: Blank::new(threads),
+            loads: Blank::new(threads),
+            loads_deduped: Blank::new(threads),
+            peer_loads: Blank::new(threads),
+            peer_errors: Blank::new(threads),
+            local_loads: Blank::new(threads),
+            local_load_errors: Blank::new(threads),
+        },
+    };
+    let entries = entries(alloc, line.keys)?;
+    with_all::<D, Brand, R>(rt, alloc, directory, parts, entries.as_slice(), line)
+}
+
+// What a drive finds. Nothing is named here.
+fn report<R: Wait + Threads + Sync>(
+    rt: &R,
+    alloc: Global,
+    line: DriveLine,
+) -> Result<Report, Memory>
+    ensures { IfOk result (λ report. report.gets ≡ line.threads * line.gets) }
+{
+    let (directory, desks) = Directory::new(alloc, line.keys, LONGEST_KEY, line.threads)?;
+    with_directory::<Brand, R>(rt, alloc, &directory, desks, line)
+}
+
+/// `sfctl drive`: one getter a thread gets keys of one fill, and reloads some. Writes four lines: how many gets there were,
+/// how many answered the key's value, whether what the getters counted is what the book says, and whether the merged logs
+/// are a legal history; or one line where memory is refused, in anything but a get or a reload.
+pub fn drive<R: Wait + Threads + Sync, W: Write>(
+    rt: &R,
+    alloc: Global,
+    writer: &mut W,
+    line: DriveLine,
+) -> Result<DriveEnding, StreamFault>
+    ensures reported { IfOk result (λ ending. ending ≢ DriveEnding.OutOfMemory → (report : Report) × (report.gets ≡ line.threads * line.gets)
+        × (ending ≡ ending_of report) × Appends (W.contents writer.old) (W.contents writer.new) (report_text report ++ codes "\n")) }
+    ensures refused { IfOk result (λ ending. ending ≡ DriveEnding.OutOfMemory → Appends (W.contents writer.old) (W.contents writer.new) (codes "out of memory\n")) }
+{
+    match report(rt, alloc, line) {
+        Ok(report) => {
+            write_line(writer, report)?;
+            Ok(report.ending())
+        }
+        Err(Memory) => {
+            write_all(writer, "out of memory\n")?;
+            Ok(DriveEnding::OutOfMemory)
+        }
+    }
+}

@@ -1,0 +1,139 @@
+//! What each thread of a drive does.
+
+use crate::line::DriveLine;
+use crate::loaders::{AnyKey, OddPicker, ThirdFails, Values};
+use sf_fill::{Fill, Getter, Naming};
+use sf_loaders::scripted::RoundChance;
+use std::sync::Wait;
+use std::thread::yield_now;
+
+/// A key of a drive, and its value.
+#[derive(Drop)]
+pub(crate) struct Entry {
+    pub(crate) key: String,
+    pub(crate) value: String,
+}
+
+/// A getter of a drive.
+pub(crate) type DriveGetter<'d, D, N> = Getter<
+    'd,
+    D,
+    N,
+    Values,
+    OddPicker,
+    ThirdFails,
+    AnyKey,
+    RoundChance,
+>;
+
+/// What one thread is to do.
+pub(crate) struct Job<'a, 'd, D: Naming, N: Naming> {
+    pub(crate) fill: &'a Fill<'d, D, N, Values>,
+    pub(crate) getter: DriveGetter<'d, D, N>,
+    pub(crate) entries: &'a [Entry],
+    /// Which thread it is, from 0.
+    pub(crate) thread: u32,
+    pub(crate) line: DriveLine,
+}
+
+impl<'a, 'd, D: Naming, N: Naming> Drop for Job<'a, 'd, D, N> {
+    fn drop(self) {
+        let Job {
+            fill: _,
+            getter,
+            entries: _,
+            thread: _,
+            line: _,
+        } = self;
+        getter.end();
+    }
+}
+
+/// What one thread did.
+pub(crate) struct Ended<'d, D: Naming, N: Naming> {
+    getter: DriveGetter<'d, D, N>,
+    /// How many of its gets answered the key's value.
+    answers: u32,
+    /// Whether it owes nothing.
+    settled: bool,
+}
+
+impl<'d, D: Naming, N: Naming> Drop for Ended<'d, D, N> {
+    fn drop(self) {
+        let Ended {
+            getter,
+            answers: _,
+            settled: _,
+        } = self;
+        getter.end();
+    }
+}
+
+impl<'d, D: Naming, N: Naming> Ended<'d, D, N> {
+    /// The getter, how many of its gets answered the key's value, and whether it owes nothing.
+    pub(crate) fn into_parts(self) -> (DriveGetter<'d, D, N>, u32, bool) {
+        let Ended {
+            getter,
+            answers,
+            settled,
+        } = self;
+        (getter, answers, settled)
+    }
+}
+
+impl<'a, 'd, D: Naming, N: Naming> Job<'a, 'd, D, N> {
+    /// Makes the gets and the reloads, and delivers what is owed then, so that no other thread waits for it.
+    pub(crate) fn run(self, rt: &impl Wait) -> Ended<'d, D, N> {
+        let Job {
+            fill,
+            getter,
+            entries,
+            thread,
+            line,
+        } = self;
+        let mut getter = getter;
+        let mut answers: u32 = 0;
+        for turn in 0..line.gets {
+            let next = 7 * turn as u64 + thread as u64;
+            let Some(entry) = entries.get((next % line.keys as u64) as usize) else {
+                continue;
+            };
+            let key = entry.key.as_bytes();
+            let (back, answer) = fill.get(rt, getter, key);
+            if let Ok(view) = answer {
+                let is_right = view.bytes().as_slice() == entry.value.as_bytes();
+                answers = answers.saturating_add(is_right as u32);
+            }
+            getter = if turn % 10 == 9 {
+                let (back, _forgotten) = fill.reload(rt, back, key);
+                back
+            } else {
+                back
+            };
+        }
+        let (getter, settled) = settle_up_often(rt, fill, getter);
+        Ended {
+            getter,
+            answers,
+            settled,
+        }
+    }
+}
+
+// Delivers what is owed, in 1,000 tries at most; whether it is done.
+fn settle_up_often<'d, D: Naming, N: Naming>(
+    rt: &impl Wait,
+    fill: &Fill<'d, D, N, Values>,
+    getter: DriveGetter<'d, D, N>,
+) -> (DriveGetter<'d, D, N>, bool) {
+    let mut getter = getter;
+    for _ in 0..1_000 {
+        let (back, settled) = getter.settle_up(rt, fill);
+        getter = back;
+        if settled.is_ok() {
+            return (getter, true);
+        }
+        yield_now();
+    }
+    (getter, false)
+}

@@ -1,0 +1,12 @@
+//! `sfctl drive`: getters on threads of their own get keys of one fill, and four lines say whether all went well.
+#![tactic(auto)]
+
+mod driving;
+mod jobs;
+mod line;
+mod loaders;
+mod report;
+
+pub use driving::drive;
+pub use line::{DriveLine, NoDrive, drive_line};
+pub use report::{DriveEnding, Report, status};

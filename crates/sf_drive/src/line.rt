@@ -1,0 +1,92 @@
+//! The words of a drive.
+ghost use Rattle.std.specs.Prelude.{◌≡◌, ◌≤◌, IfOk};
+
+use clap::{Arg, ArgAction, Command, Error};
+use std::alloc::Global;
+use std::fmt;
+
+/// How much a drive does.
+#[derive(Clone, Copy)]
+pub struct DriveLine {
+    /// Threads, each with a getter of its own: 1 to 64.
+    pub threads: u32,
+    /// Keys: 1 to 1,000.
+    pub keys: u32,
+    /// Gets of each thread: 1 to 100,000.
+    pub gets: u32,
+    ghost threads_in_range: { (1 ≤ threads) × (threads ≤ 64) },
+    ghost keys_in_range: { (1 ≤ keys) × (keys ≤ 1000) },
+    ghost gets_in_range: { (1 ≤ gets) × (gets ≤ 100000) },
+}
+
+/// Why the words ask for no drive.
+#[derive(Drop)]
+pub enum NoDrive {
+    /// What clap says; its words for help too.
+    Said(Error),
+    /// A number out of its range, which clap has refused before.
+    OutOfRange,
+}
+
+impl From<Error> for NoDrive {
+    fn from(error: Error) -> NoDrive {
+        NoDrive::Said(error)
+    }
+}
+
+impl fmt::Display for NoDrive {
+    fn fmt<W: fmt::Write>(&self, f: &mut fmt::Formatter<W>) -> fmt::Result {
+        match self {
+            NoDrive::Said(error) => error.fmt(f),
+            NoDrive::OutOfRange => f.write_str("error: a number is out of its range\n"),
+        }
+    }
+}
+
+// The command of a drive, with its ranges.
+fn command<'a>(alloc: Global) -> Result<Command<'a>, Error> {
+    let threads = Arg::new(alloc, "threads")
+        .long("threads")
+        .action(ArgAction::Set)
+        .value_parser(clap::value_parser!(u32).range(1..=64));
+    let keys = Arg::new(alloc, "keys")
+        .long("keys")
+        .action(ArgAction::Set)
+        .value_parser(clap::value_parser!(u32).range(1..=1_000));
+    let gets = Arg::new(alloc, "gets")
+        .long("gets")
+        .action(ArgAction::Set)
+        .value_parser(clap::value_parser!(u32).range(1..=100_000));
+    Ok(
+        Command::new(alloc, "drive")
+            .about("Gets keys of one fill on several threads, and checks what happened")
+            .arg(threads)?
+            .arg(keys)?
+            .arg(gets)?,
+    )
+}
+
+/// Reads the words of a drive, the subcommand's name first: `--threads` (4 where it is absent), `--keys` (8) and `--gets`
+/// (100). Whatever is no parse is usage.
+pub fn drive_line<'a>(alloc: Global, words: &'a [String]) -> Result<DriveLine, NoDrive>
+    ensures threads { IfOk result (λ line. (1 ≤ line.threads) × (line.threads ≤ 64)) }
+    ensures keys { IfOk result (λ line. (1 ≤ line.keys) × (line.keys ≤ 1000)) }
+    ensures gets { IfOk result (λ line. (1 ≤ line.gets) × (line.gets ≤ 100000)) }
+{
+    let command: Command<'a> = command(alloc)?;
+    let matches = command.try_get_matches_from(words)?;
+    let threads = matches.get_one::<u32>("threads").unwrap_or(4);
+    let keys = matches.get_one::<u32>("keys").unwrap_or(8);
+    let gets = matches.get_one::<u32>("gets").unwrap_or(100);
+    let has_threads = 1 <= threads && threads <= 64;
+    let has_keys = 1 <= keys && keys <= 1_000;
+    let has_gets = 1 <= gets && gets <= 100_000;
+    if !(has_threads && has_keys && has_gets) {
+        return Err(NoDrive::OutOfRange);
+    }
+    Ok(DriveLine {
+        threads,
+        keys,
+        gets,
+    })
+}
