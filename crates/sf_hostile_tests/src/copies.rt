@@ -1,0 +1,132 @@
+//! Each copy of a value refused in turn.
+
+ghost use Rattle.std.specs.Prelude.{◌≡◌, IfSome};
+
+use crate::askings::{join, lead};
+use sf_group::{Finished, Fit, Group, Polled, Share, Ticket};
+use sf_history::Memory;
+use std::alloc::{AllocError, Global};
+use std::cell::Cell;
+use std::process::Abort;
+use std::test::Fail;
+
+// A number, of which one copy is refused: the next one where this says 1, and none where it says 0.
+#[derive(Drop)]
+struct Scarce {
+    value: u32,
+    refused: Cell<u32>,
+}
+
+impl Share for Scarce {
+    fn share(&mut self) -> Result<Self, Memory> {
+        let refused = self.refused.get();
+        self.refused.set(refused.saturating_sub(1));
+        if refused == 1 {
+            return Err(AllocError);
+        }
+        Ok(Scarce {
+            value: self.value,
+            refused: Cell::new(0),
+        })
+    }
+}
+
+impl Fit for Scarce {
+    ghost lasts = { λ _ _ _ _ _ f. f };
+}
+
+// The letter is there where it is due, and else the ticket comes back.
+fn poll(
+    rt: &impl Abort,
+    group: &Group<Scarce>,
+    ticket: Ticket<Scarce>,
+    due: bool,
+) -> Option<Ticket<Scarce>>
+    requires { ticket.group ≡ group.now }
+    ensures { IfSome result (λ t. t.group ≡ group.now) }
+{
+    match group.poll(ticket) {
+        Polled::Ready(_, letter) => {
+            assert!(rt; due, "a letter is there too early");
+            assert!(rt;
+                letter.value().value == 7 && letter.shared(),
+                "another letter"
+            );
+            None
+        }
+        Polled::Pending(ticket) => {
+            if due {
+                ticket.abandon();
+                panic!(rt; "a letter is not there")
+            }
+            Some(ticket)
+        }
+    }
+}
+
+// The letter is there now, if it was not before.
+fn poll_rest(rt: &impl Abort, group: &Group<Scarce>, ticket: Option<Ticket<Scarce>>)
+    requires { IfSome ticket (λ t. t.group ≡ group.now) }
+{
+    let Some(ticket) = ticket else {
+        return;
+    };
+    if let Some(ticket) = poll(rt, group, ticket, true) {
+        ticket.abandon();
+    }
+}
+
+// One leads and three join; the copy of this number is refused. Those who joined last get their letters first.
+fn deliver(rt: &impl Abort, alloc: Global, refused: u32) -> Result<(), Fail> {
+    let (group, mut callers) = match Group::<Scarce>::new(alloc, 1, 4, 1) {
+        Ok(made) => made,
+        Err(_) => Group::<Scarce>::new(alloc, 1, 4, 1)?,
+    };
+    let flight = lead(rt, &group, &mut callers);
+    let first = join(rt, &group, &mut callers);
+    let second = join(rt, &group, &mut callers);
+    let last = join(rt, &group, &mut callers);
+    let value = Scarce {
+        value: 7,
+        refused: Cell::new(refused),
+    };
+    let finished = group.finish(flight, value);
+    let last = poll(rt, &group, last, refused > 1);
+    let second = poll(rt, &group, second, refused > 2);
+    let first = poll(rt, &group, first, refused > 3);
+    let finished = match finished {
+        Finished::Held(settled) => {
+            assert!(rt; refused <= 3, "it is held");
+            group.go_on(settled)
+        }
+        Finished::Done(leader, letter) => {
+            assert!(rt; refused > 3, "it is done");
+            Finished::Done(leader, letter)
+        }
+    };
+    match finished {
+        Finished::Held(settled) => {
+            settled.abandon();
+            panic!(rt; "it is held again")
+        }
+        Finished::Done(_, letter) => {
+            assert!(rt;
+                letter.value().value == 7 && letter.shared(),
+                "the leader's letter"
+            )
+        }
+    }
+    poll_rest(rt, &group, last);
+    poll_rest(rt, &group, second);
+    poll_rest(rt, &group, first);
+    Ok(())
+}
+
+// In the last run none is refused.
+#[test]
+fn each_copy_refused_in_turn(rt: HostRuntime) -> Result<(), Fail> {
+    for refused in 1..=4 {
+        deliver(&rt, rt.alloc(), refused)?;
+    }
+    Ok(())
+}
