@@ -8,3 +8,4 @@ pub mod Same
 pub mod Seen
 pub mod Tokens
 pub mod Afters
+pub mod Currents

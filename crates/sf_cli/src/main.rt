@@ -14,10 +14,12 @@ use sf_drive::{DriveEnding, drive, status as drive_status};
 use sf_engines::{Ending, Engine, Outcome, exit_status};
 use sf_text::StreamFault;
 use std::fmt::Display;
+use std::io::IsTerminal;
 use std::process::ExitCode;
 use std::rt::Env;
 use std::sync::Wait;
 use std::thread::Threads;
+use std::time::Clock;
 use std::{env, io};
 
 /// The words of the command line; the program's name comes first, and is `sfctl` wherever the file lies.
@@ -75,15 +77,20 @@ fn driven(rt: &impl Eprint, driven: Result<DriveEnding, StreamFault>) -> u8
     }
 }
 
-/// Does what the command line asks for, and answers the exit status.
-fn serve<R: Env + AllocGlobal + Input + Print + Eprint + Wait + Threads + Sync>(rt: &R) -> u8 {
+/// Does what the command line asks for, and answers the exit status. Where standard error is a terminal, a drive says there how
+/// far it is.
+fn serve<R>(rt: &R, on_terminal: bool) -> u8
+where
+    R: Env + AllocGlobal + Input + Print + Eprint + Wait + Threads + Clock + Sync,
+{
     let words = match words(rt) {
         Ok(words) => words,
         Err(_) => return misused(rt, "error: the arguments are no text\n"),
     };
     match usage::parse(rt.alloc(), words.as_slice()) {
         Ok(Subcommand::Engine(engine)) => answer(rt, engine),
-        Ok(Subcommand::Drive(line)) => {
+        Ok(Subcommand::Drive(mut line)) => {
+            line.progress = on_terminal;
             driven(rt, drive(rt, rt.alloc(), &mut io::writer(rt), line))
         }
         Err(usage) => misused(rt, usage),
@@ -91,5 +98,6 @@ fn serve<R: Env + AllocGlobal + Input + Print + Eprint + Wait + Threads + Sync>(
 }
 
 fn main(rt: HostRuntime) -> ExitCode {
-    ExitCode::from(serve(&rt))
+    let on_terminal = rt.stderr().is_terminal();
+    ExitCode::from(serve(&rt, on_terminal))
 }

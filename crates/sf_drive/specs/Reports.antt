@@ -3,6 +3,7 @@ use Rattle.std.specs.Prelude.{ℕ, Bool, true, false, if◌then◌else◌, ◌==
 use Rattle.sf_checker.specs.Checker.{cause_text}
 use Rattle.sf_checker.specs.declared.checking.Verdict.{Verdict}
 use Rattle.sf_checker.specs.declared.checking.Verdict.TheVariants.{Legal, Illegal}
+use Rattle.sf_drive.specs.declared.progress.ProgressLine.{ProgressLine}
 use Rattle.sf_drive.specs.declared.report.Report.{Report}
 use Rattle.sf_drive.specs.declared.report.DriveEnding.{DriveEnding}
 use Rattle.sf_drive.specs.declared.report.DriveEnding.TheVariants.{Passed, Failed, OutOfMemory}
@@ -18,6 +19,10 @@ totals_text false = codes "differ"
 abbrev pub report_text : Report → List ℕ
 report_text r =
     codes "gets " ++ (decimal r.gets ++ (codes "\nanswers " ++ (decimal r.answers ++ (codes "\ntotals " ++ (totals_text r.totals_equal ++ (codes "\n" ++ verdict_text r.verdict))))))
+
+-- how far the first thread of a drive is
+abbrev pub progress_text : ProgressLine → List ℕ
+progress_text p = decimal p.seconds ++ (codes " s: " ++ (decimal p.made ++ (codes " of " ++ (decimal p.gets ++ codes " gets on the first thread"))))
 
 abbrev pub is_legal : Verdict → Bool
 is_legal Legal = true

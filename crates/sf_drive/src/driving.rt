@@ -1,5 +1,5 @@
 //! A drive: its fill, its threads, and what comes of them.
-ghost use Rattle.std.specs.Prelude.{◌≡◌, ◌≢◌, ◌*◌, ◌++◌, ◌≤◌, IfOk, codes, vec_len, vec_capacity};
+ghost use Rattle.std.specs.Prelude.{◌≡◌, ◌≢◌, ◌*◌, ◌++◌, ◌<◌, ◌≤◌, IfOk, codes, vec_len, vec_capacity};
 ghost use Rattle.std.specs.Io.KnownBytes.{Appends};
 ghost use Rattle.sf_drive.specs.declared.report.DriveEnding.{DriveEnding};
 ghost use Rattle.sf_drive.specs.declared.report.Report.{Report};
@@ -27,6 +27,7 @@ use std::marker::Brand;
 use std::sync::Wait;
 use std::sync::ledger::Blank;
 use std::thread::{Threads, map_vec};
+use std::time::Clock;
 
 /// What the caches of a drive keep, in bytes.
 const LIMIT: i64 = 1_000;
@@ -130,7 +131,12 @@ fn take_back<'d, D: Naming, N: Naming>(
 }
 
 // All is named here: the fill, its threads, and what they found.
-fn with_all<'d, D: Naming + Send + Sync, N: Naming + Send + Sync, R: Wait + Threads + Sync>(
+fn with_all<
+    'd,
+    D: Naming + Send + Sync,
+    N: Naming + Send + Sync,
+    R: Wait + Threads + Clock + Eprint + Sync,
+>(
     rt: &R,
     alloc: Global,
     directory: &'d Directory,
@@ -158,12 +164,27 @@ fn with_all<'d, D: Naming + Send + Sync, N: Naming + Send + Sync, R: Wait + Thre
         getters.destroy_empty();
         return Err(Memory);
     };
+    found(rt, alloc, &fill, take_back(ended, getters, logs), line)
+}
+
+// What the threads found, of a fill whose getters are all back.
+fn found<'d, D: Naming, N: Naming>(
+    rt: &impl Wait,
+    alloc: Global,
+    fill: &Fill<'d, D, N, Values>,
+    back: Back<'d, D, N>,
+    line: DriveLine,
+) -> Result<Report, Memory>
+    requires all { vec_len back.getters ≡ N.getters }
+    requires some { 0 < vec_len back.getters }
+    ensures { IfOk result (λ report. report.gets ≡ line.threads * line.gets) }
+{
     let Back {
         getters,
         logs,
         answers,
         settled,
-    } = take_back(ended, getters, logs);
+    } = back;
     let book = fill.book(rt);
     let gathered = fill.gather(rt, getters);
     if !settled {
@@ -202,7 +223,7 @@ fn loaders(
 }
 
 // The directory is named here, and the group made.
-fn with_directory<'d, D: Naming + Send + Sync, R: Wait + Threads + Sync>(
+fn with_directory<'d, D: Naming + Send + Sync, R: Wait + Threads + Clock + Eprint + Sync>(
     rt: &R,
     alloc: Global,
     directory: &'d Directory,
@@ -241,7 +262,7 @@ fn with_directory<'d, D: Naming + Send + Sync, R: Wait + Threads + Sync>(
 }
 
 // What a drive finds. Nothing is named here.
-fn report<R: Wait + Threads + Sync>(
+fn report<R: Wait + Threads + Clock + Eprint + Sync>(
     rt: &R,
     alloc: Global,
     line: DriveLine,
@@ -255,7 +276,7 @@ fn report<R: Wait + Threads + Sync>(
 /// `sfctl drive`: one getter a thread gets keys of one fill, and reloads some. Writes four lines: how many gets there were,
 /// how many answered the key's value, whether what the getters counted is what the book says, and whether the merged logs
 /// are a legal history; or one line where memory is refused, in anything but a get or a reload.
-pub fn drive<R: Wait + Threads + Sync, W: Write>(
+pub fn drive<R: Wait + Threads + Clock + Eprint + Sync, W: Write>(
     rt: &R,
     alloc: Global,
     writer: &mut W,

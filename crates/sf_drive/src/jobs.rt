@@ -2,10 +2,12 @@
 
 use crate::line::DriveLine;
 use crate::loaders::{AnyKey, OddPicker, ThirdFails, Values};
+use crate::progress::Progress;
 use sf_fill::{Fill, Getter, Naming};
 use sf_loaders::scripted::RoundChance;
 use std::sync::Wait;
 use std::thread::yield_now;
+use std::time::Clock;
 
 /// A key of a drive, and its value.
 #[derive(Drop)]
@@ -83,7 +85,7 @@ impl<'d, D: Naming, N: Naming> Ended<'d, D, N> {
 
 impl<'a, 'd, D: Naming, N: Naming> Job<'a, 'd, D, N> {
     /// Makes the gets and the reloads, and delivers what is owed then, so that no other thread waits for it.
-    pub(crate) fn run(self, rt: &impl Wait) -> Ended<'d, D, N> {
+    pub(crate) fn run(self, rt: &(impl Wait + Clock + Eprint)) -> Ended<'d, D, N> {
         let Job {
             fill,
             getter,
@@ -93,7 +95,15 @@ impl<'a, 'd, D: Naming, N: Naming> Job<'a, 'd, D, N> {
         } = self;
         let mut getter = getter;
         let mut answers: u32 = 0;
+        let mut progress = if line.progress && thread == 0 {
+            Progress::new(rt)
+        } else {
+            None
+        };
         for turn in 0..line.gets {
+            if let Some(progress) = &mut progress {
+                progress.say(rt, turn, line.gets);
+            }
             let next = 7 * turn as u64 + thread as u64;
             let Some(entry) = entries.get((next % line.keys as u64) as usize) else {
                 continue;

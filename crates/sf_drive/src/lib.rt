@@ -5,8 +5,10 @@ mod driving;
 mod jobs;
 mod line;
 mod loaders;
+mod progress;
 mod report;
 
 pub use driving::drive;
 pub use line::{DriveLine, NoDrive, drive_line};
+pub use progress::ProgressLine;
 pub use report::{DriveEnding, Report, status};

@@ -14,6 +14,8 @@ pub struct DriveLine {
     pub keys: u32,
     /// Gets of each thread: 1 to 100,000.
     pub gets: u32,
+    /// Whether the first thread says on standard error how far it is; no words ask for it.
+    pub progress: bool,
     ghost threads_in_range: { (1 ≤ threads) × (threads ≤ 64) },
     ghost keys_in_range: { (1 ≤ keys) × (keys ≤ 1000) },
     ghost gets_in_range: { (1 ≤ gets) × (gets ≤ 100000) },
@@ -88,5 +90,6 @@ pub fn drive_line<'a>(alloc: Global, words: &'a [String]) -> Result<DriveLine, N
         threads,
         keys,
         gets,
+        progress: false,
     })
 }

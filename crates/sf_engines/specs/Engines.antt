@@ -43,3 +43,7 @@ abbrev pub IsWrittenBy : Engine → List ℕ → Ending → List ℕ → Type 0
 IsWrittenBy Run = IsWrittenByRun
 IsWrittenBy Steps = IsWrittenBySteps
 IsWrittenBy Check = IsWrittenByCheck
+
+-- what an engine writes of an input, however it ends
+abbrev pub IsAnswerOf : Engine → List ℕ → List ℕ → Type 0
+IsAnswerOf engine input text = (ending : Ending) × IsWrittenBy engine input ending text

@@ -2,7 +2,8 @@
 
 ghost use Rattle.std.specs.Prelude.{◌≡◌, ◌≢◌, List, ℕ, IfOk, IfErr, IfSome, None};
 ghost use Rattle.std.specs.Io.KnownBytes.{Appends};
-ghost use Rattle.sf_engines.specs.Engines.{IsWrittenBy, name_of};
+ghost use Rattle.sf_text.specs.StreamText.{AppendsPart};
+ghost use Rattle.sf_engines.specs.Engines.{IsWrittenBy, IsAnswerOf, name_of};
 
 use crate::checking::Checked;
 use crate::ending::Ending;
@@ -51,7 +52,7 @@ impl Engine {
         }
     }
 
-    /// Starts it.
+    /// Reads its input to the end, and writes the answer. Where a write fails, a beginning of the answer is written.
     pub fn start<R: Read, W: Write>(
         self,
         alloc: Global,
@@ -61,13 +62,13 @@ impl Engine {
         ensures written { IfOk result (λ ending. IfSome (R.remaining reader.old) (λ input.
             (text : List ℕ) × IsWrittenBy self input ending text × Appends (W.contents writer.old) (W.contents writer.new) text)) }
         ensures unread { IfErr result (λ fault. fault ≡ StreamFault.CannotRead → W.contents writer.new ≡ W.contents writer.old) }
+        ensures part { IfErr result (λ fault. fault ≡ StreamFault.CannotWrite → IfSome (R.remaining reader.old) (λ input.
+            (text : List ℕ) × IsAnswerOf self input text × AppendsPart (W.contents writer.old) (W.contents writer.new) text)) }
     {
-        match self {
-            Engine::Run => run(alloc, reader, writer),
-            Engine::Steps => steps(alloc, reader, writer),
-            Engine::Check => check(alloc, reader, writer),
-        }
+        let (ending, _input) = self.answer_reader(alloc, reader, writer)?;
+        Ok(ending)
     }
+
     /// Starts it as `start` does, and leaves a hint where the input is refused and there is one.
     pub fn start_with_hint<R: Read, W: Write>(
         self,
@@ -79,19 +80,57 @@ impl Engine {
         ensures written { IfOk result (λ ending. IfSome (R.remaining reader.old) (λ input.
             (text : List ℕ) × IsWrittenBy self input ending text × Appends (W.contents writer.old) (W.contents writer.new) text)) }
         ensures unread { IfErr result (λ fault. fault ≡ StreamFault.CannotRead → W.contents writer.new ≡ W.contents writer.old) }
+        ensures part { IfErr result (λ fault. fault ≡ StreamFault.CannotWrite → IfSome (R.remaining reader.old) (λ input.
+            (text : List ℕ) × IsAnswerOf self input text × AppendsPart (W.contents writer.old) (W.contents writer.new) text)) }
     {
-        let input = match read_all(alloc, reader) {
-            Ok(input) => input,
-            Err(ReadFault::OutOfMemory) => {
-                write_line(writer, Checked::OutOfMemory)?;
-                return Ok(Ending::Refused);
-            }
-            Err(ReadFault::CannotRead) => return Err(StreamFault::CannotRead),
-        };
-        let ending = self.start(alloc, &mut input.as_slice(), writer)?;
-        if ending == Ending::Refused {
+        let (ending, input) = self.answer_reader(alloc, reader, writer)?;
+        if let (Ending::Refused, Some(input)) = (ending, input) {
             *hinted = hint_for(alloc, self, input.as_slice());
         }
         Ok(ending)
+    }
+
+    /// Reads its input to the end, and writes the answer. The input comes back, where there was memory for it.
+    fn answer_reader<R: Read, W: Write>(
+        self,
+        alloc: Global,
+        reader: &mut R,
+        writer: &mut W,
+    ) -> Result<(Ending, Option<Vec<u8>>), StreamFault>
+        ensures written { IfOk result (λ answered. IfSome (R.remaining reader.old) (λ input.
+            (text : List ℕ) × IsWrittenBy self input answered.0 text × Appends (W.contents writer.old) (W.contents writer.new) text)) }
+        ensures unread { IfErr result (λ fault. fault ≡ StreamFault.CannotRead → W.contents writer.new ≡ W.contents writer.old) }
+        ensures part { IfErr result (λ fault. fault ≡ StreamFault.CannotWrite → IfSome (R.remaining reader.old) (λ input.
+            (text : List ℕ) × IsAnswerOf self input text × AppendsPart (W.contents writer.old) (W.contents writer.new) text)) }
+    {
+        match read_all(alloc, reader) {
+            Ok(input) => {
+                let ending = self.answer(alloc, input.as_slice(), writer)?;
+                Ok((ending, Some(input)))
+            }
+            Err(ReadFault::OutOfMemory) => {
+                write_line(writer, Checked::OutOfMemory)?;
+                Ok((Ending::Refused, None))
+            }
+            Err(ReadFault::CannotRead) => Err(StreamFault::CannotRead),
+        }
+    }
+
+    /// Writes what it answers to an input.
+    fn answer<W: Write>(
+        self,
+        alloc: Global,
+        input: &[u8],
+        writer: &mut W,
+    ) -> Result<Ending, StreamFault>
+        ensures written { IfOk result (λ ending. (text : List ℕ) × IsWrittenBy self input.now ending text × Appends (W.contents writer.old) (W.contents writer.new) text) }
+        ensures err { IfErr result (λ fault. fault ≡ StreamFault.CannotWrite) }
+        ensures part { (text : List ℕ) × IsAnswerOf self input.now text × AppendsPart (W.contents writer.old) (W.contents writer.new) text }
+    {
+        match self {
+            Engine::Run => run(alloc, input, writer),
+            Engine::Steps => steps(alloc, input, writer),
+            Engine::Check => check(alloc, input, writer),
+        }
     }
 }

@@ -1,70 +1,46 @@
-//! The engines of the subcommands, over any reader and writer.
+//! What the engines of the subcommands write for an input.
 
-ghost use Rattle.std.specs.Prelude.{◌≡◌, ◌≢◌, ◌⊎◌, ◌++◌, List, ℕ, IfOk, IfErr, IfSome, codes};
+ghost use Rattle.std.specs.Prelude.{◌≡◌, List, ℕ, IfOk, IfErr};
 ghost use Rattle.std.specs.Io.KnownBytes.{Appends};
-ghost use Rattle.std.specs.Str.Lines.{lines};
 ghost use Rattle.sf_text.specs.StreamText.{AppendsPart};
-ghost use Rattle.sf_model.specs.declared.refusal.ScriptRefusal.{ScriptRefusal};
-ghost use Rattle.sf_engines.specs.declared.checking.Checked.{Checked};
-ghost use Rattle.sf_engines.specs.Checking.{IsCheckOf, ending_of, checked_text};
-ghost use Rattle.sf_engines.specs.Playing.{IsTraceText};
-ghost use Rattle.sf_model.specs.RefusalText.{refusal_text};
-ghost use Rattle.sf_model.specs.ScriptText.{IsReplyText, IsDue};
-ghost use Rattle.sf_steps.specs.declared.texts.refusal.ScheduleRefusal.{ScheduleRefusal};
-ghost use Rattle.sf_steps.specs.Played.{IsRefusalOf};
-ghost use Rattle.sf_steps.specs.TraceText as trace_texts;
+ghost use Rattle.sf_engines.specs.Engines.{IsWrittenByRun, IsWrittenBySteps, IsWrittenByCheck, IsAnswerOf};
 
-use crate::checking::{Checked, ending, judge};
+use crate::checking::{ending, judge};
 use crate::ending::Ending;
+use crate::engine::Engine;
 use crate::playing::traced;
 use sf_model::run_script;
-use sf_steps::ScheduleRefusal;
-use sf_text::{ReadFault, StreamFault, read_all, write_all, write_line};
+use sf_text::{StreamFault, write_all, write_line};
 use std::alloc::Global;
-use std::io::{Read, Write};
+use std::io::Write;
 
-/// `sfctl run`: reads a script to its end, and writes the lines that are replied or the one line of its refusal.
-pub fn run<R: Read, W: Write>(
+/// `sfctl run`: writes the lines that are replied to a script, or the one line of its refusal.
+pub(crate) fn run<W: Write>(
     alloc: Global,
-    reader: &mut R,
+    input: &[u8],
     writer: &mut W,
 ) -> Result<Ending, StreamFault>
-    ensures answered { IfOk result (λ ending. ending ≡ Ending.Answered → IfSome (R.remaining reader.old) (λ input.
-        (text : List ℕ) × IsReplyText input text × Appends (W.contents writer.old) (W.contents writer.new) text)) }
-    ensures refused { IfOk result (λ ending. ending ≡ Ending.Refused → IfSome (R.remaining reader.old) (λ input.
-        (refusal : ScriptRefusal) × IsDue input refusal × Appends (W.contents writer.old) (W.contents writer.new) (refusal_text refusal ++ codes "\n"))) }
-    ensures legal { IfOk result (λ ending. ending ≢ Ending.Illegal) }
-    ensures unread { IfErr result (λ fault. fault ≡ StreamFault.CannotRead → W.contents writer.new ≡ W.contents writer.old) }
-    ensures part { IfErr result (λ fault. fault ≡ StreamFault.CannotWrite → IfSome (R.remaining reader.old) (λ input.
-        ((text : List ℕ) × IsReplyText input text × AppendsPart (W.contents writer.old) (W.contents writer.new) text) ⊎ ((refusal : ScriptRefusal) × IsDue input refusal))) }
+    ensures written { IfOk result (λ ending. (text : List ℕ) × IsWrittenByRun input.now ending text × Appends (W.contents writer.old) (W.contents writer.new) text) }
+    ensures err { IfErr result (λ fault. fault ≡ StreamFault.CannotWrite) }
+    ensures part { (text : List ℕ) × IsAnswerOf Engine.Run input.now text × AppendsPart (W.contents writer.old) (W.contents writer.new) text }
 {
-    match run_script(alloc, reader, writer)? {
+    match run_script(alloc, input, writer)? {
         Ok(()) => Ok(Ending::Answered),
         Err(_) => Ok(Ending::Refused),
     }
 }
 
-/// `sfctl steps`: plays a schedule to its end, and writes what its steps print or the one line of its refusal.
-pub fn steps<R: Read, W: Write>(
+/// `sfctl steps`: writes what the steps of a schedule print, or the one line of its refusal.
+pub(crate) fn steps<W: Write>(
     alloc: Global,
-    reader: &mut R,
+    input: &[u8],
     writer: &mut W,
 ) -> Result<Ending, StreamFault>
-    ensures answered { IfOk result (λ ending. ending ≡ Ending.Answered → IfSome (R.remaining reader.old) (λ input.
-        (text : List ℕ) × IsTraceText input text × Appends (W.contents writer.old) (W.contents writer.new) text)) }
-    ensures refused { IfOk result (λ ending. ending ≡ Ending.Refused → IfSome (R.remaining reader.old) (λ input.
-        (refusal : ScheduleRefusal) × IsRefusalOf (lines input) refusal × Appends (W.contents writer.old) (W.contents writer.new) (trace_texts.refusal_text refusal ++ codes "\n"))) }
-    ensures legal { IfOk result (λ ending. ending ≢ Ending.Illegal) }
-    ensures unread { IfErr result (λ fault. fault ≡ StreamFault.CannotRead → W.contents writer.new ≡ W.contents writer.old) }
-    ensures part { IfErr result (λ fault. fault ≡ StreamFault.CannotWrite → IfSome (R.remaining reader.old) (λ input.
-        ((text : List ℕ) × IsTraceText input text × AppendsPart (W.contents writer.old) (W.contents writer.new) text) ⊎ ((refusal : ScheduleRefusal) × IsRefusalOf (lines input) refusal))) }
+    ensures written { IfOk result (λ ending. (text : List ℕ) × IsWrittenBySteps input.now ending text × Appends (W.contents writer.old) (W.contents writer.new) text) }
+    ensures err { IfErr result (λ fault. fault ≡ StreamFault.CannotWrite) }
+    ensures part { (text : List ℕ) × IsAnswerOf Engine.Steps input.now text × AppendsPart (W.contents writer.old) (W.contents writer.new) text }
 {
-    let played = match read_all(alloc, reader) {
-        Ok(input) => traced(alloc, input.as_slice()),
-        Err(ReadFault::OutOfMemory) => Err(ScheduleRefusal::Memory),
-        Err(ReadFault::CannotRead) => return Err(StreamFault::CannotRead),
-    };
-    match played {
+    match traced(alloc, input) {
         Ok(text) => {
             write_all(writer, text.as_str())?;
             Ok(Ending::Answered)
@@ -76,21 +52,17 @@ pub fn steps<R: Read, W: Write>(
     }
 }
 
-/// `sfctl check`: reads records to their end, and writes the one line that says whether their history is legal.
-pub fn check<R: Read, W: Write>(
+/// `sfctl check`: writes the one line that says whether the history of records is legal.
+pub(crate) fn check<W: Write>(
     alloc: Global,
-    reader: &mut R,
+    input: &[u8],
     writer: &mut W,
 ) -> Result<Ending, StreamFault>
-    ensures checked { IfOk result (λ ending. IfSome (R.remaining reader.old) (λ input.
-        (checked : Checked) × IsCheckOf input checked × (ending ≡ ending_of checked) × Appends (W.contents writer.old) (W.contents writer.new) (checked_text checked ++ codes "\n"))) }
-    ensures unread { IfErr result (λ fault. fault ≡ StreamFault.CannotRead → W.contents writer.new ≡ W.contents writer.old) }
+    ensures written { IfOk result (λ ending. (text : List ℕ) × IsWrittenByCheck input.now ending text × Appends (W.contents writer.old) (W.contents writer.new) text) }
+    ensures err { IfErr result (λ fault. fault ≡ StreamFault.CannotWrite) }
+    ensures part { (text : List ℕ) × IsAnswerOf Engine.Check input.now text × AppendsPart (W.contents writer.old) (W.contents writer.new) text }
 {
-    let answer = match read_all(alloc, reader) {
-        Ok(input) => judge(alloc, input.as_slice()),
-        Err(ReadFault::OutOfMemory) => Checked::OutOfMemory,
-        Err(ReadFault::CannotRead) => return Err(StreamFault::CannotRead),
-    };
-    write_line(writer, answer)?;
-    Ok(ending(answer))
+    let checked = judge(alloc, input);
+    write_line(writer, checked)?;
+    Ok(ending(checked))
 }

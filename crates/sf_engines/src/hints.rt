@@ -39,7 +39,7 @@ pub(crate) fn index(line: u64) -> usize {
 
 fn command_hint(alloc: Global, input: &[u8]) -> Option<Hint> {
     let mut written: Vec<u8> = Vec::new(alloc);
-    let Ok(Err(ScriptRefusal::BadLine(line))) = run_script(alloc, &mut &*input, &mut written) else {
+    let Ok(Err(ScriptRefusal::BadLine(line))) = run_script(alloc, input, &mut written) else {
         return None;
     };
     let Ok(lines) = lines(alloc, input) else {

@@ -13,5 +13,4 @@ mod turn_hints;
 pub use checking::Checked;
 pub use ending::{Ending, Outcome, exit_status, status};
 pub use engine::Engine;
-pub use engines::{check, run, steps};
 pub use hints::{Hint, hint_for};

@@ -2,7 +2,9 @@
 
 use sf_engines::{Ending, Engine};
 use sf_text::{READS, StreamFault};
+use std::alloc::Global;
 use std::io::{Error, ErrorKind, Read, Result as IoResult, Write};
+use std::process::Abort;
 use std::test::Fail;
 
 /// A reader of a text that hands out so many bytes a call, and fails at its n-th read alone.
@@ -111,38 +113,70 @@ fn failing_reads(rt: HostRuntime) -> Result<(), Fail> {
     Ok(())
 }
 
-#[test]
-fn failing_writes(rt: HostRuntime) -> Result<(), Fail> {
-    for (engine, text, _, answer) in ROWS {
-        for fails_at in 1..12 {
-            let mut writer = FailingWriter {
-                written: Vec::new(rt.alloc()),
-                writes: 0,
-                fails_at,
-                flushed: false,
-            };
-            let ended = engine.start(rt.alloc(), &mut &*text, &mut writer);
+// Writes the answer to a writer that fails at its n-th call, for each n: a beginning of it is written, and all of it where no
+// call fails.
+fn assert_parts(
+    rt: &impl Abort,
+    alloc: Global,
+    engine: Engine,
+    text: &[u8],
+    answer: &[u8],
+    ending: Ending,
+) {
+    for fails_at in 1..100 {
+        let mut writer = FailingWriter {
+            written: Vec::new(alloc),
+            writes: 0,
+            fails_at,
+            flushed: false,
+        };
+        let ended = engine.start(alloc, &mut &*text, &mut writer);
+        assert!(rt;
+            answer.starts_with(writer.written.as_slice()),
+            "write {fails_at} fails, and what is written is no beginning of the answer"
+        );
+        if writer.writes >= fails_at {
             assert!(rt;
-                answer.starts_with(writer.written.as_slice()),
-                "write {fails_at} fails, and what is written is no beginning of the answer"
+                matches!(ended, Err(StreamFault::CannotWrite)) && writer.writes == fails_at,
+                "write {fails_at} fails otherwise"
             );
-            if writer.writes >= fails_at {
-                assert!(rt;
-                    matches!(ended, Err(StreamFault::CannotWrite)) && writer.writes == fails_at,
-                    "write {fails_at} fails otherwise"
-                );
-            } else {
-                assert!(rt;
-                    fails_at > 4
-                        && matches!(ended, Ok(Ending::Answered))
-                        && writer.flushed
-                        && writer.written.as_slice() == answer,
-                    "another answer where write {fails_at} is not reached"
-                );
-            }
+        } else {
+            assert!(rt;
+                fails_at > 4
+                    && matches!(ended, Ok(ended) if ended == ending)
+                    && writer.flushed
+                    && writer.written.as_slice() == answer,
+                "another answer where write {fails_at} is not reached"
+            );
         }
     }
-    Ok(())
+}
+
+#[test]
+fn failing_writes(rt: HostRuntime) {
+    for (engine, text, _, answer) in ROWS {
+        assert_parts(&rt, rt.alloc(), engine, text, answer, Ending::Answered);
+    }
+}
+
+#[test]
+fn failing_writes_of_a_refusal(rt: HostRuntime) {
+    let rows: [(Engine, &[u8], &[u8]); 3] = [
+        (
+            Engine::Run,
+            b"take 1",
+            b"line 1: caller 1 has nothing to take\n",
+        ),
+        (
+            Engine::Steps,
+            b"step 1",
+            b"line 1: not a turn of this schedule\n",
+        ),
+        (Engine::Check, b"", b"line 1: not a record\n"),
+    ];
+    for (engine, text, answer) in rows {
+        assert_parts(&rt, rt.alloc(), engine, text, answer, Ending::Refused);
+    }
 }
 
 #[test]

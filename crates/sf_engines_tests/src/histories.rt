@@ -1,6 +1,6 @@
 //! Worked histories, legal and illegal, and lines that are no records.
 
-use sf_engines::{Ending, check};
+use sf_engines::{Ending, Engine};
 use std::alloc::Global;
 use std::process::Abort;
 use std::test::Fail;
@@ -14,7 +14,7 @@ fn judges(
     ending: Ending,
 ) -> Result<(), Fail> {
     let mut written: Vec<u8> = Vec::new(alloc);
-    let ended = check(alloc, &mut records.as_bytes(), &mut written)?;
+    let ended = Engine::Check.start(alloc, &mut records.as_bytes(), &mut written)?;
     let said = str::from_utf8(written.as_slice()).unwrap_or("no text");
     assert!(rt; said == line, "{records} answers {said}");
     assert!(rt; ended == ending, "{records} ends otherwise");
@@ -148,7 +148,7 @@ fn hostile_records(rt: HostRuntime) -> Result<(), Fail> {
 fn a_record_that_is_no_text(rt: HostRuntime) -> Result<(), Fail> {
     let mut written: Vec<u8> = Vec::new(rt.alloc());
     let records: &[u8] = b"{\"format\":1}\n{\"e\":\"handed\",\"by\":1,\"c\":[1,1]}\n\xff\n";
-    let ended = check(rt.alloc(), &mut &*records, &mut written)?;
+    let ended = Engine::Check.start(rt.alloc(), &mut &*records, &mut written)?;
     assert!(rt;
         written.as_slice() == b"line 3: not a record\n".as_slice(),
         "another answer"

@@ -1,9 +1,11 @@
 -- what a fill settles its calls with
-use Rattle.std.specs.Prelude.{◌≡◌, ℕ, List, ◌++◌, Result}
+use Rattle.std.proofs.Common.{◌≡◌, ℕ, List, [], ◌∷◌, ◌++◌, Result, ap, ◌∙◌, append_assoc}
 use Rattle.sf_history.specs.declared.call.CallId.{CallId}
 use Rattle.sf_history.specs.declared.event.Event.{Event}
+use Rattle.sf_history.specs.declared.event.Event.TheVariants.{Lead}
 use Rattle.sf_loaders.specs.declared.faults.LocalFault.{LocalFault}
 use Rattle.sf_dir.specs.Known.{PlaceState}
+use Rattle.sf_fill.specs.Rooted.{IsRooted}
 
 -- a value: the place, which shows the key, the call whose run loaded the bytes, and the bytes or the fault
 pub record Filled : Type 0 where
@@ -11,9 +13,20 @@ pub record Filled : Type 0 where
   pub root : CallId
   pub result : Result (List ℕ) LocalFault
 
--- the value is of the call's place
+-- the value is of the call's place, and the call is rooted in the one whose run loaded the bytes
 abbrev pub FitsFill : ℕ → CallId → Filled → List (Event ℕ Filled) → Type 0
-FitsFill k call v h = v.place.number ≡ k
+FitsFill k call v h = (v.place.number ≡ k) × IsRooted k v.root call h
 
 pub fill_lasts : (k : ℕ) (call : CallId) (v : Filled) (h more : List (Event ℕ Filled)) → FitsFill k call v h → FitsFill k call v (h ++ more)
-fill_lasts k call v h more f = f
+fill_lasts k call v h more f =
+    let was = f.1 in
+    let led : h ≡ (was.before ++ Lead was.by k call was.own ∷ []) ++ was.led.0 = was.led.1 in (
+      f.0,
+      record {
+        before = was.before;
+        by = was.by;
+        own = was.own;
+        led = (was.led.0 ++ more, ap (λ l. l ++ more) led ∙ append_assoc (was.before ++ Lead was.by k call was.own ∷ []) was.led.0 more);
+        root_led = was.root_led;
+      },
+    )

@@ -3,7 +3,8 @@ use Rattle.std.specs.Prelude.{◌≡◌, ℕ, ◌⊎◌, List, Result, Ok, Err}
 use Rattle.sf_history.specs.declared.call.CallId.{CallId}
 use Rattle.sf_calls.specs.declared.outcomes.Finished.{Finished}
 use Rattle.sf_calls.specs.declared.outcomes.Finished.TheVariants.{Done, Held}
-use Rattle.sf_calls.specs.Tokens.{GroupValue, CallerValue, FlightValue, SettledValue, TicketValue, LetterValue}
+use Rattle.sf_calls.specs.Tokens.{CallerValue, FlightValue, SettledValue, TicketValue, LetterValue}
+use Rattle.sf_calls.specs.Same.{HasNothing, IsStill, IsSameFlight}
 use Rattle.sf_calls.specs.Begins.{HasLed, HasJoined, IsRefusedSpent}
 use Rattle.sf_calls.specs.Finishes.{IsDone, IsHeld, IsReady}
 use Rattle.sf_calls.specs.Notes.{HasLent}
@@ -18,7 +19,7 @@ use Rattle.sf_fill.specs.declared.found.Found.{Found}
 use Rattle.sf_fill.specs.declared.found.Found.TheVariants.{Kept, Uncopied, Spent, Joined, Led}
 use Rattle.sf_fill.specs.declared.totals.GetCounts.{GetCounts}
 use Rattle.sf_fill.specs.FillValue.{Filled, FitsFill}
-use Rattle.sf_fill.specs.Settled.{IsKeptLetter, HasKeptLetter}
+use Rattle.sf_fill.specs.Settled.{IsCurrentLetter, IsFollowed}
 
 abbrev pub no_run : Counts
 no_run = record { loads_deduped = 0; peer_loads = 0; peer_errors = 0; local_loads = 0; local_load_errors = 0 }
@@ -41,15 +42,15 @@ abbrev pub bytes_in : Result (List ℕ × Source) LocalFault → Result (List �
 bytes_in (Ok found) = Ok found.0
 bytes_in (Err fault) = Err fault
 
--- a cache had the value for the place, or had one for which memory was refused
-abbrev pub IsFromCache : GroupValue → PlaceState → CallId → Filled → Type 0
-IsFromCache g p call v =
-    ((l : LetterValue Filled) × IsKeptLetter g p.number l × (v ≡ l.value))
-    ⊎ (HasKeptLetter g p.number × (v ≡ record { place = p; root = call; result = Err LocalFault.Memory }))
+-- a cache had the value, with its root, of the call that the flight's follows; or had one for which memory was refused
+abbrev pub IsFromCache : PlaceState → FlightValue Filled → Filled → Type 0
+IsFromCache p f v =
+    ((l : LetterValue Filled) × IsFollowed f l × (v ≡ l.value))
+    ⊎ ((l : LetterValue Filled) × IsFollowed f l × (v ≡ record { place = p; root = f.call; result = Err LocalFault.Memory }))
 
--- the leader settled its call with the value; its letter's note may show more by now
+-- the leader settled its call with the value; its caller and its letter's note may know more by now
 abbrev pub HasSettled : FlightValue Filled → Filled → Finished (CallerValue Filled) (LetterValue Filled) (SettledValue Filled) → Type 0
-HasSettled f v (Done c m) = (l : LetterValue Filled) × IsDone FitsFill f v c l × HasLent l m
+HasSettled f v (Done c m) = (d : CallerValue Filled) × (l : LetterValue Filled) × IsDone FitsFill f v d l × HasNothing d c × HasLent l m
 HasSettled f v (Held s) = IsHeld f v s
 
 -- a draw, whatever it gave
@@ -78,26 +79,32 @@ module _ {P F L C : Type 0} (path : CallId → Loaders P F L C → LoadAnswer �
     pub rest : new ≡ record after { chance = new.chance }
 
   -- a cache had it, and no loader was asked
-  pub record IsSecondLook (g : GroupValue) (p : PlaceState) (call : CallId) (old new : Loaders P F L C) (v : Filled) (n : GetCounts) : Type 0 where
-    pub value : IsFromCache g p call v
+  pub record IsSecondLook (p : PlaceState) (f : FlightValue Filled) (old new : Loaders P F L C) (v : Filled) (n : GetCounts) : Type 0 where
+    pub value : IsFromCache p f v
     pub counts : n ≡ second_look_counts
     pub unasked : new ≡ old
 
-  abbrev pub IsSource : GroupValue → PlaceState → CallId → Loaders P F L C → Loaders P F L C → Filled → GetCounts → Type 0
-  IsSource g p call old new v n = IsLoaded p call old new v n ⊎ IsSecondLook g p call old new v n
+  abbrev pub IsSource : PlaceState → FlightValue Filled → Loaders P F L C → Loaders P F L C → Filled → GetCounts → Type 0
+  IsSource p f old new v n = IsLoaded p f.call old new v n ⊎ IsSecondLook p f old new v n
 
-  -- the caller led the place's next call, and settled it with a value of that source
+  -- the caller led the place's next call, may have learnt what a cached letter shows, and settled the call with a value of that source
   pub record HasRun (p : PlaceState) (c : CallerValue Filled) (old new : Loaders P F L C) (finished : Finished (CallerValue Filled) (LetterValue Filled) (SettledValue Filled)) (n : GetCounts) : Type 0 where
     pub flight : FlightValue Filled
+    pub ready : FlightValue Filled
     pub value : Filled
     pub led : HasLed c p.number flight
-    pub source : IsSource c.group p flight.call old new value n
-    pub settled : HasSettled flight value finished
+    pub learnt : IsSameFlight flight ready
+    pub source : IsSource p flight old new value n
+    pub settled : HasSettled ready value finished
 
-  -- a hit leaves the caller as it was; a joiner has the open call's letter; who has no generation left did nothing
+  -- a cache had a current letter; a joiner has the open call's letter; who has no generation left did nothing
+  abbrev pub HasFoundFrom : PlaceState → CallerValue Filled → Loaders P F L C → Loaders P F L C → Found Filled → Type 0
+  HasFoundFrom p c old new (Kept d m) = (new ≡ old) × ((l : LetterValue Filled) × IsCurrentLetter c p.number l d × HasLent l m)
+  HasFoundFrom p c old new (Uncopied d) = (new ≡ old) × ((l : LetterValue Filled) × IsCurrentLetter c p.number l d)
+  HasFoundFrom p c old new (Spent d) = IsRefusedSpent c d × (new ≡ old)
+  HasFoundFrom p c old new (Joined d l) = (new ≡ old) × ((t : TicketValue Filled) × HasJoined c p.number t × IsReady FitsFill t d l)
+  HasFoundFrom p c old new (Led finished n) = HasRun p c old new finished n
+
+  -- the same once the caller has looked for letters, by which it may have seen more
   abbrev pub HasFound : PlaceState → CallerValue Filled → Loaders P F L C → Loaders P F L C → Found Filled → Type 0
-  HasFound p c old new (Kept d l) = (d ≡ c) × (new ≡ old) × IsKeptLetter c.group p.number l
-  HasFound p c old new (Uncopied d) = (d ≡ c) × (new ≡ old) × HasKeptLetter c.group p.number
-  HasFound p c old new (Spent d) = IsRefusedSpent c d × (new ≡ old)
-  HasFound p c old new (Joined d l) = (new ≡ old) × ((t : TicketValue Filled) × HasJoined c p.number t × IsReady FitsFill t d l)
-  HasFound p c old new (Led finished n) = HasRun p c old new finished n
+  HasFound p c old new found = (u : CallerValue Filled) × IsStill c u × HasFoundFrom p u old new found

@@ -1,5 +1,5 @@
 -- how gets end
-use Rattle.std.specs.Prelude.{◌≡◌, ℕ, ◌⊎◌, List, Result, Ok, Err}
+use Rattle.std.specs.Prelude.{◌≡◌, ℕ, ◌⊎◌, List, Result, Ok, Err, IfOk}
 use Rattle.sf_history.specs.declared.call.CallId.{CallId}
 use Rattle.sf_calls.specs.declared.outcomes.Finished.TheVariants.{Done, Held}
 use Rattle.sf_calls.specs.Tokens.{CallerValue, LetterValue}
@@ -36,6 +36,10 @@ answer_by l (Err local.Memory) = Err fault.Memory
 
 abbrev pub answer_in : LetterValue Filled → GetAnswer
 answer_in l = answer_by l l.value.result
+
+-- a letter's bytes are what was stated for the key and the call whose run loaded them
+abbrev pub IsLoadedFor : (List ℕ → CallId → List ℕ → Type 0) → List ℕ → LetterValue Filled → Type 0
+IsLoadedFor loaded key l = IfOk l.value.result (λ bytes. loaded key l.value.root bytes)
 
 abbrev pub refusal_of : Refusal → LoadFault
 refusal_of refusal.KeyTooLong = fault.Refused refused.KeyTooLong

@@ -26,6 +26,10 @@ module _ {V : Type 0} where
   seen_of (Free caller) = caller.seen
   seen_of (Owing settled) = settled.seen
 
+  abbrev pub group_of : Standing V → GroupValue
+  group_of (Free caller) = caller.group
+  group_of (Owing settled) = settled.group
+
   abbrev pub IsOfGroup : GroupValue → Standing V → Type 0
   IsOfGroup g (Free caller) = caller.group ≡ g
   IsOfGroup g (Owing settled) = settled.group ≡ g

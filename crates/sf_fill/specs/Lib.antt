@@ -1,5 +1,7 @@
 pub mod Names
+pub mod FaultText
 pub mod Nowhere
+pub mod Rooted
 pub mod FillValue
 pub mod Ledgers
 pub mod Totals
@@ -12,3 +14,4 @@ pub mod Found
 pub mod Gets
 pub mod Reloads
 pub mod Counted
+pub mod Fresh

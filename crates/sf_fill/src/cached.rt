@@ -1,12 +1,14 @@
 //! Letters that a cache keeps.
 ghost use Rattle.std.specs.Prelude.{◌≡◌, IfOk};
+ghost use Rattle.sf_calls.specs.Currents.{HasQuestioned};
 ghost use Rattle.sf_calls.specs.Notes.{HasCopied};
 ghost use Rattle.sf_fill.specs.FillValue.{FitsFill};
 ghost use Rattle.sf_fill.specs.Settled.{IsKeptLetter, IsSettled};
 
 use crate::naming::Naming;
 use crate::value::FillValue;
-use sf_group::{Group, Letter, Memory};
+use sf_group::{Caller, Group, Letter, Memory};
+use sf_history::CallId;
 use sf_loaders::Origin;
 use std::marker::{Model, PhantomData};
 
@@ -50,11 +52,31 @@ impl<'d, D: Naming, N: Naming, O: Origin> Cached<'d, D, N, O> {
         self.letter.place()
     }
 
+    // The letter's call.
+    pub(crate) fn call(&self) -> CallId
+        ensures { result ≡ self.now.call }
+    {
+        self.letter.call()
+    }
+
     // What is known of it.
     pub(crate) fn known(&self)
         ensures { IsKeptLetter N.group self.now.place self.now }
     {
         self.letter.known();
+    }
+
+    // Whether the letter's call is its place's current one. The caller learns what the letter's note shows first.
+    pub(crate) fn is_current(
+        &mut self,
+        group: &Group<FillValue<'d, D, O>>,
+        caller: &mut Caller<FillValue<'d, D, O>>,
+    ) -> bool
+        requires group { group.now ≡ N.group }
+        requires caller { caller.old.group ≡ N.group }
+        ensures { HasQuestioned caller.old self.old result caller.new self.new }
+    {
+        group.is_current(caller, &mut self.letter)
     }
 
     // A copy of the letter.

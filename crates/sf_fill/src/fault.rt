@@ -5,35 +5,64 @@ ghost use Rattle.sf_fill.specs.Gets.{refusal_of};
 
 use bytes::ByteStr;
 use sf_dir::Refusal;
-use thiserror::Error;
+use std::error::Error;
+use std::fmt;
 
 /// Why a get answers no value, or a reload forgets nothing.
-#[derive(Debug, Drop, Error)]
+#[derive(Debug, Drop)]
 pub enum LoadFault {
     /// The key is refused, or no generation or no count is left.
-    #[error("{0}")]
     Refused(GetRefusal),
     /// The letter says that the local getter failed, for the reason that the text gives.
-    #[error("{0}")]
     Local(ByteStr),
     /// Memory was refused, to this getter or to the one that loaded.
-    #[error("out of memory")]
     Memory,
 }
 
 /// Why a get is refused.
-#[derive(Clone, Copy, Debug, PartialEq, Eq, Error)]
+#[derive(Clone, Copy, Debug, PartialEq, Eq, Drop)]
 pub enum GetRefusal {
     /// The key is longer than the directory's keys may be.
-    #[error("key too long")]
     KeyTooLong,
     /// Each place has another key.
-    #[error("directory full")]
     Full,
     /// The getter's caller has used its last generation, or its Gets stand at the greatest `u64`.
-    #[error("spent")]
     Spent,
 }
+
+impl fmt::Display for LoadFault {
+    ghost use Rattle.std.specs.Prelude.{Some};
+    ghost use Rattle.sf_fill.specs.FaultText.{fault_text};
+
+    ghost output = { λ fault. Some (fault_text fault) };
+
+    fn fmt<W: fmt::Write>(&self, f: &mut fmt::Formatter<W>) -> fmt::Result {
+        match self {
+            LoadFault::Refused(refusal) => write!(f, "{refusal}"),
+            LoadFault::Local(text) => f.write_str(text.as_str()),
+            LoadFault::Memory => f.write_str("out of memory"),
+        }
+    }
+}
+
+impl Error for LoadFault {}
+
+impl fmt::Display for GetRefusal {
+    ghost use Rattle.std.specs.Prelude.{Some};
+    ghost use Rattle.sf_fill.specs.FaultText.{refusal_text};
+
+    ghost output = { λ refusal. Some (refusal_text refusal) };
+
+    fn fmt<W: fmt::Write>(&self, f: &mut fmt::Formatter<W>) -> fmt::Result {
+        f.write_str(match self {
+            GetRefusal::KeyTooLong => "key too long",
+            GetRefusal::Full => "directory full",
+            GetRefusal::Spent => "spent",
+        })
+    }
+}
+
+impl Error for GetRefusal {}
 
 // The fault of a key that is refused.
 pub(crate) fn of_key(refusal: Refusal) -> LoadFault

@@ -61,6 +61,13 @@ impl<'d, D: Naming, N: Naming, O: Origin> Fill<'d, D, N, O> {
         self.kept.lock(rt).accounts.totals()
     }
 
+    /// The group whose callers its getters are. Others of its callers may ask and forget beside them.
+    pub fn group(&self) -> &Group<FillValue<'d, D, O>>
+        ensures { result.now ≡ N.group }
+    {
+        &self.group
+    }
+
     /// Spends all getters, and answers the book's numbers: for each counter, the sum of what they counted. All are as many
     /// as there are parts.
     pub fn gather<R: Wait, P: Drop, F: Drop, L: Drop, C: Drop>(

@@ -4,9 +4,10 @@ ghost use Rattle.sf_calls.specs.Same.{IsPlaceOf};
 ghost use Rattle.sf_loaders.specs.LoadPath.{IsLoadOf};
 ghost use Rattle.sf_fill.specs.declared.fault.LoadFault.{LoadFault};
 ghost use Rattle.sf_fill.specs.declared.fault.GetRefusal.{GetRefusal};
-ghost use Rattle.sf_fill.specs.Found.{HasFound, IsDraw};
+ghost use Rattle.sf_fill.specs.Found.{HasFound, HasFoundFrom, IsDraw};
 ghost use Rattle.sf_fill.specs.Counted.{IsCounted};
-ghost use Rattle.sf_fill.specs.Gets.{GetsFrom, HasReplied, HasGot, IsOfPlace, counts_of, reply_of};
+ghost use Rattle.sf_fill.specs.Fresh.{IsFreshGet};
+ghost use Rattle.sf_fill.specs.Gets.{GetsFrom, HasReplied, HasGot, IsLoadedFor, IsOfPlace, counts_of, reply_of};
 ghost use Rattle.sf_fill.specs.GetterValue.{IsOfGroup};
 ghost use Rattle.sf_fill.specs.Resolving.{IsSeeing};
 ghost use Rattle.sf_fill.specs.Totals.{IsOfOneGet};
@@ -17,7 +18,6 @@ use crate::found::Found;
 use crate::getter::Getter;
 use crate::leading::{NO_RUN, Sourced};
 use crate::log::Log;
-use crate::looking::InCache;
 use crate::naming::Naming;
 use crate::standing::Standing;
 use crate::totals::GetCounts;
@@ -62,6 +62,7 @@ fn reply<'d, D: Naming, O: Origin>(
     requires of_place { IsOfPlace place.old.number found }
     ensures reply { result ≡ reply_of found.entry }
     ensures keyed { IfOk result.2 (λ view. view.value.place ≡ place.old) }
+    ensures loaded { IfOk result.2 (IsLoadedFor O.loaded place.old.key) }
 {
     match found {
         Found::Kept(caller, letter) => (Standing::Free(caller), HIT, show(letter, place)),
@@ -82,8 +83,7 @@ fn reply<'d, D: Naming, O: Origin>(
 }
 
 impl<'d, D: Naming, N: Naming, O: Origin> Fill<'d, D, N, O> {
-    // Looks for the place's letter in the caches, and else asks the group: loads the key where the caller leads, and else
-    // waits for the letter.
+    // Looks for the place's letter in the caches, and else asks the group.
     fn find<R: Wait, P, F, L, C>(
         &self,
         rt: &R,
@@ -105,15 +105,39 @@ impl<'d, D: Naming, N: Naming, O: Origin> Fill<'d, D, N, O> {
         ensures one { IsOfOneGet (counts_of result) }
         ensures same { place.new ≡ place.old }
     {
-        let number = place.number();
-        if let Some(InCache { copy, which: _ }) = self.look(rt, number.number()) {
-            return match copy {
-                Ok(letter) => Found::Kept(caller, letter),
-                Err(_) => Found::Uncopied(caller),
-            };
+        let mut caller = caller;
+        match self.look(rt, place.number().number(), &mut caller) {
+            Some(Ok(letter)) => Found::Kept(caller, letter),
+            Some(Err(_)) => Found::Uncopied(caller),
+            None => self.ask(rt, caller, place, key, loaders, log),
         }
+    }
+
+    // Asks the group: loads the key where the caller leads, and else waits for the letter.
+    fn ask<R: Wait, P, F, L, C>(
+        &self,
+        rt: &R,
+        caller: Caller<FillValue<'d, D, O>>,
+        place: &mut Place<'d>,
+        key: &[u8],
+        loaders: &mut Loaders<P, F, L, C>,
+        log: &mut Log,
+    ) -> Found<FillValue<'d, D, O>>
+    where
+        P: Picker,
+        F: Peer<Origin = O>,
+        L: Local<Origin = O>,
+        C: Chance,
+        requires caller { caller.group ≡ N.group }
+        requires place { (place.old.directory ≡ D.directory) × (place.old.key ≡ key.now) × IsPlaceOf N.group place.old.number }
+        ensures found { HasFoundFrom (IsLoadOf P.pick_gives F.fetch_gives L.load_gives key.now) (IsDraw C.draw_gives) place.old caller.entry loaders.old loaders.new result }
+        ensures of_place { IsOfPlace place.old.number result }
+        ensures one { IsOfOneGet (counts_of result) }
+        ensures same { place.new ≡ place.old }
+    {
+        let number = place.number();
         match begin_wait(rt, &self.group, caller, number.number()) {
-            Ok(Begun::Lead(flight)) => {
+            Ok(Begun::Lead(mut flight)) => {
                 let call = flight.call();
                 log.add(Event::Lead {
                     by: call.caller,
@@ -125,7 +149,7 @@ impl<'d, D: Naming, N: Naming, O: Origin> Fill<'d, D, N, O> {
                     value,
                     keep,
                     counts,
-                } = self.source(rt, call, place.again(), key, loaders);
+                } = self.source(rt, &mut flight, place.again(), key, loaders);
                 let finished = self.settle(rt, flight, value, keep, key.len());
                 log.add_finished(call, &finished);
                 Found::Led(finished, counts)
@@ -164,6 +188,7 @@ impl<'d, D: Naming, N: Naming, O: Origin> Fill<'d, D, N, O> {
         ensures reply { HasReplied (IsLoadOf P.pick_gives F.fetch_gives L.load_gives key.now) (IsDraw C.draw_gives) N.directory key.now caller.entry desk.old desk.new loaders.old loaders.new result }
         ensures desk { IsSeeing N.directory desk.old desk.new }
         ensures keyed { IfOk result.2 (λ view. view.value.place.key ≡ key.now) }
+        ensures loaded { IfOk result.2 (IsLoadedFor O.loaded key.now) }
         ensures one { IsOfOneGet result.1 }
     {
         match self.directory.resolve(desk, key) {
@@ -196,6 +221,7 @@ impl<'d, D: Naming, N: Naming, O: Origin> Fill<'d, D, N, O> {
         ensures group { IsOfGroup N.group result.0 }
         ensures desk { desk.new.directory ≡ N.directory }
         ensures keyed { IfOk result.2 (λ view. view.value.place.key ≡ key.now) }
+        ensures loaded { IfOk result.2 (IsLoadedFor O.loaded key.now) }
         ensures one { IsOfOneGet result.1 }
     {
         match standing {
@@ -225,7 +251,9 @@ impl<'d, D: Naming, N: Naming, O: Origin> Fill<'d, D, N, O> {
         C: Chance,
         ensures got { getter.entry.counted.gets < 2 ^ 64 - 1 → HasGot (IsLoadOf P.pick_gives F.fetch_gives L.load_gives key.now) (IsDraw C.draw_gives) N.directory key.now getter.entry result.0 result.1 }
         ensures counted { getter.entry.counted.gets < 2 ^ 64 - 1 → IsCounted getter.entry result.0 result.1 }
+        ensures fresh { getter.entry.counted.gets < 2 ^ 64 - 1 → IsFreshGet N.directory key.now getter.entry result.0 result.1 }
         ensures keyed { IfOk result.1 (λ view. view.value.place.key ≡ key.now) }
+        ensures loaded { IfOk result.1 (IsLoadedFor O.loaded key.now) }
         ensures full { getter.entry.counted.gets ≡ 2 ^ 64 - 1 → (result.0 ≡ getter.entry) × (result.1 ≡ Err (LoadFault.Refused GetRefusal.Spent)) }
     {
         if getter.is_full() {

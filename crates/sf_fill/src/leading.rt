@@ -1,10 +1,13 @@
 //! What a getter does once it leads a call.
 ghost use Rattle.std.specs.Prelude.{◌≡◌};
-ghost use Rattle.sf_calls.specs.Same.{IsPlaceOf};
+ghost use Rattle.sf_calls.specs.Same.{HasNothing, IsPlaceOf, IsSameFlight};
+ghost use Rattle.sf_calls.specs.Seen.{IsLawful};
 ghost use Rattle.sf_calls.specs.Notes.{HasLent};
 ghost use Rattle.sf_loaders.specs.LoadPath.{IsLoadOf};
-ghost use Rattle.sf_fill.specs.Found.{DrawsFor, HasSettled, IsDraw, IsLoaded, IsSource};
-ghost use Rattle.sf_fill.specs.Settled.{IsSettled};
+ghost use Rattle.sf_fill.specs.FillValue.{FitsFill};
+ghost use Rattle.sf_fill.specs.Found.{DrawsFor, HasSettled, IsDraw, IsFromCache, IsLoaded, IsSource, second_look_counts};
+ghost use Rattle.sf_fill.specs.Rooted.{IsRooted};
+ghost use Rattle.sf_fill.specs.Settled.{CopiesFollowed, IsSettled};
 ghost use Rattle.sf_fill.specs.Totals.{IsOfOneGet};
 
 use crate::fill::Fill;
@@ -14,7 +17,7 @@ use crate::totals::GetCounts;
 use crate::value::FillValue;
 use sf_caches::Which;
 use sf_dir::Place;
-use sf_group::{Finished, Flight, Letter};
+use sf_group::{Caller, Finished, Flight, Letter};
 use sf_history::CallId;
 use sf_loaders::{
     Chance, Counts, Loaders, Local, LocalFault, Origin, Peer, Picker, Source, load_once,
@@ -59,11 +62,11 @@ impl<'d, D: Naming, N: Naming, O: Origin> Fill<'d, D, N, O> {
         }
     }
 
-    // The value for a call that is led: what a cache has by now, and else what the loaders give.
+    // The value for a call that is led: what a cache has of the call that it follows, and else what the loaders give.
     pub(crate) fn source<R: Wait, P, F, L, C>(
         &self,
         rt: &R,
-        call: CallId,
+        flight: &mut Flight<FillValue<'d, D, O>>,
         place: Place<'d>,
         key: &[u8],
         loaders: &mut Loaders<P, F, L, C>,
@@ -73,17 +76,41 @@ impl<'d, D: Naming, N: Naming, O: Origin> Fill<'d, D, N, O> {
         F: Peer<Origin = O>,
         L: Local<Origin = O>,
         C: Chance,
-        requires place { (place.directory ≡ D.directory) × (place.key ≡ key.now) }
-        ensures source { IsSource (IsLoadOf P.pick_gives F.fetch_gives L.load_gives key.now) (IsDraw C.draw_gives) N.group place.entry call loaders.old loaders.new result.value result.counts }
-        ensures fits { result.value.place.number ≡ place.entry.number }
+        requires flight { (flight.old.group ≡ N.group) × IsLawful N.group.sizes flight.old.seen }
+        requires led { IsRooted flight.old.place flight.old.call flight.old.call flight.old.seen }
+        requires place { (place.directory ≡ D.directory) × (place.key ≡ key.now) × (place.number ≡ flight.old.place) }
+        ensures source { IsSource (IsLoadOf P.pick_gives F.fetch_gives L.load_gives key.now) (IsDraw C.draw_gives) place.entry flight.old loaders.old loaders.new result.value result.counts }
+        ensures learnt { IsSameFlight flight.old flight.new }
+        ensures fits { FitsFill flight.new.place flight.new.call result.value flight.new.seen }
         ensures one { IsOfOneGet result.counts }
     {
-        let Some(InCache { copy, which }) = self.look(rt, place.number().number()) else {
-            return self.load(call, place, key, loaders);
-        };
+        match self.second_look(rt, flight) {
+            Some(found) => self.reuse(flight, place, found),
+            None => self.load(flight.call(), place, key, loaders),
+        }
+    }
+
+    // What a cache has of the call that the flight's follows: the value, whose root stays.
+    fn reuse(
+        &self,
+        flight: &mut Flight<FillValue<'d, D, O>>,
+        place: Place<'d>,
+        found: InCache<FillValue<'d, D, O>>,
+    ) -> Sourced<'d, D, O>
+        requires flight { (flight.old.group ≡ N.group) × IsLawful N.group.sizes flight.old.seen }
+        requires led { IsRooted flight.old.place flight.old.call flight.old.call flight.old.seen }
+        requires place { (place.directory ≡ D.directory) × (place.number ≡ flight.old.place) }
+        requires found { CopiesFollowed flight.old found.copy }
+        ensures value { IsFromCache place.entry flight.old result.value }
+        ensures counts { result.counts ≡ second_look_counts }
+        ensures learnt { IsSameFlight flight.old flight.new }
+        ensures fits { FitsFill flight.new.place flight.new.call result.value flight.new.seen }
+    {
+        let InCache { copy, which } = found;
         match copy {
             Ok(letter) => {
-                let (value, _note) = letter.into_parts();
+                let (value, mut note) = letter.into_parts();
+                flight.learn(&self.group, &mut note);
                 Sourced {
                     value,
                     keep: Some(which),
@@ -91,7 +118,7 @@ impl<'d, D: Naming, N: Naming, O: Origin> Fill<'d, D, N, O> {
                 }
             }
             Err(_) => Sourced {
-                value: FillValue::of_run(place, call, Err(LocalFault::Memory)),
+                value: FillValue::of_run(place, flight.call(), Err(LocalFault::Memory)),
                 keep: None,
                 counts: SECOND_LOOK,
             },
@@ -139,7 +166,7 @@ impl<'d, D: Naming, N: Naming, O: Origin> Fill<'d, D, N, O> {
         }
     }
 
-    // Settles the call with the value, and puts its letter into the cache, if it brings bytes.
+    // Settles the call with the value, and puts its letter into the cache, if it brings bytes and is current.
     pub(crate) fn settle<R: Wait>(
         &self,
         rt: &R,
@@ -150,36 +177,39 @@ impl<'d, D: Naming, N: Naming, O: Origin> Fill<'d, D, N, O> {
     ) -> Finished<FillValue<'d, D, O>>
         requires own { flight.group ≡ N.group }
         requires place { IsPlaceOf N.group flight.place }
-        requires fits { value.place.number ≡ flight.place }
+        requires fits { FitsFill flight.place flight.call value flight.seen }
         ensures { HasSettled flight.entry value.entry result }
     {
         match finish_wait(rt, &self.group, flight, value) {
-            Finished::Done(caller, letter) => {
-                Finished::Done(caller, self.keep(rt, keep, key_len, letter))
+            Finished::Done(mut caller, mut letter) => {
+                self.keep(rt, keep, key_len, &mut caller, &mut letter);
+                Finished::Done(caller, letter)
             }
             Finished::Held(settled) => Finished::Held(settled),
         }
     }
 
-    // Puts a copy of the letter into the cache, if it brings bytes, and hands the letter back.
+    // Puts a copy of the letter into the cache, if it brings bytes and the caller is told that its call is current.
     fn keep<R: Wait>(
         &self,
         rt: &R,
         keep: Option<Which>,
         key_len: usize,
-        letter: Letter<FillValue<'d, D, O>>,
-    ) -> Letter<FillValue<'d, D, O>>
-        requires place { IsPlaceOf N.group letter.place }
-        requires group { letter.group ≡ N.group }
-        requires settled { IsSettled letter }
-        ensures { HasLent letter.entry result }
+        caller: &mut Caller<FillValue<'d, D, O>>,
+        letter: &mut Letter<FillValue<'d, D, O>>,
+    )
+        requires place { IsPlaceOf N.group letter.old.place }
+        requires caller { (caller.old.group ≡ N.group) × IsLawful N.group.sizes caller.old.seen }
+        requires letter { (letter.old.group ≡ N.group) × IsSettled letter.old }
+        ensures caller { HasNothing caller.old caller.new }
+        ensures letter { HasLent letter.old letter.new }
     {
-        let mut letter = letter;
-        if let Some(which) = keep {
-            if let Some(value_len) = letter.value().byte_count() {
-                self.put(rt, which, key_len, value_len, &mut letter);
-            }
+        let Some(which) = keep else { return };
+        let Some(value_len) = letter.value().byte_count() else {
+            return;
+        };
+        if self.group.is_current(caller, letter) {
+            self.put(rt, which, key_len, value_len, letter);
         }
-        letter
     }
 }

@@ -21,6 +21,8 @@ mod fill;
 mod found;
 mod getter;
 mod getting;
+#[cfg(test)]
+mod leaders;
 mod leading;
 mod log;
 mod looking;

@@ -1,8 +1,8 @@
 //! What getters do under the lock: they look for letters, put them, take them out, and count.
-ghost use Rattle.std.specs.Prelude.{◌≡◌, ◌≤◌, ◌<◌, ◌^◌, ◌-◌, IfSome, IfOk, IfErr};
+ghost use Rattle.std.specs.Prelude.{◌≡◌, ◌≤◌, ◌<◌, ◌^◌, ◌-◌, IfSome};
 ghost use Rattle.sf_calls.specs.Notes.{HasLent};
 ghost use Rattle.sf_calls.specs.Same.{IsPlaceOf};
-ghost use Rattle.sf_fill.specs.Settled.{IsSettled, IsKeptLetter, HasKeptLetter};
+ghost use Rattle.sf_fill.specs.Settled.{IsSettled, IsCopyOf, CopiesFollowed, HasLooked, HasLookedOn};
 ghost use Rattle.sf_fill.specs.Totals.{with_counts, IsOfOneGet};
 
 use crate::cached::Cached;
@@ -11,7 +11,8 @@ use crate::naming::Naming;
 use crate::totals::{GetCounts, Tallies};
 use crate::value::FillValue;
 use sf_caches::Which;
-use sf_group::{Group, Letter, Memory};
+use sf_group::{Caller, Flight, Group, Letter, Memory};
+use sf_history::CallId;
 use sf_loaders::Origin;
 use std::sync::Wait;
 
@@ -22,19 +23,44 @@ pub(crate) struct InCache<V: sf_group::Fit> {
 }
 
 impl<'d, D: Naming, N: Naming, O: Origin> Kept<'d, D, N, O> {
-    // A copy of the letter that the cache has for the place, which becomes its most recent.
-    fn copy_from(
+    // A copy of the letter that the cache has for the place, which becomes its most recent, if its call is current. Else the
+    // entry is dropped.
+    fn copy_current(
         &mut self,
         group: &Group<FillValue<'d, D, O>>,
         which: Which,
         place: u32,
+        caller: &mut Caller<FillValue<'d, D, O>>,
     ) -> Option<Result<Letter<FillValue<'d, D, O>>, Memory>>
-        requires { group.now ≡ N.group }
-        ensures copied { IfSome result (λ copied. IfOk copied (IsKeptLetter N.group place)) }
-        ensures refused { IfSome result (λ copied. IfErr copied (λ _. HasKeptLetter N.group place)) }
+        requires group { group.now ≡ N.group }
+        requires caller { caller.old.group ≡ N.group }
+        ensures { HasLooked caller.old place result caller.new }
     {
         let cached = self.caches.look(which, place)?;
         if cached.place() != place {
+            return None;
+        }
+        cached.known();
+        if cached.is_current(group, caller) {
+            return Some(cached.copy(group));
+        }
+        self.caches.remove(which, place);
+        None
+    }
+
+    // A copy of the letter that the cache has for the place, which becomes its most recent, if it is of the call.
+    fn copy_of(
+        &mut self,
+        group: &Group<FillValue<'d, D, O>>,
+        which: Which,
+        place: u32,
+        call: CallId,
+    ) -> Option<Result<Letter<FillValue<'d, D, O>>, Memory>>
+        requires { group.now ≡ N.group }
+        ensures { IfSome result (IsCopyOf N.group place call) }
+    {
+        let cached = self.caches.look(which, place)?;
+        if cached.place() != place || cached.call() != call {
             return None;
         }
         cached.known();
@@ -76,17 +102,43 @@ impl<'d, D: Naming, N: Naming, O: Origin> Kept<'d, D, N, O> {
 }
 
 impl<'d, D: Naming, N: Naming, O: Origin> Fill<'d, D, N, O> {
-    // A copy of the letter that main, or else hot, has for the place. A limit that keeps nothing skips the look.
-    pub(crate) fn look<R: Wait>(&self, rt: &R, place: u32) -> Option<InCache<FillValue<'d, D, O>>>
-        ensures copied { IfSome result (λ found. IfOk found.copy (IsKeptLetter N.group place)) }
-        ensures refused { IfSome result (λ found. IfErr found.copy (λ _. HasKeptLetter N.group place)) }
+    // A copy of the current letter that main, or else hot, has for the place; entries that are not current are dropped. A
+    // limit that keeps nothing skips the look.
+    pub(crate) fn look<R: Wait>(
+        &self,
+        rt: &R,
+        place: u32,
+        caller: &mut Caller<FillValue<'d, D, O>>,
+    ) -> Option<Result<Letter<FillValue<'d, D, O>>, Memory>>
+        requires { caller.old.group ≡ N.group }
+        ensures { HasLookedOn caller.old place result caller.new }
     {
         if self.limit <= 0 {
             return None;
         }
         let mut kept = self.kept.lock(rt);
+        if let Some(copy) = kept.copy_current(&self.group, Which::Main, place, caller) {
+            return Some(copy);
+        }
+        kept.copy_current(&self.group, Which::Hot, place, caller)
+    }
+
+    // A copy of the letter that main, or else hot, has of the call that the flight's follows; other entries stay.
+    pub(crate) fn second_look<R: Wait>(
+        &self,
+        rt: &R,
+        flight: &Flight<FillValue<'d, D, O>>,
+    ) -> Option<InCache<FillValue<'d, D, O>>>
+        requires { flight.now.group ≡ N.group }
+        ensures { IfSome result (λ found. CopiesFollowed flight.now found.copy) }
+    {
+        let call = flight.after()?;
+        if self.limit <= 0 {
+            return None;
+        }
+        let mut kept = self.kept.lock(rt);
         for which in [Which::Main, Which::Hot] {
-            if let Some(copy) = kept.copy_from(&self.group, which, place) {
+            if let Some(copy) = kept.copy_of(&self.group, which, flight.place(), call) {
                 return Some(InCache { copy, which });
             }
         }

@@ -1,5 +1,6 @@
 //! What a getter owes.
 ghost use Rattle.std.specs.Prelude.{◌≡◌, is_ok, not};
+ghost use Rattle.sf_fill.specs.Fresh.{HasAdded, delivered_by};
 ghost use Rattle.sf_fill.specs.GetterValue.{is_owing};
 ghost use Rattle.sf_fill.specs.Owing.{HasSettledUp};
 
@@ -20,6 +21,7 @@ impl<'d, D: Naming, N: Naming, O: Origin, P, F, L, C> Getter<'d, D, N, O, P, F, 
         fill: &Fill<'d, D, N, O>,
     ) -> (Getter<'d, D, N, O, P, F, L, C>, Result<(), Memory>)
         ensures settled { HasSettledUp self.entry result.0 }
+        ensures adds { HasAdded self.entry.standing result.0.standing (delivered_by self.entry.standing result.0.standing) }
         ensures done { is_ok result.1 ≡ not (is_owing result.0.standing) }
     {
         let Getter {

@@ -1,5 +1,6 @@
 //! Reloads.
 ghost use Rattle.std.specs.Prelude.{◌≡◌};
+ghost use Rattle.sf_fill.specs.Fresh.{IsReloading};
 ghost use Rattle.sf_fill.specs.GetterValue.{IsOfGroup};
 ghost use Rattle.sf_fill.specs.Reloads.{HasReloaded, ReloadsFrom};
 
@@ -61,7 +62,8 @@ impl<'d, D: Naming, N: Naming, O: Origin> Fill<'d, D, N, O> {
         Getter<'d, D, N, O, P, F, L, C>,
         Result<Forgotten, LoadFault>,
     )
-        ensures { HasReloaded N.directory key.now getter.entry result.0 result.1 }
+        ensures reloaded { HasReloaded N.directory key.now getter.entry result.0 result.1 }
+        ensures adds { IsReloading N.directory key.now getter.entry result.0 result.1 }
     {
         let (getter, _delivered) = getter.settle_up(rt, self);
         let Getter {

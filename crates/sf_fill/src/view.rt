@@ -2,7 +2,7 @@
 ghost use Rattle.std.specs.Prelude.{◌≡◌, Ok, IfOk};
 ghost use Rattle.sf_calls.specs.Finishes.{FitsLetter};
 ghost use Rattle.sf_fill.specs.FillValue.{FitsFill};
-ghost use Rattle.sf_fill.specs.Gets.{answer_in};
+ghost use Rattle.sf_fill.specs.Gets.{IsLoadedFor, answer_in};
 
 use crate::fault::LoadFault;
 use crate::naming::Naming;
@@ -76,6 +76,7 @@ pub(crate) fn show<'d, D: Naming, O: Origin>(
     requires number { place.old.number ≡ letter.place }
     ensures answer { result ≡ answer_in letter.entry }
     ensures keyed { IfOk result (λ view. view.value.place ≡ place.old) }
+    ensures loaded { IfOk result (IsLoadedFor O.loaded place.old.key) }
     ensures same { place.new ≡ place.old }
 {
     let call = letter.call();

@@ -1,12 +1,13 @@
 //! Drives, and the words that ask for one.
 
 use sf_checker::{Cause, Verdict};
-use sf_drive::{DriveLine, Report, drive, drive_line, status};
+use sf_drive::{DriveLine, ProgressLine, Report, drive, drive_line, status};
 use std::alloc::{AllocError, Global};
 use std::process::Abort;
 use std::sync::Wait;
 use std::test::Fail;
 use std::thread::Threads;
+use std::time::Clock;
 
 // What the words ask for, after the subcommand's name.
 fn line(alloc: Global, words: &[&str]) -> Result<Option<DriveLine>, AllocError> {
@@ -48,7 +49,7 @@ fn drive_lines(rt: HostRuntime) -> Result<(), Fail> {
 }
 
 // A drive of these words passes, and writes this.
-fn check_drive<R: Abort + Wait + Threads + Sync>(
+fn check_drive<R: Abort + Wait + Threads + Clock + Eprint + Sync>(
     rt: &R,
     alloc: Global,
     words: &[&str],
@@ -100,5 +101,18 @@ fn failed_drives_say_what_failed(rt: HostRuntime) -> Result<(), Fail> {
     let wanted = "gets 3\nanswers 2\ntotals differ\nevent 5: shared mark is wrong";
     assert!(rt; text.as_str() == wanted, "{text}");
     assert!(rt; status(report.ending()) == 1, "the status");
+    Ok(())
+}
+
+#[test]
+fn progress_says_how_far_a_drive_is(rt: HostRuntime) -> Result<(), Fail> {
+    let line = ProgressLine {
+        seconds: 3,
+        made: 512,
+        gets: 100_000,
+    };
+    let text = format!(in rt.alloc(); "{line}")?;
+    let wanted = "3 s: 512 of 100000 gets on the first thread";
+    assert!(rt; text.as_str() == wanted, "{text}");
     Ok(())
 }

@@ -4,18 +4,43 @@ use bytes::Bytes;
 use sf_history::CallId;
 use sf_loaders::scripted::{AnyValue, FixedPicker, RoundChance, Script};
 use sf_loaders::{Loaders, Local, LocalFault};
-use std::sync::atomic::{AtomicBool, Ordering};
+use std::alloc::{AllocError, Global};
+use std::sync::atomic::{AtomicBool, AtomicU8, Ordering};
 use std::thread::yield_now;
 
-/// What two getters tell each other.
+/// What getters tell each other.
 #[derive(Drop)]
 pub struct Flags {
     /// The first loads.
     pub loading: AtomicBool,
     /// The second was answered.
     pub answered: AtomicBool,
+    /// The first was answered.
+    pub got: AtomicBool,
     /// A wait was given up.
     pub failed: AtomicBool,
+    /// Of the key `a`.
+    first: Versions,
+    /// Of the key `b`.
+    second: Versions,
+}
+
+/// The versions of a key.
+#[derive(Drop)]
+pub struct Versions {
+    /// What a load gives by now.
+    pub source: AtomicU8,
+    /// The one whose reload has returned.
+    pub reloaded: AtomicU8,
+}
+
+impl Versions {
+    fn new() -> Versions {
+        Versions {
+            source: AtomicU8::new(0),
+            reloaded: AtomicU8::new(0),
+        }
+    }
 }
 
 impl Flags {
@@ -23,7 +48,19 @@ impl Flags {
         Flags {
             loading: AtomicBool::new(false),
             answered: AtomicBool::new(false),
+            got: AtomicBool::new(false),
             failed: AtomicBool::new(false),
+            first: Versions::new(),
+            second: Versions::new(),
+        }
+    }
+
+    /// The versions of the key `a`, and of any other one.
+    pub fn versions(&self, key: &[u8]) -> &Versions {
+        if key == b"a".as_slice() {
+            &self.first
+        } else {
+            &self.second
         }
     }
 
@@ -39,30 +76,48 @@ impl Flags {
     }
 }
 
-/// A local getter of a script. Its load of the key `a` waits until the second getter was answered, if there are flags.
-#[derive(Drop)]
-pub struct Waiting<'f> {
-    pub script: Script,
-    pub flags: Option<&'f Flags>,
+fn one_byte(alloc: Global, byte: u8) -> Result<Bytes, AllocError> {
+    Ok(Bytes::from_vec(vec![in alloc; byte]?)?)
 }
 
-impl<'f> Local for Waiting<'f> {
+/// The local getter of a test.
+#[derive(Drop)]
+pub enum TestLocal<'f> {
+    /// What a script says.
+    Plays(Script),
+    /// The same, once the second getter was answered.
+    Waits(Script, &'f Flags),
+    /// The version of the key's source.
+    Reads(Global, &'f Flags),
+}
+
+impl<'f> Local for TestLocal<'f> {
     type Origin = AnyValue;
 
-    ghost use Rattle.sf_loaders.specs.Scripted.{PlaysAsLocal};
+    ghost use Rattle.std.specs.Prelude.{⊤};
 
-    ghost load_gives = { λ old key call answer new. PlaysAsLocal old.script answer new.script };
+    ghost load_gives = { λ old key call answer new. ⊤ };
 
     fn load(&mut self, key: &[u8], call: CallId) -> Result<Bytes, LocalFault> {
-        if let Some(flags) = self.flags {
-            if key == b"a".as_slice() {
-                flags.loading.store(true, Ordering::SeqCst);
-                flags.wait_for(&flags.answered);
+        match self {
+            TestLocal::Plays(script) => script.load(key, call),
+            TestLocal::Waits(script, flags) => {
+                if key == b"a".as_slice() {
+                    flags.loading.store(true, Ordering::SeqCst);
+                    flags.wait_for(&flags.answered);
+                }
+                script.load(key, call)
+            }
+            TestLocal::Reads(alloc, flags) => {
+                let version = flags.versions(key).source.load(Ordering::SeqCst);
+                match one_byte(*alloc, version) {
+                    Ok(bytes) => Ok(bytes),
+                    Err(AllocError) => Err(LocalFault::Memory),
+                }
             }
         }
-        self.script.load(key, call)
     }
 }
 
 /// The loaders of one getter.
-pub type TestLoaders<'f> = Loaders<FixedPicker, Script, Waiting<'f>, RoundChance>;
+pub type TestLoaders<'f> = Loaders<FixedPicker, Script, TestLocal<'f>, RoundChance>;

@@ -1,7 +1,9 @@
 //! What getters say, and what is counted.
 
 use crate::steps::Step;
-use crate::steps::Step::{AwaitLoad, Get, Reload, SettleUp, TakeLog, TellAnswered};
+use crate::steps::Step::{
+    AwaitGot, AwaitLoad, Change, Get, Read, Reload, SettleUp, TakeLog, TellAnswered, TellGot,
+};
 use crate::trial::{Gives, Outcome, Setting, try_out};
 use sf_fill::Totals;
 use std::process::Abort;
@@ -13,7 +15,7 @@ const SETTING: Setting = Setting {
     peer: Gives::Absent,
     local: Gives::Value,
     key_bytes: 4,
-    steps: [&[], &[]],
+    steps: [&[], &[], &[]],
     beside: false,
     ends: false,
 };
@@ -45,7 +47,7 @@ fn check(rt: &impl Abort, outcome: &Outcome, said: [&str; 2], counted: [u128; 8]
 fn reload_makes_a_third_get_load_again(rt: HostRuntime) -> Result<(), Fail> {
     const STEPS: [Step; 5] = [Get("a"), Get("a"), Reload("a"), Get("a"), TakeLog];
     let setting = Setting {
-        steps: [&STEPS, &[]],
+        steps: [&STEPS, &[], &[]],
         ..SETTING
     };
     let outcome = try_out(&rt, rt.alloc(), setting)?;
@@ -63,7 +65,7 @@ fn reload_makes_a_third_get_load_again(rt: HostRuntime) -> Result<(), Fail> {
 fn failed_peer_then_a_hit_for_the_second_getter(rt: HostRuntime) -> Result<(), Fail> {
     let setting = Setting {
         peer: Gives::Fault,
-        steps: [&[Get("a")], &[Get("a"), SettleUp]],
+        steps: [&[Get("a")], &[Get("a"), SettleUp], &[]],
         ..SETTING
     };
     let outcome = try_out(&rt, rt.alloc(), setting)?;
@@ -77,7 +79,7 @@ fn failed_peer_then_a_hit_for_the_second_getter(rt: HostRuntime) -> Result<(), F
 fn local_fault_is_answered_and_not_kept(rt: HostRuntime) -> Result<(), Fail> {
     let setting = Setting {
         local: Gives::Fault,
-        steps: [&[Get("a")], &[Get("a")]],
+        steps: [&[Get("a")], &[Get("a")], &[]],
         ends: true,
         ..SETTING
     };
@@ -97,7 +99,7 @@ fn one_in_ten_of_the_peers_values(rt: HostRuntime) -> Result<(), Fail> {
     const STEPS: [Step; 4] = [Get("a"), Get("a"), Get("b"), Get("b")];
     let setting = Setting {
         peer: Gives::Value,
-        steps: [&STEPS, &[]],
+        steps: [&STEPS, &[], &[]],
         ..SETTING
     };
     let outcome = try_out(&rt, rt.alloc(), setting)?;
@@ -115,7 +117,7 @@ fn refused_keys_and_no_room(rt: HostRuntime) -> Result<(), Fail> {
     let setting = Setting {
         places: 1,
         limit: 0,
-        steps: [&STEPS, &[]],
+        steps: [&STEPS, &[], &[]],
         ..SETTING
     };
     let outcome = try_out(&rt, rt.alloc(), setting)?;
@@ -132,7 +134,7 @@ fn refused_keys_and_no_room(rt: HostRuntime) -> Result<(), Fail> {
 #[test]
 fn load_holds_no_lock(rt: HostRuntime) -> Result<(), Fail> {
     let setting = Setting {
-        steps: [&[Get("a")], &[AwaitLoad, Get("b"), TellAnswered]],
+        steps: [&[Get("a")], &[AwaitLoad, Get("b"), TellAnswered], &[]],
         beside: true,
         ..SETTING
     };
@@ -141,5 +143,40 @@ fn load_holds_no_lock(rt: HostRuntime) -> Result<(), Fail> {
     let first = "a v=true 1.1 root=1.1 shared=false\n";
     let second = "b v=true 2.1 root=2.1 shared=false\n";
     check(&rt, &outcome, [first, second], [2, 0, 2, 2, 0, 0, 2, 0]);
+    Ok(())
+}
+
+// The load of `a` waits until a reload of `a` has closed its call. What it gives isn't kept.
+#[test]
+fn reload_during_load(rt: HostRuntime) -> Result<(), Fail> {
+    const SECOND: [Step; 5] = [AwaitLoad, Reload("a"), TellAnswered, AwaitGot, Get("a")];
+    let setting = Setting {
+        steps: [&[Get("a"), TellGot], &SECOND, &[]],
+        beside: true,
+        ..SETTING
+    };
+    let outcome = try_out(&rt, rt.alloc(), setting)?;
+    assert!(rt; !outcome.failed, "a wait was given up");
+    let first = "a v=true 1.1 root=1.1 shared=false\n";
+    let second = "reload a 1.1\na v=true 2.1 root=2.1 shared=false\n";
+    check(&rt, &outcome, [first, second], [2, 0, 2, 2, 0, 0, 2, 0]);
+    Ok(())
+}
+
+// Two getters read while a third changes what loads give, and reloads.
+#[test]
+fn no_old_answers_after_a_reload(rt: HostRuntime) -> Result<(), Fail> {
+    let setting = Setting {
+        local: Gives::Version,
+        steps: [&[Read(1_000)], &[Read(1_000)], &[Change(250)]],
+        beside: true,
+        ..SETTING
+    };
+    let outcome = try_out(&rt, rt.alloc(), setting)?;
+    for said in outcome.said.iter().take(2) {
+        assert!(rt; said.as_str() == "old=0\n", "{said}");
+    }
+    assert!(rt; outcome.book.gets == 4_000, "the gets");
+    assert!(rt; outcome.book.cache_hits <= 4_000, "the hits");
     Ok(())
 }

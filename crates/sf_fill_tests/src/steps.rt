@@ -1,6 +1,6 @@
 //! What getters do in a test, and what they say of it.
 
-use crate::loaders::{Flags, Waiting};
+use crate::loaders::{Flags, TestLocal};
 use bytes::Bytes;
 use sf_fill::{Fill, Getter, LoadFault, Naming, View};
 use sf_group::{Event, Forgotten};
@@ -10,6 +10,7 @@ use std::alloc::Global;
 use std::fmt::Write;
 use std::sync::Wait;
 use std::sync::atomic::Ordering;
+use std::thread::yield_now;
 
 /// One step of a getter.
 #[derive(Clone, Copy)]
@@ -26,7 +27,19 @@ pub enum Step {
     AwaitLoad,
     /// Tells the other that it was answered.
     TellAnswered,
+    /// Tells the other that it was answered first.
+    TellGot,
+    /// Waits until the other was answered first.
+    AwaitGot,
+    /// Gets the keys `a` and `b` in turn, so often, and says how many of its answers were old: of a version before one whose
+    /// reload had returned when the get began.
+    Read(u32),
+    /// Changes the sources of `a` and `b` in turn, so often, and reloads the key each time.
+    Change(u8),
 }
+
+/// The keys whose sources change.
+const KEYS: [&str; 2] = ["a", "b"];
 
 /// A getter of a test.
 pub type TestGetter<'d, 'f, D, N> = Getter<
@@ -36,7 +49,7 @@ pub type TestGetter<'d, 'f, D, N> = Getter<
     AnyValue,
     FixedPicker,
     Script,
-    Waiting<'f>,
+    TestLocal<'f>,
     RoundChance,
 >;
 
@@ -107,6 +120,69 @@ fn say_events(said: &mut String, log: &[Event<PlaceNo, ()>]) {
     let _ = said.push_str("log\n");
 }
 
+// Whether the answer is of a version before this one.
+fn is_old<'d, D: Naming>(answer: &Result<View<'d, D, AnyValue>, LoadFault>, version: u8) -> bool {
+    match answer {
+        Ok(view) => match view.bytes().as_slice() {
+            [first] => *first < version,
+            _ => true,
+        },
+        Err(_) => true,
+    }
+}
+
+// Gets so often, and says how many answers were old.
+fn read<'d, 'f, D: Naming, N: Naming>(
+    rt: &impl Wait,
+    fill: &Fill<'d, D, N, AnyValue>,
+    getter: TestGetter<'d, 'f, D, N>,
+    flags: &Flags,
+    gets: u32,
+    said: &mut String,
+) -> TestGetter<'d, 'f, D, N> {
+    let mut getter = getter;
+    let mut old = 0_u64;
+    for _ in 0..gets {
+        for key in KEYS {
+            let version = flags
+                .versions(key.as_bytes())
+                .reloaded
+                .load(Ordering::SeqCst);
+            let (back, answer) = fill.get(rt, getter, key.as_bytes());
+            getter = back;
+            if is_old(&answer, version) {
+                old = old.saturating_add(1);
+            }
+        }
+    }
+    let _ = write!(said, "old={old}\n");
+    getter
+}
+
+// Changes the sources so often, and reloads.
+fn change<'d, 'f, D: Naming, N: Naming>(
+    rt: &impl Wait,
+    fill: &Fill<'d, D, N, AnyValue>,
+    getter: TestGetter<'d, 'f, D, N>,
+    flags: &Flags,
+    changes: u8,
+) -> TestGetter<'d, 'f, D, N> {
+    let mut getter = getter;
+    for version in 0..changes {
+        for key in KEYS {
+            let versions = flags.versions(key.as_bytes());
+            versions.source.store(version, Ordering::SeqCst);
+            let (back, answer) = fill.reload(rt, getter, key.as_bytes());
+            getter = back;
+            if answer.is_ok() {
+                versions.reloaded.store(version, Ordering::SeqCst);
+            }
+            yield_now();
+        }
+    }
+    getter
+}
+
 impl<'a, 'd, 'f, D: Naming, N: Naming> Turns<'a, 'd, 'f, D, N> {
     /// The getter when its steps are made, and what it says of them.
     pub fn run(self, rt: &impl Wait) -> (TestGetter<'d, 'f, D, N>, String) {
@@ -141,6 +217,10 @@ impl<'a, 'd, 'f, D: Naming, N: Naming> Turns<'a, 'd, 'f, D, N> {
                 Step::TakeLog => say_events(&mut said, getter.take_log().as_slice()),
                 Step::AwaitLoad => flags.wait_for(&flags.loading),
                 Step::TellAnswered => flags.answered.store(true, Ordering::SeqCst),
+                Step::TellGot => flags.got.store(true, Ordering::SeqCst),
+                Step::AwaitGot => flags.wait_for(&flags.got),
+                Step::Read(gets) => getter = read(rt, fill, getter, flags, gets, &mut said),
+                Step::Change(versions) => getter = change(rt, fill, getter, flags, versions),
             }
         }
         (getter, said)

@@ -4,3 +4,5 @@ pub mod NoteRows
 pub mod Dealing
 pub mod Deliveries
 pub mod ChanRows
+pub mod LedCalls
+pub mod QuestionRows

@@ -4,6 +4,7 @@ pub use Rattle.sf_calls.specs.Same
 pub use Rattle.sf_calls.specs.Fitting
 pub use Rattle.sf_calls.specs.Begins
 pub use Rattle.sf_calls.specs.Afters
+pub use Rattle.sf_calls.specs.Currents
 pub use Rattle.sf_calls.specs.Forgets
 pub use Rattle.sf_calls.specs.Finishes
 pub use Rattle.sf_calls.specs.Making

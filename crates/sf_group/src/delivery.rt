@@ -1,9 +1,10 @@
 //! Calls that settle, and by which letters come: finish, go_on and poll.
-ghost use Rattle.std.specs.Prelude.{◌≡◌, Some};
+ghost use Rattle.std.specs.Prelude.{◌≡◌, true, Some};
+ghost use Rattle.sf_schedules.specs.Schedules.{was_led_on};
 ghost use Rattle.sf_calls.specs.Finishes.{HasFinished, HasGoneOn, HasPolled};
 ghost use Rattle.sf_word_steps.specs.View.{sizes_of, history_of};
 ghost use Rattle.sf_group.specs.Calls.{HasClosed, HasKnown};
-ghost use Rattle.sf_group.specs.Known.{letter_of};
+ghost use Rattle.sf_group.specs.Known.{IsPlaceIn, letter_of};
 
 use crate::caller::Caller;
 use crate::flight::Flight;
@@ -14,7 +15,9 @@ use crate::settled::Settled;
 use crate::ticket::Ticket;
 use sf_calls::{Finished, Fit, Polled};
 use sf_history::CallId;
-use sf_word_steps::{Actor, Delivery, Tells, WordSeat, collect, hand_out, settle_often};
+use sf_word_steps::{
+    Actor, Delivery, Tells, Unrested, Wakes, WordSeat, collect, hand_out, settle_often,
+};
 use std::sync::Wait;
 
 impl<V: Fit> Group<V> {
@@ -29,43 +32,21 @@ impl<V: Fit> Group<V> {
         ensures finished { HasFinished V.fits flight value result }
         ensures closed { HasClosed flight result }
     {
-        let Flight {
-            mut seat,
-            number,
-            next,
-            place,
-            call,
-            own,
-            after: _,
-        } = flight;
-        let actor = Actor {
-            sizes: self.sizes,
-            number,
-            place,
-        };
-        let top = settle_often(
-            &self.table.shared,
-            &mut seat,
-            actor,
-            call.generation,
-            own,
-            &value,
-        );
-        if top.is_some() || own.is_some() {
-            return self.hand_on(Settled {
-                seat,
-                number,
-                next,
-                place,
-                call,
-                own,
-                value,
-                shared: top.is_some(),
-                top,
-            });
-        }
-        let letter = self.letter(&mut seat, place, call, value, false);
-        Finished::Done(Caller { seat, number, next }, letter)
+        self.settle(&self.resting, flight, value)
+    }
+
+    /// The same for a group in which nobody rests: nobody is woken, so who rests may sleep on.
+    pub fn finish_unrested(
+        &self,
+        flight: Flight<V>,
+        value: V,
+    ) -> Finished<Caller<V>, Letter<V>, Settled<V>>
+        requires own { flight.group ≡ self.now }
+        requires fits { V.fits flight.place flight.call value flight.seen }
+        ensures finished { HasFinished V.fits flight value result }
+        ensures closed { HasClosed flight result }
+    {
+        self.settle(&Unrested, flight, value)
     }
 
     /// Goes on with a delivery that lacked memory, from where it stands. No letter is handed out twice.
@@ -73,7 +54,15 @@ impl<V: Fit> Group<V> {
         requires own { settled.group ≡ self.now }
         ensures { HasGoneOn V.fits settled result }
     {
-        self.hand_on(settled)
+        self.hand_on(&self.resting, settled)
+    }
+
+    /// The same for a group in which nobody rests.
+    pub fn go_on_unrested(&self, settled: Settled<V>) -> Finished<Caller<V>, Letter<V>, Settled<V>>
+        requires own { settled.group ≡ self.now }
+        ensures { HasGoneOn V.fits settled result }
+    {
+        self.hand_on(&Unrested, settled)
     }
 
     /// Looks for the letter of the ticket's call, once. Where it is there, the caller has it and is free again.
@@ -123,8 +112,66 @@ impl<V: Fit> Group<V> {
             .rest(rt, &self.table.shared, self.sizes, ticket.member);
     }
 
+    // Settles the call, and hands its letters out.
+    fn settle<W: Wakes>(
+        &self,
+        resting: &W,
+        flight: Flight<V>,
+        value: V,
+    ) -> Finished<Caller<V>, Letter<V>, Settled<V>>
+        requires own { flight.group ≡ self.now }
+        requires fits { V.fits flight.place flight.call value flight.seen }
+        ensures finished { HasFinished V.fits flight value result }
+        ensures closed { HasClosed flight result }
+    {
+        let Flight {
+            mut seat,
+            number,
+            next,
+            place,
+            call,
+            own,
+            after: _,
+        } = flight;
+        let actor = Actor {
+            sizes: self.sizes,
+            number,
+            place,
+        };
+        let top = settle_often(
+            &self.table.shared,
+            &mut seat,
+            actor,
+            call.generation,
+            own,
+            &value,
+        );
+        if top.is_some() || own.is_some() {
+            return self.hand_on(
+                resting,
+                Settled {
+                    seat,
+                    number,
+                    next,
+                    place,
+                    call,
+                    own,
+                    value,
+                    shared: top.is_some(),
+                    top,
+                },
+            );
+        }
+        let letter = self.letter(&mut seat, place, call, value, false);
+        Finished::Done(Caller { seat, number, next }, letter)
+    }
+
     // Hands out what is owed.
-    fn hand_on(&self, settled: Settled<V>) -> Finished<Caller<V>, Letter<V>, Settled<V>>
+    fn hand_on<W: Wakes>(
+        &self,
+        resting: &W,
+        settled: Settled<V>,
+    ) -> Finished<Caller<V>, Letter<V>, Settled<V>>
         requires own { settled.group ≡ self.now }
         ensures gone { HasGoneOn V.fits settled result }
         ensures known { HasKnown settled result }
@@ -152,7 +199,7 @@ impl<V: Fit> Group<V> {
         };
         match hand_out(
             &self.table.shared,
-            &self.resting,
+            resting,
             &mut seat,
             actor,
             delivery,
@@ -189,6 +236,8 @@ impl<V: Fit> Group<V> {
     ) -> Letter<V>
         requires own { seat.old.table_id ≡ self.now.table }
         requires seat { seat.old.me.0.sizes ≡ Some (sizes_of seat.old.me.0) }
+        requires place { IsPlaceIn (sizes_of seat.old.me.0) place }
+        requires led { was_led_on (history_of (sizes_of seat.old.me.0) seat.old.me.0.known.turns) place call ≡ true }
         requires fits { V.fits place call value (history_of (sizes_of seat.old.me.0) seat.old.me.0.known.turns) }
         ensures seat { (seat.new.table_id ≡ seat.old.table_id) × (seat.new.me ≡ seat.old.me) }
         ensures letter { result ≡ letter_of seat.old.table_id seat.old.me.0 place call value shared }

@@ -1,5 +1,6 @@
 //! Letters, which bring the answers of calls.
-ghost use Rattle.std.specs.Prelude.{◌≡◌};
+ghost use Rattle.std.specs.Prelude.{◌≡◌, true};
+ghost use Rattle.sf_schedules.specs.Schedules.{was_led_on};
 ghost use Rattle.sf_calls.specs.Finishes.{FitsLetter};
 
 use crate::note::Note;
@@ -8,7 +9,7 @@ use sf_history::CallId;
 use std::marker::Model;
 
 /// The answer of a call: the value that its leader settled it with, and whether somebody joined it. Its note shows a list
-/// in which the call is settled so, and with which the value fits.
+/// in which the call was led on the place and is settled so, and with which the value fits.
 #[derive(Drop)]
 pub struct Letter<V: Fit> {
     pub(crate) place: u32,
@@ -19,13 +20,16 @@ pub struct Letter<V: Fit> {
 }
 
 impl<V: Fit> Model for Letter<V> {
+    ghost use Rattle.std.specs.Prelude.{◌≡◌, true};
+    ghost use Rattle.sf_schedules.specs.Schedules.{was_led_on};
+    ghost use Rattle.sf_calls.specs.Same.{IsPlaceOf};
     ghost use Rattle.sf_calls.specs.Tokens.{LetterValue};
 
     ghost Value = { LetterValue V };
 
     ghost view = { λ l. record { group = l.note.group; seen = l.note.seen; place = l.place; call = l.call; value = l.value; shared = l.shared } };
 
-    ghost invariant = { λ l. V.fits l.place l.call l.value l.note.seen };
+    ghost invariant = { λ l. V.fits l.place l.call l.value l.note.seen × IsPlaceOf l.note.group l.place × (was_led_on l.note.seen l.place l.call ≡ true) };
 }
 
 impl<V: Fit> Letter<V> {
@@ -57,12 +61,15 @@ impl<V: Fit> Letter<V> {
         self.shared
     }
 
-    /// What is known of the letter: its value fits with the list that its note shows.
+    /// What is known of the letter: its value fits with the list that its note shows, in which its call was led on its
+    /// place.
     pub fn known(&self)
-        ensures { FitsLetter V.fits self.now }
+        ensures fits { FitsLetter V.fits self.now }
+        ensures led { was_led_on self.now.seen self.now.place self.now.call ≡ true }
     {
         let _ = &self.place;
     }
+
     /// The letter's value and its note. What the letter is known by is known of both.
     pub fn into_parts(self) -> (V, Note<V>)
         ensures value { result.0 ≡ self.value }

@@ -21,6 +21,8 @@
 //! | `go_on` | `Settled` | `Caller` and the leader's `Letter`; or `Settled` again |
 //! | `poll` | `Ticket` | `Caller` and its `Letter`; or the `Ticket` again |
 //! | `rest` | `&Ticket` | nothing; it alone may wait |
+//! | `finish_unrested`, `go_on_unrested` | as `finish` and `go_on` | the same, and wake nobody who rests |
+//! | `is_current` | `&mut Caller` and `&mut Letter` | whether the letter's call is its place's current one |
 //!
 //! `finish` answers `Done` where nobody is owed a letter, or all letters could be copied, and `Held` where memory for a
 //! copy was refused: the call is settled then, and `go_on` delivers the rest. The first two calls refuse a caller that
@@ -41,6 +43,7 @@ mod letter;
 mod note;
 mod notes;
 mod outcomes;
+mod questions;
 mod settled;
 mod ticket;
 

@@ -28,7 +28,7 @@ impl<V: Fit> Model for Settled<V> {
     ghost use Rattle.sf_schedules.specs.Turns.{at_members};
     ghost use Rattle.sf_word_steps.specs.View.{sizes_of, history_of};
     ghost use Rattle.sf_word_steps.specs.Stands.{Sits, next_in};
-    ghost use Rattle.sf_group.specs.Known.{settled_of};
+    ghost use Rattle.sf_group.specs.Known.{settled_of, IsPlaceIn};
     ghost use Rattle.sf_calls.specs.Tokens.{SettledValue};
 
     ghost Value = { SettledValue V };
@@ -37,7 +37,8 @@ impl<V: Fit> Model for Settled<V> {
 
     ghost invariant = { λ s. Sits (sizes_of s.seat.me.0) s.number s.seat.me.0 (at_members s.place s.call.generation s.own s.value s.shared s.top) × (s.call.caller ≡ s.number)
         × (s.next ≡ next_in (sizes_of s.seat.me.0) s.seat.me.0 s.number) × (s.seat.me.1 ≡ []) × IsOwed s.top s.own
-        × V.fits s.place s.call s.value (history_of (sizes_of s.seat.me.0) s.seat.me.0.known.turns) × Stands (event.Settle s.call.caller s.call s.value s.shared) (history_of (sizes_of s.seat.me.0) s.seat.me.0.known.turns) };
+        × V.fits s.place s.call s.value (history_of (sizes_of s.seat.me.0) s.seat.me.0.known.turns) × Stands (event.Settle s.call.caller s.call s.value s.shared) (history_of (sizes_of s.seat.me.0) s.seat.me.0.known.turns)
+        × IsPlaceIn (sizes_of s.seat.me.0) s.place };
 }
 
 impl<V: Fit> Settled<V> {

@@ -20,7 +20,7 @@ impl<V> Model for Ticket<V> {
     ghost use Rattle.sf_schedules.specs.declared.operation.Stage.TheVariants.{Holding};
     ghost use Rattle.sf_word_steps.specs.View.{sizes_of};
     ghost use Rattle.sf_word_steps.specs.Stands.{Sits, next_in};
-    ghost use Rattle.sf_group.specs.Known.{ticket_of};
+    ghost use Rattle.sf_group.specs.Known.{ticket_of, IsPlaceIn};
     ghost use Rattle.sf_calls.specs.Tokens.{TicketValue};
 
     ghost Value = { TicketValue V };
@@ -28,7 +28,7 @@ impl<V> Model for Ticket<V> {
     ghost view = { λ t. ticket_of t.seat.table_id t.seat.me.0 t.number t.place t.call t.member };
 
     ghost invariant = { λ t. Sits (sizes_of t.seat.me.0) t.number t.seat.me.0 (Holding t.place t.member.generation t.call) × (t.member.caller ≡ t.number)
-        × (t.next ≡ next_in (sizes_of t.seat.me.0) t.seat.me.0 t.number) × (t.seat.me.1 ≡ []) };
+        × (t.next ≡ next_in (sizes_of t.seat.me.0) t.seat.me.0 t.number) × (t.seat.me.1 ≡ []) × IsPlaceIn (sizes_of t.seat.me.0) t.place };
 }
 
 impl<V> Ticket<V> {

@@ -10,9 +10,13 @@ mod calls;
 #[cfg(test)]
 mod chans;
 #[cfg(test)]
+mod currents;
+#[cfg(test)]
 mod going_on;
 #[cfg(test)]
 mod notes;
+#[cfg(test)]
+mod random;
 #[cfg(test)]
 mod rows;
 #[cfg(test)]

@@ -8,6 +8,7 @@ use Rattle.sf_history.specs.declared.event.Event.TheVariants.{Lead, Enter, Forge
 use Rattle.sf_history.specs.Calls.{same_call}
 use Rattle.sf_history.specs.History.{holds_call, names, was_led, is_settled, next_generation, maker}
 use Rattle.sf_history.specs.Legal.{IsLegal}
+use Rattle.sf_history.specs.Limits.{IsWithinLimits}
 
 -- the sequential group: its callers, 1 to so many, their first generation, what happened, and the members that took their letter
 pub record GroupState (K V : Type 0) : Type 0 where
@@ -99,7 +100,10 @@ module _ {K V : Type 0} where
 
   -- what every sequential group keeps
   pub record IsKept (eq : K → K → Bool) (g : GroupState K V) : Type 0 where
+    pub few : g.callers ≤ 65535
+    pub first : 0 < g.first
     pub legal : IsLegal eq g.history
+    pub limited : All IsWithinLimits g.history
     pub made : All (λ e. IsCaller g (maker e)) g.history
     pub numbered : (c : CallId) → list_any (names c) g.history ≡ true → c.generation < next_generation g.first g.history c.caller
     pub within : (a : ℕ) → next_generation g.first g.history a ≤ 2 ^ 32

@@ -1,9 +1,11 @@
 //! The sequential group: the one-thread singleflight with Forget that every other layer is compared with.
 
-ghost use Rattle.std.specs.Prelude.{◌≡◌, ℕ, ◌<◌, ◌≤◌, ◌↔◌, true, false, IsTrue, [], Ok, Err, Some, IfOk, IfErr, OnErr, MatchResult};
+ghost use Rattle.std.specs.Prelude.{◌≡◌, ℕ, ◌<◌, ◌≤◌, ◌↔◌, true, false, IsTrue, [], Ok, Err, Some, IfOk, IfErr, OnErr, MatchResult, All};
 ghost use Rattle.sf_history.specs.declared.call.CallId.{CallId};
 ghost use Rattle.sf_history.specs.declared.call.Ticket.{Ticket};
+ghost use Rattle.sf_history.specs.History.{maker};
 ghost use Rattle.sf_history.specs.Legal.{IsLegal};
+ghost use Rattle.sf_history.specs.Limits.{IsWithinLimits};
 ghost use Rattle.sf_history.specs.State.{GroupState, IsCaller, Leads, Holds, led_call, held_ticket, is_free, is_spent, next_id};
 ghost use Rattle.sf_history.specs.Sequential.{ask_of, ask_chan_of, settle_of, forget_of, take_of, is_current_of, IsRefusal, MayAskChan};
 
@@ -228,6 +230,11 @@ impl<K: Eq, V> SeqGroup<K, V> {
         ensures legal { IsLegal K.eq self.now.history }
         ensures leads { (a : ℕ) (c : CallId) → (led_call self.now.history a ≡ Some c) ↔ Leads self.now a c }
         ensures holds { (a : ℕ) (t : Ticket) → (held_ticket self.now a ≡ Some t) ↔ Holds self.now a t }
+
+        // Its events are made by the group's callers, and are within the limits of records, so that where the keys are too, what
+        // is written of it reads back.
+        ensures made { All (λ e. IsCaller self.now (maker e)) self.now.history }
+        ensures within { All IsWithinLimits self.now.history }
     {
         &self.history
     }

@@ -1,7 +1,7 @@
 //! Tests of refused memory, failing loaders, last generations and many askings at once.
 //!
-//! The constructors are also for `rt try --test --fail-alloc N`, which refuses one allocation of each test: what they took
-//! is asked for once more, and has to be there.
+//! Those of `making`, `copies` and `pair` pass wherever one allocation is refused: what a constructor took is asked for once
+//! more, and has to be there. `.ci/refused-memory` runs them so for each allocation.
 #![tactic(auto)]
 
 #[cfg(test)]
@@ -12,6 +12,8 @@ mod copies;
 mod fills;
 #[cfg(test)]
 mod making;
+#[cfg(test)]
+mod pair;
 #[cfg(test)]
 mod threads;
 #[cfg(test)]

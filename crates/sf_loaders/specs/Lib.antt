@@ -1,2 +1,3 @@
+pub mod FaultText
 pub mod LoadPath
 pub mod Scripted

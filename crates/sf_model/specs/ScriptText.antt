@@ -1,5 +1,5 @@
 -- scripts: the text of the replies, and what is answered to an input
-use Rattle.std.specs.Prelude.{◌≡◌, ℕ, ◌+◌, Bool, true, false, List, [], ◌∷◌, ◌++◌, Result, Ok, Err, codes, decimal}
+use Rattle.std.specs.Prelude.{◌≡◌, ℕ, ◌+◌, Bool, true, false, List, [], ◌∷◌, ◌++◌, ◌⊎◌, Result, Ok, Err, codes, decimal}
 use Rattle.std.specs.Str.Lines.{lines}
 use Rattle.sf_history.specs.declared.call.CallId.{CallId}
 use Rattle.sf_history.specs.declared.refusal.ModelRefusal.{ModelRefusal}
@@ -18,6 +18,7 @@ use Rattle.sf_history.specs.Calls.{call_text}
 use Rattle.sf_text.specs.Texts.{same_text}
 use Rattle.sf_history.specs.State.{GroupState}
 use Rattle.sf_history.specs.Sequential.{ask_of, ask_chan_of, settle_of, forget_of, take_of, is_current_of, replied}
+use Rattle.sf_model.specs.RefusalText.{refusal_text}
 use Rattle.sf_model.specs.Reading.{ScriptCommand, AreRead, IsFirstBad}
 
 -- a result and its mark, as in `v shared=yes` and `error down shared=no`
@@ -97,3 +98,7 @@ abbrev pub IsDue : List ℕ → ScriptRefusal → Type 0
 IsDue input (BadLine n) = IsFirstBad (lines input) n
 IsDue input (Refused n e) = (cs : List ScriptCommand) × AreRead (lines input) cs × (replies_of 1 script_start cs ≡ Err (n, e))
 IsDue input OutOfMemory = Unit {0}
+
+-- the whole answer to a script: the text of its replies, or the one line that says why it is refused
+abbrev pub IsAnswerText : List ℕ → List ℕ → Type 0
+IsAnswerText input text = IsReplyText input text ⊎ ((refusal : ScriptRefusal) × IsDue input refusal × (text ≡ refusal_text refusal ++ codes "\n"))

@@ -1,7 +1,7 @@
 //! Scripts: commands to the sequential group, one a line, and the lines that it replies.
 
 ghost use Rattle.std.specs.Prelude.{◌≡◌, ◌≢◌, ◌⊎◌, ℕ, List, ◌∷◌, ◌++◌, Ok, Err, IfOk, IfErr, IfSome, OnOk, All, string_bytes, codes};
-ghost use Rattle.sf_model.specs.ScriptText.{mark_text, result_text, asked_text, chan_asked_text, settled_text, forgotten_text, taken_text, current_text, line_of, after_line, replies_of, StopsBy, IsReplyText, IsDue};
+ghost use Rattle.sf_model.specs.ScriptText.{mark_text, result_text, asked_text, chan_asked_text, settled_text, forgotten_text, taken_text, current_text, line_of, after_line, replies_of, StopsBy, IsReplyText, IsDue, IsAnswerText};
 ghost use Rattle.sf_model.specs.RefusalText.{refusal_text};
 ghost use Rattle.std.specs.Io.KnownBytes.{Appends};
 ghost use Rattle.sf_text.specs.StreamText.{AppendsPart};
@@ -13,10 +13,10 @@ use crate::refusal::ScriptRefusal;
 use sf_history::{
     Asked, CallId, ChanAsked, Command, Forgotten, Memory, ModelRefusal, SeqGroup, Taken,
 };
-use sf_text::{Outcome, ReadFault, StreamFault, Text, read_all, write_all, write_line};
+use sf_text::{Outcome, StreamFault, Text, write_all, write_line};
 use sf_words::LARGEST_CALLER;
 use std::alloc::Global;
-use std::io::{Read, Write};
+use std::io::Write;
 
 fn mark(shared: bool) -> &'static str
     ensures { codes " shared=" ++ (result.now ++ codes "\n") ≡ mark_text shared }
@@ -181,34 +181,26 @@ pub fn obey_all(
     Ok(lines)
 }
 
-/// Reads a script to its end and writes what it answers: the lines that are replied to its commands, or the one line
-/// that says why it is refused. The inner result tells which. All lines are read before the first command is obeyed.
-pub fn run_script<R: Read, W: Write>(
+/// Writes what a script answers: the lines that are replied to its commands, or the one line that says why it is refused.
+/// The inner result tells which. All lines are read before the first command is obeyed.
+pub fn run_script<W: Write>(
     alloc: Global,
-    reader: &mut R,
+    input: &[u8],
     writer: &mut W,
 ) -> Result<Result<(), ScriptRefusal>, StreamFault>
     // What is written for a script that is obeyed is the text of its replies.
-    ensures obeyed { IfOk result (λ outcome. OnOk outcome (IfSome (R.remaining reader.old) (λ input.
-        (text : List ℕ) × IsReplyText input text × Appends (W.contents writer.old) (W.contents writer.new) text))) }
+    ensures obeyed { IfOk result (λ outcome. OnOk outcome (
+        (text : List ℕ) × IsReplyText input.now text × Appends (W.contents writer.old) (W.contents writer.new) text)) }
 
     // For one that is refused it is one line that says why.
-    ensures refused { IfOk result (λ outcome. IfErr outcome (λ refusal. IfSome (R.remaining reader.old) (λ input.
-        IsDue input refusal × Appends (W.contents writer.old) (W.contents writer.new) (refusal_text refusal ++ codes "\n")))) }
+    ensures refused { IfOk result (λ outcome. IfErr outcome (λ refusal.
+        IsDue input.now refusal × Appends (W.contents writer.old) (W.contents writer.new) (refusal_text refusal ++ codes "\n"))) }
+    ensures err { IfErr result (λ fault. fault ≡ StreamFault.CannotWrite) }
 
-    // Where it cannot be read, nothing is written.
-    ensures unread { IfErr result (λ fault. fault ≡ StreamFault.CannotRead → W.contents writer.new ≡ W.contents writer.old) }
-
-    // Where it cannot be written, a beginning of the replies is written, or the script is refused.
-    ensures part { IfErr result (λ fault. fault ≡ StreamFault.CannotWrite → IfSome (R.remaining reader.old) (λ input.
-        ((text : List ℕ) × IsReplyText input text × AppendsPart (W.contents writer.old) (W.contents writer.new) text) ⊎ ((refusal : ScriptRefusal) × IsDue input refusal))) }
+    // Whatever fails, a beginning of the answer is written.
+    ensures part { (text : List ℕ) × IsAnswerText input.now text × AppendsPart (W.contents writer.old) (W.contents writer.new) text }
 {
-    let answer = match read_all(alloc, reader) {
-        Ok(input) => answer(alloc, input.as_slice()),
-        Err(ReadFault::OutOfMemory) => Err(ScriptRefusal::OutOfMemory),
-        Err(ReadFault::CannotRead) => return Err(StreamFault::CannotRead),
-    };
-    match answer {
+    match answer(alloc, input) {
         Ok(lines) => {
             write_all(writer, lines.as_str())?;
             Ok(Ok(()))

@@ -11,8 +11,9 @@ use Rattle.std.specs.Char.{digit_char}
 use Rattle.json.specs.Print.{escape_letter, escape_byte, escape, quoted}
 use Rattle.sf_history.specs.declared.call.CallId.{CallId}
 use Rattle.sf_history.specs.declared.event.Event.TheVariants.{Lead, Enter, Forget, Settle, Handed}
+use Rattle.sf_history.specs.Limits.{IsCallerNumber, IsCallWithin, IsWithinLimits}
 use Rattle.sf_replay.specs.Record.{TextEvent}
-use Rattle.sf_replay.specs.Written.{call_json, option_json, record_text, IsCaller, IsCallWithin, IsWithinLimits}
+use Rattle.sf_replay.specs.Written.{call_json, option_json, record_text}
 
 abbrev pub is_lf : ℕ → Bool
 is_lf byte = byte == 10
@@ -70,17 +71,17 @@ option_no_lf : (o : Option CallId) → IfSome o IsCallWithin → list_any is_lf 
 option_no_lf None within = refl
 option_no_lf (Some c) within = call_no_lf c within
 
-caller_no_lf : (n : ℕ) → IsCaller n → list_any is_lf (decimal n) ≡ false
+caller_no_lf : (n : ℕ) → IsCallerNumber n → list_any is_lf (decimal n) ≡ false
 caller_no_lf n within = decimal_no_lf n (omega (arith, within.1))
 
 pub record_no_lf : (e : TextEvent) → IsWithinLimits e → list_any is_lf (record_text e) ≡ false
 unfolding record_text
 record_no_lf (Lead by key call own) within =
-    skip (decimal by) _ (caller_no_lf by within.0) (skip (quoted key) _ (quoted_no_lf key) (skip (call_json call) _ (call_no_lf call within.2) (skip (option_json own) _ (option_no_lf own within.3) refl)))
+    skip (decimal by) _ (caller_no_lf by within.0) (skip (quoted key) _ (quoted_no_lf key) (skip (call_json call) _ (call_no_lf call within.1) (skip (option_json own) _ (option_no_lf own within.2) refl)))
 record_no_lf (Enter by key call joined) within =
-    skip (decimal by) _ (caller_no_lf by within.0) (skip (quoted key) _ (quoted_no_lf key) (skip (call_json call) _ (call_no_lf call within.2) (skip (call_json joined) _ (call_no_lf joined within.3) refl)))
+    skip (decimal by) _ (caller_no_lf by within.0) (skip (quoted key) _ (quoted_no_lf key) (skip (call_json call) _ (call_no_lf call within.1) (skip (call_json joined) _ (call_no_lf joined within.2) refl)))
 record_no_lf (Forget by key closed) within =
-    skip (decimal by) _ (caller_no_lf by within.0) (skip (quoted key) _ (quoted_no_lf key) (skip (option_json closed) _ (option_no_lf closed within.2) refl))
+    skip (decimal by) _ (caller_no_lf by within.0) (skip (quoted key) _ (quoted_no_lf key) (skip (option_json closed) _ (option_no_lf closed within.1) refl))
 record_no_lf (Settle by call (Ok value) true) within =
     skip (decimal by) _ (caller_no_lf by within.0) (skip (call_json call) _ (call_no_lf call within.1) (skip (quoted value) _ (quoted_no_lf value) refl))
 record_no_lf (Settle by call (Ok value) false) within =

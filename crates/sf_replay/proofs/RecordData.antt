@@ -9,8 +9,9 @@ use Rattle.serde_json.specs.Read.{of_json, max_depth}
 use Rattle.serde_json.proofs.Numbers.{number_of-decimal}
 use Rattle.sf_history.specs.declared.call.CallId.{CallId}
 use Rattle.sf_history.specs.declared.event.Event.TheVariants.{Lead, Enter, Forget, Settle, Handed}
+use Rattle.sf_history.specs.Limits.{IsCallerNumber, IsCallWithin, IsWithinLimits}
 use Rattle.sf_replay.specs.Record.{TextEvent, in_range, short, call_from, lead_in, enter_in, forget_in, settle_in, handed_in, event_of_kind, event_in}
-use Rattle.sf_replay.specs.Written.{IsCaller, IsCallWithin, IsWithinLimits}
+use Rattle.sf_replay.specs.Written.{HasShortKey}
 use Rattle.sf_replay.proofs.RecordJson.{call_of, option_of, json_of_event}
 
 -- ---- the JSON as data
@@ -54,7 +55,7 @@ short_is key within = cond-true _ (Some key) None (le-leb (length key) 250 withi
 call_is : (c : CallId) → IsCallWithin c → call_from (in_range 65535 c.caller) (in_range 4294967295 c.generation) ≡ Some c
 call_is c within = rw (range_is 65535 c.caller within.0.0 within.0.1, range_is 4294967295 c.generation within.1 within.2) refl
 
-small : (n : ℕ) → IsCaller n → n < 2 ^ 64
+small : (n : ℕ) → IsCallerNumber n → n < 2 ^ 64
 small n within = omega (arith, within.1)
 
 -- what the record of each kind is, and that it reads as its event
@@ -67,28 +68,28 @@ event_data (Handed by call) = object (put (codes "c") (call_data call) (begun_da
 
 event_is : (e : TextEvent) → IsWithinLimits e → of_json (json_of_event e) ≡ Some (event_data e)
 event_is (Lead by key call own) within =
-    rw (of_number by (small by within.0), of_call call within.2, of_option own within.3) refl
+    rw (of_number by (small by within.0), of_call call within.1, of_option own within.2) refl
 event_is (Enter by key call joined) within =
-    rw (of_number by (small by within.0), of_call call within.2, of_call joined within.3) refl
+    rw (of_number by (small by within.0), of_call call within.1, of_call joined within.2) refl
 event_is (Forget by key closed) within =
-    rw (of_number by (small by within.0), of_option closed within.2) refl
+    rw (of_number by (small by within.0), of_option closed within.1) refl
 event_is (Settle by call (Ok value) shared) within = rw (of_number by (small by within.0), of_call call within.1) refl
 event_is (Settle by call (Err error) shared) within = rw (of_number by (small by within.0), of_call call within.1) refl
 event_is (Handed by call) within = rw (of_number by (small by within.0), of_call call within.1) refl
 
-data_reads : (e : TextEvent) → IsWithinLimits e → event_in (event_data e) ≡ Some e
+data_reads : (e : TextEvent) → IsWithinLimits e → HasShortKey e → event_in (event_data e) ≡ Some e
 unfolding event_in event_of_kind lead_in enter_in forget_in settle_in handed_in
-data_reads (Lead by key call None) within = rw (range_is 65535 by within.0.0 within.0.1, short_is key within.1, call_is call within.2) refl
-data_reads (Lead by key call (Some own)) within = rw (range_is 65535 by within.0.0 within.0.1, short_is key within.1, call_is call within.2, call_is own within.3) refl
-data_reads (Enter by key call joined) within = rw (range_is 65535 by within.0.0 within.0.1, short_is key within.1, call_is call within.2, call_is joined within.3) refl
-data_reads (Forget by key None) within = rw (range_is 65535 by within.0.0 within.0.1, short_is key within.1) refl
-data_reads (Forget by key (Some closed)) within = rw (range_is 65535 by within.0.0 within.0.1, short_is key within.1, call_is closed within.2) refl
-data_reads (Settle by call (Ok value) shared) within = rw (range_is 65535 by within.0.0 within.0.1, call_is call within.1) refl
-data_reads (Settle by call (Err error) shared) within = rw (range_is 65535 by within.0.0 within.0.1, call_is call within.1) refl
-data_reads (Handed by call) within = rw (range_is 65535 by within.0.0 within.0.1, call_is call within.1) refl
+data_reads (Lead by key call None) within short = rw (range_is 65535 by within.0.0 within.0.1, short_is key short, call_is call within.1) refl
+data_reads (Lead by key call (Some own)) within short = rw (range_is 65535 by within.0.0 within.0.1, short_is key short, call_is call within.1, call_is own within.2) refl
+data_reads (Enter by key call joined) within short = rw (range_is 65535 by within.0.0 within.0.1, short_is key short, call_is call within.1, call_is joined within.2) refl
+data_reads (Forget by key None) within short = rw (range_is 65535 by within.0.0 within.0.1, short_is key short) refl
+data_reads (Forget by key (Some closed)) within short = rw (range_is 65535 by within.0.0 within.0.1, short_is key short, call_is closed within.1) refl
+data_reads (Settle by call (Ok value) shared) within short = rw (range_is 65535 by within.0.0 within.0.1, call_is call within.1) refl
+data_reads (Settle by call (Err error) shared) within short = rw (range_is 65535 by within.0.0 within.0.1, call_is call within.1) refl
+data_reads (Handed by call) within short = rw (range_is 65535 by within.0.0 within.0.1, call_is call within.1) refl
 
-pub event_reads : (e : TextEvent) → IsWithinLimits e → option_and_then event_in (of_json (json_of_event e)) ≡ Some e
-event_reads e within = ap (option_and_then event_in) (event_is e within) ∙ data_reads e within
+pub event_reads : (e : TextEvent) → IsWithinLimits e → HasShortKey e → option_and_then event_in (of_json (json_of_event e)) ≡ Some e
+event_reads e within short = ap (option_and_then event_in) (event_is e within) ∙ data_reads e within short
 
 -- ---- its numbers are numbers, and it nests no deeper than two
 
@@ -100,9 +101,9 @@ option_numbers None within = tt
 option_numbers (Some c) within = call_numbers c within
 
 pub event_numbers : (e : TextEvent) → IsWithinLimits e → HasNumbers (json_of_event e)
-event_numbers (Lead by key call own) within = (tt, (IsNumber-decimal by (small by within.0), (tt, (call_numbers call within.2, (option_numbers own within.3, tt)))))
-event_numbers (Enter by key call joined) within = (tt, (IsNumber-decimal by (small by within.0), (tt, (call_numbers call within.2, (call_numbers joined within.3, tt)))))
-event_numbers (Forget by key closed) within = (tt, (IsNumber-decimal by (small by within.0), (tt, (option_numbers closed within.2, tt))))
+event_numbers (Lead by key call own) within = (tt, (IsNumber-decimal by (small by within.0), (tt, (call_numbers call within.1, (option_numbers own within.2, tt)))))
+event_numbers (Enter by key call joined) within = (tt, (IsNumber-decimal by (small by within.0), (tt, (call_numbers call within.1, (call_numbers joined within.2, tt)))))
+event_numbers (Forget by key closed) within = (tt, (IsNumber-decimal by (small by within.0), (tt, (option_numbers closed within.1, tt))))
 event_numbers (Settle by call (Ok value) shared) within = (tt, (IsNumber-decimal by (small by within.0), (call_numbers call within.1, (tt, (tt, tt)))))
 event_numbers (Settle by call (Err error) shared) within = (tt, (IsNumber-decimal by (small by within.0), (call_numbers call within.1, (tt, (tt, tt)))))
 event_numbers (Handed by call) within = (tt, (IsNumber-decimal by (small by within.0), (call_numbers call within.1, tt)))

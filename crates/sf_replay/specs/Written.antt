@@ -1,5 +1,5 @@
 -- what is written: the format, then one record an event, each line ended
-use Rattle.std.specs.Prelude.{ℕ, ◌<◌, ◌≤◌, Bool, true, false, List, [], ◌∷◌, ◌++◌, length, Option, Some, None, IfSome, Result, Ok, Err, codes, decimal}
+use Rattle.std.specs.Prelude.{ℕ, ◌≤◌, Bool, true, false, List, [], ◌∷◌, ◌++◌, length, Option, Some, None, Result, Ok, Err, codes, decimal}
 use Rattle.json.specs.Print.{quoted}
 use Rattle.sf_history.specs.declared.call.CallId.{CallId}
 use Rattle.sf_history.specs.declared.event.Event.TheVariants.{Lead, Enter, Forget, Settle, Handed}
@@ -42,17 +42,10 @@ records_text (event ∷ events) = record_text event ++ (codes "\n" ++ records_te
 unfoldable pub history_text : List TextEvent → List ℕ
 history_text h = codes "{\"format\":1}\n" ++ records_text h
 
--- ---- the limits of records: callers 1 to 65,535, generations 1 to 4,294,967,295, keys of at most 250 bytes
-
-abbrev pub IsCaller : ℕ → Type 0
-IsCaller n = (0 < n) × (n ≤ 65535)
-
-abbrev pub IsCallWithin : CallId → Type 0
-IsCallWithin c = IsCaller c.caller × (0 < c.generation) × (c.generation ≤ 4294967295)
-
-abbrev pub IsWithinLimits : TextEvent → Type 0
-IsWithinLimits (Lead by key call own) = IsCaller by × (length key ≤ 250) × IsCallWithin call × IfSome own IsCallWithin
-IsWithinLimits (Enter by key call member) = IsCaller by × (length key ≤ 250) × IsCallWithin call × IsCallWithin member
-IsWithinLimits (Forget by key closed) = IsCaller by × (length key ≤ 250) × IfSome closed IsCallWithin
-IsWithinLimits (Settle by call result shared) = IsCaller by × IsCallWithin call
-IsWithinLimits (Handed by call) = IsCaller by × IsCallWithin call
+-- records hold keys of at most 250 bytes
+abbrev pub HasShortKey : TextEvent → Type 0
+HasShortKey (Lead by key call own) = length key ≤ 250
+HasShortKey (Enter by key call member) = length key ≤ 250
+HasShortKey (Forget by key closed) = length key ≤ 250
+HasShortKey (Settle by call result shared) = Unit {0}
+HasShortKey (Handed by call) = Unit {0}

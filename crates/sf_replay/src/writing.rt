@@ -2,8 +2,9 @@
 
 ghost use Rattle.std.specs.Prelude.{◌≡◌, ◌++◌, Ok, IfOk, All, codes, string_bytes};
 ghost use Rattle.json.specs.Print.{quoted};
+ghost use Rattle.sf_history.specs.Limits.{IsWithinLimits};
 ghost use Rattle.sf_replay.specs.RecordText.{history_of};
-ghost use Rattle.sf_replay.specs.Written.{call_json, option_json, result_json, record_text, history_text, IsWithinLimits};
+ghost use Rattle.sf_replay.specs.Written.{call_json, option_json, result_json, record_text, history_text, HasShortKey};
 
 use crate::record::TextEvent;
 use serde_json::Value;
@@ -124,7 +125,7 @@ fn record(alloc: Global, event: &TextEvent) -> Result<String, Memory>
 #[tactic(auto, unfolding(crate::specs::Written::history_text))]
 pub fn write(alloc: Global, history: &History<Text, Result<Text, Text>>) -> Result<String, Memory>
     ensures text { IfOk result (λ string. string_bytes string ≡ history_text history.now) }
-    ensures reads_back { IfOk result (λ string. All IsWithinLimits history.now → history_of (string_bytes string) ≡ Ok history.now) }
+    ensures reads_back { IfOk result (λ string. All IsWithinLimits history.now → All HasShortKey history.now → history_of (string_bytes string) ≡ Ok history.now) }
 {
     let mut text = String::from_str(alloc, FORMAT_LINE)?;
     for event in history.events() {

@@ -1,13 +1,12 @@
 -- words that are numbers, calls or tokens are ASCII, and so is a line of such words
-use Rattle.std.proofs.Common.{◌≡◌, ℕ, ◌^◌, ◌<◌, ◌==◌, Bool, true, false, List, [], ◌∷◌, get_or, Ok, Err, refl, sym, subst, arith, lit<}
+use Rattle.std.proofs.Common.{◌≡◌, ℕ, ◌^◌, ◌<◌, ◌==◌, Bool, true, false, List, [], ◌∷◌, get_or, refl, sym, subst, arith}
 use Rattle.std.proofs.lemmas.Bool.{eqb-true}
 use Rattle.std.proofs.lemmas.Fmt.{IsAscii-decimal}
 use Rattle.std.proofs.lemmas.List.Elements.{All-append, All-cons, All-from_recursion, recursion_from_All}
 use Rattle.std.proofs.lemmas.List.Sums.{split_at_first, passes_at_first}
-use Rattle.std.proofs.lemmas.Str.Ascii.{IsAscii-from_all, All-from_ascii}
+use Rattle.std.proofs.lemmas.Str.Ascii.{All-from_ascii}
 use Rattle.std.specs.Prelude.{All, cond, decimal}
 use Rattle.std.specs.List.{AllByRecursion, slice_split, onto_first, position_or_len, after_first}
-use Rattle.std.specs.Str.{IsAscii}
 use Rattle.sf_history.specs.declared.call.CallId.{CallId}
 use Rattle.sf_text.specs.Words.{IsToken, IsNumber, IsCallerWord, IsCallWord}
 

@@ -1,3 +1,4 @@
 mod Streams
 pub mod Ascii
 mod LineParts
+mod Written

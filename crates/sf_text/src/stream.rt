@@ -6,7 +6,7 @@ ghost use Rattle.sf_text.specs.StreamText.{AppendsPart};
 
 use std::alloc::{AllocError, Global};
 use std::error::Error;
-use std::fmt::{self, Display};
+use std::fmt::{self, Display, InlineText, Write as _};
 use std::io::{Read, Write};
 
 /// How often a run may read; where its last read has not met the end, that is a failing read.
@@ -103,13 +103,19 @@ pub fn write_all<W: Write>(writer: &mut W, answer: &str) -> Result<(), StreamFau
     Ok(())
 }
 
-/// Writes one line as the whole answer, and hands it on.
+/// The longest line that `write_line` writes, in bytes, with its LF. The text of a line is made before any of it is written.
+const LONGEST_LINE: usize = 256;
+
+/// Writes one line as the whole answer, and hands it on. Where it fails, a beginning of the line is written, and nothing of
+/// one that is longer than 255 bytes.
 pub fn write_line<W: Write, D: Display + Drop>(writer: &mut W, line: D) -> Result<(), StreamFault>
     ensures ok { OnOk result (IfSome (D.output line) (λ text. Appends (W.contents writer.old) (W.contents writer.new) (text ++ codes "\n"))) }
     ensures err { IfErr result (λ fault. fault ≡ StreamFault.CannotWrite) }
+    ensures part { IfSome (D.output line) (λ text. AppendsPart (W.contents writer.old) (W.contents writer.new) (text ++ codes "\n")) }
 {
-    if writeln!(writer, "{line}").is_err() || writer.flush().is_err() {
+    let mut text = InlineText::<LONGEST_LINE>::new();
+    let Ok(()) = writeln!(text, "{line}") else {
         return Err(StreamFault::CannotWrite);
-    }
-    Ok(())
+    };
+    write_all(writer, text.as_str())
 }

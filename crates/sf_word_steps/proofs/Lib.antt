@@ -20,3 +20,4 @@ pub mod HandSteps
 pub mod Handing
 pub mod Answered
 pub mod CollectSteps
+pub mod QuestionSteps

@@ -11,3 +11,4 @@ pub mod Settles
 pub mod Hears
 pub mod Delivers
 pub mod Collects
+pub mod Questions

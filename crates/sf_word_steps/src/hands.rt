@@ -14,7 +14,7 @@ ghost use Rattle.sf_word_steps.specs.Delivers.{at_step, Lists, IsOwed, handed_li
 
 use crate::actor::Actor;
 use crate::delivering::{Delivery, deliver, deliver_own, follow, peek_member, peek_own};
-use crate::resting::Resting;
+use crate::resting::Wakes;
 use crate::rule::{WordSeat, Words};
 use sf_calls::Fit;
 use sf_history::CallId;
@@ -23,9 +23,9 @@ use std::alloc::AllocError;
 
 /// Hands a letter to a member of the list, and answers who comes after it. Refused, with nothing done, where there is no
 /// memory for the letter's copy of the value.
-fn hand_one<V: Fit>(
+fn hand_one<V: Fit, W: Wakes>(
     words: &Words<V>,
-    resting: &Resting,
+    resting: &W,
     seat: &mut WordSeat<V>,
     actor: Actor,
     delivery: Delivery,
@@ -66,9 +66,9 @@ fn hand_one<V: Fit>(
 }
 
 /// Hands letters to the members of the list, from the first. Answers whom it could not serve, for want of memory.
-fn hand_members<V: Fit>(
+fn hand_members<V: Fit, W: Wakes>(
     words: &Words<V>,
-    resting: &Resting,
+    resting: &W,
     seat: &mut WordSeat<V>,
     actor: Actor,
     delivery: Delivery,
@@ -100,9 +100,9 @@ fn hand_members<V: Fit>(
 }
 
 /// Hands a letter to the own channel. Refused, with nothing done, where there is no memory for its copy of the value.
-fn hand_own<V: Fit>(
+fn hand_own<V: Fit, W: Wakes>(
     words: &Words<V>,
-    resting: &Resting,
+    resting: &W,
     seat: &mut WordSeat<V>,
     actor: Actor,
     delivery: Delivery,
@@ -142,9 +142,9 @@ fn hand_own<V: Fit>(
 }
 
 /// The same for a list that may be empty.
-fn hand_list<V: Fit>(
+fn hand_list<V: Fit, W: Wakes>(
     words: &Words<V>,
-    resting: &Resting,
+    resting: &W,
     seat: &mut WordSeat<V>,
     actor: Actor,
     delivery: Delivery,
@@ -170,9 +170,9 @@ fn hand_list<V: Fit>(
 
 /// Hands out all letters that the call owes: to the list's members from the top on, and to its own channel. Where there is
 /// no memory for a copy it answers the top of what is left of the list.
-pub fn hand_out<V: Fit>(
+pub fn hand_out<V: Fit, W: Wakes>(
     words: &Words<V>,
-    resting: &Resting,
+    resting: &W,
     seat: &mut WordSeat<V>,
     actor: Actor,
     delivery: Delivery,

@@ -4,9 +4,10 @@
 //! words, and that each seat knows a beginning of that schedule which has all turns of its own callers (`specs/Shows`).
 //! So what a step finds, and what it may do, follows from the laws of schedules.
 //!
-//! The kinds of step are the functions of `leading`, `entering`, `forgetting`, `settling`, `delivering` and `collecting`,
-//! and what they make up is public, as are the loads of `hearing`, by which a seat knows what another knows: they serve the
-//! crate of the group alone, whose tokens carry the seats. The plain steps are public for askings with a second caller.
+//! The kinds of step are the functions of `leading`, `entering`, `forgetting`, `settling`, `delivering`, `collecting` and
+//! `questioning`, and what they make up is public, as are the loads of `hearing`, by which a seat knows what another knows:
+//! they serve the crate of the group alone, whose tokens carry the seats. The plain steps are public for askings with a
+//! second caller.
 #![tactic(auto)]
 
 mod actor;
@@ -20,6 +21,7 @@ mod hearing;
 mod leading;
 mod numbering;
 mod plays;
+mod questioning;
 mod resting;
 mod rule;
 mod settling;
@@ -35,7 +37,8 @@ pub use hands::hand_out;
 pub use hearing::{hear_note, take_in};
 pub use numbering::{call_index, key_index, next_index, word_count};
 pub use plays::Plan;
-pub use resting::Resting;
+pub use questioning::ask_current;
+pub use resting::{Resting, Unrested, Wakes};
 pub use rule::{Deals, Law, Tells, WordSeat, Words};
 pub use settling::settle_often;
 pub use steps::{exchange_turns, load_turns, store_turns};

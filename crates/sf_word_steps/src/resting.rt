@@ -47,15 +47,29 @@ impl Resting {
         words.park(rt, call_index(sizes, member.caller), waits);
         self.count.fetch_sub(1, Ordering::SeqCst);
     }
+}
 
-    /// Wakes a caller to whom a letter was delivered, if it rests.
-    pub(crate) fn wake<V: Fit>(&self, words: &Words<V>, sizes: Sizes, caller: u32)
+/// What is done where a letter was delivered to a caller, which may rest.
+pub trait Wakes {
+    /// Wakes the caller, if it rests.
+    fn wake<V: Fit>(&self, words: &Words<V>, sizes: Sizes, caller: u32)
         requires words { words.now.table_id.words ≡ words_in words.now.key }
         requires sizes { sizes ≡ words.now.key }
-        requires caller { IsCaller (setting_of sizes) caller }
-    {
+        requires caller { IsCaller (setting_of sizes) caller };
+}
+
+impl Wakes for Resting {
+    fn wake<V: Fit>(&self, words: &Words<V>, sizes: Sizes, caller: u32) {
         if self.count.load(Ordering::SeqCst) != 0 {
             words.wake_one(call_index(sizes, caller));
         }
     }
+}
+
+/// Nobody is woken: callers that never rest, and poll alone.
+#[derive(Drop)]
+pub struct Unrested;
+
+impl Wakes for Unrested {
+    fn wake<V: Fit>(&self, _words: &Words<V>, _sizes: Sizes, _caller: u32) {}
 }

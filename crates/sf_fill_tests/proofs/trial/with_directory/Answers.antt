@@ -6,4 +6,4 @@ use Rattle.sf_fill_tests.proofs.trial.with_directory.Goals as goal
 
 pub with_all-requires-clause-callers : goal.with_all-requires-clause-callers
 with_all-requires-clause-callers g c κs within =
-    (c.in_ok-group.callers.ok.0 ∙ as_many (λ (k : CallerValue Filled). k.number) c.in_ok-group.callers.items 2 c.in_ok-group.ensures.numbers, callers_of_group _ _ c.in_ok-group.ensures.callers)
+    (c.in_ok-group.callers.ok.0 ∙ as_many (λ (k : CallerValue Filled). k.number) c.in_ok-group.callers.items 3 c.in_ok-group.ensures.numbers, callers_of_group _ _ c.in_ok-group.ensures.callers)

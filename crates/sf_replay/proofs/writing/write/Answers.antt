@@ -1,6 +1,7 @@
 use Rattle.std.proofs.Common.{◌≡◌, ◌++◌, ◌∙◌, Ok, All, ap, subst, codes, string_bytes}
+use Rattle.sf_history.specs.Limits.{IsWithinLimits}
 use Rattle.sf_replay.specs.RecordText.{history_of}
-use Rattle.sf_replay.specs.Written.{IsWithinLimits}
+use Rattle.sf_replay.specs.Written.{HasShortKey}
 use Rattle.sf_replay.proofs.RoundTrip.{written_more, written_all}
 use Rattle.sf_replay.proofs.writing.write.Goals as goal
 
@@ -12,5 +13,5 @@ loop-event-preserved c =
 
 pub returns-clause-reads_back : goal.returns-clause-reads_back
 returns-clause-reads_back c =
-    subst (λ h. All IsWithinLimits h → history_of (string_bytes c.loop-event.text) ≡ Ok h) c.events-event-items.ensures
+    subst (λ h. All IsWithinLimits h → All HasShortKey h → history_of (string_bytes c.loop-event.text) ≡ Ok h) c.events-event-items.ensures
     (written_all c.events-event-items.result.now c.loop-event.event-index (string_bytes c.loop-event.text) c.loop-event-test.false c.loop-event.invariant).1

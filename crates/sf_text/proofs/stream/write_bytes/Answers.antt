@@ -1,9 +1,7 @@
 -- one write more, and what is written where one fails
-use Rattle.std.proofs.Common.{rules, ℕ, List, ◌++◌, ◌+◌, ◌-◌, ◌≤◌, ◌∙◌, ap, length, take, drop, sym, arith, subst, ◌≡◌}
+use Rattle.std.proofs.Common.{ℕ, List, ◌++◌, ◌≤◌, ◌∙◌, ap, length, take, drop, sym, arith, subst}
 use Rattle.std.proofs.Math.Seq.{take-add}
 use Rattle.std.proofs.lemmas.List.{take-append-drop, length-drop, take_rest}
-use Rattle.std.specs.Prelude.{Option}
-use Rattle.std.specs.Io.KnownBytes.{Appends}
 use Rattle.sf_text.proofs.Streams.{appends_on, keeps_on, part_of}
 use Rattle.sf_text.proofs.stream.write_bytes.Goals as goal
 

@@ -1,4 +1,4 @@
-use Rattle.sf_fill.proofs.Counted.{counted}
+use Rattle.sf_fill.proofs.Fresh.{counted, fresh}
 use Rattle.sf_fill.proofs.Got.{got}
 use Rattle.sf_fill.proofs.fill.Fill.get.Goals as goal
 
@@ -7,3 +7,6 @@ returns-clause-got g c = λ _. got _ _ _ _ _ _ _ _ _ _ _ _ _ _ c.settle_up-gette
 
 pub returns-clause-counted : goal.returns-clause-counted
 returns-clause-counted g c = λ room. counted _ _ _ _ _ _ _ (returns-clause-got g c room)
+
+pub returns-clause-fresh : goal.returns-clause-fresh
+returns-clause-fresh g c = λ room. fresh _ _ _ _ _ _ _ (returns-clause-got g c room)

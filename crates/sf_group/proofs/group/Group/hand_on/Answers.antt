@@ -15,6 +15,7 @@ use Rattle.sf_word_steps.specs.Settles.{call_of}
 use Rattle.sf_word_steps.specs.Delivers.{handed_later}
 use Rattle.sf_group.specs.Known.{caller_of, settled_of, letter_of}
 use Rattle.sf_group.proofs.Finishes.{fits_later}
+use Rattle.sf_group.proofs.LedCalls.{owing_led, led_later, placed_later}
 use Rattle.sf_group.proofs.Deliveries.{stands_later, last_row, still_row, sits_now, next_now}
 use Rattle.sf_group.proofs.group.Group.hand_on.Goals as goal
 
@@ -36,6 +37,7 @@ invariant_of-result g c =
       c.in-Err.ensures.owed,
       subst (λ x. g.V.Fit.fits s.place s.call x (history_of (sizes_of w) w.known.turns)) (sym value) (fits_later g.V.Fit.fits g.V.Fit.lasts s.seat.table_id s.number 0 s.place s.call s.value v w p [] was.5 goes),
       subst (λ x. Stands (event.Settle s.call.caller s.call x s.shared) (history_of (sizes_of w) w.known.turns)) (sym value) (stands_later s.seat.table_id s.number 0 (event.Settle s.call.caller s.call s.value s.shared) v w p [] was.6 goes),
+      placed_later s.number 0 s.place v w p [] was.7 goes,
     )
 
 pub returns-in-Err-clause-gone : goal.returns-in-Err-clause-gone
@@ -50,6 +52,17 @@ returns-in-Err-clause-gone g c =
     subst (λ x. IsHeldStill c.args.settled (settled_of t w s.number s.place s.call x s.shared)) (sym c.hand_out.ensures.value)
     (subst (λ (q : SettledValue _). IsHeldStill q (settled_of t w s.number s.place s.call s.value s.shared)) c.settled.view_is
     (still_row s.seat.table_id t s.number s.place s.call s.value s.shared v w p c.hand_out.ensures.own.0 goes))
+
+pub letter-letter-requires-clause-led : goal.letter-letter-requires-clause-led
+letter-letter-requires-clause-led g c =
+    let s = c.settled.inside in
+    let was = c.settled.invariant in
+    let v = s.seat.me.0 in
+    let w = c.hand_out.new.seat.me.0 in
+    let es = handed_later s.number (call_of s.number s.call.generation) s.own s.top in
+    let same : sizes_of v ≡ c.self.inside.sizes = ap (λ (x : SettledValue _). x.group.sizes) c.settled.view_is ∙ (ap (λ (x : GroupValue). x.sizes) c.requires.own ∙ ap (λ (x : GroupValue). x.sizes) (sym c.self.view_is)) in
+    let goes = subst (λ (z : Sizes). Goes z s.number v w Free es 0) (sym same) c.in-Ok.ensures.handed in
+    led_later s.seat.table_id s.number 0 s.place s.call v w Free es (owing_led (sizes_of v) s.number s.place s.call s.own s.value s.shared s.top v was.1 was.4 was.0) goes
 
 pub letter-letter-requires-clause-fits : goal.letter-letter-requires-clause-fits
 letter-letter-requires-clause-fits g c =

@@ -11,6 +11,7 @@ use Rattle.sf_word_steps.specs.View.{sizes_of, history_of}
 use Rattle.sf_word_steps.specs.Stands.{Goes}
 use Rattle.sf_word_steps.specs.Collects.{IsAnswer}
 use Rattle.sf_group.specs.Known.{caller_of, ticket_of}
+use Rattle.sf_group.proofs.LedCalls.{holding_led, led_later}
 use Rattle.sf_group.proofs.Deliveries.{ready_row, pending_row}
 use Rattle.sf_group.proofs.group.Group.poll.Goals as goal
 
@@ -25,6 +26,15 @@ returns-in_default g c =
     let none = subst (λ (z : Sizes). is_handed (history_of z w.known.turns) s.call ≡ false) (sym same) c.in_default.ensures.unhanded in
     subst (λ (q : TicketValue _). IsPending q (ticket_of t w s.number s.place s.call s.member)) c.ticket.view_is
     (pending_row s.seat.table_id t s.number s.place s.member.generation s.call s.member v w c.collect.ensures.own.0 goes none)
+
+pub letter-letter-requires-clause-led : goal.letter-letter-requires-clause-led
+letter-letter-requires-clause-led g c =
+    let s = c.ticket.inside in
+    let v = s.seat.me.0 in
+    let w = c.collect.new.seat.me.0 in
+    let same : sizes_of v ≡ c.self.inside.sizes = ap (λ (x : TicketValue _). x.group.sizes) c.ticket.view_is ∙ (ap (λ (x : GroupValue). x.sizes) c.requires.own ∙ ap (λ (x : GroupValue). x.sizes) (sym c.self.view_is)) in
+    let goes = subst (λ (z : Sizes). Goes z s.number v w Free [] 0) (sym same) c.in-Some.ensures.ready in
+    led_later s.seat.table_id s.number 0 s.place s.call v w Free [] (holding_led (sizes_of v) s.number s.place s.member.generation s.call v c.ticket.invariant.0) goes
 
 pub returns : goal.returns
 returns g c =

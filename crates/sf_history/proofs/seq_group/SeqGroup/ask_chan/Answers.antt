@@ -6,7 +6,7 @@ use Rattle.sf_history.proofs.seq_group.SeqGroup.ask_chan.Goals as goal
 pub invariant_of-self-in-None : goal.invariant_of-self-in-None
 invariant_of-self-in-None g c =
     rw c.in_ok-push-in-None.ensures.ok
-    (kept_lead_own g.K.PartialEq.eq _ c.args.caller c.args.second c.args.key _ _ c.self.invariant (search rules) (search rules) (search rules) (search rules)
+    (kept_lead_own g.K.PartialEq.eq _ c.args.caller c.args.second c.args.key _ _ c.self.invariant (search rules) (search rules) (search rules) (search rules) (search rules)
     (search rules) (search rules) (search rules) (search rules) (search rules))
 
 pub invariant_of-self-in-Some : goal.invariant_of-self-in-Some

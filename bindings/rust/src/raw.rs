@@ -1,0 +1,39 @@
+//! The functions of `sf.h`.
+
+#[repr(C)]
+pub struct Slot {
+    at: *mut u8,
+    live: bool,
+}
+
+impl Slot {
+    pub const NONE: Slot = Slot {
+        at: std::ptr::null_mut(),
+        live: false,
+    };
+}
+
+// SAFETY: the library has a proof that what a slot holds may go to another thread.
+unsafe impl Send for Slot {}
+
+pub const DONE: u32 = 0;
+pub const OTHERWISE: u32 = 1;
+pub const SPENT: u32 = 2;
+pub const BUSY: u32 = 3;
+pub const TOO_LONG: u32 = 4;
+pub const FULL: u32 = 5;
+pub const BAD_NUMBER: u32 = 8;
+pub const MOST_TRIES: u32 = 65_536;
+
+unsafe extern "C" {
+    pub fn sf_open(slot: &mut Slot, keys: u32, key_bytes: u32, callers: u32) -> u32;
+    pub fn sf_split(slot: &mut Slot, other: &mut Slot) -> u32;
+    pub fn sf_ask(slot: &mut Slot, key: *const u8, len: usize, tries: u32) -> u32;
+    pub fn sf_finish(slot: &mut Slot, value: u64, shared: &mut bool) -> u32;
+    pub fn sf_go_on(slot: &mut Slot, shared: &mut bool) -> u32;
+    pub fn sf_poll(slot: &mut Slot, value: &mut u64, shared: &mut bool) -> u32;
+    pub fn sf_joined(slot: &mut Slot, count: &mut u64) -> u32;
+    pub fn sf_forget(slot: &mut Slot, key: *const u8, len: usize, tries: u32) -> u32;
+    pub fn sf_is_current(slot: &mut Slot) -> u32;
+    pub fn sf_close(slot: &mut Slot);
+}

@@ -1,0 +1,147 @@
+//! Threads over one group: loads are counted, answers are of their key and none is lost or dropped twice.
+use singleflight::{Error, Group};
+use std::panic::{AssertUnwindSafe, catch_unwind};
+use std::sync::atomic::{AtomicI64, AtomicU64, Ordering::SeqCst};
+use std::sync::{Arc, Barrier};
+use std::time::Duration;
+
+struct Counted<'a> {
+    key: usize,
+    moment: u64,
+    live: &'a AtomicI64,
+}
+
+impl Drop for Counted<'_> {
+    fn drop(&mut self) {
+        self.live.fetch_sub(1, SeqCst);
+    }
+}
+
+fn draw(seed: &mut u64) -> u64 {
+    *seed ^= *seed << 13;
+    *seed ^= *seed >> 7;
+    *seed ^= *seed << 17;
+    *seed
+}
+
+#[test]
+fn random_gets_and_forgets() {
+    const KEYS: usize = 16;
+    let (live, clock, loads, shares) = (AtomicI64::new(0), AtomicU64::new(1), AtomicU64::new(0), AtomicU64::new(0));
+    let forgotten: Vec<AtomicU64> = (0..KEYS).map(|_| AtomicU64::new(0)).collect();
+    let group = Group::<Counted>::open(KEYS as u32, 8, 8).unwrap();
+    std::thread::scope(|scope| {
+        for thread in 0..8u64 {
+            let mut caller = group.caller().unwrap();
+            let (live, clock, loads, shares, forgotten) = (&live, &clock, &loads, &shares, &forgotten);
+            scope.spawn(move || {
+                let mut seed = 88_172_645_463_325_252 + thread;
+                let mut kept = Vec::new();
+                for round in 0..20_000 {
+                    let number = draw(&mut seed) as usize % KEYS;
+                    let key = format!("k{number}");
+                    if draw(&mut seed) % 5 == 0 {
+                        let now = clock.load(SeqCst);
+                        caller.forget(key.as_bytes()).unwrap();
+                        forgotten[number].fetch_max(now, SeqCst);
+                        continue;
+                    }
+                    let before = forgotten[number].load(SeqCst);
+                    let slow = draw(&mut seed) % 4 == 0;
+                    let got = caller
+                        .do_with(key.as_bytes(), || {
+                            if slow {
+                                std::thread::yield_now();
+                            }
+                            loads.fetch_add(1, SeqCst);
+                            live.fetch_add(1, SeqCst);
+                            Counted { key: number, moment: clock.fetch_add(1, SeqCst), live }
+                        })
+                        .unwrap();
+                    assert!(got.answer.key == number, "an answer of another key");
+                    assert!(got.answer.moment >= before, "an answer from before a forget");
+                    assert!(got.led || got.shared, "who joined has a shared answer");
+                    shares.fetch_add(u64::from(!got.led), SeqCst);
+                    if round % 16 == 0 {
+                        kept.push(got.answer.clone());
+                    }
+                }
+                assert!(caller.is_current().is_some(), "there were letters");
+            });
+        }
+    });
+    assert!(live.load(SeqCst) == 0, "each value is dropped once");
+    assert!(loads.load(SeqCst) > 0 && shares.load(SeqCst) > 0, "there were loads and joins");
+}
+
+#[test]
+fn one_load_for_all_who_ask_at_once() {
+    let group = Group::<u32>::open(1, 8, 4).unwrap();
+    let (started, loads) = (Barrier::new(4), AtomicU64::new(0));
+    let all: Vec<(bool, bool)> = std::thread::scope(|scope| {
+        let threads: Vec<_> = (0..4)
+            .map(|_| {
+                let mut caller = group.caller().unwrap();
+                let (started, loads) = (&started, &loads);
+                scope.spawn(move || {
+                    started.wait();
+                    let got = caller
+                        .do_with(b"k", || {
+                            loads.fetch_add(1, SeqCst);
+                            std::thread::sleep(Duration::from_millis(300));
+                            7
+                        })
+                        .unwrap();
+                    assert!(*got.answer == 7, "the answer");
+                    (got.led, got.shared)
+                })
+            })
+            .collect();
+        threads.into_iter().map(|thread| thread.join().unwrap()).collect()
+    });
+    assert!(loads.load(SeqCst) == 1, "one load");
+    assert!(all.iter().filter(|got| got.0).count() == 1 && all.iter().all(|got| got.1), "one leader, all shared");
+}
+
+#[test]
+fn a_load_that_panics() {
+    let group = Group::<u32>::open(1, 8, 2).unwrap();
+    let (mut one, mut two) = (group.caller().unwrap(), group.caller().unwrap());
+    let inside = Arc::new(Barrier::new(2));
+    let other = inside.clone();
+    let thread = std::thread::spawn(move || {
+        let failed = catch_unwind(AssertUnwindSafe(|| {
+            let _ = one.do_with(b"k", || {
+                other.wait();
+                std::thread::sleep(Duration::from_millis(200));
+                panic!("the load")
+            });
+        }));
+        assert!(failed.is_err(), "the panic goes on");
+        assert!(*one.do_with(b"k", || 3).unwrap().answer > 0, "the caller is free");
+    });
+    inside.wait();
+    let got = two.do_with(b"k", || 2).unwrap();
+    assert!(*got.answer == 2 || *got.answer == 3, "who joined asks again");
+    thread.join().unwrap();
+}
+
+#[test]
+fn refusals() {
+    assert!(Group::<u32>::open(0, 8, 1).err() == Some(Error::Size), "no key");
+    assert!(Group::<u32>::open(1, 8, 0).err() == Some(Error::Size), "no caller");
+    assert!(Group::<u32>::open(1, 251, 1).err() == Some(Error::Size), "too long keys");
+    let group = Group::<u32>::open(1, 4, 1).unwrap();
+    let mut caller = group.caller().unwrap();
+    assert!(group.caller().is_none(), "no caller is left");
+    assert!(caller.is_current().is_none(), "no letter yet");
+    assert!(caller.do_with(b"long!", || 1).err() == Some(Error::KeyTooLong), "too long");
+    let got = caller.do_with(b"k", || 1).unwrap();
+    assert!(got.led && !got.shared && *got.answer == 1, "leads alone");
+    assert!(caller.is_current() == Some(true), "current");
+    assert!(caller.forget(b"k") == Ok(false), "nothing is open");
+    assert!(caller.do_with(b"m", || 1).err() == Some(Error::Full), "full");
+    assert!(caller.forget(b"m") == Err(Error::Full), "full for a forget");
+    drop(group);
+    assert!(*caller.do_with(b"k", || 9).unwrap().answer == 9, "a caller keeps its group");
+}

@@ -1,0 +1,7 @@
+use Rattle.std.proofs.lemmas.List.Elements.{All-pop}
+use Rattle.sf_calls.specs.Making.{IsNewCaller}
+use Rattle.sf_c.proofs.state.first_caller.Goals as goal
+
+-- those that are left were new before
+pub returns-clause-others : goal.returns-clause-others
+returns-clause-others c = (All-pop (IsNewCaller c.in_ok-group.group) c.in_ok-group.callers.items c.pop.new.self.items c.pop.result c.pop.ensures.items c.in_ok-group.ensures.callers).0

@@ -1,0 +1,42 @@
+-- What a handle owns: a state on the heap and the right to free its block, or nothing.
+use mathlib.Core.Bool.{Bool, true, false}
+use mathlib.Core.List.{[]}
+use base.Fml.{Fml, ftrue}
+use base.Stored.{Coded}
+use denote.RawPtr.{Ptr}
+use Rattle.std.specs.Box.Ownership.{box_owns}
+use Rattle.std.specs.Global.{Global}
+use Rattle.std_heap.specs.contracts.GlobalAllocator.TheImpl.{ghosts}
+use Rattle.std.specs.Prelude.{None}
+use Rattle.atomic_table.specs.Seated.{TableId}
+use Rattle.sf_c.specs.declared.part.Part.TheVariants.{Gone}
+use Rattle.sf_c.specs.contracts.state.State.{the_row}
+
+abbrev pub Held : Type 0
+Held = the_row.Denot
+
+abbrev pub state_owns : Bool → Global → Ptr → the_row.Denot → Fml
+state_owns true alloc p s = box_owns (ghosts.dealloc_token alloc) the_row p s
+state_owns false alloc p s = ftrue
+
+abbrev pub state_coded : Coded the_row.Denot
+state_coded = the_row.coded
+
+abbrev pub no_table : TableId
+no_table = record { words = 0; slots = 0; views_name = 0; atom = 0; block = 0; offset = 0; slot_names = [] }
+
+-- what an empty handle is said to have held
+abbrev pub no_state : the_row.Denot
+no_state = record {
+  group = record {
+    table = no_table;
+    sizes = record { places = 0; callers = 0; first = 0 };
+  };
+  desk = record {
+    directory = record { table = no_table; keys = 0; key_bytes = 0; desks = 0 };
+    number = 0;
+    seen = [];
+  };
+  part = Gone;
+  last = None;
+}

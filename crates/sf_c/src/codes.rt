@@ -1,0 +1,32 @@
+//! What the exports answer.
+
+/// It is done: the slot is open, leads the call, or has what it asked for; or yes.
+pub(crate) const DONE: u32 = 0;
+
+/// The other ending: the slot waits for a letter, the letter is not there yet, the key had no open call, letters are
+/// still owed; or no.
+pub(crate) const OTHERWISE: u32 = 1;
+
+/// The caller has used its last generation.
+pub(crate) const SPENT: u32 = 2;
+
+/// All tries failed, each since another had changed a word.
+pub(crate) const BUSY: u32 = 3;
+
+/// The key is longer than the group's keys may be.
+pub(crate) const TOO_LONG: u32 = 4;
+
+/// Each place has another key.
+pub(crate) const FULL: u32 = 5;
+
+/// A slot is not in a state for this call.
+pub(crate) const WRONG_STATE: u32 = 6;
+
+/// The slot is not open.
+pub(crate) const NOT_OPEN: u32 = 7;
+
+/// A size, or a number of tries, is not allowed.
+pub(crate) const BAD_NUMBER: u32 = 8;
+
+/// There is no memory, or no caller left.
+pub(crate) const NOTHING_LEFT: u32 = 9;

@@ -1,0 +1,267 @@
+//! Singleflight with Forget for programs in other languages: a group by keys, whose callers each stand in a slot of the
+//! program's own. No call waits, takes a lock or starts a thread.
+//!
+//! A slot holds a state on the heap behind one pointer, or nothing. Each export takes the state out, makes its call, and puts
+//! it back; a slot that is not open is answered by its code. What a call did is a row of `specs/Rows`, between what the
+//! slot held before and after. No row asks anything of the program but `sf_learn`, whose slots have to be of one group.
+#![tactic(auto)]
+
+ghost use Rattle.std.specs.Prelude.{◌≡◌, ◌≢◌, ◌↔◌, ◌<◌, ◌≤◌, ◌⊎◌, None, true, false};
+ghost use Rattle.sf_c.specs.Rows.{AreSizes, HasOpened, IsNewSeat, HasAskedKey, HasForgotKey, HasFinishedPart, HasGoneOnPart, HasPolledPart, HasQuestionedPart, HasLearntPart, HasGivenUp, KeepsDesk, KeepsLetter};
+
+mod codes;
+mod handle;
+mod loose;
+mod part;
+mod slot;
+mod state;
+mod word;
+
+use codes::{BAD_NUMBER, DONE, NOT_OPEN, NOTHING_LEFT, WRONG_STATE};
+pub use handle::Handle;
+use sf_dir::LONGEST_KEY;
+use sf_group::{MOST_CALLERS, MOST_PLACES};
+pub use slot::Slot;
+use state::State;
+use std::alloc::Global;
+
+// Whether a group may be so large.
+fn are_sizes(keys: u32, key_bytes: u32, callers: u32) -> bool
+    ensures { result ≡ true ↔ AreSizes keys key_bytes callers }
+{
+    1 <= keys
+        && keys <= MOST_PLACES
+        && key_bytes <= LONGEST_KEY
+        && 1 <= callers
+        && callers <= MOST_CALLERS
+}
+
+/// Opens a group for this many keys (1 to 1,048,576) of at most so many bytes (0 to 250) and this many callers (1 to
+/// 65,535), with its first caller in the slot.
+#[unsafe(no_mangle)]
+pub extern "C" fn sf_open(
+    slot: &mut Slot,
+    alloc: Global,
+    keys: u32,
+    key_bytes: u32,
+    callers: u32,
+) -> u32
+    ensures opened { result ≡ DONE → (slot.old.live ≡ false) × (slot.new.live ≡ true) × HasOpened keys key_bytes callers slot.new.handle.state }
+    ensures refused { result ≢ DONE → slot.new ≡ slot.old }
+    ensures sizes { result ≢ BAD_NUMBER ↔ AreSizes keys key_bytes callers }
+    ensures twice { AreSizes keys key_bytes callers → (result ≡ WRONG_STATE ↔ slot.old.live ≡ true) }
+    ensures codes { (result ≡ DONE) ⊎ (result ≡ BAD_NUMBER) ⊎ (result ≡ WRONG_STATE) ⊎ (result ≡ NOTHING_LEFT) }
+{
+    if !are_sizes(keys, key_bytes, callers) {
+        return BAD_NUMBER;
+    }
+    if slot.live {
+        return WRONG_STATE;
+    }
+    let Ok(state) = State::open(alloc, keys, key_bytes, callers) else {
+        return NOTHING_LEFT;
+    };
+    let Ok(state) = Box::new(alloc, state) else {
+        return NOTHING_LEFT;
+    };
+    slot.put(state);
+    DONE
+}
+
+/// Another caller of the slot's group, in the other slot, for another thread.
+#[unsafe(no_mangle)]
+pub extern "C" fn sf_split(slot: &mut Slot, alloc: Global, other: &mut Slot) -> u32
+    ensures kept { slot.new.live ≡ slot.old.live }
+    ensures state { slot.old.live ≡ true → slot.new.handle.state ≡ slot.old.handle.state }
+    ensures closed { result ≡ NOT_OPEN ↔ slot.old.live ≡ false }
+    ensures made { result ≡ DONE → (other.old.live ≡ false) × (other.new.live ≡ true) × IsNewSeat slot.old.handle.state.group slot.old.handle.state.desk.directory other.new.handle.state }
+    ensures refused { result ≢ DONE → other.new ≡ other.old }
+    ensures twice { slot.old.live ≡ true → (result ≡ WRONG_STATE ↔ other.old.live ≡ true) }
+{
+    let Some(mut state) = slot.take(alloc) else {
+        return NOT_OPEN;
+    };
+    if other.live {
+        slot.put(state);
+        return WRONG_STATE;
+    }
+    let made = state.split(alloc);
+    slot.put(state);
+    let Some(made) = made else {
+        return NOTHING_LEFT;
+    };
+    let Ok(made) = Box::new(alloc, made) else {
+        return NOTHING_LEFT;
+    };
+    other.put(made);
+    DONE
+}
+
+/// The slot's caller asks for the key: it leads a new call, or it waits for the letter of the open one.
+#[unsafe(no_mangle)]
+pub extern "C" fn sf_ask(slot: &mut Slot, alloc: Global, key: &[u8], tries: u32) -> u32
+    ensures kept { slot.new.live ≡ slot.old.live }
+    ensures closed { result ≡ NOT_OPEN ↔ slot.old.live ≡ false }
+    ensures state { slot.old.live ≡ true → KeepsLetter slot.old.handle.state slot.new.handle.state }
+    ensures row { slot.old.live ≡ true → HasAskedKey slot.old.handle.state key.now tries slot.new.handle.state result }
+{
+    let Some(mut state) = slot.take(alloc) else {
+        return NOT_OPEN;
+    };
+    let code = state.ask(key, tries);
+    slot.put(state);
+    code
+}
+
+/// The slot's caller, which is free, closes the key's open call, so that whoever asks later gets a new one.
+#[unsafe(no_mangle)]
+pub extern "C" fn sf_forget(slot: &mut Slot, alloc: Global, key: &[u8], tries: u32) -> u32
+    ensures kept { slot.new.live ≡ slot.old.live }
+    ensures closed { result ≡ NOT_OPEN ↔ slot.old.live ≡ false }
+    ensures state { slot.old.live ≡ true → KeepsLetter slot.old.handle.state slot.new.handle.state }
+    ensures row { slot.old.live ≡ true → HasForgotKey slot.old.handle.state key.now tries slot.new.handle.state result }
+{
+    let Some(mut state) = slot.take(alloc) else {
+        return NOT_OPEN;
+    };
+    let code = state.forget(key, tries);
+    slot.put(state);
+    code
+}
+
+/// The slot's caller settles the call that it leads, and hands the letters out.
+#[unsafe(no_mangle)]
+pub extern "C" fn sf_finish(slot: &mut Slot, alloc: Global, value: u64, shared: &mut bool) -> u32
+    ensures kept { slot.new.live ≡ slot.old.live }
+    ensures closed { result ≡ NOT_OPEN ↔ slot.old.live ≡ false }
+    ensures unwritten { result ≡ NOT_OPEN → shared.new ≡ shared.old }
+    ensures state { slot.old.live ≡ true → KeepsDesk slot.old.handle.state slot.new.handle.state }
+    ensures row { slot.old.live ≡ true → HasFinishedPart slot.old.handle.state.part value slot.new.handle.state.part result shared.old shared.new slot.old.handle.state.last slot.new.handle.state.last }
+{
+    let Some(mut state) = slot.take(alloc) else {
+        return NOT_OPEN;
+    };
+    let code = state.finish(value, shared);
+    slot.put(state);
+    code
+}
+
+/// Goes on with a delivery that stands still.
+#[unsafe(no_mangle)]
+pub extern "C" fn sf_go_on(slot: &mut Slot, alloc: Global, shared: &mut bool) -> u32
+    ensures kept { slot.new.live ≡ slot.old.live }
+    ensures closed { result ≡ NOT_OPEN ↔ slot.old.live ≡ false }
+    ensures unwritten { result ≡ NOT_OPEN → shared.new ≡ shared.old }
+    ensures state { slot.old.live ≡ true → KeepsDesk slot.old.handle.state slot.new.handle.state }
+    ensures row { slot.old.live ≡ true → HasGoneOnPart slot.old.handle.state.part slot.new.handle.state.part result shared.old shared.new slot.old.handle.state.last slot.new.handle.state.last }
+{
+    let Some(mut state) = slot.take(alloc) else {
+        return NOT_OPEN;
+    };
+    let code = state.go_on(shared);
+    slot.put(state);
+    code
+}
+
+/// Looks once for the letter that the slot's caller waits for.
+#[unsafe(no_mangle)]
+pub extern "C" fn sf_poll(slot: &mut Slot, alloc: Global, value: &mut u64, shared: &mut bool) -> u32
+    ensures kept { slot.new.live ≡ slot.old.live }
+    ensures closed { result ≡ NOT_OPEN ↔ slot.old.live ≡ false }
+    ensures unwritten { result ≡ NOT_OPEN → (value.new ≡ value.old) × (shared.new ≡ shared.old) }
+    ensures state { slot.old.live ≡ true → KeepsDesk slot.old.handle.state slot.new.handle.state }
+    ensures row { slot.old.live ≡ true → HasPolledPart slot.old.handle.state.part slot.new.handle.state.part result value.old value.new shared.old shared.new slot.old.handle.state.last slot.new.handle.state.last }
+{
+    let Some(mut state) = slot.take(alloc) else {
+        return NOT_OPEN;
+    };
+    let code = state.poll(value, shared);
+    slot.put(state);
+    code
+}
+
+/// Whether the call of the letter that the slot had last, by a poll or by settling, is its key's current one still: no
+/// Forget has closed it, and no call has followed it.
+#[unsafe(no_mangle)]
+pub extern "C" fn sf_is_current(slot: &mut Slot, alloc: Global) -> u32
+    ensures kept { slot.new.live ≡ slot.old.live }
+    ensures closed { result ≡ NOT_OPEN ↔ slot.old.live ≡ false }
+    ensures state { slot.old.live ≡ true → KeepsDesk slot.old.handle.state slot.new.handle.state }
+    ensures row { slot.old.live ≡ true → HasQuestionedPart slot.old.handle.state.part slot.old.handle.state.last slot.new.handle.state.part slot.new.handle.state.last result }
+{
+    let Some(mut state) = slot.take(alloc) else {
+        return NOT_OPEN;
+    };
+    let code = state.is_current();
+    slot.put(state);
+    code
+}
+
+/// How many others have the value of the call that the slot settled last: as many as joined it.
+#[unsafe(no_mangle)]
+pub extern "C" fn sf_joined(slot: &mut Slot, alloc: Global, count: &mut u64) -> u32
+    ensures kept { slot.new.live ≡ slot.old.live }
+    ensures closed { result ≡ NOT_OPEN ↔ slot.old.live ≡ false }
+    ensures state { slot.old.live ≡ true → slot.new.handle.state ≡ slot.old.handle.state }
+    ensures none { slot.old.live ≡ true → (result ≡ NOTHING_LEFT ↔ slot.old.handle.state.last ≡ None) }
+    ensures unwritten { result ≢ DONE → count.new ≡ count.old }
+{
+    let Some(state) = slot.take(alloc) else {
+        return NOT_OPEN;
+    };
+    let joined = state.joined();
+    slot.put(state);
+    let Some(joined) = joined else {
+        return NOTHING_LEFT;
+    };
+    *count = joined;
+    DONE
+}
+
+/// The slot's caller, which is free or leads, has then seen what the other slot's has, which is free: no answer that a
+/// Forget closed that the other had seen is an answer to what it asks later. The slots have to be of one group.
+#[unsafe(no_mangle)]
+pub extern "C" fn sf_learn(slot: &mut Slot, alloc: Global, other: &mut Slot) -> u32
+    requires group { slot.old.live ≡ true → other.old.live ≡ true → slot.old.handle.state.group ≡ other.old.handle.state.group }
+    ensures kept { (slot.new.live ≡ slot.old.live) × (other.new.live ≡ other.old.live) }
+    ensures closed { result ≡ NOT_OPEN ↔ ((slot.old.live ≡ false) ⊎ (other.old.live ≡ false)) }
+    ensures told { other.old.live ≡ true → other.new.handle.state ≡ other.old.handle.state }
+    ensures row { slot.old.live ≡ true → other.old.live ≡ true → HasLearntPart slot.old.handle.state.part other.old.handle.state.part slot.new.handle.state.part result }
+{
+    let Some(mut state) = slot.take(alloc) else {
+        return NOT_OPEN;
+    };
+    let Some(mut told) = other.take(alloc) else {
+        slot.put(state);
+        return NOT_OPEN;
+    };
+    let code = state.learn(&mut told);
+    slot.put(state);
+    other.put(told);
+    code
+}
+
+/// Gives up for good what the slot's caller has open: a call that it leads, a letter that it waits for, or letters that it
+/// owes. The slot may only be closed then, or split.
+#[unsafe(no_mangle)]
+pub extern "C" fn sf_give_up(slot: &mut Slot, alloc: Global) -> u32
+    ensures kept { slot.new.live ≡ slot.old.live }
+    ensures closed { result ≡ NOT_OPEN ↔ slot.old.live ≡ false }
+    ensures state { slot.old.live ≡ true → KeepsDesk slot.old.handle.state slot.new.handle.state × KeepsLetter slot.old.handle.state slot.new.handle.state }
+    ensures row { slot.old.live ≡ true → HasGivenUp slot.old.handle.state.part slot.new.handle.state.part result }
+{
+    let Some(mut state) = slot.take(alloc) else {
+        return NOT_OPEN;
+    };
+    let code = state.give_up();
+    slot.put(state);
+    code
+}
+
+/// Closes the slot, and gives up what its caller has open. The last slot of a group frees that.
+#[unsafe(no_mangle)]
+pub extern "C" fn sf_close(slot: &mut Slot, alloc: Global)
+    ensures { slot.new.live ≡ false }
+{
+    drop(slot.take(alloc));
+}

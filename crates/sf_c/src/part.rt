@@ -1,0 +1,264 @@
+//! What the caller of a slot does, and how the group's calls change it. Each call takes the part and gives the next one
+//! with a code; a part that is not one for the call comes back as it was.
+ghost use Rattle.std.specs.Prelude.{◌≡◌, ◌≢◌, ◌≤◌, IsTrue, IsFalse};
+ghost use Rattle.sf_calls.specs.Same.{IsPlaceOf};
+ghost use Rattle.sf_c.specs.Rows.{IsOf, IsLetterOf, HasAsked, HasFinishedPart, HasGoneOnPart, HasPolledPart, HasForgotPart, HasGivenUp, HasQuestionedPart, HasLearntPart, IsFree, IsNotFree};
+ghost use Rattle.sf_c.specs.declared.part.Part.TheVariants.{Free};
+
+use crate::codes::{BUSY, DONE, NOT_OPEN, NOTHING_LEFT, OTHERWISE, SPENT, WRONG_STATE};
+use crate::word::Word;
+use sf_group::{
+    Begun, Caller, Finished, Flight, Forgotten, Group, Letter, MOST_TRIES, NotBegun, Polled,
+    Settled, Ticket,
+};
+
+/// What a slot's caller does. `Gone` is one that gave up what it had open.
+pub(crate) enum Part {
+    Free(Caller<Word>),
+    Leads(Flight<Word>),
+    Waits(Ticket<Word>),
+    Owes(Settled<Word>),
+    Gone,
+}
+
+impl Drop for Part {
+    fn drop(self) {
+        match self {
+            Part::Free(caller) => drop(caller),
+            Part::Leads(flight) => flight.abandon(),
+            Part::Waits(ticket) => ticket.abandon(),
+            Part::Owes(settled) => settled.abandon(),
+            Part::Gone => {}
+        }
+    }
+}
+
+fn ask_free(group: &Group<Word>, caller: Caller<Word>, place: u32, tries: u32) -> (Part, u32)
+    requires own { caller.group ≡ group.now }
+    requires place { IsPlaceOf group.now place }
+    requires tries { (1 ≤ tries) × (tries ≤ MOST_TRIES) }
+    ensures own { IsOf group.now result.0 }
+    ensures row { HasAsked (Free caller) place tries result.0 result.1 }
+    ensures open { result.1 ≢ NOT_OPEN }
+{
+    match group.begin(caller, place, tries) {
+        Ok(Begun::Lead(flight)) => (Part::Leads(flight), DONE),
+        Ok(Begun::Join(ticket)) => (Part::Waits(ticket), OTHERWISE),
+        Err(NotBegun::Spent(back)) => (Part::Free(back), SPENT),
+        Err(NotBegun::Busy(_, back)) => (Part::Free(back), BUSY),
+    }
+}
+
+impl Part {
+    /// Whether it is one of a free caller.
+    pub(crate) fn is_free(&self) -> bool
+        ensures yes { IsTrue result → IsFree self.now }
+        ensures no { IsFalse result → IsNotFree self.now }
+    {
+        match self {
+            Part::Free(_) => true,
+            _ => false,
+        }
+    }
+
+    /// Asks for the place: done where it leads then, otherwise it waits then.
+    pub(crate) fn asked(self, group: &Group<Word>, place: u32, tries: u32) -> (Part, u32)
+        requires own { IsOf group.now self }
+        requires place { IsPlaceOf group.now place }
+        requires tries { (1 ≤ tries) × (tries ≤ MOST_TRIES) }
+        ensures own { IsOf group.now result.0 }
+        ensures row { HasAsked self place tries result.0 result.1 }
+        ensures open { result.1 ≢ NOT_OPEN }
+    {
+        match self {
+            Part::Free(caller) => ask_free(group, caller, place, tries),
+            Part::Leads(flight) => (Part::Leads(flight), WRONG_STATE),
+            Part::Waits(ticket) => (Part::Waits(ticket), WRONG_STATE),
+            Part::Owes(settled) => (Part::Owes(settled), WRONG_STATE),
+            Part::Gone => (Part::Gone, WRONG_STATE),
+        }
+    }
+
+    /// Settles the call that it leads: done where all letters are handed out, otherwise some are owed still.
+    pub(crate) fn finished(
+        self,
+        group: &Group<Word>,
+        value: u64,
+        shared: &mut bool,
+        last: &mut Option<Letter<Word>>,
+    ) -> (Part, u32)
+        requires own { IsOf group.now self }
+        requires last { IsLetterOf group.now last.old }
+        ensures own { IsOf group.now result.0 }
+        ensures last { IsLetterOf group.now last.new }
+        ensures row { HasFinishedPart self value result.0 result.1 shared.old shared.new last.old last.new }
+        ensures open { result.1 ≢ NOT_OPEN }
+    {
+        match self {
+            Part::Leads(flight) => match group.finish_unrested(flight, Word::new(value)) {
+                Finished::Done(caller, letter) => {
+                    *shared = letter.shared();
+                    *last = Some(letter);
+                    (Part::Free(caller), DONE)
+                }
+                Finished::Held(settled) => (Part::Owes(settled), OTHERWISE),
+            },
+            Part::Free(caller) => (Part::Free(caller), WRONG_STATE),
+            Part::Waits(ticket) => (Part::Waits(ticket), WRONG_STATE),
+            Part::Owes(settled) => (Part::Owes(settled), WRONG_STATE),
+            Part::Gone => (Part::Gone, WRONG_STATE),
+        }
+    }
+
+    /// Goes on with a delivery: done where all letters are handed out then, otherwise some are owed still.
+    pub(crate) fn gone_on(
+        self,
+        group: &Group<Word>,
+        shared: &mut bool,
+        last: &mut Option<Letter<Word>>,
+    ) -> (Part, u32)
+        requires own { IsOf group.now self }
+        requires last { IsLetterOf group.now last.old }
+        ensures own { IsOf group.now result.0 }
+        ensures last { IsLetterOf group.now last.new }
+        ensures row { HasGoneOnPart self result.0 result.1 shared.old shared.new last.old last.new }
+        ensures open { result.1 ≢ NOT_OPEN }
+    {
+        match self {
+            Part::Owes(settled) => match group.go_on_unrested(settled) {
+                Finished::Done(caller, letter) => {
+                    *shared = letter.shared();
+                    *last = Some(letter);
+                    (Part::Free(caller), DONE)
+                }
+                Finished::Held(settled) => (Part::Owes(settled), OTHERWISE),
+            },
+            Part::Free(caller) => (Part::Free(caller), WRONG_STATE),
+            Part::Leads(flight) => (Part::Leads(flight), WRONG_STATE),
+            Part::Waits(ticket) => (Part::Waits(ticket), WRONG_STATE),
+            Part::Gone => (Part::Gone, WRONG_STATE),
+        }
+    }
+
+    /// Looks for the letter that it waits for: done where it is there, otherwise it is not there yet.
+    pub(crate) fn polled(
+        self,
+        group: &Group<Word>,
+        value: &mut u64,
+        shared: &mut bool,
+        last: &mut Option<Letter<Word>>,
+    ) -> (Part, u32)
+        requires own { IsOf group.now self }
+        requires last { IsLetterOf group.now last.old }
+        ensures own { IsOf group.now result.0 }
+        ensures last { IsLetterOf group.now last.new }
+        ensures row { HasPolledPart self result.0 result.1 value.old value.new shared.old shared.new last.old last.new }
+        ensures open { result.1 ≢ NOT_OPEN }
+    {
+        match self {
+            Part::Waits(ticket) => match group.poll(ticket) {
+                Polled::Ready(caller, letter) => {
+                    *value = letter.value().number();
+                    *shared = letter.shared();
+                    *last = Some(letter);
+                    (Part::Free(caller), DONE)
+                }
+                Polled::Pending(ticket) => (Part::Waits(ticket), OTHERWISE),
+            },
+            Part::Free(caller) => (Part::Free(caller), WRONG_STATE),
+            Part::Leads(flight) => (Part::Leads(flight), WRONG_STATE),
+            Part::Owes(settled) => (Part::Owes(settled), WRONG_STATE),
+            Part::Gone => (Part::Gone, WRONG_STATE),
+        }
+    }
+
+    /// Forgets the place: done where that closed a call, otherwise none was open.
+    pub(crate) fn forgets(&mut self, group: &Group<Word>, place: u32, tries: u32) -> u32
+        requires own { IsOf group.now self.old }
+        requires place { IsPlaceOf group.now place }
+        requires tries { (1 ≤ tries) × (tries ≤ MOST_TRIES) }
+        ensures own { IsOf group.now self.new }
+        ensures row { HasForgotPart self.old place tries self.new result }
+        ensures open { result ≢ NOT_OPEN }
+    {
+        let Part::Free(caller) = self else {
+            return WRONG_STATE;
+        };
+        match group.forget(caller, place, tries) {
+            Ok(Forgotten::Closed(_)) => DONE,
+            Ok(Forgotten::Idle) => OTHERWISE,
+            Err(_) => BUSY,
+        }
+    }
+
+    /// Gives up a call that it leads, a ticket, or letters that it owes, for good.
+    pub(crate) fn given_up(self) -> (Part, u32)
+        ensures row { HasGivenUp self result.0 result.1 }
+        ensures open { result.1 ≢ NOT_OPEN }
+    {
+        match self {
+            Part::Leads(flight) => {
+                flight.abandon();
+                (Part::Gone, DONE)
+            }
+            Part::Waits(ticket) => {
+                ticket.abandon();
+                (Part::Gone, DONE)
+            }
+            Part::Owes(settled) => {
+                settled.abandon();
+                (Part::Gone, DONE)
+            }
+            Part::Free(caller) => (Part::Free(caller), WRONG_STATE),
+            Part::Gone => (Part::Gone, WRONG_STATE),
+        }
+    }
+
+    /// Whether the call of the letter it had last is its place's current one: done for yes, otherwise no.
+    pub(crate) fn questions(&mut self, group: &Group<Word>, last: &mut Option<Letter<Word>>) -> u32
+        requires own { IsOf group.now self.old }
+        requires last { IsLetterOf group.now last.old }
+        ensures own { IsOf group.now self.new }
+        ensures last { IsLetterOf group.now last.new }
+        ensures row { HasQuestionedPart self.old last.old self.new last.new result }
+        ensures open { result ≢ NOT_OPEN }
+    {
+        let Part::Free(caller) = self else {
+            return WRONG_STATE;
+        };
+        let Some(letter) = last else {
+            return NOTHING_LEFT;
+        };
+        if group.is_current(caller, letter) {
+            DONE
+        } else {
+            OTHERWISE
+        }
+    }
+
+    /// Its caller, which is free or leads, has then seen what the other's has, which is free.
+    pub(crate) fn learns(&mut self, group: &Group<Word>, other: &mut Part) -> u32
+        requires own { IsOf group.now self.old }
+        requires other { IsOf group.now other.old }
+        ensures own { IsOf group.now self.new }
+        ensures told { other.new ≡ other.old }
+        ensures row { HasLearntPart self.old other.old self.new result }
+        ensures open { result ≢ NOT_OPEN }
+    {
+        let Part::Free(teller) = other else {
+            return WRONG_STATE;
+        };
+        let mut note = group.tell(teller);
+        match self {
+            Part::Free(caller) => {
+                group.learn(caller, &mut note);
+                DONE
+            }
+            Part::Leads(flight) => {
+                flight.learn(group, &mut note);
+                DONE
+            }
+            _ => WRONG_STATE,
+        }
+    }
+}

@@ -1,0 +1,73 @@
+-- looks at letters, one after another
+use Rattle.std.proofs.Common.{◌≡◌, ℕ, Bool, true, List, [], ◌++◌, Some, None, Result, Ok, Err, IfOk, refl, sym, ◌∙◌, subst}
+use Rattle.sf_history.specs.declared.call.CallId.{CallId}
+use Rattle.sf_history.specs.declared.event.Event.{Event}
+use Rattle.sf_calls.specs.Tokens.{GroupValue, CallerValue, FlightValue, LetterValue}
+use Rattle.sf_calls.specs.Seen.{IsLawful, Grows}
+use Rattle.sf_calls.specs.Same.{IsStill, IsSameFlight, call_of}
+use Rattle.sf_calls.specs.Begins.{HasLed}
+use Rattle.sf_calls.specs.Notes.{HasLent, HasCopied, HasLearntLeading}
+use Rattle.sf_calls.specs.Currents.{WasCurrent, HasQuestioned}
+use Rattle.sf_calls.proofs.AddsAgain.{starts_again, grows_again, grows_none}
+use Rattle.sf_fill.specs.FillValue.{Filled, FitsFill, fill_lasts}
+use Rattle.sf_fill.specs.Rooted.{IsRooted}
+use Rattle.sf_fill.specs.Settled.{IsKeptLetter, IsCurrentLetter, IsFollowed, HasLooked}
+use Rattle.sf_fill.proofs.Rooting.{first_added, rooted_itself, rooted_after}
+
+pub lent_again : (l m n : LetterValue Filled) → HasLent l m → HasLent m n → HasLent l n
+lent_again l m n first second = record {
+  group = second.group ∙ first.group;
+  place = second.place ∙ first.place;
+  call = second.call ∙ first.call;
+  value = second.value ∙ first.value;
+  mark = second.mark ∙ first.mark;
+  shows = starts_again l.seen m.seen n.seen first.shows second.shows;
+}
+
+pub still_again : (c d e : CallerValue Filled) → IsStill c d → IsStill d e → IsStill c e
+still_again c d e first second =
+    let on : Grows c.group c.number d.seen e.seen [] 0 = subst (λ (i : ℕ). Grows c.group i d.seen e.seen [] 0) first.number (subst (λ (g : GroupValue). Grows g d.number d.seen e.seen [] 0) first.group second.grows) in
+    record { group = second.group ∙ first.group; number = second.number ∙ first.number; grows = grows_again c.group c.number c.seen d.seen e.seen [] [] 0 0 first.grows on }
+
+-- two looks that found none
+pub still_twice : (c d : CallerValue Filled) → (u : CallerValue Filled) × IsStill c u × IsStill u d → IsStill c d
+still_twice c d h = still_again c h.0 d h.1 h.2
+
+-- a letter that was asked about, and is current
+pub current_letter : (g : GroupValue) (c d : CallerValue Filled) (place : ℕ) (l m : LetterValue Filled) (told : Bool) → c.group ≡ g → l.place ≡ place → IsKeptLetter g l.place l → HasQuestioned c l told d m → told ≡ true
+    → IsCurrentLetter c place l d
+current_letter g c d place l m told group at kept asked is = record {
+  kept = subst (λ (h : GroupValue). IsKeptLetter h place l) (sym group) (subst (λ (k : ℕ). IsKeptLetter g k l) at kept);
+  nothing = asked.learnt.0;
+  current = subst (λ (k : ℕ). WasCurrent k l.call c.seen l.seen d.seen) at (asked.right is);
+}
+
+module _ (E : Type 0) where
+  pub looked : (c d : CallerValue Filled) (place : ℕ) (l m o : LetterValue Filled) (copy : Result (LetterValue Filled) E) → IsCurrentLetter c place l d → HasLent l m → IfOk copy (λ n. HasCopied FitsFill m o n) → HasLooked c place (Some copy) d
+  looked c d place l m o (Ok n) current lent copied = (l, current, lent_again l m n lent copied.1)
+  looked c d place l m o (Err e) current lent copied = (l, current)
+
+-- a flight may be settled with the value of the call that it follows, once it has learnt that call's letter
+pub follows_fit : (f h : FlightValue Filled) (l : LetterValue Filled) (v : Filled) → IsFollowed f l → HasLearntLeading f l.seen h → v ≡ l.value → FitsFill h.place h.call v h.seen
+follows_fit f h l v follows learnt is =
+    let before = follows.follows in
+    let shown = learnt.1 in
+    let begins = learnt.0.adds.grows.begins in
+    let kept : FitsFill f.place l.call l.value l.seen = subst (λ (k : ℕ). FitsFill k l.call l.value l.seen) follows.kept.place_is follows.kept.fits in
+    let fits : FitsFill f.place l.call l.value h.seen = subst (λ (s : List (Event ℕ Filled)). FitsFill f.place l.call l.value s) (sym shown.1) (fill_lasts f.place l.call l.value l.seen shown.0 kept) in
+    let rooted = rooted_after h.seen before.before f.number f.place l.value.root f.call l.call f.own learnt.0.adds.lawful.legal
+    (starts_again _ f.seen h.seen before.led begins) before.current fits.1 in
+    let fitting : FitsFill f.place f.call l.value h.seen = (fits.0, rooted) in
+    let same : FitsFill h.place h.call l.value h.seen = subst (λ (c : CallId). FitsFill h.place c l.value h.seen) (sym learnt.0.call) (subst (λ (k : ℕ). FitsFill k f.call l.value h.seen) (sym learnt.0.place) fitting) in
+    subst (λ (w : Filled). FitsFill h.place h.call w h.seen) (sym is) same
+
+-- a call that was led is rooted in itself
+pub led_rooted : (c : CallerValue Filled) (k : ℕ) (f : FlightValue Filled) → HasLed c k f → IsRooted f.place f.call f.call f.seen
+led_rooted c k f led =
+    let at = first_added c.number c.seen f.seen _ [] led.adds.grows.begins led.adds.grows.own in
+    let rooted : IsRooted k (call_of c) (call_of c) f.seen = rooted_itself f.seen (c.seen ++ at.0) c.number k (call_of c) None at.1 in
+    subst (λ (d : CallId). IsRooted f.place d d f.seen) (sym led.call) (subst (λ (p : ℕ). IsRooted p (call_of c) (call_of c) f.seen) (sym led.place) rooted)
+
+-- a flight that learnt nothing
+pub same_flight : (f : FlightValue Filled) → IsLawful f.group.sizes f.seen → IsSameFlight f f
+same_flight f lawful = record { group = refl; number = refl; place = refl; call = refl; own = refl; adds = record { grows = grows_none f.group f.number f.seen; lawful = lawful } }

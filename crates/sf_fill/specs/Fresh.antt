@@ -1,0 +1,108 @@
+-- what getters add to the history, and how fresh their answers are
+use Rattle.std.specs.Prelude.{◌≡◌, ℕ, nat_eq, Bool, true, false, cond, not, ◌⊎◌, List, [], ◌∷◌, ◌++◌, Option, Some, None, Result, Ok, Err}
+use Rattle.sf_history.specs.declared.call.CallId.{CallId}
+use Rattle.sf_history.specs.declared.command.Forgotten.{Forgotten}
+use Rattle.sf_history.specs.declared.command.Forgotten.TheVariants as forgotten
+use Rattle.sf_history.specs.declared.event.Event.{Event}
+use Rattle.sf_history.specs.declared.event.Event.TheVariants.{Lead, Enter, Forget, Settle, Handed}
+use Rattle.sf_history.specs.History.{current_call}
+use Rattle.sf_calls.specs.Tokens.{LetterValue}
+use Rattle.sf_calls.specs.Seen.{StartsWith, Stands, IsLawful, Grows}
+use Rattle.sf_dir.specs.Known.{DirectoryId, PlaceState}
+use Rattle.sf_loaders.specs.declared.faults.LocalFault.TheVariants as local
+use Rattle.sf_fill.specs.declared.fault.LoadFault.{LoadFault}
+use Rattle.sf_fill.specs.declared.fault.LoadFault.TheVariants as fault
+use Rattle.sf_fill.specs.declared.standing.Standing.{Standing}
+use Rattle.sf_fill.specs.declared.standing.Standing.TheVariants.{Free, Owing}
+use Rattle.sf_fill.specs.Counted.{has_asking}
+use Rattle.sf_fill.specs.FillValue.{Filled}
+use Rattle.sf_fill.specs.Gets.{GetAnswer}
+use Rattle.sf_fill.specs.GetterValue.{GetterValue, number_of, group_of, seen_of, is_owing}
+use Rattle.sf_fill.specs.Resolving.{IsPlaceOfKey}
+use Rattle.sf_fill.specs.Rooted.{IsUnforgotten}
+
+-- A caller that stays the same has seen more, in which it made these events, with a generation for an asking among them. All
+-- that it has seen is a legal history of the group's callers, or what it was.
+pub record HasAdded (old new : Standing Filled) (added : List (Event ℕ Filled)) : Type 0 where
+  pub group : group_of new ≡ group_of old
+  pub number : number_of new ≡ number_of old
+  pub grows : Grows (group_of old) (number_of old) (seen_of old) (seen_of new) added (cond (has_asking added) 1 0)
+  pub lawful : (seen_of new ≡ seen_of old) ⊎ IsLawful (group_of old).sizes (seen_of new)
+
+-- the letters that were owed are handed out, if that is so
+abbrev pub handed_by : Standing Filled → Bool → List (Event ℕ Filled)
+handed_by (Free c) done = []
+handed_by (Owing s) done = cond done (Handed s.number s.call ∷ []) []
+
+-- what is handed out where the caller then stands so, before it does anything else
+abbrev pub delivered_by : Standing Filled → Standing Filled → List (Event ℕ Filled)
+delivered_by old middle = handed_by old (not (is_owing middle))
+
+-- A letter of the place. Its call stands settled so in what its getter has then seen; at a moment after all that it had seen,
+-- the call was current, and its value's root led the place before, with no Forget since.
+pub record IsFresh (k : ℕ) (old new : List (Event ℕ Filled)) (l : LetterValue Filled) : Type 0 where
+  pub place : l.place ≡ k
+  pub settled : Stands (Settle l.call.caller l.call l.value l.shared) new
+  pub moment : List (Event ℕ Filled)
+  pub begins : StartsWith moment old
+  pub within : StartsWith new moment
+  pub current : current_call nat_eq moment k ≡ Some l.call
+  pub rooted : IsUnforgotten k l.value.root moment
+
+-- An asking for a call of the place: none; an Enter; or a Lead and the Settle of the call, and unless letters are owed then
+-- the Handed.
+pub record IsRun (by k : ℕ) (call : CallId) (owes : Bool) (added : List (Event ℕ Filled)) : Type 0 where
+  pub value : Filled
+  pub shared : Bool
+  pub is : added ≡ Lead by k call None ∷ Settle by call value shared ∷ cond owes [] (Handed by call ∷ [])
+
+abbrev pub IsAsking : ℕ → ℕ → CallId → Bool → List (Event ℕ Filled) → Type 0
+IsAsking by k call owes added = (added ≡ []) ⊎ (((member : CallId) × (added ≡ Enter by k call member ∷ [])) ⊎ IsRun by k call owes added)
+
+-- what a get answers with this call: a fresh letter of it, or the text of one; a refusal adds nothing
+abbrev pub IsAnswer : ℕ → CallId → List (Event ℕ Filled) → List (Event ℕ Filled) → List (Event ℕ Filled) → GetAnswer → Type 0
+IsAnswer k call old new added (Ok l) = (l.call ≡ call) × IsFresh k old new l
+IsAnswer k call old new added (Err (fault.Local text)) = (l : LetterValue Filled) × (l.value.result ≡ Err (local.Failed text)) × (l.call ≡ call) × IsFresh k old new l
+IsAnswer k call old new added (Err (fault.Refused refusal)) = added ≡ []
+IsAnswer k call old new added (Err fault.Memory) = Unit {0}
+
+-- a get that neither asks nor answers a letter
+abbrev pub IsUnanswered : List (Event ℕ Filled) → GetAnswer → Type 0
+IsUnanswered added (Ok l) = ⊥
+IsUnanswered added (Err (fault.Local text)) = ⊥
+IsUnanswered added (Err (fault.Refused refusal)) = added ≡ []
+IsUnanswered added (Err fault.Memory) = added ≡ []
+
+abbrev pub closed_by : Forgotten → Option CallId
+closed_by (forgotten.Closed c) = Some c
+closed_by forgotten.Idle = None
+
+module _ {P F L C : Type 0} (d : DirectoryId) (key : List ℕ) where
+  -- the key has a place, of which this call was asked for or found
+  pub record IsAnswered (old new : GetterValue P F L C) (added : List (Event ℕ Filled)) (answer : GetAnswer) : Type 0 where
+    pub place : PlaceState
+    pub resolved : IsPlaceOfKey d key old.desk new.desk place
+    pub call : CallId
+    pub asked : IsAsking (number_of old.standing) place.number call (is_owing new.standing) added
+    pub answered : IsAnswer place.number call (seen_of old.standing) (seen_of new.standing) added answer
+
+  -- what was owed is handed out first, or nothing further is done
+  pub record IsFreshGet (old new : GetterValue P F L C) (answer : GetAnswer) : Type 0 where
+    pub delivered : Bool
+    pub added : List (Event ℕ Filled)
+    pub adds : HasAdded old.standing new.standing (handed_by old.standing delivered ++ added)
+    pub outcome : IsUnanswered added answer ⊎ IsAnswered old new added answer
+    pub undelivered : delivered ≡ false → (added ≡ []) × (answer ≡ Err fault.Memory)
+
+  -- a reload adds one Forget of the key's place, after what was owed; where it is refused, none
+  pub record IsForgetOf (old new : GetterValue P F L C) (delivered : Bool) (forgotten : Forgotten) : Type 0 where
+    pub place : PlaceState
+    pub resolved : IsPlaceOfKey d key old.desk new.desk place
+    pub adds : HasAdded old.standing new.standing (handed_by old.standing delivered ++ Forget (number_of old.standing) place.number (closed_by forgotten) ∷ [])
+
+  abbrev pub ForgetsOnce : GetterValue P F L C → GetterValue P F L C → Bool → Result Forgotten LoadFault → Type 0
+  ForgetsOnce old new delivered (Ok forgotten) = (delivered ≡ true) × IsForgetOf old new delivered forgotten
+  ForgetsOnce old new delivered (Err refused) = HasAdded old.standing new.standing (handed_by old.standing delivered)
+
+  abbrev pub IsReloading : GetterValue P F L C → GetterValue P F L C → Result Forgotten LoadFault → Type 0
+  IsReloading old new answer = (delivered : Bool) × ForgetsOnce old new delivered answer

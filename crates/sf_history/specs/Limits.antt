@@ -1,0 +1,20 @@
+-- the numbers that words and records can hold: callers 1 to 65,535, generations 1 to 4,294,967,295
+use Rattle.std.specs.Prelude.{ℕ, ◌<◌, ◌≤◌, IfSome}
+use Rattle.sf_history.specs.declared.call.CallId.{CallId}
+use Rattle.sf_history.specs.declared.event.Event.{Event}
+use Rattle.sf_history.specs.declared.event.Event.TheVariants.{Lead, Enter, Forget, Settle, Handed}
+
+abbrev pub IsCallerNumber : ℕ → Type 0
+IsCallerNumber n = (0 < n) × (n ≤ 65535)
+
+abbrev pub IsCallWithin : CallId → Type 0
+IsCallWithin c = IsCallerNumber c.caller × (0 < c.generation) × (c.generation ≤ 4294967295)
+
+module _ {K V : Type 0} where
+  -- the event's maker, and each call, member and own channel that it names, are within the limits
+  abbrev pub IsWithinLimits : Event K V → Type 0
+  IsWithinLimits (Lead by key call own) = IsCallerNumber by × IsCallWithin call × IfSome own IsCallWithin
+  IsWithinLimits (Enter by key call member) = IsCallerNumber by × IsCallWithin call × IsCallWithin member
+  IsWithinLimits (Forget by key closed) = IsCallerNumber by × IfSome closed IsCallWithin
+  IsWithinLimits (Settle by call result shared) = IsCallerNumber by × IsCallWithin call
+  IsWithinLimits (Handed by call) = IsCallerNumber by × IsCallWithin call

@@ -1,0 +1,525 @@
+//! Fills of two getters, and a spare caller that joins the first one's load. Wherever one allocation is refused, each get
+//! answers the value, and one at most the fault for want of memory; what is owed is delivered then.
+ghost use Rattle.std.specs.Prelude.{◌≡◌, ◌≤◌, IfSome, vec_len};
+ghost use Rattle.sf_calls.specs.Same.{IsPlaceOf};
+ghost use Rattle.sf_fill.specs.Made.{AreOfDirectory, AreOfGroup};
+ghost use Rattle.sf_fill.specs.Totals.{AreNamed};
+
+use bytes::{ByteStr, Bytes};
+use sf_dir::{Desk, Directory};
+use sf_fill::{Fill, FillParts, FillValue, Getter, Ledgers, LoadFault, Naming};
+use sf_group::{Begun, CallId, Caller, Group, Memory, Polled, Ticket};
+use sf_loaders::scripted::{Answer, AnyValue, FixedPicker, RoundChance, Script};
+use sf_loaders::{Loaders, Local, LocalFault};
+use sf_wait::begin_wait;
+use std::alloc::Global;
+use std::marker::{Brand, Model};
+use std::process::Abort;
+use std::sync::Wait;
+use std::sync::atomic::{AtomicBool, Ordering};
+use std::sync::ledger::Blank;
+use std::test::Fail;
+use std::thread::{Threads, join, yield_now};
+
+// What the first getter's load and the spare caller tell each other.
+#[derive(Drop)]
+struct Flags {
+    // The first getter loads.
+    loading: AtomicBool,
+    // The spare caller has asked.
+    asked: AtomicBool,
+    // The first getter was answered.
+    answered: AtomicBool,
+}
+
+// Looks at the flag until it is set, 1,000,000 times at most.
+fn wait_for(flag: &AtomicBool) {
+    for _ in 0..1_000_000 {
+        if flag.load(Ordering::SeqCst) {
+            return;
+        }
+        yield_now();
+    }
+}
+
+// A local getter of a script, which says when it loads, and waits until the spare caller has asked, where there are flags.
+#[derive(Drop)]
+struct Meeting<'f> {
+    script: Script,
+    flags: Option<&'f Flags>,
+}
+
+impl<'f> Local for Meeting<'f> {
+    type Origin = AnyValue;
+
+    ghost use Rattle.sf_loaders.specs.Scripted.{PlaysAsLocal};
+
+    ghost load_gives = { λ old key call answer new. PlaysAsLocal old.script answer new.script };
+
+    fn load(&mut self, key: &[u8], call: CallId) -> Result<Bytes, LocalFault> {
+        if let Some(flags) = self.flags {
+            flags.loading.store(true, Ordering::SeqCst);
+            wait_for(&flags.asked);
+        }
+        self.script.load(key, call)
+    }
+}
+
+type PairLoaders<'f> = Loaders<FixedPicker, Script, Meeting<'f>, RoundChance>;
+
+type PairParts<'d, 'f, D> = FillParts<
+    'd,
+    D,
+    AnyValue,
+    FixedPicker,
+    Script,
+    Meeting<'f>,
+    RoundChance,
+>;
+
+type PairGetter<'d, 'f, D, N> = Getter<
+    'd,
+    D,
+    N,
+    AnyValue,
+    FixedPicker,
+    Script,
+    Meeting<'f>,
+    RoundChance,
+>;
+
+/// What the two getters do.
+#[derive(Clone, Copy, PartialEq, Eq)]
+enum Scene {
+    /// The first gets twice, reloads, and gets again.
+    Reload,
+    /// Each gets, and the peer fails.
+    FailedPeer,
+    /// The first gets, and the spare caller joins its load.
+    Joined,
+}
+
+// A getter, and how often it was refused memory.
+struct Tried<'d, 'f, D: Naming, N: Naming> {
+    getter: PairGetter<'d, 'f, D, N>,
+    refused: u32,
+}
+
+impl<'d, 'f, D: Naming, N: Naming> Drop for Tried<'d, 'f, D, N> {
+    fn drop(self) {
+        let Tried { getter, refused: _ } = self;
+        getter.end();
+    }
+}
+
+impl<'d, 'f, D: Naming, N: Naming> Tried<'d, 'f, D, N> {
+    // The value, or the fault for want of memory.
+    fn get<R: Wait + Abort>(self, rt: &R, fill: &Fill<'d, D, N, AnyValue>) -> Self {
+        let Tried { getter, refused } = self;
+        let (getter, answer) = fill.get(rt, getter, b"a");
+        let refused = match &answer {
+            Ok(view) => {
+                let bytes: &Bytes = view.bytes();
+                assert!(rt; bytes.as_slice() == b"v".as_slice(), "another value");
+                refused
+            }
+            Err(LoadFault::Memory) => refused.wrapping_add(1),
+            Err(fault) => panic!(rt; "{fault}"),
+        };
+        Tried { getter, refused }
+    }
+
+    // A Forget, or the fault for want of memory where letters are owed.
+    fn reload<R: Wait + Abort>(self, rt: &R, fill: &Fill<'d, D, N, AnyValue>) -> Self {
+        let Tried { getter, refused } = self;
+        let (getter, answer) = fill.reload(rt, getter, b"a");
+        let refused = match answer {
+            Ok(_) => refused,
+            Err(LoadFault::Memory) => refused.wrapping_add(1),
+            Err(fault) => panic!(rt; "{fault}"),
+        };
+        Tried { getter, refused }
+    }
+
+    // What is owed is delivered, with memory, and then a get answers the value.
+    fn end<R: Wait + Abort>(self, rt: &R, fill: &Fill<'d, D, N, AnyValue>) -> u32 {
+        let Tried { getter, refused } = self;
+        let (getter, settled) = getter.settle_up(rt, fill);
+        assert!(rt; settled.is_ok(), "it is refused memory again");
+        assert!(rt; !getter.owes(), "it owes letters still");
+        Tried { getter, refused }.get(rt, fill).refused
+    }
+}
+
+// A ticket of the spare caller.
+struct Waiting<'d, D: Naming> {
+    ticket: Ticket<FillValue<'d, D, AnyValue>>,
+}
+
+impl<'d, D: Naming> Drop for Waiting<'d, D> {
+    fn drop(self) {
+        let Waiting { ticket } = self;
+        ticket.abandon();
+    }
+}
+
+impl<'d, D: Naming> Waiting<'d, D> {
+    fn into_ticket(self) -> Ticket<FillValue<'d, D, AnyValue>>
+        ensures { result ≡ self.entry.ticket }
+    {
+        let Waiting { ticket } = self;
+        ticket
+    }
+}
+
+// The first getter, which gets while the spare caller asks.
+struct First<'a, 'd, 'f, D: Naming, N: Naming> {
+    fill: &'a Fill<'d, D, N, AnyValue>,
+    tried: Tried<'d, 'f, D, N>,
+    flags: &'f Flags,
+}
+
+impl<'a, 'd, 'f, D: Naming, N: Naming> Drop for First<'a, 'd, 'f, D, N> {
+    fn drop(self) {
+        let First {
+            fill: _,
+            tried: _,
+            flags: _,
+        } = self;
+    }
+}
+
+impl<'a, 'd, 'f, D: Naming, N: Naming> First<'a, 'd, 'f, D, N> {
+    fn get<R: Wait + Abort>(self, rt: &R) -> Tried<'d, 'f, D, N> {
+        let First { fill, tried, flags } = self;
+        let tried = tried.get(rt, fill);
+        flags.answered.store(true, Ordering::SeqCst);
+        tried
+    }
+}
+
+// The spare caller, which asks for the place while the first getter loads.
+#[derive(Drop)]
+struct Spare<'a, 'd, 'f, D: Naming, N: Naming> {
+    fill: &'a Fill<'d, D, N, AnyValue>,
+    caller: Caller<FillValue<'d, D, AnyValue>>,
+    place: u32,
+    flags: &'f Flags,
+}
+
+impl<'a, 'd, 'f, D: Naming, N: Naming> Model for Spare<'a, 'd, 'f, D, N> {
+    ghost use Rattle.std.specs.Prelude.{◌≡◌};
+    ghost use Rattle.sf_calls.specs.Same.{IsPlaceOf};
+
+    ghost Value = { Unit {0} };
+
+    ghost view = { λ _. tt };
+
+    ghost invariant = { λ s. (s.caller.group ≡ N.group) × IsPlaceOf N.group s.place };
+}
+
+impl<'a, 'd, 'f, D: Naming, N: Naming> Spare<'a, 'd, 'f, D, N> {
+    // Its ticket, if the first getter loaded then.
+    fn ask<R: Wait + Abort>(self, rt: &R) -> Option<Waiting<'d, D>>
+        ensures { IfSome result (λ w. w.ticket.group ≡ N.group) }
+    {
+        let Spare {
+            fill,
+            caller,
+            place,
+            flags,
+        } = self;
+        wait_for(&flags.loading);
+        if !flags.loading.load(Ordering::SeqCst) || flags.answered.load(Ordering::SeqCst) {
+            return None;
+        }
+        let begun = begin_wait(rt, fill.group(), caller, place);
+        flags.asked.store(true, Ordering::SeqCst);
+        match begun {
+            Ok(Begun::Join(ticket)) => Some(Waiting { ticket }),
+            Ok(Begun::Lead(flight)) => {
+                flight.abandon();
+                panic!(rt; "the load's call is not open")
+            }
+            Err(_) => panic!(rt; "the spare caller is spent"),
+        }
+    }
+}
+
+// The letter is there.
+fn take_letter<'d, D: Naming, N: Naming>(
+    rt: &impl Abort,
+    fill: &Fill<'d, D, N, AnyValue>,
+    waiting: Waiting<'d, D>,
+)
+    requires { waiting.ticket.group ≡ N.group }
+{
+    let ticket = waiting.into_ticket();
+    let call = ticket.call();
+    match fill.group().poll(ticket) {
+        Polled::Ready(_, letter) => {
+            assert!(rt; letter.call() == call && letter.shared(), "another letter")
+        }
+        Polled::Pending(ticket) => {
+            ticket.abandon();
+            panic!(rt; "the letter is lost")
+        }
+    }
+}
+
+// What the getters of a fill do, one after the other.
+fn play_in_turn<'d, 'f, D: Naming, N: Naming, R: Wait + Abort>(
+    rt: &R,
+    fill: &Fill<'d, D, N, AnyValue>,
+    one: Tried<'d, 'f, D, N>,
+    two: Tried<'d, 'f, D, N>,
+    scene: Scene,
+) -> u32 {
+    let one = one.get(rt, fill);
+    let (one, two) = match scene {
+        Scene::Reload => {
+            let one = one.get(rt, fill).reload(rt, fill);
+            (one.get(rt, fill), two)
+        }
+        Scene::FailedPeer | Scene::Joined => (one, two.get(rt, fill)),
+    };
+    one.end(rt, fill).wrapping_add(two.end(rt, fill))
+}
+
+// The first getter gets beside the spare caller.
+fn play_beside<
+    'd,
+    'f,
+    D: Naming + Send + Sync,
+    N: Naming + Send + Sync,
+    R: Wait + Threads + Abort + Sync,
+>(
+    rt: &R,
+    fill: &Fill<'d, D, N, AnyValue>,
+    tried: Tried<'d, 'f, D, N>,
+    caller: Caller<FillValue<'d, D, AnyValue>>,
+    place: u32,
+    flags: &'f Flags,
+) -> u32
+    requires own { caller.group ≡ N.group }
+    requires place { IsPlaceOf N.group place }
+{
+    let first = First { fill, tried, flags };
+    let spare = Spare {
+        fill,
+        caller,
+        place,
+        flags,
+    };
+    let (tried, waiting) = join(rt, || first.get(rt), || spare.ask(rt));
+    let refused = tried.end(rt, fill);
+    if let Some(waiting) = waiting {
+        take_letter(rt, fill, waiting);
+    }
+    refused
+}
+
+// All is named here.
+fn with_all<
+    'd,
+    'f,
+    D: Naming + Send + Sync,
+    N: Naming + Send + Sync,
+    R: Wait + Threads + Abort + Sync,
+>(
+    rt: &R,
+    alloc: Global,
+    directory: &'d Directory,
+    parts: PairParts<'d, 'f, D>,
+    caller: Caller<FillValue<'d, D, AnyValue>>,
+    place: u32,
+    scene: Scene,
+    flags: &'f Flags,
+) -> Result<u32, Memory>
+    requires directory { (directory.now ≡ N.directory) × (D.directory ≡ N.directory) }
+    requires group { (parts.group ≡ N.group) × (N.group.sizes.places ≡ N.directory.keys) }
+    requires getters { N.getters ≡ 2 }
+    requires desks { (vec_len parts.desks ≡ N.getters) × AreOfDirectory N.directory parts.desks.items }
+    requires callers { (vec_len parts.callers ≡ N.getters) × AreOfGroup N.group parts.callers.items }
+    requires loaders { vec_len parts.loaders ≡ N.getters }
+    requires ledgers { AreNamed N.ledgers N.getters parts.ledgers }
+    requires own { caller.group ≡ N.group }
+    requires place { IsPlaceOf N.group place }
+{
+    let made = match Fill::<'d, D, N, AnyValue>::new(alloc, directory, parts, 100, 8) {
+        Ok(made) => made,
+        Err(parts) => match Fill::<'d, D, N, AnyValue>::new(alloc, directory, parts, 100, 8) {
+            Ok(made) => made,
+            Err(_) => return Err(Memory),
+        },
+    };
+    let (fill, mut getters) = made;
+    let Some(two) = getters.pop() else {
+        unreachable!()
+    };
+    let Some(one) = getters.pop() else {
+        unreachable!()
+    };
+    getters.destroy_empty();
+    let one = Tried {
+        getter: one,
+        refused: 0,
+    };
+    let two = Tried {
+        getter: two,
+        refused: 0,
+    };
+    if scene == Scene::Joined {
+        drop(two);
+        return Ok(play_beside(rt, &fill, one, caller, place, flags));
+    }
+    Ok(play_in_turn(rt, &fill, one, two, scene))
+}
+
+fn loaders<'f>(
+    alloc: Global,
+    peer: Option<u32>,
+    flags: Option<&'f Flags>,
+) -> Result<PairLoaders<'f>, Memory> {
+    let down = vec![in alloc; Answer::Failed(ByteStr::from("down"))]?;
+    let value = vec![in alloc; Answer::Value(Bytes::from("v"))]?;
+    Ok(Loaders {
+        picker: FixedPicker::new(peer),
+        peer: Script::new(down),
+        local: Meeting {
+            script: Script::new(value),
+            flags,
+        },
+        chance: RoundChance::default(),
+    })
+}
+
+// The last caller, and the two before it.
+fn take_spare<'d, D: Naming>(
+    group: &Group<FillValue<'d, D, AnyValue>>,
+    callers: Vec<Caller<FillValue<'d, D, AnyValue>>>,
+) -> Option<
+    (
+        Vec<Caller<FillValue<'d, D, AnyValue>>>,
+        Caller<FillValue<'d, D, AnyValue>>,
+    ),
+>
+    requires { AreOfGroup group.now callers.items }
+    ensures two { IfSome result (λ taken. (vec_len taken.0 ≡ 2) × AreOfGroup group.now taken.0.items) }
+    ensures spare { IfSome result (λ taken. taken.1.group ≡ group.now) }
+{
+    let _ = group;
+    let mut callers = callers;
+    let spare = callers.pop()?;
+    if callers.len() != 2 {
+        return None;
+    }
+    Some((callers, spare))
+}
+
+// The directory is named here. The last caller and the last desk are spare.
+fn with_directory<'d, 'f, D: Naming + Send + Sync, R: Wait + Threads + Abort + Sync>(
+    rt: &R,
+    alloc: Global,
+    directory: &'d Directory,
+    desks: Vec<Desk>,
+    scene: Scene,
+    flags: &'f Flags,
+) -> Result<u32, Memory>
+    requires directory { directory.now ≡ D.directory }
+    requires desks { (vec_len desks ≡ 3) × AreOfDirectory directory.now desks.items }
+{
+    let (group, callers) = Group::<FillValue<'d, D, AnyValue>>::new(
+        alloc,
+        directory.place_count(),
+        3,
+        1,
+    )?;
+    let mut desks = desks;
+    let Some(mut desk) = desks.pop() else {
+        unreachable!()
+    };
+    if desks.len() != 2 {
+        panic!(rt; "other desks")
+    }
+    let Some((callers, caller)) = take_spare(&group, callers) else {
+        panic!(rt; "other callers")
+    };
+    let Ok(place) = directory.resolve(&mut desk, b"a") else {
+        panic!(rt; "the key has no place")
+    };
+    let place = place.number().number();
+    if !group.has(place) {
+        panic!(rt; "the group has no such place")
+    }
+    let peer = (scene == Scene::FailedPeer).then_some(0);
+    let mut sets = Vec::with_capacity(alloc, 2)?;
+    let met = (scene == Scene::Joined).then_some(flags);
+    sets.push_reserved(loaders(alloc, peer, met)?);
+    sets.push_reserved(loaders(alloc, peer, None)?);
+    let parts = FillParts {
+        desks,
+        group,
+        callers,
+        loaders: sets,
+        ledgers: Ledgers {
+            gets: Blank::new(2),
+            cache_hits: Blank::new(2),
+            loads: Blank::new(2),
+            loads_deduped: Blank::new(2),
+            peer_loads: Blank::new(2),
+            peer_errors: Blank::new(2),
+            local_loads: Blank::new(2),
+            local_load_errors: Blank::new(2),
+        },
+    };
+    with_all::<D, Brand, R>(rt, alloc, directory, parts, caller, place, scene, flags)
+}
+
+// How many gets and reloads were refused memory.
+fn try_out<R: Wait + Threads + Abort + Sync>(
+    rt: &R,
+    alloc: Global,
+    scene: Scene,
+) -> Result<u32, Memory> {
+    let flags = Flags {
+        loading: AtomicBool::new(false),
+        asked: AtomicBool::new(false),
+        answered: AtomicBool::new(false),
+    };
+    let (directory, desks) = Directory::new(alloc, 8, 4, 3)?;
+    with_directory::<Brand, R>(rt, alloc, &directory, desks, scene, &flags)
+}
+
+// One that is refused memory before its fill stands is tried out once more, and meets no refusal then.
+fn check<R: Wait + Threads + Abort + Sync>(
+    rt: &R,
+    alloc: Global,
+    scene: Scene,
+) -> Result<(), Fail> {
+    let refused = match try_out(rt, alloc, scene) {
+        Ok(refused) => refused,
+        Err(_) => {
+            let refused = try_out(rt, alloc, scene)?;
+            assert!(rt; refused == 0, "it is refused memory again");
+            refused
+        }
+    };
+    assert!(rt; refused <= 1, "{refused} are refused memory");
+    Ok(())
+}
+
+#[test]
+fn gets_and_a_reload(rt: HostRuntime) -> Result<(), Fail> {
+    check(&rt, rt.alloc(), Scene::Reload)
+}
+
+#[test]
+fn gets_after_a_failed_peer(rt: HostRuntime) -> Result<(), Fail> {
+    check(&rt, rt.alloc(), Scene::FailedPeer)
+}
+
+#[test]
+fn get_whose_load_is_joined(rt: HostRuntime) -> Result<(), Fail> {
+    check(&rt, rt.alloc(), Scene::Joined)
+}

@@ -1,0 +1,88 @@
+/* A server's load path: worker threads get keys from a store behind a cache; of those who miss one key at one time one loads,
+ * and after an update nobody gets the old value. Built and run by bindings/check. */
+#include "sf.h"
+#include <pthread.h>
+#include <sched.h>
+#include <stdatomic.h>
+#include <stdio.h>
+#include <stdlib.h>
+#include <time.h>
+
+enum { WORKERS = 4, KEYS = 8, REQUESTS = 2000, TRIES = 64 };
+
+/* The store: a version a key, slow to read. */
+static atomic_uint versions[KEYS];
+static atomic_uint loads, joined;
+
+static uint64_t load(unsigned key) {
+    unsigned version = atomic_load(&versions[key]);
+    nanosleep(&(struct timespec){0, 100000}, NULL);
+    atomic_fetch_add(&loads, 1);
+    return (uint64_t)key << 32 | version;
+}
+
+static size_t name_of(unsigned key, char name[16]) {
+    return (size_t)snprintf(name, 16, "item-%u", key);
+}
+
+/* The value of the key: loaded here, or by the worker that is loading it already. */
+static uint64_t get(sf_slot *caller, unsigned key) {
+    char name[16];
+    size_t len = name_of(key, name);
+    uint64_t value = 0;
+    bool shared = false;
+    for (;;) {
+        switch (sf_ask(caller, (const uint8_t *)name, len, TRIES)) {
+        case SF_LEADS:
+            value = load(key);
+            while (sf_finish(caller, value, &shared) == SF_OWES && sf_go_on(caller, &shared) == SF_OWES) {}
+            return value;
+        case SF_JOINED:
+            while (sf_poll(caller, &value, &shared) == SF_NOT_YET) sched_yield();
+            atomic_fetch_add(&joined, 1);
+            return value;
+        case SF_BUSY:
+            continue;
+        default:
+            abort();
+        }
+    }
+}
+
+/* Writes the store first and forgets then: who asks from now on loads the new version. */
+static unsigned update(sf_slot *caller, unsigned key) {
+    char name[16];
+    size_t len = name_of(key, name);
+    unsigned version = atomic_fetch_add(&versions[key], 1) + 1;
+    while (sf_forget(caller, (const uint8_t *)name, len, TRIES) == SF_BUSY) {}
+    return version;
+}
+
+static void *serve(void *at) {
+    sf_slot *caller = at;
+    unsigned seed = (unsigned)(size_t)at, stale = 0;
+    for (int i = 0; i < REQUESTS; i++) {
+        unsigned key = (unsigned)rand_r(&seed) % KEYS;
+        unsigned least = rand_r(&seed) % 10 == 0 ? update(caller, key) : 0;
+        uint64_t value = get(caller, key);
+        stale += (unsigned)(value >> 32) != key || (unsigned)value < least;
+    }
+    sf_close(caller);
+    return (void *)(size_t)stale;
+}
+
+int main(void) {
+    static sf_slot callers[WORKERS];
+    pthread_t threads[WORKERS];
+    size_t stale = 0;
+    if (sf_open(&callers[0], KEYS, 15, WORKERS) != SF_DONE) return 1;
+    for (int i = 1; i < WORKERS; i++) if (sf_split(&callers[0], &callers[i]) != SF_DONE) return 1;
+    for (int i = 0; i < WORKERS; i++) if (pthread_create(&threads[i], NULL, serve, &callers[i])) return 1;
+    for (int i = 0; i < WORKERS; i++) {
+        void *count;
+        pthread_join(threads[i], &count);
+        stale += (size_t)count;
+    }
+    printf("requests %d, loads %u, joined %u, stale %zu\n", WORKERS * REQUESTS, atomic_load(&loads), atomic_load(&joined), stale);
+    return stale != 0;
+}
