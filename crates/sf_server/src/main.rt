@@ -1,15 +1,15 @@
-//! The load layer of a caching server, by the waiting forms: four threads get one page, which is loaded once for all that ask
+//! The load layer of a caching server, by the waiting forms: two threads get one page, which is loaded once for all that ask
 //! while it loads; then the page is purged, and nobody who has heard of the purge gets the old one.
 #![tactic(auto)]
 
-ghost use Rattle.std.specs.Prelude.{◌≡◌, All};
+ghost use Rattle.std.specs.Prelude.{◌≡◌};
 ghost use Rattle.sf_calls.specs.Same.{IsPlaceOf};
 
 use sf_dir::Directory;
 use sf_group::{Caller, Fit, Group, Memory, Note, Share};
 use sf_wait::{DoFault, do_with, forget_wait};
 use std::io;
-use std::process::{Abort, ExitCode};
+use std::process::ExitCode;
 use std::sync::Wait;
 use std::sync::atomic::{AtomicU32, Ordering};
 use std::thread::{join, yield_now};
@@ -46,187 +46,98 @@ impl Origin {
     }
 }
 
-/// A thread's caller, and how many of its answers were of which version.
-#[derive(Drop)]
-struct Reader<'a> {
-    group: &'a Group<Page>,
-    origin: &'a Origin,
+/// Gets the page a hundred times, and counts the answers of the version. None where the caller has asked too often, or there is
+/// no memory for the copy of one that joined.
+fn read(
+    rt: &impl Wait,
+    group: &Group<Page>,
+    origin: &Origin,
     caller: Caller<Page>,
     place: u32,
-    /// What it is to hear before it reads.
-    notes: Vec<Note<Page>>,
-    first: u32,
-    second: u32,
-    ghost own: { caller.group ≡ group.now },
-    ghost notes_own: { All (λ n. n.group ≡ group.now) notes.items },
-    ghost placed: { IsPlaceOf group.now place },
-}
-
-impl<'a> Reader<'a> {
-    /// Hears what its note shows, if it has one.
-    fn hear(self) -> Self {
-        let Reader {
-            group,
-            origin,
-            mut caller,
-            place,
-            mut notes,
-            first,
-            second,
-        } = self;
-        if let Some(mut note) = notes.pop() {
-            group.learn(&mut caller, &mut note);
-        }
-        Reader {
-            group,
-            origin,
-            caller,
-            place,
-            notes,
-            first,
-            second,
-        }
-    }
-
-    /// Gets the page a hundred times.
-    fn read(self, rt: &(impl Wait + Abort)) -> Self {
-        let mut reader = self.hear();
-        for _ in 0..100 {
-            reader = reader.get(rt);
-        }
-        reader
-    }
-
-    /// Gets the page: the one call of `load` that serves this asking is this reader's own, or another's.
-    fn get(self, rt: &(impl Wait + Abort)) -> Self {
-        let Reader {
-            group,
-            origin,
-            caller,
-            place,
-            notes,
-            first,
-            second,
-        } = self;
+    version: u32,
+) -> Option<u32>
+    requires own { caller.group ≡ group.now }
+    requires place { IsPlaceOf group.now place }
+{
+    let mut caller = caller;
+    let mut right = 0u32;
+    for _ in 0..100 {
+        // The one load that serves this asking is this caller's own, or another's.
         match do_with(rt, group, caller, place, || origin.load()) {
-            Ok((caller, letter)) => {
-                let is_first = letter.value().0 == 1;
-                Reader {
-                    group,
-                    origin,
-                    caller,
-                    place,
-                    notes,
-                    first: first.wrapping_add(is_first as u32),
-                    second: second.wrapping_add(!is_first as u32),
-                }
+            Ok((free, letter)) => {
+                caller = free;
+                right = right.wrapping_add((letter.value().0 == version) as u32);
             }
-            Err(DoFault::Spent(caller, load)) => {
-                drop(caller);
-                drop(load);
-                panic!(rt; "a caller has asked too often")
-            }
+            Err(DoFault::Spent(_caller, _load)) => return None,
             Err(DoFault::Held(settled)) => {
                 settled.abandon();
-                panic!(rt; "there is no memory for a copy")
+                return None;
             }
         }
     }
+    Some(right)
 }
 
-/// A reader that is the next caller.
-fn next_reader<'a>(
-    rt: &impl Abort,
-    group: &'a Group<Page>,
-    origin: &'a Origin,
-    callers: &mut Vec<Caller<Page>>,
-    place: u32,
-    notes: Vec<Note<Page>>,
-) -> Reader<'a>
-    requires own { All (λ c. c.group ≡ group.now) callers.old.items }
-    requires place { IsPlaceOf group.now place }
-    requires notes { All (λ n. n.group ≡ group.now) notes.items }
-    ensures { All (λ c. c.group ≡ group.now) callers.new.items }
-{
-    let Some(caller) = callers.pop() else {
-        panic!(rt; "no more callers")
-    };
-    Reader {
-        group,
-        origin,
-        caller,
-        place,
-        notes,
-        first: 0,
-        second: 0,
-    }
-}
-
-/// Forgets the page, and tells two of that.
-fn purge<R: Wait>(
-    rt: &R,
-    group: &Group<Page>,
-    purger: Caller<Page>,
-    place: u32,
-) -> (Note<Page>, Note<Page>)
+/// Forgets the page, and tells of that.
+fn purge(rt: &impl Wait, group: &Group<Page>, purger: Caller<Page>, place: u32) -> Note<Page>
     requires own { purger.group ≡ group.now }
     requires place { IsPlaceOf group.now place }
-    ensures { (result.0.group ≡ group.now) × (result.1.group ≡ group.now) }
+    ensures { result.group ≡ group.now }
 {
     let mut purger = purger;
     forget_wait(rt, group, &mut purger, place);
-    (group.tell(&mut purger), group.tell(&mut purger))
+    group.tell(&mut purger)
 }
 
 fn main(rt: HostRuntime) -> io::Result<ExitCode> {
     let alloc = rt.alloc();
     let (directory, mut desks) = Directory::new(alloc, 16, 250, 1)?;
     let (group, mut callers) = Group::<Page>::new(alloc, directory.place_count(), 5, 1)?;
-    let Some(mut desk) = desks.pop() else {
+    let (Some(mut desk), Some(purger), Some(a), Some(b), Some(c), Some(d)) = (
+        desks.pop(),
+        callers.pop(),
+        callers.pop(),
+        callers.pop(),
+        callers.pop(),
+        callers.pop(),
+    ) else {
         unreachable!()
     };
     let Ok(place) = directory.resolve(&mut desk, b"/index.html") else {
         return Ok(ExitCode::FAILURE);
     };
     let place = place.number().number();
+    if !group.has(place) {
+        return Ok(ExitCode::FAILURE);
+    }
     let origin = Origin {
         version: AtomicU32::new(1),
         loads: AtomicU32::new(0),
     };
-    if !group.has(place) {
+    let (group, origin) = (&group, &origin);
+    let (Some(a), Some(b)) = join(
+        &rt,
+        || read(&rt, group, origin, a, place, 1),
+        || read(&rt, group, origin, b, place, 1),
+    ) else {
         return Ok(ExitCode::FAILURE);
-    }
-    let one = next_reader(&rt, &group, &origin, &mut callers, place, Vec::new(alloc));
-    let two = next_reader(&rt, &group, &origin, &mut callers, place, Vec::new(alloc));
-    let (one, two) = join(&rt, || one.read(&rt), || two.read(&rt));
-    let right = one.first.wrapping_add(two.first);
-    println!(rt; "first version: {right} of 200 answers")?;
+    };
+    println!(rt; "first version: {} of 200 answers", a.wrapping_add(b))?;
 
     // The origin changes, the page is purged, and who reads next has heard of that.
     origin.version.store(2, Ordering::SeqCst);
-    let Some(purger) = callers.pop() else {
+    let mut note = purge(&rt, group, purger, place);
+    let (mut c, mut d) = (c, d);
+    group.learn(&mut c, &mut note);
+    group.learn(&mut d, &mut note);
+    let (Some(c), Some(d)) = join(
+        &rt,
+        || read(&rt, group, origin, c, place, 2),
+        || read(&rt, group, origin, d, place, 2),
+    ) else {
         return Ok(ExitCode::FAILURE);
     };
-    let (note, other) = purge(&rt, &group, purger, place);
-    let one = next_reader(
-        &rt,
-        &group,
-        &origin,
-        &mut callers,
-        place,
-        vec![in alloc; note]?,
-    );
-    let two = next_reader(
-        &rt,
-        &group,
-        &origin,
-        &mut callers,
-        place,
-        vec![in alloc; other]?,
-    );
-    let (one, two) = join(&rt, || one.read(&rt), || two.read(&rt));
-    let right = one.second.wrapping_add(two.second);
-    println!(rt; "second version: {right} of 200 answers")?;
+    println!(rt; "second version: {} of 200 answers", c.wrapping_add(d))?;
     let loads = origin.loads.load(Ordering::SeqCst);
     println!(rt; "at most one load an answer: {}", loads <= 400)?;
     Ok(ExitCode::SUCCESS)
