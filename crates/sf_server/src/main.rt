@@ -2,7 +2,7 @@
 //! while it loads; then the page is purged, and nobody who has heard of the purge gets the old one.
 #![tactic(auto)]
 
-ghost use Rattle.std.specs.Prelude.{◌≡◌};
+ghost use Rattle.std.specs.Prelude.{◌≡◌, All, IfSome};
 ghost use Rattle.sf_calls.specs.Same.{IsPlaceOf};
 
 use sf_dir::Directory;
@@ -12,7 +12,7 @@ use std::io;
 use std::process::ExitCode;
 use std::sync::Wait;
 use std::sync::atomic::{AtomicU32, Ordering};
-use std::thread::{join, yield_now};
+use std::thread::{Threads, join, yield_now};
 
 /// A page, by its version. Each reader gets a copy of what was loaded.
 #[derive(Clone, Copy)]
@@ -61,7 +61,7 @@ fn read(
 {
     let mut caller = caller;
     let mut right = 0u32;
-    for _ in 0..100 {
+    for _asking in 0..100 {
         // The one load that serves this asking is this caller's own, or another's.
         match do_with(rt, group, caller, place, || origin.load()) {
             Ok((free, letter)) => {
@@ -89,18 +89,73 @@ fn purge(rt: &impl Wait, group: &Group<Page>, purger: Caller<Page>, place: u32) 
     group.tell(&mut purger)
 }
 
+/// What two threads count that get the page side by side.
+fn read_both<R: Threads + Wait + Sync>(
+    rt: &R,
+    group: &Group<Page>,
+    origin: &Origin,
+    one: Caller<Page>,
+    other: Caller<Page>,
+    place: u32,
+    version: u32,
+) -> Option<u32>
+    requires own { (one.group ≡ group.now) × (other.group ≡ group.now) }
+    requires place { IsPlaceOf group.now place }
+{
+    let (one, other) = join(
+        rt,
+        || read(rt, group, origin, one, place, version),
+        || read(rt, group, origin, other, place, version),
+    );
+    Some(one?.wrapping_add(other?))
+}
+
+// Two of the callers, if there are so many.
+fn two_of(
+    group: &Group<Page>,
+    callers: &mut Vec<Caller<Page>>,
+) -> Option<(Caller<Page>, Caller<Page>)>
+    requires own { All (λ caller. caller.group ≡ group.now) callers.old.items }
+    ensures left { All (λ caller. caller.group ≡ group.now) callers.new.items }
+    ensures two { IfSome result (λ two. (two.0.group ≡ group.now) × (two.1.group ≡ group.now)) }
+{
+    let one = callers.pop()?;
+    Some((one, callers.pop()?))
+}
+
+// What the readers count of the first version, and, once the page was purged, of the second; and whether no answer took two loads.
+fn serve<R: Threads + Wait + Sync>(
+    rt: &R,
+    group: &Group<Page>,
+    mut callers: Vec<Caller<Page>>,
+    place: u32,
+) -> Option<(u32, u32, bool)>
+    requires own { All (λ caller. caller.group ≡ group.now) callers.items }
+    requires place { IsPlaceOf group.now place }
+{
+    let origin = Origin {
+        version: AtomicU32::new(1),
+        loads: AtomicU32::new(0),
+    };
+    let purger = callers.pop()?;
+    let (one, other) = two_of(group, &mut callers)?;
+    let first = read_both(rt, group, &origin, one, other, place, 1)?;
+
+    // The origin changes, the page is purged, and who reads next has heard of that.
+    origin.version.store(2, Ordering::SeqCst);
+    let mut note = purge(rt, group, purger, place);
+    let (mut one, mut other) = two_of(group, &mut callers)?;
+    group.learn(&mut one, &mut note);
+    group.learn(&mut other, &mut note);
+    let second = read_both(rt, group, &origin, one, other, place, 2)?;
+    Some((first, second, origin.loads.load(Ordering::SeqCst) <= 400))
+}
+
 fn main(rt: HostRuntime) -> io::Result<ExitCode> {
     let alloc = rt.alloc();
     let (directory, mut desks) = Directory::new(alloc, 16, 250, 1)?;
-    let (group, mut callers) = Group::<Page>::new(alloc, directory.place_count(), 5, 1)?;
-    let (Some(mut desk), Some(purger), Some(a), Some(b), Some(c), Some(d)) = (
-        desks.pop(),
-        callers.pop(),
-        callers.pop(),
-        callers.pop(),
-        callers.pop(),
-        callers.pop(),
-    ) else {
+    let (group, callers) = Group::<Page>::new(alloc, directory.place_count(), 5, 1)?;
+    let Some(mut desk) = desks.pop() else {
         unreachable!()
     };
     let Ok(place) = directory.resolve(&mut desk, b"/index.html") else {
@@ -110,35 +165,11 @@ fn main(rt: HostRuntime) -> io::Result<ExitCode> {
     if !group.has(place) {
         return Ok(ExitCode::FAILURE);
     }
-    let origin = Origin {
-        version: AtomicU32::new(1),
-        loads: AtomicU32::new(0),
-    };
-    let (group, origin) = (&group, &origin);
-    let (Some(a), Some(b)) = join(
-        &rt,
-        || read(&rt, group, origin, a, place, 1),
-        || read(&rt, group, origin, b, place, 1),
-    ) else {
+    let Some((first, second, few)) = serve(&rt, &group, callers, place) else {
         return Ok(ExitCode::FAILURE);
     };
-    println!(rt; "first version: {} of 200 answers", a.wrapping_add(b))?;
-
-    // The origin changes, the page is purged, and who reads next has heard of that.
-    origin.version.store(2, Ordering::SeqCst);
-    let mut note = purge(&rt, group, purger, place);
-    let (mut c, mut d) = (c, d);
-    group.learn(&mut c, &mut note);
-    group.learn(&mut d, &mut note);
-    let (Some(c), Some(d)) = join(
-        &rt,
-        || read(&rt, group, origin, c, place, 2),
-        || read(&rt, group, origin, d, place, 2),
-    ) else {
-        return Ok(ExitCode::FAILURE);
-    };
-    println!(rt; "second version: {} of 200 answers", c.wrapping_add(d))?;
-    let loads = origin.loads.load(Ordering::SeqCst);
-    println!(rt; "at most one load an answer: {}", loads <= 400)?;
+    println!(rt; "first version: {first} of 200 answers")?;
+    println!(rt; "second version: {second} of 200 answers")?;
+    println!(rt; "at most one load an answer: {few}")?;
     Ok(ExitCode::SUCCESS)
 }
