@@ -6,8 +6,8 @@
  * thread: who waits for a letter polls, and sleeps by means of its own.
  *
  * Your duties, which nothing here can look at:
- * - a slot is all zeros, or as the last call left it; it is never used after it was copied elsewhere;
- * - two slots that are given to one call are different ones, and in sf_learn of one group;
+ * - a slot or note is all zeros, or as the last call left it; it is never used after it was copied elsewhere;
+ * - two slots that are given to one call are different ones, and in sf_ask_chan of one group; so are the slot and the note in sf_learn;
  * - `key` has `len` bytes (it may be null where len is 0), and outputs are yours to write, and overlap nothing else;
  * - no call is made from a signal handler, or from the forked child of a process with threads;
  * - malloc, realloc and free come from one allocator, and align blocks as the C standard asks.
@@ -31,10 +31,18 @@ typedef struct sf_slot {
 
 #define SF_SLOT_NONE {0, 0}
 
+/* What a caller has seen, or nothing where all is zero. A note stands for no caller, and is used by one thread at a time, as a slot is. */
+typedef struct sf_note {
+    void *at;
+    bool live;
+} sf_note;
+
+#define SF_NOTE_NONE {0, 0}
+
 /* What calls answer. */
 enum {
-    SF_DONE = 0,         /* done; in sf_ask: leads; in sf_is_current: yes */
-    SF_OTHERWISE = 1,    /* in sf_ask: joined; sf_poll: not yet; sf_forget: none was open; sf_finish, sf_go_on: letters are still owed; sf_is_current: no */
+    SF_DONE = 0,         /* done; in sf_ask, sf_ask_chan: leads; in sf_is_current: yes */
+    SF_OTHERWISE = 1,    /* in sf_ask, sf_ask_chan: joined; sf_poll: not yet; sf_forget: none was open; sf_finish, sf_go_on: letters are still owed; sf_is_current: no */
     SF_SPENT = 2,        /* the caller has led or joined 4,294,967,295 calls, and asks no more */
     SF_BUSY = 3,         /* all tries failed, each since another had changed the key's word */
     SF_TOO_LONG = 4,     /* the key has more bytes than the group's keys may have */
@@ -67,6 +75,13 @@ uint32_t sf_split(sf_slot *slot, sf_slot *other);
  * SF_SPENT, SF_BUSY, SF_TOO_LONG, SF_FULL: it is free still. SF_WRONG_STATE where it is not free; SF_BAD_NUMBER; SF_NOT_OPEN. */
 uint32_t sf_ask(sf_slot *slot, const uint8_t *key, size_t len, uint32_t tries);
 
+/* A free caller asks for the key for that of `other`, which is free too and of the same group. SF_LEADS: the slot's caller leads
+ * the key's new call, has to load, and then calls sf_finish; and `other` waits for the letter of that very call, so that another
+ * thread may poll it. By that alone the call is not shared: *shared says whether somebody else joined. SF_JOINED: `other` waits for the letter of the call that is open, and the slot's
+ * caller is free. SF_SPENT, where one of the two is, SF_BUSY, SF_TOO_LONG, SF_FULL: both are free still. SF_WRONG_STATE where one of
+ * the two is not free; SF_BAD_NUMBER; SF_NOT_OPEN where one of the two is not open. */
+uint32_t sf_ask_chan(sf_slot *slot, sf_slot *other, const uint8_t *key, size_t len, uint32_t tries);
+
 /* The leader settles its call with the value, for good; each who joined gets it. SF_DONE: the caller is free again, and *shared
  * says whether somebody joined. SF_OWES: the call is settled, and sf_go_on has to be called until SF_DONE (today no value
  * needs memory, so this does not come). SF_WRONG_STATE where the caller leads no call; SF_NOT_OPEN. But for SF_DONE *shared is
@@ -90,23 +105,30 @@ uint32_t sf_forget(sf_slot *slot, const uint8_t *key, size_t len, uint32_t tries
  * was no letter yet; SF_WRONG_STATE where the caller is not free; SF_NOT_OPEN. */
 uint32_t sf_is_current(sf_slot *slot);
 
-/* How many others have the value with which the slot settled a call last: as many as joined it. Who counts what a value stands
- * for gives it so many counts more after an sf_finish that said *shared, and each who polls has one of them. SF_DONE;
+/* How many others have the value with which the slot settled a call last: as many as joined it, and one more where sf_ask_chan
+ * led it. Who counts what a value stands for gives it so many counts more after sf_finish, and each who polls has one of them. SF_DONE;
  * SF_NOTHING_LEFT where the slot had no letter yet; SF_NOT_OPEN. But for SF_DONE *count is not written. */
 uint32_t sf_joined(sf_slot *slot, uint64_t *count);
 
-/* The slot's caller, which is free or leads, has then seen what `other`'s has, which is free: if that one has seen a Forget, what
- * this one asks from now on has no answer from before it. Both slots are of one group. A spare slot can carry what one thread has
- * seen to another. SF_DONE; SF_WRONG_STATE; SF_NOT_OPEN where one of the two is not open. */
-uint32_t sf_learn(sf_slot *slot, sf_slot *other);
+/* Puts what the slot's caller, which is free, has seen into the note, in place of what that showed. A note may carry it to
+ * another thread. SF_DONE; SF_NOTHING_LEFT and SF_WRONG_STATE, where the note is as it was; SF_NOT_OPEN where the slot is not open. */
+uint32_t sf_tell(sf_slot *slot, sf_note *note);
+
+/* The slot's caller, which is free or leads, has then seen what the note shows: if that tells of a Forget, what the caller asks from
+ * now on has no answer from before it. Both are of one group. SF_DONE; SF_WRONG_STATE; SF_NOT_OPEN where the slot is not open, or
+ * the note shows nothing. */
+uint32_t sf_learn(sf_slot *slot, sf_note *note);
+
+/* Lets the note go, and does nothing to one that shows nothing. */
+void sf_drop_note(sf_note *note);
 
 /* Gives up for good a call that the caller leads, a letter that it waits for, or letters that it owes. A call that was given up
  * is never settled: who joined it, or joins it later, waits in vain until the key is forgotten, so a leader that fails should
  * sooner settle with a value that says so. The slot can only be closed then, or split. SF_DONE; SF_WRONG_STATE; SF_NOT_OPEN. */
 uint32_t sf_give_up(sf_slot *slot);
 
-/* Closes the slot, whatever it is doing (see sf_give_up), and does nothing to one that is not open. The last one of a group
- * to be closed frees the group. */
+/* Closes the slot, whatever it is doing (see sf_give_up), and does nothing to one that is not open. A group is freed with the last
+ * of its slots and notes. */
 void sf_close(sf_slot *slot);
 
 #ifdef __cplusplus

@@ -23,6 +23,10 @@ static uint32_t forget(sf_slot *slot, const char *key, uint32_t tries) {
     return sf_forget(slot, (const uint8_t *)key, strlen(key), tries);
 }
 
+static uint32_t ask_chan(sf_slot *slot, sf_slot *other, const char *key, uint32_t tries) {
+    return sf_ask_chan(slot, other, (const uint8_t *)key, strlen(key), tries);
+}
+
 static void sizes(void) {
     sf_slot slot = SF_SLOT_NONE;
     check(sf_open(&slot, 0, 8, 1) == SF_BAD_NUMBER, "no key");
@@ -40,6 +44,7 @@ static void sizes(void) {
 
 static void not_open(void) {
     sf_slot none = SF_SLOT_NONE, other = SF_SLOT_NONE;
+    sf_note note = SF_NOTE_NONE;
     uint64_t value = 5;
     bool shared = true;
     check(ask(&none, "k", 1) == SF_NOT_OPEN, "ask not open");
@@ -49,7 +54,9 @@ static void not_open(void) {
     check(sf_poll(&none, &value, &shared) == SF_NOT_OPEN && value == 5 && shared, "poll not open");
     check(sf_is_current(&none) == SF_NOT_OPEN, "is current not open");
     check(sf_joined(&none, &value) == SF_NOT_OPEN && value == 5, "joined not open");
-    check(sf_learn(&none, &other) == SF_NOT_OPEN, "learn not open");
+    check(sf_tell(&none, &note) == SF_NOT_OPEN && !note.live, "tell not open");
+    check(sf_learn(&none, &note) == SF_NOT_OPEN, "learn not open");
+    check(ask_chan(&none, &other, "k", 1) == SF_NOT_OPEN, "ask with a second not open");
     check(sf_give_up(&none) == SF_NOT_OPEN, "give up not open");
     check(sf_split(&none, &other) == SF_NOT_OPEN && !other.live, "split not open");
     sf_close(&none);
@@ -66,7 +73,6 @@ static void one_call(void) {
     check(sf_split(&a, &b) == SF_DONE && sf_split(&a, &c) == SF_DONE, "split");
     check(sf_split(&a, &b) == SF_WRONG_STATE, "split onto an open slot");
     check(sf_split(&a, &d) == SF_NOTHING_LEFT && sf_split(&b, &d) == SF_NOTHING_LEFT, "no caller is left");
-    check(sf_learn(&a, &d) == SF_NOT_OPEN && sf_learn(&d, &a) == SF_NOT_OPEN, "learn with one not open");
     check(ask(&a, "k", 0) == SF_BAD_NUMBER && ask(&a, "k", SF_MOST_TRIES + 1) == SF_BAD_NUMBER, "bad tries");
     check(forget(&a, "k", 0) == SF_BAD_NUMBER, "forget: bad tries");
     check(ask(&a, "long!", 1) == SF_TOO_LONG && forget(&a, "long!", 1) == SF_TOO_LONG, "too long");
@@ -78,20 +84,16 @@ static void one_call(void) {
     check(sf_poll(&a, &value, &shared) == SF_WRONG_STATE && sf_is_current(&a) == SF_WRONG_STATE, "a leader polls");
     check(ask(&b, "k", 1) == SF_JOINED && ask(&c, "k", 1) == SF_JOINED, "joins");
     check(sf_poll(&b, &value, &shared) == SF_NOT_YET && value == 7 && !shared, "not yet");
-    check(sf_learn(&b, &a) == SF_WRONG_STATE, "learn of a leader");
     check(sf_finish(&a, UINT64_MAX, &shared) == SF_DONE && shared, "finish");
     check(sf_joined(&a, &count) == SF_DONE && count == 2, "two joined");
     check(sf_poll(&b, &value, &shared) == SF_DONE && value == UINT64_MAX && shared, "the letter");
     check(sf_is_current(&a) == SF_YES && sf_is_current(&b) == SF_YES, "current");
-    check(sf_learn(&a, &b) == SF_DONE && sf_learn(&c, &b) == SF_WRONG_STATE, "learn");
     check(forget(&b, "k", 1) == SF_NONE_OPEN, "forget a settled call");
     check(ask(&a, "k", 1) == SF_LEADS, "leads again");
     check(forget(&b, "k", 1) == SF_DONE && forget(&b, "k", 1) == SF_NONE_OPEN, "forget an open call");
     check(sf_is_current(&b) == SF_NO, "no longer current");
     check(ask(&b, "k", 1) == SF_LEADS, "a new call beside the forgotten one");
-    check(sf_learn(&b, &a) == SF_WRONG_STATE, "learn of one that leads");
     check(sf_finish(&a, 4, &shared) == SF_DONE && !shared, "finish alone");
-    check(sf_learn(&b, &a) == SF_DONE, "a leader learns");
     check(sf_joined(&a, &count) == SF_DONE && count == 0, "nobody joined");
     check(sf_poll(&c, &value, &shared) == SF_DONE && value == UINT64_MAX && shared, "an old letter");
     check(ask(&c, "m", 1) == SF_LEADS && sf_give_up(&c) == SF_DONE, "give up");
@@ -105,21 +107,78 @@ static void one_call(void) {
     sf_close(&b);
 }
 
+/* Asks for a second caller: who leads, who waits, and each refusal. */
+static void two_callers(void) {
+    sf_slot a = SF_SLOT_NONE, b = SF_SLOT_NONE, c = SF_SLOT_NONE, none = SF_SLOT_NONE;
+    uint64_t value = 7, count = 7;
+    bool shared = false;
+    check(sf_open(&a, 1, 4, 3) == SF_DONE && sf_split(&a, &b) == SF_DONE && sf_split(&a, &c) == SF_DONE, "open for two");
+    check(ask_chan(&a, &none, "k", 1) == SF_NOT_OPEN && ask_chan(&none, &a, "k", 1) == SF_NOT_OPEN, "one of the two is not open");
+    check(ask_chan(&a, &b, "k", 0) == SF_BAD_NUMBER && ask_chan(&a, &b, "k", SF_MOST_TRIES + 1) == SF_BAD_NUMBER, "bad tries for two");
+    check(ask_chan(&a, &b, "long!", 1) == SF_TOO_LONG, "too long for two");
+    check(ask_chan(&a, &b, "k", 1) == SF_LEADS, "the first leads");
+    check(sf_poll(&b, &value, &shared) == SF_NOT_YET && sf_poll(&a, &value, &shared) == SF_WRONG_STATE, "the second waits");
+    check(ask_chan(&a, &c, "k", 1) == SF_WRONG_STATE && ask_chan(&c, &a, "k", 1) == SF_WRONG_STATE, "one of the two leads");
+    check(ask_chan(&b, &c, "k", 1) == SF_WRONG_STATE && ask_chan(&c, &b, "k", 1) == SF_WRONG_STATE, "one of the two waits");
+    check(sf_finish(&a, 11, &shared) == SF_DONE && !shared, "nobody else joined");
+    check(sf_joined(&a, &count) == SF_DONE && count == 1, "the own channel counts as one");
+    check(sf_poll(&b, &value, &shared) == SF_DONE && value == 11 && !shared, "the letter of the own channel");
+    check(ask(&c, "k", 1) == SF_LEADS && ask_chan(&a, &b, "k", 1) == SF_JOINED, "the second joins");
+    check(sf_poll(&a, &value, &shared) == SF_WRONG_STATE && sf_poll(&b, &value, &shared) == SF_NOT_YET, "the first is free");
+    check(forget(&a, "k", 1) == SF_DONE && ask(&a, "k", 1) == SF_LEADS, "the first goes on");
+    check(sf_finish(&c, 12, &shared) == SF_DONE && shared && sf_finish(&a, 13, &shared) == SF_DONE && !shared, "finish both");
+    check(sf_poll(&b, &value, &shared) == SF_DONE && value == 12 && shared, "the letter of the call that it joined");
+    check(ask_chan(&a, &b, "m", 1) == SF_FULL && sf_is_current(&a) == SF_YES && sf_is_current(&b) == SF_NO, "full for two");
+    sf_close(&a);
+    sf_close(&b);
+    sf_close(&c);
+}
+
+/* Notes: told by a free caller alone, learnt by one that is free or leads, and kept beyond the slots. */
+static void notes(void) {
+    sf_slot a = SF_SLOT_NONE, b = SF_SLOT_NONE, none = SF_SLOT_NONE;
+    sf_note note = SF_NOTE_NONE, empty = SF_NOTE_NONE;
+    uint64_t value = 7;
+    bool shared = false;
+    check(sf_open(&a, 2, 4, 2) == SF_DONE && sf_split(&a, &b) == SF_DONE, "open for notes");
+    check(sf_learn(&a, &empty) == SF_NOT_OPEN && !empty.live, "an empty note");
+    check(sf_tell(&a, &note) == SF_DONE && note.live, "tell");
+    check(sf_learn(&none, &note) == SF_NOT_OPEN && note.live, "learn with no slot");
+    check(sf_learn(&b, &note) == SF_DONE && sf_learn(&b, &note) == SF_DONE, "a free caller learns, and again");
+    check(ask(&a, "k", 1) == SF_LEADS && sf_tell(&a, &note) == SF_WRONG_STATE && note.live, "a leader tells nothing");
+    check(sf_tell(&a, &empty) == SF_WRONG_STATE && !empty.live, "nor into an empty note");
+    check(forget(&b, "k", 1) == SF_DONE && sf_tell(&b, &note) == SF_DONE, "told again");
+    check(sf_learn(&a, &note) == SF_DONE && ask(&b, "m", 1) == SF_LEADS, "a leader learns");
+    check(sf_finish(&a, 1, &shared) == SF_DONE && ask(&a, "m", 1) == SF_JOINED, "it settles");
+    check(sf_learn(&a, &note) == SF_WRONG_STATE && sf_tell(&a, &note) == SF_WRONG_STATE, "one who waits does neither");
+    check(sf_finish(&b, 2, &shared) == SF_DONE && sf_poll(&a, &value, &shared) == SF_DONE && value == 2, "free again");
+    sf_close(&a);
+    check(sf_learn(&b, &note) == SF_DONE, "a note of a caller that is closed");
+    sf_close(&b);
+    sf_drop_note(&note);
+    sf_drop_note(&note);
+    sf_drop_note(&empty);
+    check(!note.live && !empty.live && sf_learn(&b, &note) == SF_NOT_OPEN, "dropped");
+}
+
 #ifndef ROUNDS
 #define ROUNDS 20000
 #endif
 
 enum { THREADS = 8, KEYS = 16 };
 
-/* A load takes a number that grows over all loads; a Forget is noted by that of its moment. */
-static atomic_ullong clock_now = 1;
-static atomic_ullong loads, joins, forgets;
+/* Each load has a number, which its value carries. Ticks order when an asking began, when a load's call was settled at the latest,
+ * and when a Forget was over. */
+static atomic_ullong clock_now = 1, ticks = 1;
+static atomic_ullong gets, loads, joins, forgets;
 static atomic_ullong forgotten_at[KEYS];
+static atomic_ullong settled_at[THREADS * ROUNDS + 1];
 
 struct job {
-    sf_slot slot;
+    sf_slot slot, second;
+    sf_note note;
     unsigned seed;
-    unsigned long long old, strange;
+    unsigned long long old, closed, strange;
 };
 
 static unsigned draw(unsigned *seed) {
@@ -129,35 +188,49 @@ static unsigned draw(unsigned *seed) {
     return *seed;
 }
 
-static void get(struct job *job, unsigned number, const char *key) {
-    /* The call was open when this asked, so its load ended, and what it took then is later than each Forget before. */
-    unsigned long long before = atomic_load(&forgotten_at[number]);
-    uint64_t value = 0;
+/* Loads for the call that the slot leads, and settles it: the number of the load. */
+static unsigned long long lead(struct job *job, unsigned number, bool with_second) {
+    if (draw(&job->seed) % 4 == 0) sched_yield();
+    unsigned long long load = atomic_fetch_add(&clock_now, 1);
+    atomic_fetch_add(&loads, 1);
     bool shared = false;
+    uint64_t count = 99;
+    if (sf_finish(&job->slot, load * KEYS + number, &shared) != SF_DONE) job->strange++;
+    atomic_store(&settled_at[load], atomic_fetch_add(&ticks, 1));
+    if (sf_joined(&job->slot, &count) != SF_DONE || (count > with_second) != shared) job->strange++;
+    atomic_fetch_add(&joins, -(unsigned long long)count);
+    return load;
+}
+
+static void get(struct job *job, unsigned number, const char *key) {
+    unsigned long long forgotten = atomic_load(&forgotten_at[number]), before = atomic_fetch_add(&ticks, 1), load = 0;
+    bool with_second = draw(&job->seed) % 8 == 0, shared = false;
+    sf_slot *waits = with_second ? &job->second : &job->slot;
+    uint64_t value = 0;
     uint32_t code;
-    while ((code = ask(&job->slot, key, 64)) == SF_BUSY) {}
-    if (code == SF_LEADS) {
-        if (draw(&job->seed) % 4 == 0) sched_yield();
-        value = atomic_fetch_add(&clock_now, 1) * KEYS + number;
-        atomic_fetch_add(&loads, 1);
-        if (sf_finish(&job->slot, value, &shared) != SF_DONE) job->strange++;
-        uint64_t count = 99;
-        if (sf_joined(&job->slot, &count) != SF_DONE || (count > 0) != shared) job->strange++;
-        atomic_fetch_add(&joins, -(unsigned long long)count);
-    } else if (code == SF_JOINED) {
-        while ((code = sf_poll(&job->slot, &value, &shared)) == SF_NOT_YET) sched_yield();
-        if (code != SF_DONE || !shared) job->strange++;
+    atomic_fetch_add(&gets, 1);
+    do {
+        code = with_second ? ask_chan(&job->slot, &job->second, key, 64) : ask(&job->slot, key, 64);
+    } while (code == SF_BUSY);
+    if (code == SF_LEADS) load = lead(job, number, with_second);
+    else if (code != SF_JOINED) job->strange++;
+    if (code == SF_JOINED || with_second) {
+        bool joined = code == SF_JOINED;
+        while ((code = sf_poll(waits, &value, &shared)) == SF_NOT_YET) sched_yield();
+        if (code != SF_DONE || value % KEYS != number || (joined ? !shared : value / KEYS != load)) job->strange++;
         atomic_fetch_add(&joins, 1);
-    } else {
-        job->strange++;
+        load = value / KEYS;
     }
-    if (value % KEYS != number) job->strange++;
-    if (value / KEYS < before) job->old++;
+    /* The call was open when this asked: it was settled later, if that is noted yet, and its load ended after each Forget before. */
+    unsigned long long settled = atomic_load(&settled_at[load]);
+    if (settled != 0 && settled < before) job->closed++;
+    if (load < forgotten) job->old++;
 }
 
 static void *run(void *at) {
     struct job *job = at;
     for (int i = 0; i < ROUNDS; i++) {
+        if (i % 64 == 0 && (sf_tell(&job->slot, &job->note) != SF_DONE || sf_learn(&job->second, &job->note) != SF_DONE)) job->strange++;
         unsigned number = draw(&job->seed) % KEYS;
         char key[4];
         snprintf(key, sizeof key, "k%u", number);
@@ -174,6 +247,8 @@ static void *run(void *at) {
             get(job, number, key);
         }
     }
+    sf_drop_note(&job->note);
+    sf_close(&job->second);
     sf_close(&job->slot);
     return NULL;
 }
@@ -181,28 +256,36 @@ static void *run(void *at) {
 static void threads(void) {
     static struct job jobs[THREADS];
     pthread_t ids[THREADS];
-    check(sf_open(&jobs[0].slot, KEYS, 8, THREADS) == SF_DONE, "open for threads");
+    check(sf_open(&jobs[0].slot, KEYS, 8, 2 * THREADS) == SF_DONE, "open for threads");
     for (int i = 1; i < THREADS; i++) check(sf_split(&jobs[0].slot, &jobs[i].slot) == SF_DONE, "split for threads");
+    for (int i = 0; i < THREADS; i++) {
+        check(sf_split(&jobs[0].slot, &jobs[i].second) == SF_DONE, "split for seconds");
+    }
     for (int i = 0; i < THREADS; i++) {
         jobs[i].seed = 2463534242u + 97u * (unsigned)i;
         if (pthread_create(&ids[i], NULL, run, &jobs[i])) abort();
     }
-    unsigned long long old = 0, strange = 0;
+    unsigned long long old = 0, closed = 0, strange = 0;
     for (int i = 0; i < THREADS; i++) {
         pthread_join(ids[i], NULL);
         old += jobs[i].old;
+        closed += jobs[i].closed;
         strange += jobs[i].strange;
     }
     check(old == 0, "no answer from before a Forget that was over when it was asked");
+    check(closed == 0, "no answer of a call that was settled before it was asked");
     check(strange == 0, "codes, keys and marks of threads");
     check(atomic_load(&joins) == 0, "each who joined has its letter, and leaders count them");
-    check(atomic_load(&loads) > 0 && atomic_load(&forgets) > 0, "threads load and forget");
+    check(atomic_load(&loads) > 0 && atomic_load(&loads) < atomic_load(&gets), "threads load, and some join");
+    check(atomic_load(&forgets) > 0 && atomic_load(&loads) + 1 == atomic_load(&clock_now), "threads forget, and loads are counted");
 }
 
 int main(void) {
     sizes();
     not_open();
     one_call();
+    two_callers();
+    notes();
     threads();
     printf("%d passed, %d failed\n", passed, failed);
     return failed != 0;

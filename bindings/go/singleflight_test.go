@@ -3,6 +3,7 @@ package singleflight
 import (
 	"errors"
 	"fmt"
+	"runtime"
 	"strings"
 	"sync"
 	"sync/atomic"
@@ -15,8 +16,18 @@ func open(t *testing.T, keys, callers uint32) *Group {
 	if err != nil {
 		t.Fatal(err)
 	}
-	t.Cleanup(func() { g.Close(callers) })
+	t.Cleanup(g.Close)
 	return g
+}
+
+// How many answers not all have yet.
+func kept(g *Group) (count int) {
+	for _, s := range g.seats {
+		if s.val != nil || s.err != nil {
+			count++
+		}
+	}
+	return count
 }
 
 func TestDo(t *testing.T) {
@@ -29,8 +40,8 @@ func TestDo(t *testing.T) {
 	if v, err, _ := g.Do("key", func() (interface{}, error) { return nil, failed }); err != failed || v != nil {
 		t.Error("an error", v, err)
 	}
-	if _, err, _ := g.Do(strings.Repeat("k", 17), nil); err != ErrFull {
-		t.Error("a key that is too long", err)
+	if v, err, shared := g.Do(strings.Repeat("k", 17), func() (interface{}, error) { return "alone", nil }); v != "alone" || err != nil || shared || g.Alone() != 1 {
+		t.Error("a key that is too long", v, err, shared, g.Alone())
 	}
 	if _, err := New(0, 16, 1); err != ErrSize {
 		t.Error("no key")
@@ -62,8 +73,8 @@ func TestDoDupSuppress(t *testing.T) {
 			t.Error("a shared result", r)
 		}
 	}
-	if calls != 1 || len(g.answers) != 0 {
-		t.Error("one call, and no answer is kept", calls, len(g.answers))
+	if calls != 1 || kept(g) != 0 {
+		t.Error("one call, and no answer is kept", calls, kept(g))
 	}
 }
 
@@ -82,23 +93,85 @@ func TestForget(t *testing.T) {
 	}
 }
 
-func TestPanic(t *testing.T) {
-	g := open(t, 1, 2)
-	func() {
-		defer func() {
-			if recover() == nil {
-				t.Error("the panic goes on")
-			}
+// Starts a Do whose function ends as it is told once another has joined it, and returns how both end.
+func endsTogether(t *testing.T, end func()) (recovered [2]interface{}, returned [2]bool) {
+	g := open(t, 1, 3)
+	started, release := make(chan struct{}), make(chan struct{})
+	var all sync.WaitGroup
+	do := func(i int, fn func() (interface{}, error)) {
+		all.Add(1)
+		go func() {
+			defer all.Done()
+			defer func() { recovered[i] = recover() }()
+			g.Do("key", fn)
+			returned[i] = true
 		}()
-		g.Do("key", func() (interface{}, error) { panic("load") })
-	}()
-	if v, _, _ := g.Do("key", func() (interface{}, error) { return 3, nil }); v != 3 {
-		t.Error("the caller is free again", v)
+	}
+	do(0, func() (interface{}, error) { close(started); <-release; end(); return nil, nil })
+	<-started
+	do(1, func() (interface{}, error) { return nil, errors.New("a second call") })
+	time.Sleep(100 * time.Millisecond)
+	close(release)
+	all.Wait()
+	if v, _, _ := g.Do("key", func() (interface{}, error) { return 3, nil }); v != 3 || kept(g) != 0 {
+		t.Error("the callers are free again", v, kept(g))
+	}
+	return
+}
+
+func TestPanic(t *testing.T) {
+	recovered, returned := endsTogether(t, func() { panic("load") })
+	for i := range recovered {
+		if e, ok := recovered[i].(error); !ok || !strings.HasPrefix(e.Error(), "load\n\n") || returned[i] {
+			t.Error("the panic goes on in each", i, recovered[i], returned[i])
+		}
+	}
+}
+
+func TestGoexit(t *testing.T) {
+	recovered, returned := endsTogether(t, runtime.Goexit)
+	for i := range recovered {
+		if recovered[i] != nil || returned[i] {
+			t.Error("each goroutine ends", i, recovered[i], returned[i])
+		}
+	}
+}
+
+func TestAlone(t *testing.T) {
+	g := open(t, 1, 1)
+	v, _, _ := g.Do("key", func() (interface{}, error) {
+		// The one caller is taken, and a Forget needs none.
+		g.Forget("key")
+		v, err, shared := g.Do("key", func() (interface{}, error) { return 5, nil })
+		if shared {
+			t.Error("nobody joins one who is alone")
+		}
+		return v, err
+	})
+	if v != 5 || g.Alone() != 1 {
+		t.Error("one inside the other", v, g.Alone())
+	}
+	if r := <-g.DoChan("full", func() (interface{}, error) { return 6, nil }); r.Val != 6 || r.Shared || g.Alone() != 2 {
+		t.Error("no room for a second key", r, g.Alone())
+	}
+}
+
+func TestDoChan(t *testing.T) {
+	g := open(t, 1, 2)
+	release := make(chan struct{})
+	ch := g.DoChan("key", func() (interface{}, error) { <-release; return 7, nil })
+	// The call is open as soon as DoChan has returned.
+	other := g.DoChan("key", func() (interface{}, error) { return 8, nil })
+	close(release)
+	for _, ch := range []<-chan Result{ch, other} {
+		if r := <-ch; r.Val != 7 || r.Err != nil || !r.Shared {
+			t.Error("one call", r)
+		}
 	}
 }
 
 func TestMany(t *testing.T) {
-	g := open(t, 16, 8)
+	g := open(t, 16, 16)
 	var now int64
 	var forgotten [16]int64
 	var all sync.WaitGroup
@@ -128,7 +201,7 @@ func TestMany(t *testing.T) {
 		}(i + 1)
 	}
 	all.Wait()
-	if len(g.answers) != 0 {
-		t.Error("answers are kept", len(g.answers))
+	if kept(g) != 0 || g.Alone() != 0 {
+		t.Error("answers are kept, or a call was alone", kept(g), g.Alone())
 	}
 }

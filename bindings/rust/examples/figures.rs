@@ -2,7 +2,7 @@
 //! `cargo run --release --example figures`, with the paths that `bindings/check` sets.
 use singleflight::Group;
 use std::collections::HashMap;
-use std::hint::black_box;
+use std::sync::atomic::{AtomicU64, Ordering::Relaxed};
 use std::sync::{Arc, Barrier, Condvar, Mutex};
 use std::time::Instant;
 
@@ -41,16 +41,23 @@ impl Plain {
     }
 }
 
+// What a loop got has to be used, or the loop may go.
+static USED: AtomicU64 = AtomicU64::new(0);
+
 // Nanoseconds a get of each thread.
 fn time(threads: u64, run: impl Fn(u64, &Barrier) + Sync) -> f64 {
-    let start = Barrier::new(threads as usize + 1);
+    let (ready, start) = (Barrier::new(threads as usize + 1), Barrier::new(threads as usize + 1));
     let took = std::thread::scope(|scope| {
         for thread in 0..threads {
-            let (run, start) = (&run, &start);
-            scope.spawn(move || run(thread, start));
+            let (run, ready, start) = (&run, &ready, &start);
+            scope.spawn(move || {
+                ready.wait();
+                run(thread, start)
+            });
         }
-        start.wait();
+        ready.wait();
         let from = Instant::now();
+        start.wait();
         start.wait();
         from.elapsed()
     });
@@ -67,19 +74,23 @@ fn main() {
                 ours = ours.min(time(threads, |thread, start| {
                     let (mut caller, key) = (group.caller().unwrap(), key_of(thread));
                     start.wait();
+                    let mut sum = 0;
                     for round in 0..GETS {
-                        black_box(*caller.do_with(&key, || round).unwrap().answer);
+                        sum ^= *caller.do_with(&key, || round).unwrap().answer;
                     }
                     start.wait();
+                    USED.fetch_xor(sum, Relaxed);
                 }));
                 let plain = Plain::default();
                 plains = plains.min(time(threads, |thread, start| {
                     let key = key_of(thread);
                     start.wait();
+                    let mut sum = 0;
                     for round in 0..GETS {
-                        black_box(*plain.do_with(&key, || round));
+                        sum ^= *plain.do_with(&key, || round);
                     }
                     start.wait();
+                    USED.fetch_xor(sum, Relaxed);
                 }));
             }
             println!("{what}, {threads} threads: {ours:.0} ns a get; mutex, map and condition variable {plains:.0} ns");

@@ -21,9 +21,11 @@
 //! leader, which looks whether anybody joined, wakes it.
 
 mod answer;
+mod chan;
 mod raw;
 
 pub use answer::Answer;
+pub use chan::{Job, Receiver};
 use raw::Slot;
 use std::fmt;
 use std::marker::PhantomData;
@@ -45,6 +47,8 @@ pub enum Error {
     Full,
     /// The caller has had all its calls.
     Spent,
+    /// The other caller, or the note, is of another group.
+    OtherGroup,
 }
 
 impl fmt::Display for Error {
@@ -55,6 +59,7 @@ impl fmt::Display for Error {
             Error::KeyTooLong => "key too long",
             Error::Full => "group full",
             Error::Spent => "caller spent",
+            Error::OtherGroup => "of another group",
         })
     }
 }
@@ -67,18 +72,29 @@ struct Shard {
     settled: Condvar,
 }
 
+// What the callers of a group share: where to park, and the slots of receivers that were dropped before their answers came.
+struct Shared<T> {
+    shards: [Shard; SHARDS],
+    dropped: Mutex<Vec<Slot>>,
+    value: PhantomData<fn(T) -> T>,
+}
+
 /// A group of callers. It is `Sync`: each thread takes its caller from it.
 pub struct Group<T> {
     source: Mutex<Slot>,
-    shards: Arc<[Shard]>,
-    value: PhantomData<fn(T) -> T>,
+    shared: Arc<Shared<T>>,
 }
 
 /// One who asks, in one thread at a time.
 pub struct Caller<T> {
     slot: Slot,
-    shards: Arc<[Shard]>,
-    value: PhantomData<fn(T) -> T>,
+    shared: Arc<Shared<T>>,
+}
+
+/// What a caller has seen, for another thread's caller to learn.
+pub struct Note<T> {
+    note: raw::Note,
+    shared: Arc<Shared<T>>,
 }
 
 /// What an asking got.
@@ -105,11 +121,11 @@ fn lock<T>(mutex: &Mutex<T>) -> MutexGuard<'_, T> {
     mutex.lock().unwrap_or_else(PoisonError::into_inner)
 }
 
-fn shard_of<'a>(shards: &'a [Shard], key: &[u8]) -> &'a Shard {
+fn shard_of(key: &[u8]) -> usize {
     let hash = key.iter().fold(0xcbf2_9ce4_8422_2325u64, |hash, byte| {
         (hash ^ u64::from(*byte)).wrapping_mul(0x100_0000_01b3)
     });
-    &shards[(hash >> 32) as usize % SHARDS]
+    (hash >> 32) as usize % SHARDS
 }
 
 impl<T: Send + Sync> Group<T> {
@@ -121,8 +137,11 @@ impl<T: Send + Sync> Group<T> {
         match unsafe { raw::sf_open(&mut slot, keys, key_bytes, callers) } {
             raw::DONE => Ok(Group {
                 source: Mutex::new(slot),
-                shards: (0..SHARDS).map(|_| Shard::default()).collect(),
-                value: PhantomData,
+                shared: Arc::new(Shared {
+                    shards: std::array::from_fn(|_| Shard::default()),
+                    dropped: Mutex::default(),
+                    value: PhantomData,
+                }),
             }),
             code => Err(refusal(code)),
         }
@@ -134,8 +153,7 @@ impl<T: Send + Sync> Group<T> {
         let code = unsafe { raw::sf_split(&mut lock(&self.source), &mut slot) };
         (code == raw::DONE).then(|| Caller {
             slot,
-            shards: self.shards.clone(),
-            value: PhantomData,
+            shared: self.shared.clone(),
         })
     }
 }
@@ -143,6 +161,25 @@ impl<T: Send + Sync> Group<T> {
 impl<T> Drop for Group<T> {
     fn drop(&mut self) {
         unsafe { raw::sf_close(&mut lock(&self.source)) }
+    }
+}
+
+impl<T> Drop for Shared<T> {
+    fn drop(&mut self) {
+        // No caller is left, so each call is settled that ever will be.
+        for mut slot in std::mem::take(&mut *lock(&self.dropped)) {
+            if let Some((number, _)) = poll(&mut slot) {
+                // SAFETY: the leader counted the receiver, which did not take its letter.
+                drop(unsafe { Answer::<T>::of_number(number) });
+            }
+            unsafe { raw::sf_close(&mut slot) }
+        }
+    }
+}
+
+impl<T> Drop for Note<T> {
+    fn drop(&mut self) {
+        unsafe { raw::sf_drop_note(&mut self.note) }
     }
 }
 
@@ -155,7 +192,9 @@ impl<T> Drop for Caller<T> {
 // A leader whose load panics settles its call with nothing, so that who joined asks again.
 struct Leading<'a, T> {
     caller: &'a mut Caller<T>,
-    key: &'a [u8],
+    shard: usize,
+    // Whether a receiver waits for the call from its beginning, who is not counted as one who joined.
+    has_receiver: bool,
 }
 
 impl<T> Leading<'_, T> {
@@ -167,17 +206,29 @@ impl<T> Leading<'_, T> {
             while code == raw::OTHERWISE {
                 code = raw::sf_go_on(slot, &mut shared);
             }
-            if shared {
+            if shared || self.has_receiver {
                 raw::sf_joined(slot, &mut joined);
             }
         }
-        if shared {
-            let shard = shard_of(&self.caller.shards, self.key);
+        if joined > 0 {
+            let shard = &self.caller.shared.shards[self.shard];
             // Who looked before the letters were there holds the lock until it sleeps.
             drop(lock(&shard.lock));
             shard.settled.notify_all();
         }
         (shared, joined)
+    }
+
+    fn load(mut self, load: impl FnOnce() -> T) -> Got<T> {
+        let answer = Answer::lent(load());
+        let (shared, joined) = self.settle(answer.number());
+        std::mem::forget(self);
+        answer.settle(joined);
+        Got {
+            answer,
+            shared,
+            led: true,
+        }
     }
 }
 
@@ -187,22 +238,29 @@ impl<T> Drop for Leading<'_, T> {
     }
 }
 
+fn poll(slot: &mut Slot) -> Option<(u64, bool)> {
+    let (mut number, mut shared) = (0, false);
+    let code = unsafe { raw::sf_poll(slot, &mut number, &mut shared) };
+    (code == raw::DONE).then_some((number, shared))
+}
+
 impl<T: Send + Sync> Caller<T> {
     /// The answer of the key's open call; or where there is none, of a new one, for which `load` is called.
     pub fn do_with(&mut self, key: &[u8], load: impl FnOnce() -> T) -> Result<Got<T>, Error> {
         loop {
             let code = unsafe { raw::sf_ask(&mut self.slot, key.as_ptr(), key.len(), raw::MOST_TRIES) };
             match code {
-                raw::DONE => return Ok(self.lead(key, load)),
+                raw::DONE => {
+                    let leading = Leading {
+                        caller: self,
+                        shard: shard_of(key),
+                        has_receiver: false,
+                    };
+                    return Ok(leading.load(load));
+                }
                 raw::OTHERWISE => {
-                    let (number, shared) = self.wait(key);
-                    // SAFETY: the leader counts each who joined, and this one takes its letter once.
-                    if let Some(answer) = unsafe { Answer::of_number(number) } {
-                        return Ok(Got {
-                            answer,
-                            shared,
-                            led: false,
-                        });
+                    if let Some(got) = self.wait(shard_of(key)) {
+                        return Ok(got);
                     }
                 }
                 raw::BUSY => std::hint::spin_loop(),
@@ -232,38 +290,52 @@ impl<T: Send + Sync> Caller<T> {
         }
     }
 
-    fn lead(&mut self, key: &[u8], load: impl FnOnce() -> T) -> Got<T> {
-        let mut leading = Leading { caller: self, key };
-        let answer = Answer::lent(load());
-        let (shared, joined) = leading.settle(answer.number());
-        std::mem::forget(leading);
-        answer.settle(joined);
-        Got {
-            answer,
-            shared,
-            led: true,
+    /// A note of what this caller has seen.
+    pub fn tell(&mut self) -> Result<Note<T>, Error> {
+        let mut note = raw::Note::NONE;
+        match unsafe { raw::sf_tell(&mut self.slot, &mut note) } {
+            raw::DONE => Ok(Note {
+                note,
+                shared: self.shared.clone(),
+            }),
+            code => Err(refusal(code)),
         }
     }
 
-    fn poll(&mut self) -> Option<(u64, bool)> {
-        let (mut number, mut shared) = (0, false);
-        let code = unsafe { raw::sf_poll(&mut self.slot, &mut number, &mut shared) };
-        (code == raw::DONE).then_some((number, shared))
+    /// This caller has then seen what the note tells: nothing that it asks from now on has an answer from before a Forget of
+    /// which the note tells.
+    pub fn learn(&mut self, note: &mut Note<T>) -> Result<(), Error> {
+        if !Arc::ptr_eq(&self.shared, &note.shared) {
+            return Err(Error::OtherGroup);
+        }
+        match unsafe { raw::sf_learn(&mut self.slot, &mut note.note) } {
+            raw::DONE => Ok(()),
+            code => Err(refusal(code)),
+        }
     }
 
-    fn wait(&mut self, key: &[u8]) -> (u64, bool) {
+    // What the letter that is there brings. None where the leader's load panicked.
+    fn got(number: u64, shared: bool) -> Option<Got<T>> {
+        // SAFETY: the leader counts each who joined, and each takes its letter once.
+        unsafe { Answer::of_number(number) }.map(|answer| Got {
+            answer,
+            shared,
+            led: false,
+        })
+    }
+
+    fn wait(&mut self, shard: usize) -> Option<Got<T>> {
         for _ in 0..64 {
-            if let Some(letter) = self.poll() {
-                return letter;
+            if let Some((number, shared)) = poll(&mut self.slot) {
+                return Self::got(number, shared);
             }
             std::hint::spin_loop();
         }
-        let shards = self.shards.clone();
-        let shard = shard_of(&shards, key);
+        let shard = &self.shared.shards[shard];
         let mut guard = lock(&shard.lock);
         loop {
-            if let Some(letter) = self.poll() {
-                return letter;
+            if let Some((number, shared)) = poll(&mut self.slot) {
+                return Self::got(number, shared);
             }
             guard = shard.settled.wait(guard).unwrap_or_else(PoisonError::into_inner);
         }

@@ -13,8 +13,22 @@ impl Slot {
     };
 }
 
-// SAFETY: the library has a proof that what a slot holds may go to another thread.
+#[repr(C)]
+pub struct Note {
+    at: *mut u8,
+    live: bool,
+}
+
+impl Note {
+    pub const NONE: Note = Note {
+        at: std::ptr::null_mut(),
+        live: false,
+    };
+}
+
+// SAFETY: the library has a proof that what a slot or a note holds may go to another thread.
 unsafe impl Send for Slot {}
+unsafe impl Send for Note {}
 
 pub const DONE: u32 = 0;
 pub const OTHERWISE: u32 = 1;
@@ -25,15 +39,19 @@ pub const FULL: u32 = 5;
 pub const BAD_NUMBER: u32 = 8;
 pub const MOST_TRIES: u32 = 65_536;
 
-unsafe extern "C" {
+extern "C" {
     pub fn sf_open(slot: &mut Slot, keys: u32, key_bytes: u32, callers: u32) -> u32;
     pub fn sf_split(slot: &mut Slot, other: &mut Slot) -> u32;
     pub fn sf_ask(slot: &mut Slot, key: *const u8, len: usize, tries: u32) -> u32;
+    pub fn sf_ask_chan(slot: &mut Slot, other: &mut Slot, key: *const u8, len: usize, tries: u32) -> u32;
     pub fn sf_finish(slot: &mut Slot, value: u64, shared: &mut bool) -> u32;
     pub fn sf_go_on(slot: &mut Slot, shared: &mut bool) -> u32;
     pub fn sf_poll(slot: &mut Slot, value: &mut u64, shared: &mut bool) -> u32;
     pub fn sf_joined(slot: &mut Slot, count: &mut u64) -> u32;
     pub fn sf_forget(slot: &mut Slot, key: *const u8, len: usize, tries: u32) -> u32;
     pub fn sf_is_current(slot: &mut Slot) -> u32;
+    pub fn sf_tell(slot: &mut Slot, note: &mut Note) -> u32;
+    pub fn sf_learn(slot: &mut Slot, note: &mut Note) -> u32;
+    pub fn sf_drop_note(note: &mut Note);
     pub fn sf_close(slot: &mut Slot);
 }

@@ -29,10 +29,10 @@ fn random_gets_and_forgets() {
     const KEYS: usize = 16;
     let (live, clock, loads, shares) = (AtomicI64::new(0), AtomicU64::new(1), AtomicU64::new(0), AtomicU64::new(0));
     let forgotten: Vec<AtomicU64> = (0..KEYS).map(|_| AtomicU64::new(0)).collect();
-    let group = Group::<Counted>::open(KEYS as u32, 8, 8).unwrap();
+    let group = Group::<Counted>::open(KEYS as u32, 8, 16).unwrap();
     std::thread::scope(|scope| {
         for thread in 0..8u64 {
-            let mut caller = group.caller().unwrap();
+            let (mut caller, mut second) = (group.caller().unwrap(), group.caller());
             let (live, clock, loads, shares, forgotten) = (&live, &clock, &loads, &shares, &forgotten);
             scope.spawn(move || {
                 let mut seed = 88_172_645_463_325_252 + thread;
@@ -48,20 +48,30 @@ fn random_gets_and_forgets() {
                     }
                     let before = forgotten[number].load(SeqCst);
                     let slow = draw(&mut seed) % 4 == 0;
-                    let got = caller
-                        .do_with(key.as_bytes(), || {
-                            if slow {
-                                std::thread::yield_now();
-                            }
-                            loads.fetch_add(1, SeqCst);
-                            live.fetch_add(1, SeqCst);
-                            Counted { key: number, moment: clock.fetch_add(1, SeqCst), live }
-                        })
-                        .unwrap();
+                    let load = || {
+                        if slow {
+                            std::thread::yield_now();
+                        }
+                        loads.fetch_add(1, SeqCst);
+                        live.fetch_add(1, SeqCst);
+                        Counted { key: number, moment: clock.fetch_add(1, SeqCst), live }
+                    };
+                    let got = if draw(&mut seed) % 4 == 0 {
+                        let (mut receiver, job) = caller.do_chan(second.take().unwrap(), key.as_bytes()).ok().unwrap();
+                        let has_led = job.map(|job| job.run(load).led).unwrap_or(false);
+                        let got = receiver.recv().unwrap();
+                        assert!(has_led || got.shared, "who joined has a shared answer");
+                        second = receiver.into_caller().ok();
+                        shares.fetch_add(u64::from(!has_led), SeqCst);
+                        got
+                    } else {
+                        let got = caller.do_with(key.as_bytes(), load).unwrap();
+                        assert!(got.led || got.shared, "who joined has a shared answer");
+                        shares.fetch_add(u64::from(!got.led), SeqCst);
+                        got
+                    };
                     assert!(got.answer.key == number, "an answer of another key");
                     assert!(got.answer.moment >= before, "an answer from before a forget");
-                    assert!(got.led || got.shared, "who joined has a shared answer");
-                    shares.fetch_add(u64::from(!got.led), SeqCst);
                     if round % 16 == 0 {
                         kept.push(got.answer.clone());
                     }

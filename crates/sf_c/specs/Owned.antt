@@ -1,4 +1,4 @@
--- What a handle owns: a state on the heap and the right to free its block, or nothing.
+-- What a handle owns: a state, or a note, on the heap and the right to free its block, or nothing.
 use mathlib.Core.Bool.{Bool, true, false}
 use mathlib.Core.List.{[]}
 use base.Fml.{Fml, ftrue}
@@ -11,6 +11,7 @@ use Rattle.std.specs.Prelude.{None}
 use Rattle.atomic_table.specs.Seated.{TableId}
 use Rattle.sf_c.specs.declared.part.Part.TheVariants.{Gone}
 use Rattle.sf_c.specs.contracts.state.State.{the_row}
+use Rattle.sf_c.specs.contracts.note_state.NoteState as NoteState
 
 abbrev pub Held : Type 0
 Held = the_row.Denot
@@ -40,3 +41,16 @@ no_state = record {
   part = Gone;
   last = None;
 }
+
+abbrev pub HeldNote : Type 0
+HeldNote = NoteState.the_row.Denot
+
+abbrev pub note_owns : Bool → Global → Ptr → NoteState.the_row.Denot → Fml
+note_owns true alloc p s = box_owns (ghosts.dealloc_token alloc) NoteState.the_row p s
+note_owns false alloc p s = ftrue
+
+abbrev pub note_coded : Coded NoteState.the_row.Denot
+note_coded = NoteState.the_row.coded
+
+abbrev pub no_note : NoteState.the_row.Denot
+no_note = record { group = record { table = no_table; sizes = record { places = 0; callers = 0; first = 0 } }; seen = [] }

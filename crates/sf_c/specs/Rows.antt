@@ -1,8 +1,8 @@
 -- How calls change what a slot holds, and which code each ending has.
 use Rattle.std.specs.Prelude.{◌≡◌, ◌⊎◌, ℕ, Bool, cond, List, Option, Some, None, length, ◌<◌, ◌≤◌}
-use Rattle.sf_calls.specs.Tokens.{GroupValue, CallerValue, FlightValue, LetterValue}
+use Rattle.sf_calls.specs.Tokens.{GroupValue, CallerValue, FlightValue, LetterValue, NoteValue}
 use Rattle.sf_calls.specs.Fitting.{FitOf}
-use Rattle.sf_calls.specs.Begins.{HasLed, HasJoined, IsRefusedSpent}
+use Rattle.sf_calls.specs.Begins.{HasLed, HasJoined, IsRefusedSpent, HasLedChan, HasJoinedChan, AreRefusedSpent}
 use Rattle.sf_calls.specs.Finishes.{IsDone, IsHeld, IsDoneAtLast, IsHeldStill, IsReady, IsPending}
 use Rattle.sf_calls.specs.Forgets.{HasForgot}
 use Rattle.sf_calls.specs.Currents.{HasQuestioned}
@@ -11,7 +11,7 @@ use Rattle.sf_words.specs.declared.limits.TheConstants.{LONGEST_KEY}
 use Rattle.sf_calls.specs.Notes.{HasLearnt, HasLearntLeading}
 use Rattle.sf_calls.specs.Making.{IsNewCaller}
 use Rattle.sf_calls.specs.declared.outcomes.NotBegun.TheVariants.{Busy}
-use Rattle.sf_group.specs.Calls.{HasNotBegun, HasNotForgotten}
+use Rattle.sf_group.specs.Calls.{HasNotBegun, HasNotBegunChan, HasNotForgotten}
 use Rattle.sf_group.specs.declared.group.TheConstants.{MOST_TRIES}
 use Rattle.sf_history.specs.declared.call.CallId.{CallId}
 use Rattle.sf_dir.specs.Known.{DirectoryId, DeskState, IsNewDesk, IsSameDesk}
@@ -70,6 +70,50 @@ HasAsked (Leads f) k tries q code = IsOther (Leads f) q code
 HasAsked (Waits t) k tries q code = IsOther (Waits t) q code
 HasAsked (Owes s) k tries q code = IsOther (Owes s) q code
 HasAsked Gone k tries q code = IsOther Gone q code
+
+-- the same of two
+pub record AreAskedSpent (a b c d : CallerValue ℕ) (code : ℕ) : Type 0 where
+  pub code_is : code ≡ SPENT
+  pub row : AreRefusedSpent a b c d
+
+pub record AreAskedBusy (a b : CallerValue ℕ) (k tries : ℕ) (c d : CallerValue ℕ) (code : ℕ) : Type 0 where
+  pub code_is : code ≡ BUSY
+  pub failed : ℕ
+  pub row : HasNotBegunChan a b k tries (Busy failed (c, d))
+
+-- how an asking of a place by two free callers ends
+abbrev pub HasAskedBoth : CallerValue ℕ → CallerValue ℕ → ℕ → ℕ → Part → Part → ℕ → Type 0
+HasAskedBoth a b k tries (Leads f) (Waits t) code = (code ≡ DONE) × HasLedChan a b k f t
+HasAskedBoth a b k tries (Leads f) (Free c) code = ⊥
+HasAskedBoth a b k tries (Leads f) (Leads h) code = ⊥
+HasAskedBoth a b k tries (Leads f) (Owes s) code = ⊥
+HasAskedBoth a b k tries (Leads f) Gone code = ⊥
+HasAskedBoth a b k tries (Free c) (Waits t) code = (code ≡ OTHERWISE) × HasJoinedChan a b k t c
+HasAskedBoth a b k tries (Free c) (Free d) code = AreAskedSpent a b c d code ⊎ AreAskedBusy a b k tries c d code
+HasAskedBoth a b k tries (Free c) (Leads f) code = ⊥
+HasAskedBoth a b k tries (Free c) (Owes s) code = ⊥
+HasAskedBoth a b k tries (Free c) Gone code = ⊥
+HasAskedBoth a b k tries (Waits t) q code = ⊥
+HasAskedBoth a b k tries (Owes s) q code = ⊥
+HasAskedBoth a b k tries Gone q code = ⊥
+
+-- the parts were not those for the call, and are as they were
+pub record AreOthers (p q r s : Part) (code : ℕ) : Type 0 where
+  pub code_is : code ≡ WRONG_STATE
+  pub same : r ≡ p
+  pub second_same : s ≡ q
+
+-- how an asking of a place with a second ends
+abbrev pub HasAskedChan : Part → Part → ℕ → ℕ → Part → Part → ℕ → Type 0
+HasAskedChan (Free a) (Free b) k tries r s code = HasAskedBoth a b k tries r s code
+HasAskedChan (Free a) (Leads f) k tries r s code = AreOthers (Free a) (Leads f) r s code
+HasAskedChan (Free a) (Waits t) k tries r s code = AreOthers (Free a) (Waits t) r s code
+HasAskedChan (Free a) (Owes o) k tries r s code = AreOthers (Free a) (Owes o) r s code
+HasAskedChan (Free a) Gone k tries r s code = AreOthers (Free a) Gone r s code
+HasAskedChan (Leads f) q k tries r s code = AreOthers (Leads f) q r s code
+HasAskedChan (Waits t) q k tries r s code = AreOthers (Waits t) q r s code
+HasAskedChan (Owes o) q k tries r s code = AreOthers (Owes o) q r s code
+HasAskedChan Gone q k tries r s code = AreOthers Gone q r s code
 
 -- a call that is settled for all: the caller is free, and its letter is the last one
 pub record HasLetter (l : LetterValue ℕ) (mark : Bool) (last : Option (LetterValue ℕ)) : Type 0 where
@@ -227,6 +271,17 @@ pub record IsUnplaced (s : Seat) (key : List ℕ) (tries : ℕ) (t : Seat) (code
   pub none : HasNoPlace s.desk key t.desk code
   pub part : t.part ≡ s.part
 
+-- the same of two slots, of which one is not free, or both are
+pub record AreOtherSeats (s u : Seat) (tries : ℕ) (t : Seat) (code : ℕ) : Type 0 where
+  pub code_is : code ≡ WRONG_STATE
+  pub tries_are : AreTries tries
+  pub not_free : IsNotFree s.part ⊎ IsNotFree u.part
+  pub same : t ≡ s
+
+pub record AreUnplaced (s u : Seat) (key : List ℕ) (tries : ℕ) (t : Seat) (code : ℕ) : Type 0 where
+  pub second_free : IsFree u.part
+  pub first : IsUnplaced s key tries t code
+
 abbrev pub HasNotCalled : Seat → List ℕ → ℕ → Seat → ℕ → Type 0
 HasNotCalled s key tries t code = HasBadTries s tries t code ⊎ IsOtherSeat s tries t code ⊎ IsUnplaced s key tries t code
 
@@ -240,6 +295,23 @@ pub record HasAskedPlace (s : Seat) (key : List ℕ) (tries : ℕ) (t : Seat) (c
 
 abbrev pub HasAskedKey : Seat → List ℕ → ℕ → Seat → ℕ → Type 0
 HasAskedKey s key tries t code = HasAskedPlace s key tries t code ⊎ HasNotCalled s key tries t code
+
+-- an asking by key with a second that made nothing: as one without, or where the second is not free
+pub record HasNotAskedChan (s u : Seat) (key : List ℕ) (tries : ℕ) (t v : Seat) (code : ℕ) : Type 0 where
+  pub row : HasBadTries s tries t code ⊎ AreOtherSeats s u tries t code ⊎ AreUnplaced s u key tries t code
+  pub second_same : v ≡ u
+
+-- how an asking by key with a second ends
+pub record HasAskedChanPlace (s u : Seat) (key : List ℕ) (tries : ℕ) (t v : Seat) (code : ℕ) : Type 0 where
+  pub tries_are : AreTries tries
+  pub free : IsFree s.part
+  pub second_free : IsFree u.part
+  pub place : ℕ
+  pub resolved : HasPlace s.desk key t.desk place
+  pub row : HasAskedChan s.part u.part place tries t.part v.part code
+
+abbrev pub HasAskedChanKey : Seat → Seat → List ℕ → ℕ → Seat → Seat → ℕ → Type 0
+HasAskedChanKey s u key tries t v code = HasAskedChanPlace s u key tries t v code ⊎ HasNotAskedChan s u key tries t v code
 
 -- how a Forget by key ends
 pub record HasForgotPlace (s : Seat) (key : List ℕ) (tries : ℕ) (t : Seat) (code : ℕ) : Type 0 where
@@ -288,30 +360,32 @@ pub record AreSizes (keys key_bytes callers : ℕ) : Type 0 where
   pub some_caller : 1 ≤ callers
   pub most_callers : callers ≤ MOST_CALLERS
 
--- how learning ends: the caller, or the leader, has seen what the teller has
-pub record IsLearnt (c teller : CallerValue ℕ) (q : Part) (code : ℕ) : Type 0 where
+-- a note that shows what the caller, which is free, has seen; or why there is none: it is not free, or no memory is left
+pub record HasToldPart (g : GroupValue) (p : Part) (n : NoteValue ℕ) : Type 0 where
+  pub caller : CallerValue ℕ
+  pub free : p ≡ Free caller
+  pub group : n.group ≡ g
+  pub shown : n.seen ≡ caller.seen
+
+abbrev pub HasNotTold : Seat → ℕ → Type 0
+HasNotTold s code = ((code ≡ WRONG_STATE) × IsNotFree s.part) ⊎ ((code ≡ NOTHING_LEFT) × IsFree s.part)
+
+-- how learning ends: the caller, or the leader, has seen what the note shows
+pub record IsLearnt (c : CallerValue ℕ) (n : NoteValue ℕ) (q : Part) (code : ℕ) : Type 0 where
   pub code_is : code ≡ DONE
   pub learner : CallerValue ℕ
   pub part : q ≡ Free learner
-  pub row : HasLearnt c teller.seen learner
+  pub row : HasLearnt c n.seen learner
 
-pub record IsLearntLeading (f : FlightValue ℕ) (teller : CallerValue ℕ) (q : Part) (code : ℕ) : Type 0 where
+pub record IsLearntLeading (f : FlightValue ℕ) (n : NoteValue ℕ) (q : Part) (code : ℕ) : Type 0 where
   pub code_is : code ≡ DONE
   pub learner : FlightValue ℕ
   pub part : q ≡ Leads learner
-  pub row : HasLearntLeading f teller.seen learner
+  pub row : HasLearntLeading f n.seen learner
 
-abbrev pub HasLearntPart : Part → Part → Part → ℕ → Type 0
-HasLearntPart (Free c) (Free d) q code = IsLearnt c d q code
-HasLearntPart (Free c) (Leads f) q code = IsOther (Free c) q code
-HasLearntPart (Free c) (Waits t) q code = IsOther (Free c) q code
-HasLearntPart (Free c) (Owes s) q code = IsOther (Free c) q code
-HasLearntPart (Free c) Gone q code = IsOther (Free c) q code
-HasLearntPart (Leads f) (Free d) q code = IsLearntLeading f d q code
-HasLearntPart (Leads f) (Leads h) q code = IsOther (Leads f) q code
-HasLearntPart (Leads f) (Waits t) q code = IsOther (Leads f) q code
-HasLearntPart (Leads f) (Owes s) q code = IsOther (Leads f) q code
-HasLearntPart (Leads f) Gone q code = IsOther (Leads f) q code
-HasLearntPart (Waits t) r q code = IsOther (Waits t) q code
-HasLearntPart (Owes s) r q code = IsOther (Owes s) q code
-HasLearntPart Gone r q code = IsOther Gone q code
+abbrev pub HasLearntPart : Part → NoteValue ℕ → Part → ℕ → Type 0
+HasLearntPart (Free c) n q code = IsLearnt c n q code
+HasLearntPart (Leads f) n q code = IsLearntLeading f n q code
+HasLearntPart (Waits t) n q code = IsOther (Waits t) q code
+HasLearntPart (Owes s) n q code = IsOther (Owes s) q code
+HasLearntPart Gone n q code = IsOther Gone q code

@@ -3,15 +3,20 @@
 //!
 //! A slot holds a state on the heap behind one pointer, or nothing. Each export takes the state out, makes its call, and puts
 //! it back; a slot that is not open is answered by its code. What a call did is a row of `specs/Rows`, between what the
-//! slot held before and after. No row asks anything of the program but `sf_learn`, whose slots have to be of one group.
+//! slot held before and after. No row asks anything of the program but those of `sf_ask_chan` and
+//! `sf_learn`, whose two slots, or slot and note, have to be of one group.
 #![tactic(auto)]
 
 ghost use Rattle.std.specs.Prelude.{◌≡◌, ◌≢◌, ◌↔◌, ◌<◌, ◌≤◌, ◌⊎◌, None, true, false};
-ghost use Rattle.sf_c.specs.Rows.{AreSizes, HasOpened, IsNewSeat, HasAskedKey, HasForgotKey, HasFinishedPart, HasGoneOnPart, HasPolledPart, HasQuestionedPart, HasLearntPart, HasGivenUp, KeepsDesk, KeepsLetter};
+ghost use Rattle.sf_calls.specs.Notes.{HasGrown};
+ghost use Rattle.sf_c.specs.Rows.{AreSizes, HasOpened, IsNewSeat, HasAskedKey, HasAskedChanKey, HasForgotKey, HasFinishedPart, HasGoneOnPart, HasPolledPart, HasQuestionedPart, HasToldPart, HasNotTold, HasLearntPart, HasGivenUp, KeepsDesk, KeepsLetter};
 
 mod codes;
 mod handle;
 mod loose;
+mod note_handle;
+mod note_slot;
+mod note_state;
 mod part;
 mod slot;
 mod state;
@@ -19,6 +24,8 @@ mod word;
 
 use codes::{BAD_NUMBER, DONE, NOT_OPEN, NOTHING_LEFT, WRONG_STATE};
 pub use handle::Handle;
+pub use note_handle::NoteHandle;
+pub use note_slot::NoteSlot;
 use sf_dir::LONGEST_KEY;
 use sf_group::{MOST_CALLERS, MOST_PLACES};
 pub use slot::Slot;
@@ -110,6 +117,37 @@ pub extern "C" fn sf_ask(slot: &mut Slot, alloc: Global, key: &[u8], tries: u32)
     };
     let code = state.ask(key, tries);
     slot.put(state);
+    code
+}
+
+/// The slot's caller asks for the key for the other slot's: it leads a new call, and the other waits on the leader's own
+/// channel; or the other joins the open one, and it is free still. The slots have to be of one group.
+#[unsafe(no_mangle)]
+pub extern "C" fn sf_ask_chan(
+    slot: &mut Slot,
+    alloc: Global,
+    other: &mut Slot,
+    key: &[u8],
+    tries: u32,
+) -> u32
+    requires group { slot.old.live ≡ true → other.old.live ≡ true → slot.old.handle.state.group ≡ other.old.handle.state.group }
+    ensures kept { (slot.new.live ≡ slot.old.live) × (other.new.live ≡ other.old.live) }
+    ensures closed { result ≡ NOT_OPEN ↔ ((slot.old.live ≡ false) ⊎ (other.old.live ≡ false)) }
+    ensures unchanged { result ≡ NOT_OPEN → (slot.old.live ≡ true → slot.new.handle.state ≡ slot.old.handle.state) × (other.old.live ≡ true → other.new.handle.state ≡ other.old.handle.state) }
+    ensures state { slot.old.live ≡ true → KeepsLetter slot.old.handle.state slot.new.handle.state }
+    ensures other { other.old.live ≡ true → KeepsDesk other.old.handle.state other.new.handle.state × KeepsLetter other.old.handle.state other.new.handle.state }
+    ensures row { slot.old.live ≡ true → other.old.live ≡ true → HasAskedChanKey slot.old.handle.state other.old.handle.state key.now tries slot.new.handle.state other.new.handle.state result }
+{
+    let Some(mut state) = slot.take(alloc) else {
+        return NOT_OPEN;
+    };
+    let Some(mut second) = other.take(alloc) else {
+        slot.put(state);
+        return NOT_OPEN;
+    };
+    let code = state.ask_chan(&mut second, key, tries);
+    slot.put(state);
+    other.put(second);
     code
 }
 
@@ -218,27 +256,64 @@ pub extern "C" fn sf_joined(slot: &mut Slot, alloc: Global, count: &mut u64) -> 
     DONE
 }
 
-/// The slot's caller, which is free or leads, has then seen what the other slot's has, which is free: no answer that a
-/// Forget closed that the other had seen is an answer to what it asks later. The slots have to be of one group.
+/// Puts what the slot's caller, which is free, has seen into the note, in place of what that showed.
 #[unsafe(no_mangle)]
-pub extern "C" fn sf_learn(slot: &mut Slot, alloc: Global, other: &mut Slot) -> u32
-    requires group { slot.old.live ≡ true → other.old.live ≡ true → slot.old.handle.state.group ≡ other.old.handle.state.group }
-    ensures kept { (slot.new.live ≡ slot.old.live) × (other.new.live ≡ other.old.live) }
-    ensures closed { result ≡ NOT_OPEN ↔ ((slot.old.live ≡ false) ⊎ (other.old.live ≡ false)) }
-    ensures told { other.old.live ≡ true → other.new.handle.state ≡ other.old.handle.state }
-    ensures row { slot.old.live ≡ true → other.old.live ≡ true → HasLearntPart slot.old.handle.state.part other.old.handle.state.part slot.new.handle.state.part result }
+pub extern "C" fn sf_tell(slot: &mut Slot, alloc: Global, note: &mut NoteSlot) -> u32
+    ensures kept { slot.new.live ≡ slot.old.live }
+    ensures closed { result ≡ NOT_OPEN ↔ slot.old.live ≡ false }
+    ensures state { slot.old.live ≡ true → slot.new.handle.state ≡ slot.old.handle.state }
+    ensures told { result ≡ DONE → (note.new.live ≡ true) × HasToldPart slot.old.handle.state.group slot.old.handle.state.part note.new.handle.note }
+    ensures refused { result ≢ DONE → note.new ≡ note.old }
+    ensures code { slot.old.live ≡ true → result ≢ DONE → HasNotTold slot.old.handle.state result }
 {
     let Some(mut state) = slot.take(alloc) else {
         return NOT_OPEN;
     };
-    let Some(mut told) = other.take(alloc) else {
+    let told = state.tell();
+    slot.put(state);
+    let told = match told {
+        Ok(told) => told,
+        Err(code) => return code,
+    };
+    let Ok(told) = Box::new(alloc, told) else {
+        return NOTHING_LEFT;
+    };
+    drop(note.take(alloc));
+    note.put(told);
+    DONE
+}
+
+/// The slot's caller, which is free or leads, has then seen what the note shows: no answer that a Forget closed of which the
+/// note tells is an answer to what it asks later. The slot and the note have to be of one group.
+#[unsafe(no_mangle)]
+pub extern "C" fn sf_learn(slot: &mut Slot, alloc: Global, note: &mut NoteSlot) -> u32
+    requires group { slot.old.live ≡ true → note.old.live ≡ true → slot.old.handle.state.group ≡ note.old.handle.note.group }
+    ensures kept { (slot.new.live ≡ slot.old.live) × (note.new.live ≡ note.old.live) }
+    ensures closed { result ≡ NOT_OPEN ↔ ((slot.old.live ≡ false) ⊎ (note.old.live ≡ false)) }
+    ensures state { slot.old.live ≡ true → KeepsDesk slot.old.handle.state slot.new.handle.state × KeepsLetter slot.old.handle.state slot.new.handle.state }
+    ensures unchanged { result ≡ NOT_OPEN → slot.old.live ≡ true → slot.new.handle.state ≡ slot.old.handle.state }
+    ensures note { note.old.live ≡ true → HasGrown note.old.handle.note note.new.handle.note }
+    ensures row { slot.old.live ≡ true → note.old.live ≡ true → HasLearntPart slot.old.handle.state.part note.old.handle.note slot.new.handle.state.part result }
+{
+    let Some(mut state) = slot.take(alloc) else {
+        return NOT_OPEN;
+    };
+    let Some(mut told) = note.take(alloc) else {
         slot.put(state);
         return NOT_OPEN;
     };
     let code = state.learn(&mut told);
     slot.put(state);
-    other.put(told);
+    note.put(told);
     code
+}
+
+/// Lets a note go.
+#[unsafe(no_mangle)]
+pub extern "C" fn sf_drop_note(note: &mut NoteSlot, alloc: Global)
+    ensures { note.new.live ≡ false }
+{
+    drop(note.take(alloc));
 }
 
 /// Gives up for good what the slot's caller has open: a call that it leads, a letter that it waits for, or letters that it

@@ -1,15 +1,16 @@
 //! What the caller of a slot does, and how the group's calls change it. Each call takes the part and gives the next one
 //! with a code; a part that is not one for the call comes back as it was.
-ghost use Rattle.std.specs.Prelude.{◌≡◌, ◌≢◌, ◌≤◌, IsTrue, IsFalse};
+ghost use Rattle.std.specs.Prelude.{◌≡◌, ◌≢◌, ◌≤◌, IsTrue, IsFalse, IfSome, IfNone};
 ghost use Rattle.sf_calls.specs.Same.{IsPlaceOf};
-ghost use Rattle.sf_c.specs.Rows.{IsOf, IsLetterOf, HasAsked, HasFinishedPart, HasGoneOnPart, HasPolledPart, HasForgotPart, HasGivenUp, HasQuestionedPart, HasLearntPart, IsFree, IsNotFree};
+ghost use Rattle.sf_calls.specs.Notes.{HasGrown};
+ghost use Rattle.sf_c.specs.Rows.{IsOf, IsLetterOf, HasAsked, HasAskedBoth, HasAskedChan, HasFinishedPart, HasGoneOnPart, HasPolledPart, HasForgotPart, HasGivenUp, HasQuestionedPart, HasToldPart, HasLearntPart, IsFree, IsNotFree};
 ghost use Rattle.sf_c.specs.declared.part.Part.TheVariants.{Free};
 
 use crate::codes::{BUSY, DONE, NOT_OPEN, NOTHING_LEFT, OTHERWISE, SPENT, WRONG_STATE};
 use crate::word::Word;
 use sf_group::{
-    Begun, Caller, Finished, Flight, Forgotten, Group, Letter, MOST_TRIES, NotBegun, Polled,
-    Settled, Ticket,
+    Begun, Caller, ChanBegun, Finished, Flight, Forgotten, Group, Letter, MOST_TRIES, NotBegun,
+    Note, Polled, Settled, Ticket,
 };
 
 /// What a slot's caller does. `Gone` is one that gave up what it had open.
@@ -49,6 +50,28 @@ fn ask_free(group: &Group<Word>, caller: Caller<Word>, place: u32, tries: u32) -
     }
 }
 
+fn ask_both(
+    group: &Group<Word>,
+    caller: Caller<Word>,
+    second: Caller<Word>,
+    place: u32,
+    tries: u32,
+) -> (Part, Part, u32)
+    requires own { (caller.group ≡ group.now) × (second.group ≡ group.now) }
+    requires place { IsPlaceOf group.now place }
+    requires tries { (1 ≤ tries) × (tries ≤ MOST_TRIES) }
+    ensures own { IsOf group.now result.0 × IsOf group.now result.1 }
+    ensures row { HasAskedBoth caller second place tries result.0 result.1 result.2 }
+    ensures open { result.2 ≢ NOT_OPEN }
+{
+    match group.begin_chan(caller, second, place, tries) {
+        Ok(ChanBegun::Led(flight, ticket)) => (Part::Leads(flight), Part::Waits(ticket), DONE),
+        Ok(ChanBegun::Joined(ticket, back)) => (Part::Free(back), Part::Waits(ticket), OTHERWISE),
+        Err(NotBegun::Spent((back, second))) => (Part::Free(back), Part::Free(second), SPENT),
+        Err(NotBegun::Busy(_, (back, second))) => (Part::Free(back), Part::Free(second), BUSY),
+    }
+}
+
 impl Part {
     /// Whether it is one of a free caller.
     pub(crate) fn is_free(&self) -> bool
@@ -76,6 +99,31 @@ impl Part {
             Part::Waits(ticket) => (Part::Waits(ticket), WRONG_STATE),
             Part::Owes(settled) => (Part::Owes(settled), WRONG_STATE),
             Part::Gone => (Part::Gone, WRONG_STATE),
+        }
+    }
+
+    /// Asks for the place with a second: done where it leads then, and the second waits on its own channel; otherwise the
+    /// second waits for the open call, and it is free.
+    pub(crate) fn asked_chan(
+        self,
+        second: Part,
+        group: &Group<Word>,
+        place: u32,
+        tries: u32,
+    ) -> (Part, Part, u32)
+        requires own { IsOf group.now self × IsOf group.now second }
+        requires place { IsPlaceOf group.now place }
+        requires tries { (1 ≤ tries) × (tries ≤ MOST_TRIES) }
+        ensures own { IsOf group.now result.0 × IsOf group.now result.1 }
+        ensures row { HasAskedChan self second place tries result.0 result.1 result.2 }
+        ensures open { result.2 ≢ NOT_OPEN }
+    {
+        match self {
+            Part::Free(caller) => match second {
+                Part::Free(second) => ask_both(group, caller, second, place, tries),
+                second => (Part::Free(caller), second, WRONG_STATE),
+            },
+            first => (first, second, WRONG_STATE),
         }
     }
 
@@ -236,26 +284,35 @@ impl Part {
         }
     }
 
-    /// Its caller, which is free or leads, has then seen what the other's has, which is free.
-    pub(crate) fn learns(&mut self, group: &Group<Word>, other: &mut Part) -> u32
+    /// A note that shows what its caller has seen. None where that is not free.
+    pub(crate) fn tells(&mut self, group: &Group<Word>) -> Option<Note<Word>>
         requires own { IsOf group.now self.old }
-        requires other { IsOf group.now other.old }
+        ensures same { self.new ≡ self.old }
+        ensures told { IfSome result (HasToldPart group.now self.old) }
+        ensures none { IfNone result (IsNotFree self.old) }
+    {
+        let Part::Free(caller) = self else {
+            return None;
+        };
+        Some(group.tell(caller))
+    }
+
+    /// Its caller, which is free or leads, has then seen what the note shows.
+    pub(crate) fn learns(&mut self, group: &Group<Word>, note: &mut Note<Word>) -> u32
+        requires own { IsOf group.now self.old }
+        requires note { note.old.group ≡ group.now }
         ensures own { IsOf group.now self.new }
-        ensures told { other.new ≡ other.old }
-        ensures row { HasLearntPart self.old other.old self.new result }
+        ensures note { HasGrown note.old note.new }
+        ensures row { HasLearntPart self.old note.old self.new result }
         ensures open { result ≢ NOT_OPEN }
     {
-        let Part::Free(teller) = other else {
-            return WRONG_STATE;
-        };
-        let mut note = group.tell(teller);
         match self {
             Part::Free(caller) => {
-                group.learn(caller, &mut note);
+                group.learn(caller, note);
                 DONE
             }
             Part::Leads(flight) => {
-                flight.learn(group, &mut note);
+                flight.learn(group, note);
                 DONE
             }
             _ => WRONG_STATE,

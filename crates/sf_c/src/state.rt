@@ -1,10 +1,12 @@
 //! What a slot holds.
 ghost use Rattle.std.specs.Prelude.{◌≡◌, ◌≢◌, ◌↔◌, ◌<◌, ◌≤◌, All, IfOk, IfErr, IfSome, None};
 ghost use Rattle.sf_calls.specs.Making.{IsNewCaller};
+ghost use Rattle.sf_calls.specs.Notes.{HasGrown};
 ghost use Rattle.sf_dir.specs.Known.{IsNewDesk};
-ghost use Rattle.sf_c.specs.Rows.{HasOpened, IsNewSeat, HasPlace, HasNoPlace, HasAskedKey, HasForgotKey, HasFinishedPart, HasGoneOnPart, HasPolledPart, HasQuestionedPart, HasLearntPart, HasGivenUp, KeepsDesk, KeepsLetter};
+ghost use Rattle.sf_c.specs.Rows.{HasOpened, IsNewSeat, HasPlace, HasNoPlace, HasAskedKey, HasAskedChanKey, HasForgotKey, HasFinishedPart, HasGoneOnPart, HasPolledPart, HasQuestionedPart, HasToldPart, HasNotTold, HasLearntPart, HasGivenUp, KeepsDesk, KeepsLetter};
 
-use crate::codes::{BAD_NUMBER, FULL, NOT_OPEN, TOO_LONG, WRONG_STATE};
+use crate::codes::{BAD_NUMBER, FULL, NOT_OPEN, NOTHING_LEFT, TOO_LONG, WRONG_STATE};
+use crate::note_state::NoteState;
 use crate::part::Part;
 use crate::word::Word;
 use sf_dir::{Desk, Directory, LONGEST_KEY, Refusal};
@@ -176,6 +178,33 @@ impl State {
         code
     }
 
+    /// Asks for the key for the other: done where its caller leads a new call then and the other's waits on the leader's own
+    /// channel, otherwise the other's waits for the open call's letter.
+    pub(crate) fn ask_chan(&mut self, other: &mut State, key: &[u8], tries: u32) -> u32
+        requires { self.old.group ≡ other.old.group }
+        ensures kept { KeepsLetter self.old self.new }
+        ensures other { KeepsDesk other.old other.new × KeepsLetter other.old other.new }
+        ensures row { HasAskedChanKey self.old other.old key.now tries self.new other.new result }
+        ensures open { result ≢ NOT_OPEN }
+    {
+        if tries < 1 || tries > MOST_TRIES {
+            return BAD_NUMBER;
+        }
+        if !self.part.is_free() || !other.part.is_free() {
+            return WRONG_STATE;
+        }
+        let place = match place_of(&self.directory, &mut self.desk, key) {
+            Ok(place) => place,
+            Err(code) => return code,
+        };
+        let caller = replace(&mut self.part, Part::Gone);
+        let second = replace(&mut other.part, Part::Gone);
+        let (caller, second, code) = caller.asked_chan(second, &self.group, place, tries);
+        self.part = caller;
+        other.part = second;
+        code
+    }
+
     /// Forgets the key: done where that closed a call, otherwise none was open.
     pub(crate) fn forget(&mut self, key: &[u8], tries: u32) -> u32
         ensures kept { KeepsLetter self.old self.new }
@@ -261,14 +290,29 @@ impl State {
         }
     }
 
-    /// Its caller has then seen what the other's has.
-    pub(crate) fn learn(&mut self, other: &mut State) -> u32
-        requires { self.old.group ≡ other.old.group }
+    /// A note that shows what its caller has seen; or the code of its refusal.
+    pub(crate) fn tell(&mut self) -> Result<NoteState, u32>
+        ensures same { self.new ≡ self.old }
+        ensures told { IfOk result (HasToldPart self.old.group self.old.part) }
+        ensures refused { IfErr result (λ code. HasNotTold self.old code) }
+    {
+        let Some(note) = self.part.tells(&self.group) else {
+            return Err(WRONG_STATE);
+        };
+        let Ok(group) = Arc::try_clone(&self.group) else {
+            return Err(NOTHING_LEFT);
+        };
+        Ok(NoteState::new(group, note))
+    }
+
+    /// Its caller has then seen what the note shows.
+    pub(crate) fn learn(&mut self, told: &mut NoteState) -> u32
+        requires { self.old.group ≡ told.old.group }
         ensures kept { KeepsDesk self.old self.new × KeepsLetter self.old self.new }
-        ensures told { other.new ≡ other.old }
-        ensures row { HasLearntPart self.old.part other.old.part self.new.part result }
+        ensures note { HasGrown told.old told.new }
+        ensures row { HasLearntPart self.old.part told.old self.new.part result }
         ensures open { result ≢ NOT_OPEN }
     {
-        self.part.learns(&self.group, &mut other.part)
+        self.part.learns(&self.group, &mut told.note)
     }
 }
