@@ -3,6 +3,7 @@
 //! several threads.
 #![tactic(auto)]
 
+mod commands;
 mod usage;
 
 ghost use Rattle.std.specs.Prelude.{◌≡◌, IfOk, IfErr};

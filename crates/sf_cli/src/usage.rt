@@ -1,11 +1,12 @@
 //! What the command line asks for.
 
 ghost use Rattle.std.specs.Prelude.{◌≡◌, IfOk, Some, slice_get, option_map, string_bytes};
-ghost use Rattle.sf_cli.specs.Usage.{subcommand_name_of};
+ghost use Rattle.sf_cli.specs.Usage.{subcommand_name_of, IsShownFor, IsShownBy};
 
+use crate::commands;
 use clap::{Command, Error};
 use sf_drive::{DriveLine, NoDrive, drive_line};
-use sf_engines::Engine;
+use sf_engines::{Engine, Shown};
 use std::alloc::{AllocError, Global};
 use std::fmt;
 
@@ -51,59 +52,58 @@ impl From<AllocError> for Usage {
     }
 }
 
-// Each engine, and what it does.
-const ENGINES: [(Engine, &str); 3] = [
-    (
-        Engine::Run,
-        "Obeys a script of commands, one a line, from standard input",
-    ),
-    (
-        Engine::Steps,
-        "Plays the turns of a schedule, one line each, from standard input",
-    ),
-    (
-        Engine::Check,
-        "Says whether the history recorded in standard input is legal",
-    ),
-];
-
-const DRIVE: &str = "Gets keys of one fill on several threads, and checks what happened";
-
-/// Whether clap takes the words; what it refuses is usage. Its engines take no words of their own, so what it takes is
-/// an engine's name alone.
+/// Whether clap takes the words; what it refuses is usage. The options of its engines have no values, and each is given once,
+/// so what it takes is an engine's name, with one of them or none.
 fn takes(alloc: Global, words: &[String]) -> Result<(), Usage> {
     let mut command = Command::new(alloc, "sfctl")
-        .about("Singleflight with Forget: scripts, schedules and histories")
+        .about(commands::ABOUT)
+        .after_help(commands::STATUSES)
         .subcommand_required(true);
-    for (engine, about) in ENGINES {
-        command = command.subcommand(Command::new(alloc, engine.name()).about(about))?;
-    }
-    command = command.subcommand(Command::new(alloc, "drive").about(DRIVE))?;
+    command = command.subcommand(commands::run(alloc)?)?;
+    command = command.subcommand(commands::steps(alloc)?)?;
+    command = command.subcommand(commands::check(alloc))?;
+    command = command.subcommand(commands::drive(alloc))?;
     match command.try_get_matches_from(words) {
         Ok(_) => Ok(()),
         Err(error) => Err(Usage::Said(error)),
     }
 }
 
+/// What the word after an engine's name asks to be shown.
+fn shown(word: Option<&String>) -> Shown
+    ensures { IsShownFor result (option_map (λ w. string_bytes w.now) word.entry) }
+{
+    match word {
+        Some(word) if word.as_str() == "--history" => Shown::History,
+        Some(word) if word.as_str() == "--svg" => Shown::Picture,
+        _ => Shown::Lines,
+    }
+}
+
 /// The subcommand of this name, where the words are a parse.
 fn named(alloc: Global, name: &str, words: &[String]) -> Result<Subcommand, Usage>
-    ensures { IfOk result (λ asked. name.now ≡ subcommand_name_of asked) }
+    ensures name { IfOk result (λ asked. name.now ≡ subcommand_name_of asked) }
+    ensures shown { IfOk result (λ asked. IsShownBy asked (option_map string_bytes (slice_get words.now 2))) }
 {
     if name == "drive" {
         let line = drive_line(alloc, words.get(1..).unwrap_or_default())?;
         return Ok(Subcommand::Drive(line));
     }
     takes(alloc, words)?;
-    match Engine::named(name) {
+    let Some(engine) = Engine::named(name) else {
+        return Err(Usage::NoSubcommand);
+    };
+    match engine.showing(shown(words.get(2))) {
         Some(engine) => Ok(Subcommand::Engine(engine)),
         None => Err(Usage::NoSubcommand),
     }
 }
 
-/// The subcommand that the words ask for, the program's name first: it is the one that the second word names. Whatever
-/// is no parse is usage, help too.
+/// The subcommand that the words ask for, the program's name first: it is the one that the second word names, and it shows
+/// what the third one says. Whatever is no parse is usage, help too.
 pub fn parse(alloc: Global, words: &[String]) -> Result<Subcommand, Usage>
-    ensures { IfOk result (λ asked. option_map string_bytes (slice_get words.now 1) ≡ Some (subcommand_name_of asked)) }
+    ensures name { IfOk result (λ asked. option_map string_bytes (slice_get words.now 1) ≡ Some (subcommand_name_of asked)) }
+    ensures shown { IfOk result (λ asked. IsShownBy asked (option_map string_bytes (slice_get words.now 2))) }
 {
     match words.get(1) {
         Some(name) => named(alloc, name.as_str(), words),

@@ -1,24 +1,25 @@
 //! A drive: its fill, its threads, and what comes of them.
-ghost use Rattle.std.specs.Prelude.{◌≡◌, ◌≢◌, ◌*◌, ◌++◌, ◌<◌, ◌≤◌, IfOk, codes, vec_len, vec_capacity};
+ghost use Rattle.std.specs.Prelude.{◌≡◌, ◌≢◌, ◌*◌, ◌<◌, ◌≤◌, List, IfOk, codes, string_bytes, vec_len, vec_capacity};
 ghost use Rattle.std.specs.Io.KnownBytes.{Appends};
 ghost use Rattle.sf_drive.specs.declared.report.DriveEnding.{DriveEnding};
 ghost use Rattle.sf_drive.specs.declared.report.Report.{Report};
-ghost use Rattle.sf_drive.specs.Reports.{ending_of, report_text};
+ghost use Rattle.sf_drive.specs.Found.{DriveEvent, IsFound, said_text};
+ghost use Rattle.sf_drive.specs.Reports.{ending_of};
 ghost use Rattle.sf_fill.specs.Made.{AreOfDirectory, AreOfGroup};
 ghost use Rattle.sf_fill.specs.Totals.{AreNamed};
 
+use crate::found::{Found, said, verdict};
 use crate::jobs::{DriveGetter, Ended, Entry, Job};
 use crate::line::DriveLine;
 use crate::loaders::{AnyKey, OddPicker, ThirdFails, Values};
 use crate::report::{DriveEnding, Report};
-use sf_checker::{check, check_indexed};
 use sf_dir::{Desk, Directory, LONGEST_KEY};
 use sf_fill::{Fill, FillParts, FillValue, Ledgers, Naming};
 use sf_group::{Event, Group, Memory};
 use sf_loaders::Loaders;
 use sf_loaders::scripted::RoundChance;
 use sf_replay::merge;
-use sf_text::{StreamFault, write_all, write_line};
+use sf_text::{StreamFault, write_all};
 use sf_words::PlaceNo;
 use std::alloc::Global;
 use std::fmt::Write as _;
@@ -143,7 +144,7 @@ fn with_all<
     parts: DriveParts<'d, D>,
     entries: &[Entry],
     line: DriveLine,
-) -> Result<Report, Memory>
+) -> Result<Found, Memory>
     requires directory { (directory.now ≡ N.directory) × (D.directory ≡ N.directory) }
     requires group { (parts.group ≡ N.group) × (N.group.sizes.places ≡ N.directory.keys) }
     requires getters { N.getters ≡ line.threads }
@@ -151,7 +152,7 @@ fn with_all<
     requires callers { (vec_len parts.callers ≡ N.getters) × AreOfGroup N.group parts.callers.items }
     requires loaders { vec_len parts.loaders ≡ N.getters }
     requires ledgers { AreNamed N.ledgers N.getters parts.ledgers }
-    ensures { IfOk result (λ report. report.gets ≡ line.threads * line.gets) }
+    ensures { IfOk result (λ found. IsFound (line.threads * line.gets) found.report found.history) }
 {
     let logs = Vec::with_capacity(alloc, line.threads as usize)?;
     let room = 4 * line.gets as usize;
@@ -174,10 +175,10 @@ fn found<'d, D: Naming, N: Naming>(
     fill: &Fill<'d, D, N, Values>,
     back: Back<'d, D, N>,
     line: DriveLine,
-) -> Result<Report, Memory>
+) -> Result<Found, Memory>
     requires all { vec_len back.getters ≡ N.getters }
     requires some { 0 < vec_len back.getters }
-    ensures { IfOk result (λ report. report.gets ≡ line.threads * line.gets) }
+    ensures { IfOk result (λ found. IsFound (line.threads * line.gets) found.report found.history) }
 {
     let Back {
         getters,
@@ -191,15 +192,13 @@ fn found<'d, D: Naming, N: Naming>(
         return Err(Memory);
     }
     let history = merge(alloc, logs)?;
-    Ok(Report {
+    let report = Report {
         gets: line.threads as u64 * line.gets as u64,
         answers,
         totals_equal: gathered == book,
-        verdict: match check_indexed(alloc, &history) {
-            Ok(verdict) => verdict,
-            Err(_) => check(&history),
-        },
-    })
+        verdict: verdict(alloc, &history),
+    };
+    Ok(Found { report, history })
 }
 
 // The loaders of so many getters.
@@ -229,10 +228,10 @@ fn with_directory<'d, D: Naming + Send + Sync, R: Wait + Threads + Clock + Eprin
     directory: &'d Directory,
     desks: Vec<Desk>,
     line: DriveLine,
-) -> Result<Report, Memory>
+) -> Result<Found, Memory>
     requires directory { (directory.now ≡ D.directory) × (directory.now.keys ≡ line.keys) }
     requires desks { (vec_len desks ≡ line.threads) × AreOfDirectory directory.now desks.items }
-    ensures { IfOk result (λ report. report.gets ≡ line.threads * line.gets) }
+    ensures { IfOk result (λ found. IsFound (line.threads * line.gets) found.report found.history) }
 {
     let (group, callers) = Group::<FillValue<'d, D, Values>>::new(
         alloc,
@@ -266,8 +265,8 @@ fn report<R: Wait + Threads + Clock + Eprint + Sync>(
     rt: &R,
     alloc: Global,
     line: DriveLine,
-) -> Result<Report, Memory>
-    ensures { IfOk result (λ report. report.gets ≡ line.threads * line.gets) }
+) -> Result<Found, Memory>
+    ensures { IfOk result (λ found. IsFound (line.threads * line.gets) found.report found.history) }
 {
     let (directory, desks) = Directory::new(alloc, line.keys, LONGEST_KEY, line.threads)?;
     with_directory::<Brand, R>(rt, alloc, &directory, desks, line)
@@ -275,25 +274,42 @@ fn report<R: Wait + Threads + Clock + Eprint + Sync>(
 
 /// `sfctl drive`: one getter a thread gets keys of one fill, and reloads some. Writes four lines: how many gets there were,
 /// how many answered the key's value, whether what the getters counted is what the book says, and whether the merged logs
-/// are a legal history; or one line where memory is refused, in anything but a get or a reload.
+/// are a legal history; or the records of that history, where the line asks for them; or one line where memory is refused,
+/// in anything but a get or a reload.
 pub fn drive<R: Wait + Threads + Clock + Eprint + Sync, W: Write>(
     rt: &R,
     alloc: Global,
     writer: &mut W,
     line: DriveLine,
 ) -> Result<DriveEnding, StreamFault>
-    ensures reported { IfOk result (λ ending. ending ≢ DriveEnding.OutOfMemory → (report : Report) × (report.gets ≡ line.threads * line.gets)
-        × (ending ≡ ending_of report) × Appends (W.contents writer.old) (W.contents writer.new) (report_text report ++ codes "\n")) }
+    // What is written is the report's text, or the records of the history on which its verdict is.
+    ensures reported { IfOk result (λ ending. ending ≢ DriveEnding.OutOfMemory → (report : Report) × (history : List DriveEvent)
+        × IsFound (line.threads * line.gets) report history × (ending ≡ ending_of report)
+        × Appends (W.contents writer.old) (W.contents writer.new) (said_text line.history report history)) }
     ensures refused { IfOk result (λ ending. ending ≡ DriveEnding.OutOfMemory → Appends (W.contents writer.old) (W.contents writer.new) (codes "out of memory\n")) }
 {
-    match report(rt, alloc, line) {
-        Ok(report) => {
-            write_line(writer, report)?;
-            Ok(report.ending())
+    match answer(rt, alloc, line) {
+        Ok((ending, text)) => {
+            write_all(writer, text.as_str())?;
+            Ok(ending)
         }
         Err(Memory) => {
             write_all(writer, "out of memory\n")?;
             Ok(DriveEnding::OutOfMemory)
         }
     }
+}
+
+// How a drive ends, and what it says.
+fn answer<R: Wait + Threads + Clock + Eprint + Sync>(
+    rt: &R,
+    alloc: Global,
+    line: DriveLine,
+) -> Result<(DriveEnding, String), Memory>
+    ensures { IfOk result (λ answered. (report : Report) × (history : List DriveEvent) × IsFound (line.threads * line.gets) report history
+        × (answered.0 ≡ ending_of report) × (string_bytes answered.1 ≡ said_text line.history report history)) }
+{
+    let found = report(rt, alloc, line)?;
+    let ending = found.report.ending();
+    Ok((ending, said(alloc, line.history, found)?))
 }

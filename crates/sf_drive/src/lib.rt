@@ -1,7 +1,9 @@
-//! `sfctl drive`: getters on threads of their own get keys of one fill, and four lines say whether all went well.
+//! `sfctl drive`: getters on threads of their own get keys of one fill, and four lines say whether all went well, or records say what
+//! happened.
 #![tactic(auto)]
 
 mod driving;
+mod found;
 mod jobs;
 mod line;
 mod loaders;

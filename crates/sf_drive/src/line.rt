@@ -14,6 +14,8 @@ pub struct DriveLine {
     pub keys: u32,
     /// Gets of each thread: 1 to 100,000.
     pub gets: u32,
+    /// Whether the drive shows its history as records, in place of its four lines.
+    pub history: bool,
     /// Whether the first thread says on standard error how far it is; no words ask for it.
     pub progress: bool,
     ghost threads_in_range: { (1 ≤ threads) × (threads ≤ 64) },
@@ -45,31 +47,54 @@ impl fmt::Display for NoDrive {
     }
 }
 
+// What a drive's help ends with.
+const HELP: &str = "Prints how many gets there were, how many answered the key's value, whether the
+totals agree, and whether the history is legal.
+
+Example:
+  sfctl drive --threads 4 --keys 8 --gets 100
+
+Exit status: 0 where all went well, 1 where it did not, 2 for usage, want of
+memory, and a failing write.";
+
 // The command of a drive, with its ranges.
 fn command<'a>(alloc: Global) -> Result<Command<'a>, Error> {
     let threads = Arg::new(alloc, "threads")
         .long("threads")
         .action(ArgAction::Set)
+        .value_name("N")
+        .help("Threads, 1 to 64 (4 where it is absent)")
         .value_parser(clap::value_parser!(u32).range(1..=64));
     let keys = Arg::new(alloc, "keys")
         .long("keys")
         .action(ArgAction::Set)
+        .value_name("N")
+        .help("Keys, 1 to 1000 (8)")
         .value_parser(clap::value_parser!(u32).range(1..=1_000));
     let gets = Arg::new(alloc, "gets")
         .long("gets")
         .action(ArgAction::Set)
+        .value_name("N")
+        .help("Gets of each thread, 1 to 100000 (100)")
         .value_parser(clap::value_parser!(u32).range(1..=100_000));
+    let history = Arg::new(alloc, "history")
+        .long("history")
+        .action(ArgAction::SetTrue)
+        .help("Prints the records of what happened, in place of the four lines");
     Ok(
         Command::new(alloc, "drive")
+            .bin_name("sfctl drive")?
             .about("Gets keys of one fill on several threads, and checks what happened")
+            .after_help(HELP)
             .arg(threads)?
             .arg(keys)?
-            .arg(gets)?,
+            .arg(gets)?
+            .arg(history)?,
     )
 }
 
-/// Reads the words of a drive, the subcommand's name first: `--threads` (4 where it is absent), `--keys` (8) and `--gets`
-/// (100). Whatever is no parse is usage.
+/// Reads the words of a drive, the subcommand's name first: `--threads` (4 where it is absent), `--keys` (8), `--gets`
+/// (100) and `--history`. Whatever is no parse is usage.
 pub fn drive_line<'a>(alloc: Global, words: &'a [String]) -> Result<DriveLine, NoDrive>
     ensures threads { IfOk result (λ line. (1 ≤ line.threads) × (line.threads ≤ 64)) }
     ensures keys { IfOk result (λ line. (1 ≤ line.keys) × (line.keys ≤ 1000)) }
@@ -90,6 +115,7 @@ pub fn drive_line<'a>(alloc: Global, words: &'a [String]) -> Result<DriveLine, N
         threads,
         keys,
         gets,
+        history: matches.get_flag("history"),
         progress: false,
     })
 }

@@ -8,7 +8,7 @@ use Rattle.sf_steps.specs.declared.texts.refusal.ScheduleRefusal.TheVariants as 
 use Rattle.sf_engines.specs.declared.checking.Checked.TheVariants as checked
 use Rattle.sf_engines.specs.declared.ending.Ending.TheVariants.{Answered, Refused}
 use Rattle.sf_engines.specs.declared.engine.Engine.{Engine}
-use Rattle.sf_engines.specs.declared.engine.Engine.TheVariants.{Run, Steps, Check}
+use Rattle.sf_engines.specs.declared.engine.Engine.TheVariants.{Run, RunHistory, Steps, StepsHistory, StepsPicture, Check}
 use Rattle.sf_engines.specs.Engines.{IsAnswerOf}
 
 -- a script's whole answer is what `sfctl run` writes
@@ -22,7 +22,10 @@ run_part input old new part =
 -- want of memory is an answer to any input
 memory_answer : (engine : Engine) (input : List ℕ) → IsAnswerOf engine input (codes "out of memory" ++ codes "\n")
 memory_answer Run input = (Refused, (script.OutOfMemory, tt, refl))
+memory_answer RunHistory input = (Refused, (script.OutOfMemory, tt, refl))
 memory_answer Steps input = (Refused, (schedule.Memory, tt, refl))
+memory_answer StepsHistory input = (Refused, (schedule.Memory, tt, refl))
+memory_answer StepsPicture input = (Refused, (schedule.Memory, tt, refl))
 memory_answer Check input = (Refused, (checked.OutOfMemory, tt, refl, refl))
 
 pub memory_part : {A : Type 0} (r : Result A StreamFault) (fault : StreamFault) (known : Option (List ℕ)) (engine : Engine) (old new : Option (List ℕ))

@@ -1,4 +1,5 @@
 pub mod Ending
 pub mod Checking
 pub mod Playing
+pub mod Recording
 pub mod Engines

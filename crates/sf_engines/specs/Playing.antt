@@ -8,3 +8,7 @@ use Rattle.sf_steps.specs.TraceText.{Outcome, trace_text}
 -- the text that the steps of a schedule print
 abbrev pub IsTraceText : List ℕ → List ℕ → Type 0
 IsTraceText schedule text = (steps : List (Step Outcome)) × IsTraceOf (lines schedule) steps × (text ≡ trace_text steps)
+
+-- the lines are a schedule, which has a picture; what the picture looks like, no clause says
+abbrev pub HasPicture : List ℕ → Type 0
+HasPicture schedule = (steps : List (Step Outcome)) × IsTraceOf (lines schedule) steps

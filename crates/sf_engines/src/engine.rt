@@ -3,23 +3,40 @@
 ghost use Rattle.std.specs.Prelude.{◌≡◌, ◌≢◌, List, ℕ, IfOk, IfErr, IfSome, None};
 ghost use Rattle.std.specs.Io.KnownBytes.{Appends};
 ghost use Rattle.sf_text.specs.StreamText.{AppendsPart};
-ghost use Rattle.sf_engines.specs.Engines.{IsWrittenBy, IsAnswerOf, name_of};
+ghost use Rattle.sf_engines.specs.Engines.{IsWrittenBy, IsAnswerOf, name_of, shown_by};
 
 use crate::checking::Checked;
 use crate::ending::Ending;
-use crate::engines::{check, run, steps};
+use crate::engines::{check, run, run_history, steps, steps_history, steps_picture};
 use crate::hints::{Hint, hint_for};
 use sf_text::{ReadFault, StreamFault, read_all, write_line};
 use std::alloc::Global;
 use std::io::{Read, Write};
+
+/// What an engine shows of what it does.
+#[derive(Clone, Copy, PartialEq, Eq)]
+pub enum Shown {
+    /// Lines of its own.
+    Lines,
+    /// The records of what happened.
+    History,
+    /// A picture.
+    Picture,
+}
 
 /// An engine of `sfctl`.
 #[derive(Clone, Copy, PartialEq, Eq)]
 pub enum Engine {
     /// Obeys a script of commands.
     Run,
+    /// Obeys a script of commands, and shows what happened as records.
+    RunHistory,
     /// Plays a schedule of the step core.
     Steps,
+    /// Plays a schedule of the step core, and shows what happened as records.
+    StepsHistory,
+    /// Plays a schedule of the step core, and draws it.
+    StepsPicture,
     /// Says whether a recorded history is legal.
     Check,
 }
@@ -30,15 +47,38 @@ impl Engine {
         ensures { result.now ≡ name_of self }
     {
         match self {
-            Engine::Run => "run",
-            Engine::Steps => "steps",
+            Engine::Run | Engine::RunHistory => "run",
+            Engine::Steps | Engine::StepsHistory | Engine::StepsPicture => "steps",
             Engine::Check => "check",
         }
     }
 
-    /// The engine of this name.
+    /// The engine of the same subcommand that shows this, if there is one.
+    pub fn showing(self, shown: Shown) -> Option<Engine>
+        ensures found { IfSome result (λ engine. (name_of engine ≡ name_of self) × (shown_by engine ≡ shown)) }
+        ensures none { result ≡ None → (engine : Engine) → name_of engine ≡ name_of self → shown_by engine ≢ shown }
+    {
+        match self {
+            Engine::Run | Engine::RunHistory => match shown {
+                Shown::Lines => Some(Engine::Run),
+                Shown::History => Some(Engine::RunHistory),
+                Shown::Picture => None,
+            },
+            Engine::Steps | Engine::StepsHistory | Engine::StepsPicture => match shown {
+                Shown::Lines => Some(Engine::Steps),
+                Shown::History => Some(Engine::StepsHistory),
+                Shown::Picture => Some(Engine::StepsPicture),
+            },
+            Engine::Check => match shown {
+                Shown::Lines => Some(Engine::Check),
+                Shown::History | Shown::Picture => None,
+            },
+        }
+    }
+
+    /// The engine of this name that shows lines.
     pub fn named(name: &str) -> Option<Engine>
-        ensures found { IfSome result (λ engine. name.now ≡ name_of engine) }
+        ensures found { IfSome result (λ engine. (name.now ≡ name_of engine) × (shown_by engine ≡ Shown.Lines)) }
         ensures unknown { result ≡ None → (engine : Engine) → name.now ≢ name_of engine }
     {
         if name == "run" {
@@ -129,7 +169,10 @@ impl Engine {
     {
         match self {
             Engine::Run => run(alloc, input, writer),
+            Engine::RunHistory => run_history(alloc, input, writer),
             Engine::Steps => steps(alloc, input, writer),
+            Engine::StepsHistory => steps_history(alloc, input, writer),
+            Engine::StepsPicture => steps_picture(alloc, input, writer),
             Engine::Check => check(alloc, input, writer),
         }
     }

@@ -3,12 +3,13 @@
 ghost use Rattle.std.specs.Prelude.{◌≡◌, List, ℕ, IfOk, IfErr};
 ghost use Rattle.std.specs.Io.KnownBytes.{Appends};
 ghost use Rattle.sf_text.specs.StreamText.{AppendsPart};
-ghost use Rattle.sf_engines.specs.Engines.{IsWrittenByRun, IsWrittenBySteps, IsWrittenByCheck, IsAnswerOf};
+ghost use Rattle.sf_engines.specs.Engines.{IsWrittenByRun, IsWrittenByRunHistory, IsWrittenBySteps, IsWrittenByStepsHistory, IsWrittenByStepsPicture, IsWrittenByCheck, IsAnswerOf};
 
 use crate::checking::{ending, judge};
 use crate::ending::Ending;
 use crate::engine::Engine;
-use crate::playing::traced;
+use crate::playing::{drawn, traced};
+use crate::recording::{schedule_records, script_records};
 use sf_model::run_script;
 use sf_text::{StreamFault, write_all, write_line};
 use std::alloc::Global;
@@ -30,6 +31,28 @@ pub(crate) fn run<W: Write>(
     }
 }
 
+/// `sfctl run --history`: writes the records of what a script did, or the one line of its refusal.
+pub(crate) fn run_history<W: Write>(
+    alloc: Global,
+    input: &[u8],
+    writer: &mut W,
+) -> Result<Ending, StreamFault>
+    ensures written { IfOk result (λ ending. (text : List ℕ) × IsWrittenByRunHistory input.now ending text × Appends (W.contents writer.old) (W.contents writer.new) text) }
+    ensures err { IfErr result (λ fault. fault ≡ StreamFault.CannotWrite) }
+    ensures part { (text : List ℕ) × IsAnswerOf Engine.RunHistory input.now text × AppendsPart (W.contents writer.old) (W.contents writer.new) text }
+{
+    match script_records(alloc, input) {
+        Ok(text) => {
+            write_all(writer, text.as_str())?;
+            Ok(Ending::Answered)
+        }
+        Err(refusal) => {
+            write_line(writer, refusal)?;
+            Ok(Ending::Refused)
+        }
+    }
+}
+
 /// `sfctl steps`: writes what the steps of a schedule print, or the one line of its refusal.
 pub(crate) fn steps<W: Write>(
     alloc: Global,
@@ -41,6 +64,50 @@ pub(crate) fn steps<W: Write>(
     ensures part { (text : List ℕ) × IsAnswerOf Engine.Steps input.now text × AppendsPart (W.contents writer.old) (W.contents writer.new) text }
 {
     match traced(alloc, input) {
+        Ok(text) => {
+            write_all(writer, text.as_str())?;
+            Ok(Ending::Answered)
+        }
+        Err(refusal) => {
+            write_line(writer, refusal)?;
+            Ok(Ending::Refused)
+        }
+    }
+}
+
+/// `sfctl steps --history`: writes the records of what a schedule did, or the one line of its refusal.
+pub(crate) fn steps_history<W: Write>(
+    alloc: Global,
+    input: &[u8],
+    writer: &mut W,
+) -> Result<Ending, StreamFault>
+    ensures written { IfOk result (λ ending. (text : List ℕ) × IsWrittenByStepsHistory input.now ending text × Appends (W.contents writer.old) (W.contents writer.new) text) }
+    ensures err { IfErr result (λ fault. fault ≡ StreamFault.CannotWrite) }
+    ensures part { (text : List ℕ) × IsAnswerOf Engine.StepsHistory input.now text × AppendsPart (W.contents writer.old) (W.contents writer.new) text }
+{
+    match schedule_records(alloc, input) {
+        Ok(text) => {
+            write_all(writer, text.as_str())?;
+            Ok(Ending::Answered)
+        }
+        Err(refusal) => {
+            write_line(writer, refusal)?;
+            Ok(Ending::Refused)
+        }
+    }
+}
+
+/// `sfctl steps --svg`: writes the picture of what a schedule did, or the one line of its refusal.
+pub(crate) fn steps_picture<W: Write>(
+    alloc: Global,
+    input: &[u8],
+    writer: &mut W,
+) -> Result<Ending, StreamFault>
+    ensures written { IfOk result (λ ending. (text : List ℕ) × IsWrittenByStepsPicture input.now ending text × Appends (W.contents writer.old) (W.contents writer.new) text) }
+    ensures err { IfErr result (λ fault. fault ≡ StreamFault.CannotWrite) }
+    ensures part { (text : List ℕ) × IsAnswerOf Engine.StepsPicture input.now text × AppendsPart (W.contents writer.old) (W.contents writer.new) text }
+{
+    match drawn(alloc, input) {
         Ok(text) => {
             write_all(writer, text.as_str())?;
             Ok(Ending::Answered)

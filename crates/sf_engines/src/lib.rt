@@ -8,9 +8,10 @@ mod engines;
 mod hints;
 mod playing;
 mod record_hints;
+mod recording;
 mod turn_hints;
 
 pub use checking::Checked;
 pub use ending::{Ending, Outcome, exit_status, status};
-pub use engine::Engine;
+pub use engine::{Engine, Shown};
 pub use hints::{Hint, hint_for};

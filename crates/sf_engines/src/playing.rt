@@ -1,10 +1,11 @@
-//! What `sfctl steps` prints of a schedule.
+//! What `sfctl steps` prints of a schedule, and draws.
 
 ghost use Rattle.std.specs.Prelude.{IfOk, IfErr, string_bytes};
 ghost use Rattle.std.specs.Str.Lines.{lines};
 ghost use Rattle.sf_steps.specs.Played.{IsRefusalOf};
-ghost use Rattle.sf_engines.specs.Playing.{IsTraceText};
+ghost use Rattle.sf_engines.specs.Playing.{IsTraceText, HasPicture};
 
+use sf_pictures::draw;
 use sf_steps::{ScheduleRefusal, play, trace_text};
 use std::alloc::Global;
 
@@ -15,4 +16,13 @@ pub(crate) fn traced(alloc: Global, schedule: &[u8]) -> Result<String, ScheduleR
 {
     let trace = play(alloc, schedule)?;
     Ok(trace_text(alloc, trace.steps.as_slice())?)
+}
+
+/// The picture of what the steps of a schedule do.
+pub(crate) fn drawn(alloc: Global, schedule: &[u8]) -> Result<String, ScheduleRefusal>
+    ensures played { IfOk result (λ _. HasPicture schedule.now) }
+    ensures refused { IfErr result (λ refusal. IsRefusalOf (lines schedule.now) refusal) }
+{
+    let trace = play(alloc, schedule)?;
+    Ok(draw(alloc, &trace)?)
 }

@@ -10,6 +10,10 @@ mod histories;
 #[cfg(test)]
 mod long_inputs;
 #[cfg(test)]
+mod pictures;
+#[cfg(test)]
+mod recorded;
+#[cfg(test)]
 mod schedules;
 #[cfg(test)]
 mod scripts;

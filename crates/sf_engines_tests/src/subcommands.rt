@@ -1,6 +1,6 @@
 //! The engines by their names, and the exit status of every outcome.
 
-use sf_engines::{Ending, Engine, Outcome, exit_status, status};
+use sf_engines::{Ending, Engine, Outcome, Shown, exit_status, status};
 use sf_text::StreamFault;
 use std::test::Fail;
 
@@ -22,6 +22,23 @@ fn engines_have_the_names_of_their_subcommands(rt: HostRuntime) -> Result<(), Fa
         assert!(rt; Engine::named(name).is_none(), "{name} is an engine");
     }
     Ok(())
+}
+
+#[test]
+fn engines_show_what_is_asked(rt: HostRuntime) {
+    let rows = [
+        (Engine::Run, Shown::History, Some(Engine::RunHistory)),
+        (Engine::Steps, Shown::History, Some(Engine::StepsHistory)),
+        (Engine::StepsHistory, Shown::Lines, Some(Engine::Steps)),
+        (Engine::Check, Shown::Lines, Some(Engine::Check)),
+        (Engine::Steps, Shown::Picture, Some(Engine::StepsPicture)),
+        (Engine::Run, Shown::Picture, None),
+        (Engine::Check, Shown::History, None),
+    ];
+    for (engine, shown, expected) in rows {
+        let name = engine.name();
+        assert!(rt; engine.showing(shown) == expected, "{name} shows otherwise");
+    }
 }
 
 #[test]

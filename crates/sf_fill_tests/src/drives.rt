@@ -78,6 +78,18 @@ fn drive_prints_its_four_lines(rt: HostRuntime) -> Result<(), Fail> {
     check_drive(&rt, alloc, &four, lines)
 }
 
+// The second get is a hit, which adds no event.
+#[test]
+fn drive_prints_its_history(rt: HostRuntime) -> Result<(), Fail> {
+    let words = ["--threads", "1", "--keys", "1", "--gets", "2", "--history"];
+    let records = "{\"format\":1}
+{\"e\":\"lead\",\"by\":1,\"k\":\"1\",\"c\":[1,1],\"own\":null}
+{\"e\":\"settle\",\"by\":1,\"c\":[1,1],\"ok\":\"\",\"shared\":false}
+{\"e\":\"handed\",\"by\":1,\"c\":[1,1]}
+";
+    check_drive(&rt, rt.alloc(), &words, records)
+}
+
 // With as many keys as this the caches drop entries.
 #[test]
 fn drive_over_many_keys(rt: HostRuntime) -> Result<(), Fail> {

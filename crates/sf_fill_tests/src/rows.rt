@@ -163,6 +163,32 @@ fn reload_during_load(rt: HostRuntime) -> Result<(), Fail> {
     Ok(())
 }
 
+// What a closed call gives does not take the place of a newer letter in the cache.
+#[test]
+fn old_answer_leaves_the_newer_letter(rt: HostRuntime) -> Result<(), Fail> {
+    const SECOND: [Step; 6] = [
+        AwaitLoad,
+        Reload("a"),
+        Get("a"),
+        TellAnswered,
+        AwaitGot,
+        Get("a"),
+    ];
+    let setting = Setting {
+        steps: [&[Get("a"), TellGot], &SECOND, &[]],
+        beside: true,
+        ..SETTING
+    };
+    let outcome = try_out(&rt, rt.alloc(), setting)?;
+    assert!(rt; !outcome.failed, "a wait was given up");
+    let first = "a v=true 1.1 root=1.1 shared=false\n";
+    let second = "reload a 1.1\n\
+        a v=true 2.1 root=2.1 shared=false\n\
+        a v=true 2.1 root=2.1 shared=false\n";
+    check(&rt, &outcome, [first, second], [3, 1, 2, 2, 0, 0, 2, 0]);
+    Ok(())
+}
+
 // Two getters read while a third changes what loads give, and reloads.
 #[test]
 fn no_old_answers_after_a_reload(rt: HostRuntime) -> Result<(), Fail> {

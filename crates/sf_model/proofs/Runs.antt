@@ -12,7 +12,7 @@ use Rattle.sf_history.specs.Sequential.{IsCommandOf, replied, asks, ask_of, asks
 use Rattle.sf_model.specs.Reading.{ScriptCommand, AreRead, Spells}
 use Rattle.sf_text.specs.Words.{words}
 use Rattle.sf_text.specs.Texts.{same_text}
-use Rattle.sf_model.specs.ScriptText.{Script, line_of, after_line, goes_on, replies_of, script_start, IsReplyText}
+use Rattle.sf_model.specs.ScriptText.{Script, line_of, after_line, goes_on, replies_of, script_start, IsRunOf}
 use Rattle.std.specs.Str.Lines.{lines}
 
 -- two lines before what follows are one text before it
@@ -122,10 +122,9 @@ read_within ls cs read = All-from_recursion (IsCommandOf 65535) cs (each ls cs r
     each (l ∷ ls) [] read = absurd read
     each (l ∷ ls) (c ∷ cs) read = (one (words l) c read.0, each ls cs read.1)
 
--- the run of a script's commands is its reply text
-pub answered : {T E : Type 0} (shown : T → List ℕ) (r : Result T E) (input : List ℕ) (cs ds : List ScriptCommand) (start end : Script) → start ≡ script_start → ds ≡ cs → AreRead (lines input) cs
-    → IfOk r (λ x. replies_of 1 start ds ≡ Ok (shown x, end)) → IfOk r (λ x. IsReplyText input (shown x))
-answered shown (Ok x) input cs ds start end starts same read is =
+-- the run of a script's commands is the script's
+pub answered : (input text : List ℕ) (cs ds : List ScriptCommand) (start end : Script) → start ≡ script_start → ds ≡ cs → AreRead (lines input) cs
+    → replies_of 1 start ds ≡ Ok (text, end) → IsRunOf input text end
+answered input text cs ds start end starts same read is =
     let told : Script → List ScriptCommand → Result (List ℕ × Script) (ℕ × ModelRefusal) = λ g es. replies_of 1 g es in
-    (cs, read, end, ap (λ es. told script_start es) (sym same) ∙ ap (λ g. told g ds) (sym starts) ∙ is)
-answered shown (Err e) input cs ds start end starts same read is = tt
+    (cs, read, ap (λ es. told script_start es) (sym same) ∙ ap (λ g. told g ds) (sym starts) ∙ is)

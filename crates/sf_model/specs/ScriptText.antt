@@ -89,9 +89,13 @@ StopsBy r (BadLine n) = ⊥
 StopsBy r (Refused n e) = r ≡ Err (n, e)
 StopsBy r OutOfMemory = Unit {0}
 
+-- the run of a script that is obeyed: the text of its replies, and the state that it leaves
+abbrev pub IsRunOf : List ℕ → List ℕ → Script → Type 0
+IsRunOf input text g = (cs : List ScriptCommand) × AreRead (lines input) cs × (replies_of 1 script_start cs ≡ Ok (text, g))
+
 -- reply text: what a script answers that is obeyed
 abbrev pub IsReplyText : List ℕ → List ℕ → Type 0
-IsReplyText input text = (cs : List ScriptCommand) × AreRead (lines input) cs × (g : Script) × (replies_of 1 script_start cs ≡ Ok (text, g))
+IsReplyText input text = (g : Script) × IsRunOf input text g
 
 -- why a script is refused: its first line that says no command, or else the first command that the group refuses; want of memory comes at any time
 abbrev pub IsDue : List ℕ → ScriptRefusal → Type 0

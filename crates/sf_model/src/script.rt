@@ -1,7 +1,7 @@
 //! Scripts: commands to the sequential group, one a line, and the lines that it replies.
 
 ghost use Rattle.std.specs.Prelude.{◌≡◌, ◌≢◌, ◌⊎◌, ℕ, List, ◌∷◌, ◌++◌, Ok, Err, IfOk, IfErr, IfSome, OnOk, All, string_bytes, codes};
-ghost use Rattle.sf_model.specs.ScriptText.{mark_text, result_text, asked_text, chan_asked_text, settled_text, forgotten_text, taken_text, current_text, line_of, after_line, replies_of, StopsBy, IsReplyText, IsDue, IsAnswerText};
+ghost use Rattle.sf_model.specs.ScriptText.{mark_text, result_text, asked_text, chan_asked_text, settled_text, forgotten_text, taken_text, current_text, line_of, after_line, replies_of, StopsBy, IsRunOf, IsReplyText, IsDue, IsAnswerText};
 ghost use Rattle.sf_model.specs.RefusalText.{refusal_text};
 ghost use Rattle.std.specs.Io.KnownBytes.{Appends};
 ghost use Rattle.sf_text.specs.StreamText.{AppendsPart};
@@ -217,7 +217,20 @@ fn answer(alloc: Global, input: &[u8]) -> Result<String, ScriptRefusal>
     ensures obeyed { IfOk result (λ lines. IsReplyText input.now (string_bytes lines)) }
     ensures refused { IfErr result (IsDue input.now) }
 {
+    let (lines, _group) = obey_script(alloc, input)?;
+    Ok(lines)
+}
+
+/// Obeys a script: the lines that are replied to it, and the group that it leaves.
+pub fn obey_script(
+    alloc: Global,
+    input: &[u8],
+) -> Result<(String, SeqGroup<Text, Outcome>), ScriptRefusal>
+    ensures obeyed { IfOk result (λ obeyed. IsRunOf input.now (string_bytes obeyed.0) obeyed.1) }
+    ensures refused { IfErr result (IsDue input.now) }
+{
     let commands = commands(alloc, input)?;
     let mut group = SeqGroup::new(alloc, LARGEST_CALLER, 1);
-    obey_all(alloc, &mut group, commands.as_slice())
+    let lines = obey_all(alloc, &mut group, commands.as_slice())?;
+    Ok((lines, group))
 }

@@ -2,3 +2,4 @@ pub mod Merged
 pub mod Record
 pub mod RecordText
 pub mod Written
+pub mod TextKeys

@@ -1,4 +1,4 @@
-use Rattle.std.proofs.Common.{◌≡◌, ◌∙◌}
+use Rattle.std.proofs.Common.{◌∙◌}
 use Rattle.sf_dir.specs.Known.{DeskState}
 use Rattle.sf_fill.proofs.Crew.{as_many, desks_of_directory}
 use Rattle.sf_drive.proofs.driving.report.Goals as goal

@@ -1,4 +1,4 @@
-use Rattle.std.proofs.Common.{◌≡◌, ◌∙◌}
+use Rattle.std.proofs.Common.{◌∙◌}
 use Rattle.sf_calls.specs.Tokens.{CallerValue}
 use Rattle.sf_fill.specs.FillValue.{Filled}
 use Rattle.sf_fill.proofs.Crew.{as_many, callers_of_group}

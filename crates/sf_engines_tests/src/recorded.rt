@@ -1,0 +1,78 @@
+//! What scripts and schedules did, as records.
+
+use sf_engines::{Ending, Engine};
+use std::test::Fail;
+
+/// An engine, its input, and its answer: each record but the first is an event.
+const ROWS: [(Engine, &[u8], &[u8]); 3] = [
+    (
+        Engine::RunHistory,
+        b"ask 1 k\nask 2 k\nsettle 1 ok v\ntake 2\n",
+        b"{\"format\":1}
+{\"e\":\"lead\",\"by\":1,\"k\":\"k\",\"c\":[1,1],\"own\":null}
+{\"e\":\"enter\",\"by\":2,\"k\":\"k\",\"c\":[1,1],\"m\":[2,1]}
+{\"e\":\"settle\",\"by\":1,\"c\":[1,1],\"ok\":\"v\",\"shared\":true}
+{\"e\":\"handed\",\"by\":1,\"c\":[1,1]}
+",
+    ),
+    (
+        Engine::RunHistory,
+        b"chan 1 2 k\nforget 3 k\nforget 3 j\nsettle 1 err down\n",
+        b"{\"format\":1}
+{\"e\":\"lead\",\"by\":1,\"k\":\"k\",\"c\":[1,1],\"own\":[2,1]}
+{\"e\":\"forget\",\"by\":3,\"k\":\"k\",\"closed\":[1,1]}
+{\"e\":\"forget\",\"by\":3,\"k\":\"j\",\"closed\":null}
+{\"e\":\"settle\",\"by\":1,\"c\":[1,1],\"err\":\"down\",\"shared\":false}
+{\"e\":\"handed\",\"by\":1,\"c\":[1,1]}
+",
+    ),
+    (
+        Engine::StepsHistory,
+        b"do 1 ask 20\nstep 1 3\ndo 3 forget 20\nstep 3 3\ndo 1 settle ok v\nstep 1 2\nstep 3\n",
+        b"{\"format\":1}
+{\"e\":\"lead\",\"by\":1,\"k\":\"20\",\"c\":[1,1],\"own\":null}
+{\"e\":\"forget\",\"by\":3,\"k\":\"20\",\"closed\":[1,1]}
+{\"e\":\"settle\",\"by\":1,\"c\":[1,1],\"ok\":\"v\",\"shared\":false}
+{\"e\":\"handed\",\"by\":1,\"c\":[1,1]}
+",
+    ),
+];
+
+#[test]
+fn recorded_histories_are_legal(rt: HostRuntime) -> Result<(), Fail> {
+    for (engine, input, records) in ROWS {
+        let mut written: Vec<u8> = Vec::new(rt.alloc());
+        let ended = engine.start(rt.alloc(), &mut &*input, &mut written)?;
+        let said = str::from_utf8(written.as_slice()).unwrap_or("no text");
+        assert!(rt; written.as_slice() == records, "other records: {said}");
+        assert!(rt; ended == Ending::Answered, "it ends otherwise");
+        let mut judged: Vec<u8> = Vec::new(rt.alloc());
+        let ended = Engine::Check.start(rt.alloc(), &mut written.as_slice(), &mut judged)?;
+        assert!(rt; ended == Ending::Answered, "it is not legal that {said}");
+    }
+    Ok(())
+}
+
+#[test]
+fn refused_inputs_have_no_records(rt: HostRuntime) -> Result<(), Fail> {
+    let rows: [(Engine, &[u8], &[u8]); 2] = [
+        (
+            Engine::RunHistory,
+            b"ask 1 k\nask 1 k\n",
+            b"line 2: caller 1 is not free\n",
+        ),
+        (
+            Engine::StepsHistory,
+            b"do 1 ask 1\nstep 1 4\n",
+            b"line 2: not a turn of this schedule\n",
+        ),
+    ];
+    for (engine, input, line) in rows {
+        let mut written: Vec<u8> = Vec::new(rt.alloc());
+        let ended = engine.start(rt.alloc(), &mut &*input, &mut written)?;
+        let said = str::from_utf8(written.as_slice()).unwrap_or("no text");
+        assert!(rt; written.as_slice() == line, "another line: {said}");
+        assert!(rt; ended == Ending::Refused, "it ends otherwise");
+    }
+    Ok(())
+}
