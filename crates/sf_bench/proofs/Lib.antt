@@ -1,0 +1,2 @@
+pub mod Middles
+pub mod Wording
