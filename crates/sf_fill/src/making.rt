@@ -40,6 +40,18 @@ struct Rooms<'d, D: Naming, N: Naming, O: Origin, P, F, L, C> {
     logs: Vec<Log>,
 }
 
+// Empty logs, each with room for so many events.
+fn logs_with_room(alloc: Global, count: usize, room: usize) -> Result<Vec<Log>, Memory>
+    ensures { IfOk result (λ logs. vec_len logs ≡ count) }
+{
+    let mut logs = Vec::with_capacity(alloc, count)?;
+    for index in 0..count {
+        let _ = index;
+        logs.push(Log::with_room(alloc, room)?)?;
+    }
+    Ok(logs)
+}
+
 // Takes all memory that a fill needs.
 fn reserve<'d, D: Naming, N: Naming, O: Origin, P, F, L, C>(
     alloc: Global,
@@ -54,11 +66,7 @@ fn reserve<'d, D: Naming, N: Naming, O: Origin, P, F, L, C>(
     ensures logs { IfOk result (λ r. vec_len r.logs ≡ getters) }
 {
     let caches = Caches::new(alloc, limit, places)?;
-    let mut logs = Vec::with_capacity(alloc, getters)?;
-    for index in 0..getters {
-        let _ = index;
-        logs.push(Log::with_room(alloc, log)?)?;
-    }
+    let logs = logs_with_room(alloc, getters, log)?;
     let Ok(list) = Vec::with_capacity(alloc, getters) else {
         return Err(Memory);
     };
