@@ -1,3 +1,4 @@
+pub mod ByteCounts
 pub mod Names
 pub mod FaultText
 pub mod Nowhere

@@ -1,5 +1,6 @@
 //! What a fill settles its calls with.
 ghost use Rattle.std.specs.Prelude.{◌≡◌, IfOk};
+ghost use Rattle.sf_fill.specs.ByteCounts.{count_of};
 
 use crate::naming::Naming;
 use bytes::Bytes;
@@ -64,7 +65,9 @@ impl<'d, D: Naming, O: Origin> FillValue<'d, D, O> {
     }
 
     /// How many bytes there are; none where there is a fault in their place.
-    pub fn byte_count(&self) -> Option<usize> {
+    pub fn byte_count(&self) -> Option<usize>
+        ensures { result ≡ count_of self.now.result }
+    {
         match &self.result {
             Ok(bytes) => Some(bytes.len()),
             Err(_) => None,
