@@ -1,5 +1,5 @@
 -- how calls end by which letters come: finish, go_on and poll
-use Rattle.std.specs.Prelude.{◌≡◌, ◌≢◌, ℕ, ◌⊎◌, Bool, true, false, [], ◌∷◌, Some, None}
+use Rattle.std.specs.Prelude.{◌≡◌, ◌≢◌, ◌≤◌, ℕ, ◌⊎◌, false, [], ◌∷◌, Some, None}
 use Rattle.sf_history.specs.declared.call.CallId.{CallId}
 use Rattle.sf_history.specs.declared.event.Event.TheVariants as event
 use Rattle.sf_history.specs.History.{is_handed}
@@ -13,13 +13,13 @@ use Rattle.sf_calls.specs.Fitting.{FitOf}
 
 module _ {V : Type 0} where
   -- the letter is this one, and the list that its note shows has the call's Settle
-  pub record IsLetter (g : GroupValue) (k : ℕ) (c : CallId) (v : V) (shared : Bool) (l : LetterValue V) : Type 0 where
+  pub record IsLetter (g : GroupValue) (k : ℕ) (c : CallId) (v : V) (joiners : ℕ) (l : LetterValue V) : Type 0 where
     pub group : l.group ≡ g
     pub place : l.place ≡ k
     pub call : l.call ≡ c
     pub value : l.value ≡ v
-    pub mark : l.shared ≡ shared
-    pub settled : Stands (event.Settle c.caller c v shared) l.seen
+    pub count : l.joiners ≡ joiners
+    pub settled : Stands (event.Settle c.caller c v joiners) l.seen
 
   -- the value fits with what the letter's note shows
   abbrev pub FitsLetter : FitOf V → LetterValue V → Type 0
@@ -29,8 +29,8 @@ module _ {V : Type 0} where
   pub record IsDone (fits : FitOf V) (f : FlightValue V) (v : V) (c : CallerValue V) (l : LetterValue V) : Type 0 where
     pub group : c.group ≡ f.group
     pub number : c.number ≡ f.number
-    pub adds : Adds f.group f.number f.seen c.seen (event.Settle f.number f.call v l.shared ∷ event.Handed f.number f.call ∷ []) 0
-    pub letter : IsLetter f.group f.place f.call v l.shared l
+    pub adds : Adds f.group f.number f.seen c.seen (event.Settle f.number f.call v l.joiners ∷ event.Handed f.number f.call ∷ []) 0
+    pub letter : IsLetter f.group f.place f.call v l.joiners l
     pub shows : StartsWith c.seen l.seen
     pub fitting : FitsLetter fits l
 
@@ -41,8 +41,8 @@ module _ {V : Type 0} where
     pub place : s.place ≡ f.place
     pub call : s.call ≡ f.call
     pub value : s.value ≡ Some v
-    pub adds : Adds f.group f.number f.seen s.seen (event.Settle f.number f.call v s.shared ∷ []) 0
-    pub owed : (s.shared ≡ true) ⊎ (f.own ≢ None)
+    pub adds : Adds f.group f.number f.seen s.seen (event.Settle f.number f.call v s.joiners ∷ []) 0
+    pub owed : (1 ≤ s.joiners) ⊎ (f.own ≢ None)
 
   -- how a finish ends, where values fit so
   abbrev pub HasFinished : FitOf V → FlightValue V → V → Finished (CallerValue V) (LetterValue V) (SettledValue V) → Type 0
@@ -55,7 +55,7 @@ module _ {V : Type 0} where
     pub number : c.number ≡ s.number
     pub value : s.value ≡ Some l.value
     pub adds : Adds s.group s.number s.seen c.seen (event.Handed s.number s.call ∷ []) 0
-    pub letter : IsLetter s.group s.place s.call l.value s.shared l
+    pub letter : IsLetter s.group s.place s.call l.value s.joiners l
     pub shows : StartsWith c.seen l.seen
     pub fitting : FitsLetter fits l
 
@@ -66,7 +66,7 @@ module _ {V : Type 0} where
     pub place : t.place ≡ s.place
     pub call : t.call ≡ s.call
     pub value : t.value ≡ s.value
-    pub mark : t.shared ≡ s.shared
+    pub count : t.joiners ≡ s.joiners
     pub adds : Adds s.group s.number s.seen t.seen [] 0
 
   -- how an unfinished delivery goes on
@@ -79,7 +79,7 @@ module _ {V : Type 0} where
     pub group : c.group ≡ t.group
     pub number : c.number ≡ t.number
     pub adds : Adds t.group t.number t.seen c.seen [] 0
-    pub letter : IsLetter t.group t.place t.call l.value l.shared l
+    pub letter : IsLetter t.group t.place t.call l.value l.joiners l
     pub shows : StartsWith c.seen l.seen
     pub fitting : FitsLetter fits l
 

@@ -2,7 +2,7 @@
 use Rattle.std.specs.Prelude.{◌≡◌, ℕ, Bool, false, List, Option, Some, None, find, option_and_then}
 use Rattle.sf_history.specs.declared.call.CallId.{CallId}
 use Rattle.sf_history.specs.declared.event.Event.{Event}
-use Rattle.sf_history.specs.declared.event.Event.TheVariants.{Lead, Enter, Forget, Settle, Handed}
+use Rattle.sf_history.specs.declared.event.Event.TheVariants.{Lead, Enter, Forget, ForgetCall, Settle, Handed}
 use Rattle.sf_history.specs.Calls.{same_call}
 use Rattle.sf_history.specs.History.{result_of}
 
@@ -16,7 +16,8 @@ module _ {V : Type 0} where
   is_lead c (Lead by key call own) = same_call call c
   is_lead c (Enter by key call member) = false
   is_lead c (Forget by key closed) = false
-  is_lead c (Settle by call result shared) = false
+  is_lead c (ForgetCall by key call hit) = false
+  is_lead c (Settle by call result joiners) = false
   is_lead c (Handed by call) = false
 
   -- the place that an event is on
@@ -24,7 +25,8 @@ module _ {V : Type 0} where
   place_in (Lead by key call own) = Some key
   place_in (Enter by key call member) = Some key
   place_in (Forget by key closed) = Some key
-  place_in (Settle by call result shared) = None
+  place_in (ForgetCall by key call hit) = Some key
+  place_in (Settle by call result joiners) = None
   place_in (Handed by call) = None
 
   -- the place on which a call was led

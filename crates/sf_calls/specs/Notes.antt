@@ -37,7 +37,7 @@ module _ {V : Type 0} where
     pub place : m.place ≡ l.place
     pub call : m.call ≡ l.call
     pub value : m.value ≡ l.value
-    pub mark : m.shared ≡ l.shared
+    pub count : m.joiners ≡ l.joiners
     pub shows : StartsWith m.seen l.seen
 
   abbrev pub HasCopied : FitOf V → LetterValue V → LetterValue V → LetterValue V → Type 0

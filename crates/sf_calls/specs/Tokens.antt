@@ -1,5 +1,5 @@
 -- what contracts see of groups, tokens, notes and letters
-use Rattle.std.specs.Prelude.{ℕ, Bool, List, Option}
+use Rattle.std.specs.Prelude.{ℕ, List, Option}
 use Rattle.atomic_table.specs.Seated.{TableId}
 use Rattle.sf_history.specs.declared.call.CallId.{CallId}
 use Rattle.sf_history.specs.declared.event.Event.{Event}
@@ -37,7 +37,7 @@ pub record SettledValue (V : Type 0) : Type 0 where
   pub place : ℕ
   pub call : CallId
   pub value : Option V
-  pub shared : Bool
+  pub joiners : ℕ
 
 pub record TicketValue (V : Type 0) : Type 0 where
   pub group : GroupValue
@@ -59,4 +59,4 @@ pub record LetterValue (V : Type 0) : Type 0 where
   pub place : ℕ
   pub call : CallId
   pub value : V
-  pub shared : Bool
+  pub joiners : ℕ

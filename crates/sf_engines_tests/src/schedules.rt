@@ -28,22 +28,22 @@ fn schedules(rt: HostRuntime) -> Result<(), Fail> {
         // stale_joiner_misses_a_reused_word
         (
             b"do 1 ask 1\nstep 1 3\ndo 2 ask 1\nstep 2 2\ndo 1 settle ok v\nstep 1 2\ndo 1 ask 2\nstep 1 3\nstep 2 7\n",
-            "1 look 1 0\n1 ready 1.1 open\n1 lead 1 1.1 yes\n= lead 1 1.1\n2 look 1 1.1\n2 peek 1.1 open 0\n1 peek 1.1 open 0\n1 close 1.1 done yes\n= settle 1.1 v shared=no\n= handed 1.1\n1 look 2 0\n1 ready 1.2 open\n1 lead 2 1.2 yes\n= lead 2 1.2\n2 ready 2.1 listed\n2 link 0\n2 enter 1.1 no\n2 look 1 1.1\n2 peek 1.2 open 0\n2 ready 2.1 open\n2 lead 1 2.1 yes\n= lead 1 2.1\n",
+            "1 look 1 0\n1 ready 1.1 open\n1 lead 1 1.1 yes\n= lead 1 1.1\n2 look 1 1.1\n2 peek 1.1 open 0\n1 peek 1.1 open 0\n1 close 1.1 done yes\n= settle 1.1 v joiners=0\n= handed 1.1\n1 look 2 0\n1 ready 1.2 open\n1 lead 2 1.2 yes\n= lead 2 1.2\n2 ready 2.1 listed\n2 link 0\n2 enter 1.1 no\n2 look 1 1.1\n2 peek 1.2 open 0\n2 ready 2.1 open\n2 lead 1 2.1 yes\n= lead 1 2.1\n",
         ),
         // failed_enter_is_asked_again
         (
-            b"do 1 ask 1\nstep 1 3\ndo 3 ask 1\nstep 3 2\ndo 2 ask 1\nstep 2 5\nstep 3 3\ndrop 3\ndo 3 ask 1\nstep 3 5\ndo 1 settle ok v\nstep 1 8\ndo 2 poll\nstep 2\n",
-            "1 look 1 0\n1 ready 1.1 open\n1 lead 1 1.1 yes\n= lead 1 1.1\n3 look 1 1.1\n3 peek 1.1 open 0\n2 look 1 1.1\n2 peek 1.1 open 0\n2 ready 2.1 listed\n2 link 0\n2 enter 1.1 yes\n= enter 1 1.1 2.1\n3 ready 3.1 listed\n3 link 0\n3 enter 1.1 no\n3 look 1 1.1\n3 peek 1.1 open 2\n3 ready 3.1 listed\n3 link 2\n3 enter 1.1 yes\n= enter 1 1.1 3.1\n1 peek 1.1 open 3\n1 close 1.1 done yes\n= settle 1.1 v shared=yes\n1 follow 3 2\n1 peek 3.1 listed 0\n1 deliver 3.1\n1 follow 2 0\n1 peek 2.1 listed 0\n1 deliver 2.1\n= handed 1.1\n2 collect 2.1 full\n",
+            b"do 1 ask 1\nstep 1 3\ndo 3 ask 1\nstep 3 2\ndo 2 ask 1\nstep 2 5\nstep 3 3\ndrop 3\ndo 3 ask 1\nstep 3 5\ndo 1 settle ok v\nstep 1 10\ndo 2 poll\nstep 2\n",
+            "1 look 1 0\n1 ready 1.1 open\n1 lead 1 1.1 yes\n= lead 1 1.1\n3 look 1 1.1\n3 peek 1.1 open 0\n2 look 1 1.1\n2 peek 1.1 open 0\n2 ready 2.1 listed\n2 link 0\n2 enter 1.1 yes\n= enter 1 1.1 2.1\n3 ready 3.1 listed\n3 link 0\n3 enter 1.1 no\n3 look 1 1.1\n3 peek 1.1 open 2\n3 ready 3.1 listed\n3 link 2\n3 enter 1.1 yes\n= enter 1 1.1 3.1\n1 peek 1.1 open 3\n1 close 1.1 done yes\n= settle 1.1 v joiners=2\n1 follow 3 2\n1 follow 2 0\n1 follow 3 2\n1 peek 3.1 listed 0\n1 deliver 3.1\n1 follow 2 0\n1 peek 2.1 listed 0\n1 deliver 2.1\n= handed 1.1\n2 collect 2.1 full\n",
         ),
         // leader_delivers_to_its_own_channel
         (
             b"do 1 chan 2 1\nstep 1 4\ndo 1 settle ok v\nstep 1 4\ndo 2 poll\nstep 2\n",
-            "1 look 1 0\n2 ready 2.1 listed\n1 ready 1.1 open\n1 lead 1 1.1 yes\n= lead 1 1.1 own=2.1\n1 peek 1.1 open own 0\n1 close 1.1 done yes\n= settle 1.1 v shared=no\n1 peek 2.1 listed 0\n1 deliver 2.1\n= handed 1.1\n2 collect 2.1 full\n",
+            "1 look 1 0\n2 ready 2.1 listed\n1 ready 1.1 open\n1 lead 1 1.1 yes\n= lead 1 1.1 own=2.1\n1 peek 1.1 open own 0\n1 close 1.1 done yes\n= settle 1.1 v joiners=0\n1 peek 2.1 listed 0\n1 deliver 2.1\n= handed 1.1\n2 collect 2.1 full\n",
         ),
         // leader_clears_for_the_forgetter
         (
             b"do 1 ask 1\nstep 1 3\ndo 3 forget 1\nstep 3 3\ndo 1 settle ok v\nstep 1 2\nstep 3\n",
-            "1 look 1 0\n1 ready 1.1 open\n1 lead 1 1.1 yes\n= lead 1 1.1\n3 look 1 1.1\n3 peek 1.1 open 0\n3 close 1.1 forgot yes\n= forget 1 closed 1.1\n1 peek 1.1 forgot 0\n= settle 1.1 v shared=no\n= handed 1.1\n1 clear 1 1.1 yes\n3 clear 1 1.1 no\n",
+            "1 look 1 0\n1 ready 1.1 open\n1 lead 1 1.1 yes\n= lead 1 1.1\n3 look 1 1.1\n3 peek 1.1 open 0\n3 close 1.1 forgot yes\n= forget 1 closed 1.1\n1 peek 1.1 forgot 0\n= settle 1.1 v joiners=0\n= handed 1.1\n1 clear 1 1.1 yes\n3 clear 1 1.1 no\n",
         ),
         // closed_call_is_not_current_before_its_clear
         (
@@ -53,7 +53,7 @@ fn schedules(rt: HostRuntime) -> Result<(), Fail> {
         // idle_forget_clears_a_settled_call
         (
             b"do 1 ask 1\nstep 1 3\ndo 1 settle ok v\nstep 1 2\ndo 2 forget 1\nstep 2 3\n",
-            "1 look 1 0\n1 ready 1.1 open\n1 lead 1 1.1 yes\n= lead 1 1.1\n1 peek 1.1 open 0\n1 close 1.1 done yes\n= settle 1.1 v shared=no\n= handed 1.1\n2 look 1 1.1\n2 peek 1.1 done 0\n2 clear 1 1.1 yes\n= forget 1 idle\n",
+            "1 look 1 0\n1 ready 1.1 open\n1 lead 1 1.1 yes\n= lead 1 1.1\n1 peek 1.1 open 0\n1 close 1.1 done yes\n= settle 1.1 v joiners=0\n= handed 1.1\n2 look 1 1.1\n2 peek 1.1 done 0\n2 clear 1 1.1 yes\n= forget 1 idle\n",
         ),
     ];
     for (schedule, printed) in rows {

@@ -1,5 +1,5 @@
 -- the rows of a finish, from what its tries did
-use Rattle.std.proofs.Common.{◌≡◌, ◌≢◌, ℕ, ◌==◌, Bool, true, false, List, [], ◌∷◌, ◌++◌, ◌⊎◌, inl, inr, Option, Some, None, refl, sym, ◌∙◌, ap, subst, arith}
+use Rattle.std.proofs.Common.{◌≡◌, ◌≢◌, ◌≤◌, ℕ, ◌==◌, Bool, true, false, List, [], ◌∷◌, ◌++◌, ◌⊎◌, inl, inr, Option, Some, None, refl, sym, ◌∙◌, ap, subst, arith}
 use Rattle.std.specs.Prelude.{is_some, cond}
 use Rattle.std.proofs.lemmas.List.{append-nil}
 use Rattle.atomic_table.specs.Seated.{TableId}
@@ -21,15 +21,18 @@ use Rattle.sf_calls.specs.Finishes.{IsDone, IsHeld}
 use Rattle.sf_word_steps.specs.declared.view.View.{View}
 use Rattle.sf_word_steps.specs.View.{setting_of, sizes_of, history_of}
 use Rattle.sf_word_steps.specs.Stands.{Goes}
+use Rattle.sf_word_steps.specs.Settles.{IsJoined}
 use Rattle.sf_word_steps.specs.Delivers.{IsOwed}
+use Rattle.sf_word_steps.proofs.Answered.{stands_own}
 use Rattle.sf_group.specs.Known.{caller_of, flight_of, settled_of, letter_of}
 use Rattle.sf_group.specs.Calls.{ClosesSeldom}
 use Rattle.sf_group.proofs.Rows.{group_is, added}
 
-owed_own : (top : Option ℕ) (own : Option CallId) → IsOwed top own → (is_some top ≡ true) ⊎ (own ≢ None)
-owed_own top own (inl is) = inl is
-owed_own top (Some o) (inr is) = inr (λ none. cc)
-owed_own top None (inr is) = cc
+owed_own : (top : Option ℕ) (n : ℕ) (own : Option CallId) → IsOwed top own → IsJoined top n → (1 ≤ n) ⊎ (own ≢ None)
+owed_own (Some m) n own (inl is) joined = inl joined
+owed_own None n own (inl is) joined = cc
+owed_own top n (Some o) (inr is) joined = inr (λ none. cc)
+owed_own top n None (inr is) joined = cc
 
 none_is : {A : Type 0} (o : Option A) → is_some o ≡ false → o ≡ None
 none_is None isnt = refl
@@ -43,52 +46,41 @@ call_is c a is = ap (λ b. of b) (sym is)
     of b = record { caller = b; generation = c.generation }
 
 module _ {V : Type 0} where
-  owed_events : (a : ℕ) (c : CallId) (own : Option CallId) (x : V) (top : Option ℕ) → IsOwed top own → settled a c own x top ≡ event.Settle a c x (is_some top) ∷ []
-  owed_events a c None x None (inl is) = cc
-  owed_events a c None x None (inr is) = cc
-  owed_events a c None x (Some m) owed = refl
-  owed_events a c (Some o) x None owed = refl
-  owed_events a c (Some o) x (Some m) owed = refl
-
-  -- an event that a caller made stands in the history
-  pub stands_own : (a : ℕ) (h p q : List (Event ℕ V)) (e : Event ℕ V) → own_events a h ≡ p ++ e ∷ q → Stands e h
-  stands_own a [] [] q e is = cc
-  stands_own a [] (d ∷ p) q e is = cc
-  stands_own a (d ∷ h) p q e is = at (maker d == a) p is (stands_own a h p q e) (λ r. stands_own a h r q e)
-    where
-      at : (b : Bool) (p : List (Event ℕ V)) → cond b (d ∷ own_events a h) (own_events a h) ≡ p ++ e ∷ q → (own_events a h ≡ p ++ e ∷ q → Stands e h) → ((r : List (Event ℕ V)) → own_events a h ≡ r ++ e ∷ q → Stands e h) → Stands e (d ∷ h)
-      at true [] is same later = ([], h, let head : d ≡ e = cc in ap (λ (y : Event ℕ V). y ∷ h) head)
-      at true (y ∷ r) is same later = let rest = later r (let tail : own_events a h ≡ r ++ e ∷ q = cc in tail) in (d ∷ rest.0, rest.1, ap (λ (ys : List (Event ℕ V)). d ∷ ys) rest.2)
-      at false p is same later = let rest = same is in (d ∷ rest.0, rest.1, ap (λ (ys : List (Event ℕ V)). d ∷ ys) rest.2)
+  owed_events : (a : ℕ) (c : CallId) (own : Option CallId) (x : V) (n : ℕ) (top : Option ℕ) → IsOwed top own → settled a c own x n top ≡ event.Settle a c x n ∷ []
+  owed_events a c None x n None (inl is) = cc
+  owed_events a c None x n None (inr is) = cc
+  owed_events a c None x n (Some m) owed = refl
+  owed_events a c (Some o) x n None owed = refl
+  owed_events a c (Some o) x n (Some m) owed = refl
 
   -- what the leader's turns add, by its call
-  settled_adds : (t : TableId) (a k : ℕ) (c : CallId) (own : Option CallId) (x : V) (top : Option ℕ) (v w : View V) (p : Stage V) → c.caller ≡ a → Goes (sizes_of v) a v w p (settled a (record { caller = a; generation = c.generation }) own x top) 0
-      → (es : List (Event ℕ V)) → settled a c own x top ≡ es → Adds (flight_of t v a k c own).group a (history_of (sizes_of v) v.known.turns) (history_of (sizes_of w) w.known.turns) es 0
-  settled_adds t a k c own x top v w p is goes es said = subst (λ ys. Adds (flight_of t v a k c own).group a (history_of (sizes_of v) v.known.turns) (history_of (sizes_of w) w.known.turns) ys 0)
-      (ap (λ (d : CallId). settled a d own x top) (call_is c a is) ∙ said) (added t a 0 v w p (settled a (record { caller = a; generation = c.generation }) own x top) goes)
+  settled_adds : (t : TableId) (a k : ℕ) (c : CallId) (own : Option CallId) (x : V) (n : ℕ) (top : Option ℕ) (v w : View V) (p : Stage V) → c.caller ≡ a → Goes (sizes_of v) a v w p (settled a (record { caller = a; generation = c.generation }) own x n top) 0
+      → (es : List (Event ℕ V)) → settled a c own x n top ≡ es → Adds (flight_of t v a k c own).group a (history_of (sizes_of v) v.known.turns) (history_of (sizes_of w) w.known.turns) es 0
+  settled_adds t a k c own x n top v w p is goes es said = subst (λ ys. Adds (flight_of t v a k c own).group a (history_of (sizes_of v) v.known.turns) (history_of (sizes_of w) w.known.turns) ys 0)
+      (ap (λ (d : CallId). settled a d own x n top) (call_is c a is) ∙ said) (added t a 0 v w p (settled a (record { caller = a; generation = c.generation }) own x n top) goes)
 
-  pub held_row : (t t' : TableId) (a k : ℕ) (c : CallId) (own : Option CallId) (x : V) (top : Option ℕ) (v w : View V) → t' ≡ t → c.caller ≡ a → IsOwed top own
-      → Goes (sizes_of v) a v w (at_members k c.generation own x (is_some top) top) (settled a (record { caller = a; generation = c.generation }) own x top) 0
-      → IsHeld (flight_of t v a k c own) x (settled_of t' w a k c x (is_some top))
-  held_row t t' a k c own x top v w table is owed goes = record {
-    group = group_is t t' v w a (at_members k c.generation own x (is_some top) top) table goes.sits;
+  pub held_row : (t t' : TableId) (a k : ℕ) (c : CallId) (own : Option CallId) (x : V) (n : ℕ) (top : Option ℕ) (v w : View V) → t' ≡ t → c.caller ≡ a → IsOwed top own → IsJoined top n
+      → Goes (sizes_of v) a v w (at_members k c.generation own x n top) (settled a (record { caller = a; generation = c.generation }) own x n top) 0
+      → IsHeld (flight_of t v a k c own) x (settled_of t' w a k c x n)
+  held_row t t' a k c own x n top v w table is owed joined goes = record {
+    group = group_is t t' v w a (at_members k c.generation own x n top) table goes.sits;
     number = refl;
     place = refl;
     call = refl;
     value = refl;
-    adds = settled_adds t a k c own x top v w (at_members k c.generation own x (is_some top) top) is goes (event.Settle a c x (is_some top) ∷ []) (owed_events a c own x top owed);
-    owed = owed_own top own owed;
+    adds = settled_adds t a k c own x n top v w (at_members k c.generation own x n top) is goes (event.Settle a c x n ∷ []) (owed_events a c own x n top owed);
+    owed = owed_own top n own owed joined;
   }
 
-  done_events : (a : ℕ) (c : CallId) (own : Option CallId) (x : V) (top : Option ℕ) → is_some top ≡ false → is_some own ≡ false → settled a c own x top ≡ event.Settle a c x false ∷ event.Handed a c ∷ []
-  done_events a c own x top bare alone = ap (λ (m : Option ℕ). settled a c own x m) (none_is top bare) ∙ ap (λ (o : Option CallId). settled a c o x None) (none_is own alone)
+  done_events : (a : ℕ) (c : CallId) (own : Option CallId) (x : V) (n : ℕ) (top : Option ℕ) → is_some top ≡ false → is_some own ≡ false → settled a c own x n top ≡ event.Settle a c x n ∷ event.Handed a c ∷ []
+  done_events a c own x n top bare alone = ap (λ (m : Option ℕ). settled a c own x n m) (none_is top bare) ∙ ap (λ (o : Option CallId). settled a c o x n None) (none_is own alone)
 
-  pub done_row : (fits : FitOf V) (t t' : TableId) (a k : ℕ) (c : CallId) (own : Option CallId) (x : V) (top : Option ℕ) (v w : View V) → t' ≡ t → c.caller ≡ a → is_some top ≡ false → is_some own ≡ false
-      → Goes (sizes_of v) a v w (at_members k c.generation own x (is_some top) top) (settled a (record { caller = a; generation = c.generation }) own x top) 0
-      → fits k c x (history_of (sizes_of w) w.known.turns) → IsDone fits (flight_of t v a k c own) x (caller_of t' w a) (letter_of t' w k c x false)
-  done_row fits t t' a k c own x top v w table is bare alone goes fit =
-      let p : Stage V = at_members k c.generation own x (is_some top) top in
-      let adds = settled_adds t a k c own x top v w p is goes (event.Settle a c x false ∷ event.Handed a c ∷ []) (done_events a c own x top bare alone) in
+  pub done_row : (fits : FitOf V) (t t' : TableId) (a k : ℕ) (c : CallId) (own : Option CallId) (x : V) (n : ℕ) (top : Option ℕ) (v w : View V) → t' ≡ t → c.caller ≡ a → is_some top ≡ false → is_some own ≡ false
+      → Goes (sizes_of v) a v w (at_members k c.generation own x n top) (settled a (record { caller = a; generation = c.generation }) own x n top) 0
+      → fits k c x (history_of (sizes_of w) w.known.turns) → IsDone fits (flight_of t v a k c own) x (caller_of t' w a) (letter_of t' w k c x n)
+  done_row fits t t' a k c own x n top v w table is bare alone goes fit =
+      let p : Stage V = at_members k c.generation own x n top in
+      let adds = settled_adds t a k c own x n top v w p is goes (event.Settle a c x n ∷ event.Handed a c ∷ []) (done_events a c own x n top bare alone) in
       record {
         group = group_is t t' v w a p table goes.sits;
         number = refl;
@@ -98,9 +90,9 @@ module _ {V : Type 0} where
           place = refl;
           call = refl;
           value = refl;
-          mark = refl;
-          settled = subst (λ (b : ℕ). Stands (event.Settle b c x false) (history_of (sizes_of w) w.known.turns)) (sym is)
-              (stands_own a (history_of (sizes_of w) w.known.turns) (own_events a (history_of (sizes_of v) v.known.turns)) (event.Handed a c ∷ []) (event.Settle a c x false) adds.grows.own);
+          count = refl;
+          settled = subst (λ (b : ℕ). Stands (event.Settle b c x n) (history_of (sizes_of w) w.known.turns)) (sym is)
+              (stands_own a (history_of (sizes_of w) w.known.turns) (own_events a (history_of (sizes_of v) v.known.turns)) (event.Handed a c ∷ []) (event.Settle a c x n) adds.grows.own);
         };
         shows = ([], sym (append-nil (history_of (sizes_of w) w.known.turns)));
         fitting = fit;
@@ -112,7 +104,7 @@ module _ {V : Type 0} where
       let z : Sizes = sizes_of v in
       let whole : IsSchedule (setting_of z) (v.known.turns ++ goes.turns) = subst (λ s. IsSchedule (setting_of z) s) goes.knows goes.sits.schedule in
       let few = closes_are_few (setting_of z) (v.known.turns ++ goes.turns) a c.generation whole in
-      let parts = closes_add (first_world {V = V} z.first) a c.generation v.known.turns goes.turns in
+      let parts = closes_add (first_world {V = V} z.callers z.first) a c.generation v.known.turns goes.turns in
       (goes.turns, goes.knows, omega (arith, few, parts))
 
   -- what fits by what the leader had seen fits by what it has seen since

@@ -30,10 +30,10 @@ module _ {V : Type 0} where
   pub holding_led : (z : Sizes) (a k g : ℕ) (c : CallId) (v : View V) → Sits z a v (stage.Holding k g c) → was_led_on (history_of z v.known.turns) k c ≡ true
   holding_led z a k g c v sits = (good_stage z a v (stage.Holding k g c) sits).0
 
-  pub owing_led : (z : Sizes) (a k : ℕ) (c : CallId) (own : Option CallId) (x : V) (shared : Bool) (top : Option ℕ) (v : View V) → c.caller ≡ a → IsOwed top own → Sits z a v (at_members k c.generation own x shared top) → was_led_on (history_of z v.known.turns) k c ≡ true
-  owing_led z a k c own x shared top v is owed sits = subst (λ (d : CallId). was_led_on (history_of z v.known.turns) k d ≡ true) (call_is c a is) (at top own owed (good_stage z a v (at_members k c.generation own x shared top) sits))
+  pub owing_led : (z : Sizes) (a k : ℕ) (c : CallId) (own : Option CallId) (x : V) (joiners : ℕ) (top : Option ℕ) (v : View V) → c.caller ≡ a → IsOwed top own → Sits z a v (at_members k c.generation own x joiners top) → was_led_on (history_of z v.known.turns) k c ≡ true
+  owing_led z a k c own x joiners top v is owed sits = subst (λ (d : CallId). was_led_on (history_of z v.known.turns) k d ≡ true) (call_is c a is) (at top own owed (good_stage z a v (at_members k c.generation own x joiners top) sits))
     where
-      at : (top : Option ℕ) (own : Option CallId) → IsOwed top own → Good (history_of z v.known.turns) (world_of z v.known.turns) a (at_members k c.generation own x shared top) → was_led_on (history_of z v.known.turns) k (call_of a c.generation) ≡ true
+      at : (top : Option ℕ) (own : Option CallId) → IsOwed top own → Good (history_of z v.known.turns) (world_of z v.known.turns) a (at_members k c.generation own x joiners top) → was_led_on (history_of z v.known.turns) k (call_of a c.generation) ≡ true
       at (Some m) own owed good = good.1.led
       at None (Some m) owed good = good.0.led
       at None None (inl some_top) good = cc

@@ -33,7 +33,7 @@ module _ {V : Type 0} where
 
   -- the events of turns that begin with others begin with theirs
   pub events_begin : (z : Sizes) (ts us : List (Turn V)) → BeginsWith us ts → StartsWith (history_of z us) (history_of z ts)
-  events_begin z ts us b = (adds (world_of z ts) (b.0), ap (history_of z) b.1 ∙ adds_append (first_world z.first) ts (b.0))
+  events_begin z ts us b = (adds (world_of z ts) (b.0), ap (history_of z) b.1 ∙ adds_append (first_world z.callers z.first) ts (b.0))
 
   pub told_row : (t t' t'' : TableId) (a : ℕ) (v w n : View V) → t' ≡ t → t'' ≡ t → w ≡ v → n ≡ note_of v → Sits (sizes_of v) a v stage.Free → HasTold (caller_of t v a) (caller_of t' w a) (note_value t'' n)
   told_row t t' t'' a v w n table shown same cut sits = record {

@@ -21,8 +21,8 @@ use Rattle.sf_group.proofs.NoteRows.{events_begin}
 
 module _ {V : Type 0} where
   -- a letter whose note was lent
-  pub lent_row : (l : LetterValue V) (n : NoteValue V) → HasGrown (record { group = l.group; seen = l.seen }) n → HasLent l (record { group = n.group; seen = n.seen; place = l.place; call = l.call; value = l.value; shared = l.shared })
-  lent_row l n grown = record { group = grown.0; place = refl; call = refl; value = refl; mark = refl; shows = grown.1 }
+  pub lent_row : (l : LetterValue V) (n : NoteValue V) → HasGrown (record { group = l.group; seen = l.seen }) n → HasLent l (record { group = n.group; seen = n.seen; place = l.place; call = l.call; value = l.value; joiners = l.joiners })
+  lent_row l n grown = record { group = grown.0; place = refl; call = refl; value = refl; count = refl; shows = grown.1 }
 
   pub questioned_row : (c : CallerValue V) (l m : LetterValue V) (t t' : TableId) (a : ℕ) (v w : View V) (answer : Bool) → HasLearnt c l.seen (caller_of t v a) → HasLent l m → t' ≡ t → Goes (sizes_of v) a v w stage.Free [] 0
       → (IsTrue answer → WasCurrent (sizes_of v) l.place l.call v w) → (IsFalse answer → current_call nat_eq (history_of (sizes_of v) w.known.turns) l.place ≢ Some l.call)

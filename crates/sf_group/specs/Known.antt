@@ -1,5 +1,5 @@
 -- what contracts see of groups, tokens, notes and letters with these seats
-use Rattle.std.specs.Prelude.{◌≡◌, ℕ, ◌≤◌, Bool, [], Option, Some}
+use Rattle.std.specs.Prelude.{◌≡◌, ℕ, ◌≤◌, [], Option, Some}
 use Rattle.atomic_table.specs.Seated.{TableId}
 use Rattle.sf_history.specs.declared.call.CallId.{CallId}
 use Rattle.sf_calls.specs.declared.sizes.Sizes.{Sizes}
@@ -27,8 +27,8 @@ module _ {V : Type 0} where
   abbrev pub flight_of : TableId → View V → ℕ → ℕ → CallId → Option CallId → FlightValue V
   flight_of t v a k c own = record { group = group_of t v; number = a; seen = history_of (sizes_of v) v.known.turns; turns = v.known.turns; place = k; call = c; own = own }
 
-  abbrev pub settled_of : TableId → View V → ℕ → ℕ → CallId → V → Bool → SettledValue V
-  settled_of t v a k c x shared = record { group = group_of t v; number = a; seen = history_of (sizes_of v) v.known.turns; turns = v.known.turns; place = k; call = c; value = Some x; shared = shared }
+  abbrev pub settled_of : TableId → View V → ℕ → ℕ → CallId → V → ℕ → SettledValue V
+  settled_of t v a k c x joiners = record { group = group_of t v; number = a; seen = history_of (sizes_of v) v.known.turns; turns = v.known.turns; place = k; call = c; value = Some x; joiners = joiners }
 
   abbrev pub ticket_of : TableId → View V → ℕ → ℕ → CallId → CallId → TicketValue V
   ticket_of t v a k c m = record { group = group_of t v; number = a; seen = history_of (sizes_of v) v.known.turns; place = k; call = c; member = m }
@@ -36,5 +36,5 @@ module _ {V : Type 0} where
   abbrev pub note_value : TableId → View V → NoteValue V
   note_value t v = record { group = group_of t v; seen = history_of (sizes_of v) v.known.turns }
 
-  abbrev pub letter_of : TableId → View V → ℕ → CallId → V → Bool → LetterValue V
-  letter_of t v k c x shared = record { group = group_of t v; seen = history_of (sizes_of v) v.known.turns; place = k; call = c; value = x; shared = shared }
+  abbrev pub letter_of : TableId → View V → ℕ → CallId → V → ℕ → LetterValue V
+  letter_of t v k c x joiners = record { group = group_of t v; seen = history_of (sizes_of v) v.known.turns; place = k; call = c; value = x; joiners = joiners }

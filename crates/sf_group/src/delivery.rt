@@ -16,7 +16,7 @@ use crate::ticket::Ticket;
 use sf_calls::{Finished, Fit, Polled};
 use sf_history::CallId;
 use sf_word_steps::{
-    Actor, Delivery, Tells, Unrested, Wakes, WordSeat, collect, hand_out, settle_often,
+    Actor, Delivery, Tells, Unrested, Wakes, WordSeat, collect, hand_out, settle_and_count,
 };
 use std::sync::Wait;
 
@@ -99,7 +99,7 @@ impl<V: Fit> Group<V> {
                 member,
             });
         };
-        let letter = self.letter(&mut seat, place, call, cell.value, cell.shared);
+        let letter = self.letter(&mut seat, place, call, cell.value, cell.joiners);
         Polled::Ready(Caller { seat, number, next }, letter)
     }
 
@@ -138,7 +138,7 @@ impl<V: Fit> Group<V> {
             number,
             place,
         };
-        let top = settle_often(
+        let tally = settle_and_count(
             &self.table.shared,
             &mut seat,
             actor,
@@ -146,7 +146,7 @@ impl<V: Fit> Group<V> {
             own,
             &value,
         );
-        if top.is_some() || own.is_some() {
+        if tally.top.is_some() || own.is_some() {
             return self.hand_on(
                 resting,
                 Settled {
@@ -157,12 +157,12 @@ impl<V: Fit> Group<V> {
                     call,
                     own,
                     value,
-                    shared: top.is_some(),
-                    top,
+                    joiners: tally.joiners,
+                    top: tally.top,
                 },
             );
         }
-        let letter = self.letter(&mut seat, place, call, value, false);
+        let letter = self.letter(&mut seat, place, call, value, tally.joiners);
         Finished::Done(Caller { seat, number, next }, letter)
     }
 
@@ -184,7 +184,7 @@ impl<V: Fit> Group<V> {
             call,
             own,
             mut value,
-            shared,
+            joiners,
             top,
         } = settled;
         let actor = Actor {
@@ -195,7 +195,7 @@ impl<V: Fit> Group<V> {
         let delivery = Delivery {
             generation: call.generation,
             own,
-            shared,
+            joiners,
         };
         match hand_out(
             &self.table.shared,
@@ -216,12 +216,12 @@ impl<V: Fit> Group<V> {
                     call,
                     own,
                     value,
-                    shared,
+                    joiners,
                     top: left,
                 });
             }
         }
-        let letter = self.letter(&mut seat, place, call, value, shared);
+        let letter = self.letter(&mut seat, place, call, value, joiners);
         Finished::Done(Caller { seat, number, next }, letter)
     }
 
@@ -232,7 +232,7 @@ impl<V: Fit> Group<V> {
         place: u32,
         call: CallId,
         value: V,
-        shared: bool,
+        joiners: u32,
     ) -> Letter<V>
         requires own { seat.old.table_id ≡ self.now.table }
         requires seat { seat.old.me.0.sizes ≡ Some (sizes_of seat.old.me.0) }
@@ -240,7 +240,7 @@ impl<V: Fit> Group<V> {
         requires led { was_led_on (history_of (sizes_of seat.old.me.0) seat.old.me.0.known.turns) place call ≡ true }
         requires fits { V.fits place call value (history_of (sizes_of seat.old.me.0) seat.old.me.0.known.turns) }
         ensures seat { (seat.new.table_id ≡ seat.old.table_id) × (seat.new.me ≡ seat.old.me) }
-        ensures letter { result ≡ letter_of seat.old.table_id seat.old.me.0 place call value shared }
+        ensures letter { result ≡ letter_of seat.old.table_id seat.old.me.0 place call value joiners }
     {
         let note = Note {
             seat: self.table.shared.split_seat::<Tells>(seat),
@@ -249,7 +249,7 @@ impl<V: Fit> Group<V> {
             place,
             call,
             value,
-            shared,
+            joiners,
             note,
         }
     }

@@ -1,5 +1,5 @@
 //! Letters, which bring the answers of calls.
-ghost use Rattle.std.specs.Prelude.{◌≡◌, true};
+ghost use Rattle.std.specs.Prelude.{◌≡◌, true, nat_lt};
 ghost use Rattle.sf_schedules.specs.Schedules.{was_led_on};
 ghost use Rattle.sf_calls.specs.Finishes.{FitsLetter};
 
@@ -8,14 +8,14 @@ use sf_calls::Fit;
 use sf_history::CallId;
 use std::marker::Model;
 
-/// The answer of a call: the value that its leader settled it with, and whether somebody joined it. Its note shows a list
+/// The answer of a call: the value that its leader settled it with, and how many joined it. Its note shows a list
 /// in which the call was led on the place and is settled so, and with which the value fits.
 #[derive(Drop)]
 pub struct Letter<V: Fit> {
     pub(crate) place: u32,
     pub(crate) call: CallId,
     pub(crate) value: V,
-    pub(crate) shared: bool,
+    pub(crate) joiners: u32,
     pub(crate) note: Note<V>,
 }
 
@@ -27,7 +27,7 @@ impl<V: Fit> Model for Letter<V> {
 
     ghost Value = { LetterValue V };
 
-    ghost view = { λ l. record { group = l.note.group; seen = l.note.seen; place = l.place; call = l.call; value = l.value; shared = l.shared } };
+    ghost view = { λ l. record { group = l.note.group; seen = l.note.seen; place = l.place; call = l.call; value = l.value; joiners = l.joiners } };
 
     ghost invariant = { λ l. V.fits l.place l.call l.value l.note.seen × IsPlaceOf l.note.group l.place × (was_led_on l.note.seen l.place l.call ≡ true) };
 }
@@ -54,11 +54,18 @@ impl<V: Fit> Letter<V> {
         &self.value
     }
 
+    /// How many joined the call.
+    pub fn joiners(&self) -> u32
+        ensures { result ≡ self.now.joiners }
+    {
+        self.joiners
+    }
+
     /// Whether somebody joined the call.
     pub fn shared(&self) -> bool
-        ensures { result ≡ self.now.shared }
+        ensures { result ≡ nat_lt 0 self.now.joiners }
     {
-        self.shared
+        self.joiners > 0
     }
 
     /// What is known of the letter: its value fits with the list that its note shows, in which its call was led on its
@@ -80,7 +87,7 @@ impl<V: Fit> Letter<V> {
             place: _,
             call: _,
             value,
-            shared: _,
+            joiners: _,
             note,
         } = self;
         (value, note)

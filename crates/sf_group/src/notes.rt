@@ -74,7 +74,7 @@ impl<V: Fit> Group<V> {
             place: letter.place,
             call: letter.call,
             value,
-            shared: letter.shared,
+            joiners: letter.joiners,
             note,
         })
     }

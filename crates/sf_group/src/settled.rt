@@ -15,7 +15,7 @@ pub struct Settled<V: Fit> {
     pub(crate) call: CallId,
     pub(crate) own: Option<CallId>,
     pub(crate) value: V,
-    pub(crate) shared: bool,
+    pub(crate) joiners: u32,
     // The member with whom the list of those begins that are still owed letters.
     pub(crate) top: Option<u32>,
 }
@@ -33,15 +33,22 @@ impl<V: Fit> Model for Settled<V> {
 
     ghost Value = { SettledValue V };
 
-    ghost view = { λ s. settled_of s.seat.table_id s.seat.me.0 s.number s.place s.call s.value s.shared };
+    ghost view = { λ s. settled_of s.seat.table_id s.seat.me.0 s.number s.place s.call s.value s.joiners };
 
-    ghost invariant = { λ s. Sits (sizes_of s.seat.me.0) s.number s.seat.me.0 (at_members s.place s.call.generation s.own s.value s.shared s.top) × (s.call.caller ≡ s.number)
+    ghost invariant = { λ s. Sits (sizes_of s.seat.me.0) s.number s.seat.me.0 (at_members s.place s.call.generation s.own s.value s.joiners s.top) × (s.call.caller ≡ s.number)
         × (s.next ≡ next_in (sizes_of s.seat.me.0) s.seat.me.0 s.number) × (s.seat.me.1 ≡ []) × IsOwed s.top s.own
-        × V.fits s.place s.call s.value (history_of (sizes_of s.seat.me.0) s.seat.me.0.known.turns) × Stands (event.Settle s.call.caller s.call s.value s.shared) (history_of (sizes_of s.seat.me.0) s.seat.me.0.known.turns)
+        × V.fits s.place s.call s.value (history_of (sizes_of s.seat.me.0) s.seat.me.0.known.turns) × Stands (event.Settle s.call.caller s.call s.value s.joiners) (history_of (sizes_of s.seat.me.0) s.seat.me.0.known.turns)
         × IsPlaceIn (sizes_of s.seat.me.0) s.place };
 }
 
 impl<V: Fit> Settled<V> {
+    /// How many joined the call.
+    pub fn joiners(&self) -> u32
+        ensures { result ≡ self.now.joiners }
+    {
+        self.joiners
+    }
+
     /// Gives the delivery up for good: nothing is added, the letters still owed never come, and its caller does not come
     /// back.
     pub fn abandon(self) {
@@ -53,7 +60,7 @@ impl<V: Fit> Settled<V> {
             call: _,
             own: _,
             value: _,
-            shared: _,
+            joiners: _,
             top: _,
         } = self;
     }

@@ -1,20 +1,21 @@
 -- the sequential group keeps its promises at each event
-use Rattle.std.proofs.Common.{◌≡◌, ℕ, ◌+◌, ◌^◌, ◌<◌, ◌≤◌, Bool, true, false, ◌==◌, List, [], ◌∷◌, ◌⊎◌, Option, Some, None, inl, inr, refl, sym, ◌∙◌, ap, subst, arith, eq-eqb, IfSome}
-use Rattle.std.proofs.lemmas.Bool.{and_parts, eqb-true, cond-true, cond-false, cases_Bool, ne_eqb}
+use Rattle.std.proofs.Common.{◌≡◌, ◌≢◌, ℕ, ◌+◌, ◌^◌, ◌<◌, ◌≤◌, Bool, true, false, ◌==◌, List, [], ◌∷◌, ◌⊎◌, Option, Some, None, inl, inr, refl, sym, ◌∙◌, ap, subst, arith, eq-eqb, IfSome}
+use Rattle.std.proofs.lemmas.Bool.{and_parts, eqb-true, cond-true, cond-false, cases_Bool, ne_eqb, true≢false}
 use Rattle.std.proofs.lemmas.List.Elements.{All-push}
 use Rattle.std.specs.List.{list_any}
 use Rattle.std.specs.Prelude.{cond, option_and_then}
 use Rattle.sf_history.specs.declared.call.CallId.{CallId}
 use Rattle.sf_history.specs.declared.call.Ticket.{Ticket}
 use Rattle.sf_history.specs.declared.event.Event.{Event}
-use Rattle.sf_history.specs.declared.event.Event.TheVariants.{Lead, Enter, Forget, Settle, Handed}
+use Rattle.sf_history.specs.declared.event.Event.TheVariants.{Lead, Enter, Forget, ForgetCall, Settle, Handed}
 use Rattle.sf_history.specs.Calls.{same_call}
-use Rattle.sf_history.specs.History.{holds_call, names, uses, leads, settles, is_settled, next_generation, maker}
+use Rattle.sf_history.specs.History.{IsNew, holds_call, names, enters, joined, uses, leads, settles, is_settled, hands, next_generation, maker}
 use Rattle.sf_history.specs.Legal.{MayFollow}
 use Rattle.sf_history.specs.Limits.{IsWithinLimits}
 use Rattle.sf_history.specs.State.{GroupState, IsKept, IsCaller, Leads, Holds, gives, led_call, last_ticket, held_ticket, own_ticket, untaken, leaves_led, leaves_ticket, has_taken, with_events}
-use Rattle.sf_lists.proofs.Lists.{list_any_push_cases, list_any_push_parts}
+use Rattle.sf_lists.proofs.Lists.{list_any_push_cases, list_any_push_kept, list_any_push_parts}
 use Rattle.sf_history.proofs.LegalHistories.{same_call_is, other_call, legal_push, fold_push, next_push}
+use Rattle.sf_history.proofs.Members.{joined_push}
 
 -- the Settle of another call leaves the call that is led
 settle_leaves : (found : Option CallId) (call c : CallId) → found ≡ Some c → same_call call c ≡ false → cond (holds_call found call) None found ≡ Some c
@@ -52,7 +53,8 @@ module _ {K V : Type 0} where
   IsReady g (Lead by key call own) = (led_call g.history by ≡ None) × IfSome own (λ m. held_ticket g m.caller ≡ None)
   IsReady g (Enter by key call member) = held_ticket g member.caller ≡ None
   IsReady g (Forget by key closed) = Unit {0}
-  IsReady g (Settle by call result shared) = Unit {0}
+  IsReady g (ForgetCall by key call hit) = Unit {0}
+  IsReady g (Settle by call result joiners) = Unit {0}
   IsReady g (Handed by call) = Unit {0}
 
   -- a call that the caller leads after an event, and what its last led call is then
@@ -73,10 +75,12 @@ module _ {K V : Type 0} where
   leads_after g (Enter by key call member) one ready a c (inl led) unsettled other = one a c (led, unsettled)
   leads_after g (Enter by key call member) one ready a c (inr now) unsettled other = cc
   leads_after g (Forget by key closed) one ready a c (inl led) unsettled other = one a c (led, unsettled)
+  leads_after g (ForgetCall by key call hit) one ready a c (inl led) unsettled other = one a c (led, unsettled)
   leads_after g (Forget by key closed) one ready a c (inr now) unsettled other = cc
-  leads_after g (Settle by call result shared) one ready a c (inl led) unsettled other =
+  leads_after g (ForgetCall by key call hit) one ready a c (inr now) unsettled other = cc
+  leads_after g (Settle by call result joiners) one ready a c (inl led) unsettled other =
       settle_leaves _ call c (one a c (led, unsettled)) other
-  leads_after g (Settle by call result shared) one ready a c (inr now) unsettled other = cc
+  leads_after g (Settle by call result joiners) one ready a c (inr now) unsettled other = cc
   leads_after g (Handed by call) one ready a c (inl led) unsettled other = one a c (led, unsettled)
   leads_after g (Handed by call) one ready a c (inr now) unsettled other = cc
 
@@ -110,9 +114,11 @@ module _ {K V : Type 0} where
   holds_after g (Enter by key call member) one ready a t is (inr now) left =
       let parts = and_parts _ _ now in own_given (Some member) a call t _ is parts.0 parts.1
   holds_after g (Forget by key closed) one ready a t is (inl given) left = one a t (is, given, left)
+  holds_after g (ForgetCall by key call hit) one ready a t is (inl given) left = one a t (is, given, left)
   holds_after g (Forget by key closed) one ready a t is (inr now) left = cc
-  holds_after g (Settle by call result shared) one ready a t is (inl given) left = one a t (is, given, left)
-  holds_after g (Settle by call result shared) one ready a t is (inr now) left = cc
+  holds_after g (ForgetCall by key call hit) one ready a t is (inr now) left = cc
+  holds_after g (Settle by call result joiners) one ready a t is (inl given) left = one a t (is, given, left)
+  holds_after g (Settle by call result joiners) one ready a t is (inr now) left = cc
   holds_after g (Handed by call) one ready a t is (inl given) left = one a t (is, given, left)
   holds_after g (Handed by call) one ready a t is (inr now) left = cc
 
@@ -120,10 +126,23 @@ module _ {K V : Type 0} where
   abbrev pub NamesInOrder : GroupState K V → Event K V → Type 0
   NamesInOrder g e = (c : CallId) → names c e ≡ true → (list_any (names c) g.history ≡ true) ⊎ (c.generation < next_generation g.first g.history c.caller + uses c.caller e)
 
+  -- a ticket that an event gives is of a new member
+  given_new : (eq : K → K → Bool) (h : List (Event K V)) (e : Event K V) (t : Ticket) → MayFollow eq h e → gives t e ≡ true → list_any (names t.member) h ≡ false
+  given_new eq h (Lead by key call own) t follows is = at own follows.2 (and_parts _ _ is).1
+    where
+      at : (own : Option CallId) → IfSome own (λ m. IsNew h m × (m ≢ call)) → holds_call own t.member ≡ true → list_any (names t.member) h ≡ false
+      at None new is = cc
+      at (Some m) new is = subst (λ (z : CallId). list_any (names z) h ≡ false) (same_call_is m t.member is) new.0
+  given_new eq h (Enter by key call member) t follows is = subst (λ (z : CallId). list_any (names z) h ≡ false) (same_call_is member t.member (and_parts _ _ is).1) follows.1
+  given_new eq h (Forget by key closed) t follows is = cc
+  given_new eq h (ForgetCall by key call hit) t follows is = cc
+  given_new eq h (Settle by call result joiners) t follows is = cc
+  given_new eq h (Handed by call) t follows is = cc
+
   -- an event that may follow, of a caller of the group that is ready for it, keeps the group's promises
   pub kept_event : (eq : K → K → Bool) (g : GroupState K V) (e : Event K V) → IsKept eq g → MayFollow eq g.history e → IsWithinLimits e → IsCaller g (maker e) → IsReady g e → NamesInOrder g e
-      → ((a : ℕ) → next_generation g.first g.history a + uses a e ≤ 2 ^ 32) → IsKept eq (with_events g (e ∷ []))
-  kept_event eq g e kept follows limited made ready ordered room = record {
+      → ((a : ℕ) → next_generation g.first g.history a + uses a e ≤ 2 ^ 32) → ((c : CallId) → joined g.history c + cond {A = ℕ} (enters c e) 1 0 ≤ 65535) → IsKept eq (with_events g (e ∷ []))
+  kept_event eq g e kept follows limited made ready ordered room places = record {
     few = kept.few;
     first = kept.first;
     legal = legal_push eq g.history e kept.legal follows;
@@ -142,4 +161,10 @@ module _ {K V : Type 0} where
         fold_push (leaves_led a) None g.history e ∙ leads_after g e kept.leads_one ready a c (list_any_push_cases (leads a c) g.history e led.0) open_parts.0 open_parts.1;
     holds_one = λ a t held.
         fold_push (leaves_ticket a) None g.history e ∙ holds_after g e kept.holds_one ready a t held.0 (list_any_push_cases (gives t) g.history e held.1) held.2;
+    taken_named = λ m took. list_any_push_kept (names m) g.history e (kept.taken_named m took);
+    taken_handed = λ t gave took. list_any_push_kept (hands t.call) g.history e (elim (list_any_push_cases (gives t) g.history e gave) [
+      | inl before ↦ kept.taken_handed t before took
+      | inr last ↦ absurd (true≢false (sym (kept.taken_named t.member took) ∙ given_new eq g.history e t follows last))
+    ]);
+    few_joined = λ c. let push = joined_push g.history e c in let below = places c in omega arith;
   }

@@ -1,20 +1,23 @@
 -- each call of the sequential group keeps the group's promises
 use Rattle.std.proofs.Common.{◌≡◌, ◌≢◌, ℕ, ◌+◌, ◌^◌, ◌<◌, ◌≤◌, Bool, true, false, ◌==◌, List, [], ◌∷◌, ◌++◌, ◌↔◌, Option, Some, None, is_none, inl, inr, refl, sym, ◌∙◌, ap, subst, arith, eq-eqb, append_assoc, All, IfSome}
-use Rattle.std.proofs.lemmas.Bool.{and_parts, or_cases, eqb-true, ltb-false, cond-true, cond-false, cases_Bool, ne_eqb, false_from_ne_true}
+use Rattle.std.proofs.lemmas.Bool.{and_parts, or_cases, or_left, or_right, eqb-true, ltb-false, cond-true, cond-false, cases_Bool, ne_eqb, false_from_ne_true, true≢false}
 use Rattle.std.proofs.lemmas.List.Elements.{All-head, All-tail}
 use Rattle.std.specs.List.{list_any}
 use Rattle.std.specs.Prelude.{cond, option_and_then}
 use Rattle.sf_history.specs.declared.call.CallId.{CallId}
 use Rattle.sf_history.specs.declared.call.Ticket.{Ticket}
 use Rattle.sf_history.specs.declared.event.Event.{Event}
-use Rattle.sf_history.specs.declared.event.Event.TheVariants.{Lead, Enter, Forget, Settle, Handed}
+use Rattle.sf_history.specs.declared.event.Event.TheVariants.{Lead, Enter, Forget, ForgetCall, Settle, Handed}
 use Rattle.sf_history.specs.Calls.{same_call}
-use Rattle.sf_history.specs.History.{holds_call, names, leads, was_led, has_joined, settles, is_settled, hands, is_handed, open_call, next_generation}
-use Rattle.sf_history.specs.Legal.{MayFollow}
+use Rattle.sf_history.specs.History.{holds_call, names, leads, was_led, joined, settles, is_settled, hands, is_handed, open_call, current_call, next_generation}
+use Rattle.sf_history.specs.declared.event.Hit.{Hit}
+use Rattle.sf_history.specs.Legal.{MayFollow, IsHit}
 use Rattle.sf_history.specs.Limits.{IsCallerNumber, IsCallWithin, IsWithinLimits}
-use Rattle.sf_history.specs.State.{GroupState, IsKept, IsCaller, Leads, Holds, led_call, last_ticket, held_ticket, untaken, has_taken, is_free, is_spent, next_id, with_events, with_taken}
-use Rattle.sf_lists.proofs.Lists.{list_any_push_kept, list_any_push_none, list_any_push_last, list_any_push_parts}
-use Rattle.sf_history.proofs.LegalHistories.{same_call_is, same_call_self, open_named, led_named, led_was_led, led_unsettled, handed_settled, last_given}
+use Rattle.sf_history.specs.State.{GroupState, IsKept, IsCaller, Leads, Holds, led_call, gives, last_ticket, held_ticket, untaken, has_taken, is_free, is_spent, next_id, with_events, with_taken}
+use Rattle.sf_history.specs.Sequential.{found_as, hit_of}
+use Rattle.sf_lists.proofs.Lists.{list_any_push_kept, list_any_push_none, list_any_push_last, list_any_push_parts, list_any_push_cases}
+use Rattle.sf_history.proofs.LegalHistories.{same_call_is, same_call_self, open_named, led_named, led_was_led, led_unsettled, handed_settled, open_unsettled, last_given}
+use Rattle.sf_history.proofs.Joiners.{room_for_joiner}
 use Rattle.sf_history.proofs.Kept.{NamesInOrder, kept_event, held_from_last}
 
 -- an option that is none
@@ -27,9 +30,29 @@ at_most_one : (b : Bool) → cond {A = ℕ} b 1 0 ≤ 1
 at_most_one true = omega arith
 at_most_one false = omega arith
 
+same_ticket : (t u : Ticket) → Some t ≡ Some u → t ≡ u
+same_ticket t u is = cc
+
 -- a number of 32 bits, or the one after them, fits 64
 pub below_two_64 : (n : ℕ) → n ≤ 2 ^ 32 → n < 2 ^ 64
 below_two_64 n small = omega arith
+
+-- an option that holds a call, or does not
+held_is : (o : Option CallId) (c : CallId) → holds_call o c ≡ true → o ≡ Some c
+held_is None c is = cc
+held_is (Some d) c is = ap Some (same_call_is d c is)
+
+not_held : (o : Option CallId) (c : CallId) → holds_call o c ≡ false → o ≢ Some c
+not_held o c isnt is = true≢false (sym (ap (λ (x : Option CallId). holds_call x c) is ∙ same_call_self c) ∙ isnt)
+
+-- what a Forget of one call is found to find
+hit_is : (opened current : Option CallId) (c : CallId) → IsHit opened current c (hit_of opened current c)
+hit_is opened current c = at (holds_call opened c) (holds_call current c) refl refl
+  where
+    at : (x y : Bool) → holds_call opened c ≡ x → holds_call current c ≡ y → IsHit opened current c (found_as x y)
+    at true y open_is current_is = held_is opened c open_is
+    at false true open_is current_is = (held_is current c current_is, not_held opened c open_is)
+    at false false open_is current_is = not_held current c current_is
 
 module _ {K V : Type 0} where
   -- a free caller neither leads nor holds
@@ -97,7 +120,8 @@ module _ {K V : Type 0} where
       by_event (Lead by key call own) within is = elim (or_cases _ _ is) [ inl call_is ↦ one call within.1 call_is | inr own_is ↦ own_one own within.2 own_is ]
       by_event (Enter by key call member) within is = elim (or_cases _ _ is) [ inl call_is ↦ one call within.1 call_is | inr member_is ↦ one member within.2 member_is ]
       by_event (Forget by key closed) within is = cc
-      by_event (Settle by call result shared) within is = cc
+      by_event (ForgetCall by key call hit) within is = cc
+      by_event (Settle by call result joiners) within is = cc
       by_event (Handed by call) within is = cc
 
   -- so is the key's open call
@@ -107,6 +131,35 @@ module _ {K V : Type 0} where
   closed_within : (eq : K → K → Bool) (g : GroupState K V) (k : K) (closed : Option CallId) → IsKept eq g → closed ≡ open_call eq g.history k → IfSome closed IsCallWithin
   closed_within eq g k None kept is = tt
   closed_within eq g k (Some c) kept is = open_within eq g k c kept (sym is)
+
+  -- a ticket that is found to be held is the caller's last one, and not taken
+  held_parts : (g : GroupState K V) (t : Ticket) (found : Option Ticket) → option_and_then (untaken g.taken) found ≡ Some t → (found ≡ Some t) × (has_taken g.taken t.member ≡ false)
+  held_parts g t None is = cc
+  held_parts g t (Some u) is = at (has_taken g.taken u.member) refl is
+    where
+      at : (b : Bool) → has_taken g.taken u.member ≡ b → cond b None (Some u) ≡ Some t → (Some u ≡ Some t) × (has_taken g.taken t.member ≡ false)
+      at true was found = cc
+      at false was found = let same : u ≡ t = cc in (found, subst (λ (z : Ticket). has_taken g.taken z.member ≡ false) same was)
+
+  -- who was given a ticket is named
+  given_named : (h : List (Event K V)) (t : Ticket) → list_any (gives t) h ≡ true → list_any (names t.member) h ≡ true
+  given_named [] t is = cc
+  given_named (e ∷ h) t is = elim (or_cases _ _ is) [
+    | inl here ↦ or_left (names t.member e) (list_any (names t.member) h) (by_event e here)
+    | inr later ↦ or_right (names t.member e) (list_any (names t.member) h) (given_named h t later)
+  ]
+    where
+      by_event : (e : Event K V) → gives t e ≡ true → names t.member e ≡ true
+      by_event (Lead by key call own) is = or_right (same_call call t.member) (holds_call own t.member) (and_parts _ _ is).1
+      by_event (Enter by key call member) is = or_right (same_call call t.member) (same_call member t.member) (and_parts _ _ is).1
+      by_event (Forget by key closed) is = cc
+      by_event (ForgetCall by key call hit) is = cc
+      by_event (Settle by call result joiners) is = cc
+      by_event (Handed by call) is = cc
+
+  -- an event that is no Enter takes no joiner's place
+  no_joiner : (eq : K → K → Bool) (g : GroupState K V) → IsKept eq g → (c : CallId) → joined g.history c + 0 ≤ 65535
+  no_joiner eq g kept c = let most = kept.few_joined c in omega arith
 
   -- a free caller with a generation left leads a new call
   pub kept_lead : (eq : K → K → Bool) (g : GroupState K V) (a : ℕ) (k : K) (id : CallId) → IsKept eq g → IsCaller g a → is_free g a ≡ true → is_spent g a ≡ false → id ≡ next_id g a
@@ -119,7 +172,7 @@ module _ {K V : Type 0} where
       ] in
       let room : (b : ℕ) → next_generation g.first g.history b + (cond {A = ℕ} (a == b) 1 0 + 0) ≤ 2 ^ 32 = λ b. let most = one_more eq g a kept left b in omega arith in
       subst (λ (c : CallId). IsKept eq (with_events g (Lead a k c None ∷ []))) (sym is)
-      (kept_event eq g (Lead a k (next_id g a) None) kept (refl, next_is_new eq g a kept, tt, none) (made_within eq g a kept caller, next_within eq g a kept caller left, tt) caller ((free_parts g a free).0, tt) ordered room)
+      (kept_event eq g (Lead a k (next_id g a) None) kept (refl, next_is_new eq g a kept, tt, none) (made_within eq g a kept caller, next_within eq g a kept caller left, tt) caller ((free_parts g a free).0, tt) ordered room (no_joiner eq g kept))
 
   -- the same with an own channel, whose caller is another one that is free and has a generation left
   pub kept_lead_own : (eq : K → K → Bool) (g : GroupState K V) (a b : ℕ) (k : K) (id own : CallId) → IsKept eq g → IsCaller g a → IsCaller g b → is_free g a ≡ true → is_spent g a ≡ false → id ≡ next_id g a
@@ -146,7 +199,7 @@ module _ {K V : Type 0} where
       (subst (λ (c : CallId). new_call c (next_id g b)) (sym is)
       (kept_event eq g (Lead a k (next_id g a) (Some (next_id g b))) kept (refl, next_is_new eq g a kept, (next_is_new eq g b kept, apart), none)
       (made_within eq g a kept caller, next_within eq g a kept caller left, next_within eq g b kept second left_own) caller
-      ((free_parts g a free).0, (free_parts g b free_own).1) ordered room))
+      ((free_parts g a free).0, (free_parts g b free_own).1) ordered room (no_joiner eq g kept)))
 
   -- a free caller with a generation left enters the open call
   pub kept_enter : (eq : K → K → Bool) (g : GroupState K V) (a : ℕ) (k : K) (c id : CallId) → IsKept eq g → IsCaller g a → is_free g a ≡ true → is_spent g a ≡ false → id ≡ next_id g a
@@ -157,47 +210,87 @@ module _ {K V : Type 0} where
         | inl call ↦ inl (subst (λ (z : CallId). list_any (names z) g.history ≡ true) (same_call_is c d call) (open_named eq g.history k c opened))
         | inr member ↦ let below = is_next g a d member in inr (omega arith)
       ] in
+      let number = made_within eq g a kept caller in
+      let unhanded : is_handed g.history c ≡ false = false_from_ne_true _ (λ handed. true≢false (sym (handed_settled eq g.history c kept.legal handed) ∙ open_unsettled eq g.history k c kept.legal opened)) in
+      let places : (d : CallId) → joined g.history d + cond {A = ℕ} (same_call c d) 1 0 ≤ 65535 = λ d. elim (cases_Bool (same_call c d)) [
+        | inl same ↦
+            let one : cond {A = ℕ} (same_call c d) 1 0 ≡ 1 = cond-true _ _ _ same in
+            let most = room_for_joiner eq g a c kept number.0 number.1 unhanded (free_parts g a free).1 (λ m named. named_within g.history m kept.limited named) in
+            let calls : joined g.history c ≡ joined g.history d = ap (λ (z : CallId). joined g.history z) (same_call_is c d same) in
+            omega arith
+        | inr other ↦
+            let none : cond {A = ℕ} (same_call c d) 1 0 ≡ 0 = cond-false _ _ _ other in
+            let most = kept.few_joined d in
+            omega arith
+      ] in
       subst (λ (m : CallId). IsKept eq (with_events g (Enter a k c m ∷ []))) (sym is)
       (kept_event eq g (Enter a k c (next_id g a)) kept (refl, next_is_new eq g a kept, opened)
-      (made_within eq g a kept caller, open_within eq g k c kept opened, next_within eq g a kept caller left) caller (free_parts g a free).1 ordered (one_more eq g a kept left))
+      (made_within eq g a kept caller, open_within eq g k c kept opened, next_within eq g a kept caller left) caller (free_parts g a free).1 ordered (one_more eq g a kept left) places)
 
   -- a caller of the group forgets a key
   pub kept_forget : (eq : K → K → Bool) (g : GroupState K V) (a : ℕ) (k : K) (closed : Option CallId) → IsKept eq g → IsCaller g a → closed ≡ open_call eq g.history k
       → IsKept eq (with_events g (Forget a k closed ∷ []))
   kept_forget eq g a k closed kept caller is =
       let room : (b : ℕ) → next_generation g.first g.history b + 0 ≤ 2 ^ 32 = λ b. let most = kept.within b in omega arith in
-      kept_event eq g (Forget a k closed) kept is (made_within eq g a kept caller, closed_within eq g k closed kept is) caller tt (λ c named. cc) room
+      kept_event eq g (Forget a k closed) kept is (made_within eq g a kept caller, closed_within eq g k closed kept is) caller tt (λ c named. cc) room (no_joiner eq g kept)
+
+  -- a caller of the group forgets one call of a key
+  pub kept_forget_call : (eq : K → K → Bool) (g : GroupState K V) (a : ℕ) (k : K) (c : CallId) (hit : Hit) → IsKept eq g → IsCaller g a → IsCallWithin c → hit ≡ hit_of (open_call eq g.history k) (current_call eq g.history k) c
+      → IsKept eq (with_events g (ForgetCall a k c hit ∷ []))
+  kept_forget_call eq g a k c hit kept caller limited is =
+      let room : (b : ℕ) → next_generation g.first g.history b + 0 ≤ 2 ^ 32 = λ b. let most = kept.within b in omega arith in
+      let found : IsHit (open_call eq g.history k) (current_call eq g.history k) c hit = subst (IsHit (open_call eq g.history k) (current_call eq g.history k) c) (sym is) (hit_is (open_call eq g.history k) (current_call eq g.history k) c) in
+      kept_event eq g (ForgetCall a k c hit) kept found (made_within eq g a kept caller, limited) caller tt (λ d named. cc) room (no_joiner eq g kept)
 
   -- a leader settles its call, and its letters are handed out
-  pub kept_settle : (eq : K → K → Bool) (g : GroupState K V) (a : ℕ) (c : CallId) (v : V) (shared : Bool) → IsKept eq g → IsCaller g a → led_call g.history a ≡ Some c → shared ≡ has_joined g.history c
-      → IsKept eq (with_events g (Settle a c v shared ∷ Handed a c ∷ []))
-  kept_settle eq g a c v shared kept caller led is =
+  pub kept_settle : (eq : K → K → Bool) (g : GroupState K V) (a : ℕ) (c : CallId) (v : V) (joiners : ℕ) → IsKept eq g → IsCaller g a → led_call g.history a ≡ Some c → joiners ≡ joined g.history c
+      → IsKept eq (with_events g (Settle a c v joiners ∷ Handed a c ∷ []))
+  kept_settle eq g a c v joiners kept caller led is =
       let was : was_led g.history a c ≡ true = led_was_led g.history a c led in
       let unsettled : is_settled g.history c ≡ false = led_unsettled eq g.history a c kept.legal led in
-      let settled : Event K V = Settle a c v shared in
+      let settled : Event K V = Settle a c v joiners in
       let within : IsCallerNumber a × IsCallWithin c = (made_within eq g a kept caller, named_within g.history c kept.limited (led_named g.history a c was)) in
       let room : (b : ℕ) → next_generation g.first g.history b + 0 ≤ 2 ^ 32 = λ b. let most = kept.within b in omega arith in
-      let once : IsKept eq (with_events g (settled ∷ [])) = kept_event eq g settled kept (was, unsettled, is) within caller tt (λ d named. cc) room in
+      let once : IsKept eq (with_events g (settled ∷ [])) = kept_event eq g settled kept (was, unsettled, is) within caller tt (λ d named. cc) room (no_joiner eq g kept) in
       let unhanded : is_handed g.history c ≡ false = false_from_ne_true _ (λ handed. let late = handed_settled eq g.history c kept.legal handed in cc) in
       let follows : MayFollow eq (g.history ++ settled ∷ []) (Handed a c) =
       (list_any_push_kept (leads a c) g.history settled was, list_any_push_last (settles c) g.history settled (same_call_self c), list_any_push_none (hands c) g.history settled unhanded refl) in
       let room_again : (b : ℕ) → next_generation g.first (g.history ++ settled ∷ []) b + 0 ≤ 2 ^ 32 = λ b. let most = once.within b in omega arith in
-      let twice : IsKept eq (with_events (with_events g (settled ∷ [])) (Handed a c ∷ [])) = kept_event eq (with_events g (settled ∷ [])) (Handed a c) once follows within caller tt (λ d named. cc) room_again in
+      let twice : IsKept eq (with_events (with_events g (settled ∷ [])) (Handed a c ∷ [])) = kept_event eq (with_events g (settled ∷ [])) (Handed a c) once follows within caller tt (λ d named. cc) room_again (no_joiner eq (with_events g (settled ∷ [])) once) in
       subst (λ (h : List (Event K V)). IsKept eq (record { callers = g.callers; first = g.first; history = h; taken = g.taken })) (append_assoc g.history (settled ∷ []) (Handed a c ∷ [])) twice
 
-  -- a member takes its letter
-  pub kept_take : (eq : K → K → Bool) (g : GroupState K V) (m : CallId) → IsKept eq g → IsKept eq (with_taken g m)
-  kept_take eq g m kept = record {
-    few = kept.few;
-    first = kept.first;
-    legal = kept.legal;
-    limited = kept.limited;
-    made = kept.made;
-    numbered = kept.numbered;
-    within = kept.within;
-    leads_one = kept.leads_one;
-    holds_one = λ a t held. kept.holds_one a t (held.0, held.1, (list_any_push_parts (λ taken. same_call taken t.member) g.taken m held.2).0);
-  }
+  -- a member takes its letter, of a call whose letters are handed out
+  pub kept_take : (eq : K → K → Bool) (g : GroupState K V) (a : ℕ) (u : Ticket) → IsKept eq g → held_ticket g a ≡ Some u → is_handed g.history u.call ≡ true → IsKept eq (with_taken g u.member)
+  kept_take eq g a u kept held handed =
+      let parts = held_parts g u (last_ticket g.history a) held in
+      let gave = last_given g.history a u parts.0 in
+      record {
+        few = kept.few;
+        first = kept.first;
+        legal = kept.legal;
+        limited = kept.limited;
+        made = kept.made;
+        numbered = kept.numbered;
+        within = kept.within;
+        leads_one = kept.leads_one;
+        holds_one = λ b t holds. kept.holds_one b t (holds.0, holds.1, (list_any_push_parts (λ taken. same_call taken t.member) g.taken u.member holds.2).0);
+        taken_named = λ m took. elim (list_any_push_cases (λ taken. same_call taken m) g.taken u.member took) [
+          | inl before ↦ kept.taken_named m before
+          | inr last ↦ subst (λ (z : CallId). list_any (names z) g.history ≡ true) (same_call_is u.member m last) (given_named g.history u gave.1)
+        ];
+        taken_handed = λ t given took. elim (cases_Bool (has_taken g.taken t.member)) [
+          | inl before ↦ kept.taken_handed t given before
+          | inr left ↦ elim (list_any_push_cases (λ taken. same_call taken t.member) g.taken u.member took) [
+            | inl before ↦ absurd (true≢false (sym before ∙ left))
+            | inr last ↦
+                let same : u.member ≡ t.member = same_call_is u.member t.member last in
+                let by : t.member.caller ≡ a = ap (λ (z : CallId). z.caller) (sym same) ∙ gave.0 in
+                let both : Some u ≡ Some t = sym parts.0 ∙ kept.holds_one a t (by, given, left) in
+                subst (λ (z : Ticket). is_handed g.history z.call ≡ true) (same_ticket u t both) handed
+          ]
+        ];
+        few_joined = kept.few_joined;
+      }
 
   -- the call that a caller is found to lead is the one that it leads
   pub led_call_leads : (eq : K → K → Bool) (g : GroupState K V) → IsKept eq g → (a : ℕ) (c : CallId) → (led_call g.history a ≡ Some c) ↔ Leads g a c
@@ -207,16 +300,8 @@ module _ {K V : Type 0} where
   pub held_ticket_holds : (eq : K → K → Bool) (g : GroupState K V) → IsKept eq g → (a : ℕ) (t : Ticket) → (held_ticket g a ≡ Some t) ↔ Holds g a t
   held_ticket_holds eq g kept a t = (
     λ held.
-        let parts = held_parts (last_ticket g.history a) held in
+        let parts = held_parts g t (last_ticket g.history a) held in
         let given = last_given g.history a t parts.0 in
         (given.0, given.1, parts.1),
     λ holds. held_from_last g.taken _ t (kept.holds_one a t holds) holds.2,
   )
-    where
-      held_parts : (found : Option Ticket) → option_and_then (untaken g.taken) found ≡ Some t → (found ≡ Some t) × (has_taken g.taken t.member ≡ false)
-      held_parts None is = cc
-      held_parts (Some u) is = at (has_taken g.taken u.member) refl is
-        where
-          at : (b : Bool) → has_taken g.taken u.member ≡ b → cond b None (Some u) ≡ Some t → (Some u ≡ Some t) × (has_taken g.taken t.member ≡ false)
-          at true was found = cc
-          at false was found = let same : u ≡ t = cc in (found, subst (λ (z : Ticket). has_taken g.taken z.member ≡ false) same was)

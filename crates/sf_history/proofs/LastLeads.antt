@@ -1,14 +1,14 @@
 -- what a walk for the open or the current call finds is the call of the last Lead that nothing ended
-use Rattle.std.proofs.Common.{◌≡◌, ℕ, Bool, true, false, cond, List, [], ◌∷◌, ◌++◌, ◌⊎◌, inl, inr, Option, None, Some, refl, sym, ◌∙◌, ap, subst, append_assoc}
+use Rattle.std.proofs.Common.{◌≡◌, ℕ, Bool, true, false, ◌&&◌, cond, List, [], ◌∷◌, ◌++◌, ◌⊎◌, inl, inr, Option, None, Some, refl, sym, ◌∙◌, ap, subst, append_assoc}
 use Rattle.std.proofs.lemmas.Bool.{cond-true, cond-false, or_parts}
 use Rattle.std.proofs.lemmas.List.Sums.{fold-append}
 use Rattle.std.specs.Prelude.{fold}
 use Rattle.std.specs.List.{list_any}
 use Rattle.sf_history.specs.declared.call.CallId.{CallId}
 use Rattle.sf_history.specs.declared.event.Event.{Event}
-use Rattle.sf_history.specs.declared.event.Event.TheVariants.{Lead, Enter, Forget, Settle, Handed}
+use Rattle.sf_history.specs.declared.event.Event.TheVariants.{Lead, Enter, Forget, ForgetCall, Settle, Handed}
 use Rattle.sf_history.specs.Calls.{same_call}
-use Rattle.sf_history.specs.History.{holds_call, opens, keeps_current}
+use Rattle.sf_history.specs.History.{has_closed, has_ended, holds_call, opens, keeps_current}
 use Rattle.sf_history.specs.LastLead.{ends_open, ends_current, IsLastLead, OpenCallIsLastLead, CurrentCallIsLastLead}
 use Rattle.sf_lists.proofs.Lists.{by_push, list_any_push_none}
 use Rattle.sf_history.proofs.LegalHistories.{other_call, fold_push}
@@ -96,28 +96,32 @@ module _ {K V : Type 0} (eq : K → K → Bool) (k : K) (c : CallId) where
   open_keeps (Lead by key call own) none = cond-false _ _ _ none
   open_keeps (Enter by key call member) none = refl
   open_keeps (Forget by key closed) none = cond-false _ _ _ none
-  open_keeps (Settle by call result shared) none = cond-false _ _ _ (other_call call c none)
+  open_keeps (ForgetCall by key call hit) none = cond-false _ _ _ none
+  open_keeps (Settle by call result joiners) none = cond-false _ _ _ (other_call call c none)
   open_keeps (Handed by call) none = refl
 
   open_finds : (found : Option CallId) (e : Event K V) → opens eq k found e ≡ Some c → LeadsIt e ⊎ ((found ≡ Some c) × (ends_open eq k c e ≡ false))
   open_finds found (Lead by key call own) is = at_lead found by key call own (eq key k) refl is
   open_finds found (Enter by key call member) is = inr (is, refl)
   open_finds found (Forget by key closed) is = inr (at_end c found (eq key k) is)
-  open_finds found (Settle by call result shared) is = inr (at_settle c found call is)
+  open_finds found (ForgetCall by key call hit) is = inr (at_end c found (eq key k && has_closed hit) is)
+  open_finds found (Settle by call result joiners) is = inr (at_settle c found call is)
   open_finds found (Handed by call) is = inr (is, refl)
 
   current_keeps : (e : Event K V) → ends_current eq k c e ≡ false → keeps_current eq k (Some c) e ≡ Some c
   current_keeps (Lead by key call own) none = cond-false _ _ _ none
   current_keeps (Enter by key call member) none = refl
   current_keeps (Forget by key closed) none = cond-false _ _ _ none
-  current_keeps (Settle by call result shared) none = refl
+  current_keeps (ForgetCall by key call hit) none = cond-false _ _ _ none
+  current_keeps (Settle by call result joiners) none = refl
   current_keeps (Handed by call) none = refl
 
   current_finds : (found : Option CallId) (e : Event K V) → keeps_current eq k found e ≡ Some c → LeadsIt e ⊎ ((found ≡ Some c) × (ends_current eq k c e ≡ false))
   current_finds found (Lead by key call own) is = at_lead found by key call own (eq key k) refl is
   current_finds found (Enter by key call member) is = inr (is, refl)
   current_finds found (Forget by key closed) is = inr (at_end c found (eq key k) is)
-  current_finds found (Settle by call result shared) is = inr (is, refl)
+  current_finds found (ForgetCall by key call hit) is = inr (at_end c found (eq key k && has_ended hit) is)
+  current_finds found (Settle by call result joiners) is = inr (is, refl)
   current_finds found (Handed by call) is = inr (is, refl)
 
 pub open_is_last : (K V : Type 0) (eq : K → K → Bool) → OpenCallIsLastLead K V eq

@@ -1,5 +1,5 @@
 -- calls that are the same, and what legal histories have at their ends
-use Rattle.std.proofs.Common.{◌≡◌, ℕ, ◌+◌, Bool, true, false, ◌==◌, List, [], ◌∷◌, ◌++◌, ◌⊎◌, Option, Some, None, inl, inr, refl, sym, ◌∙◌, ap, subst, append_assoc, arith, eq-eqb}
+use Rattle.std.proofs.Common.{◌≡◌, ℕ, ◌+◌, Bool, true, false, ◌==◌, ◌&&◌, List, [], ◌∷◌, ◌++◌, ◌⊎◌, Option, Some, None, inl, inr, refl, sym, ◌∙◌, ap, subst, append_assoc, arith, eq-eqb}
 use Rattle.std.proofs.lemmas.Bool.{and_parts, and_from, or_left, eqb-true, cases_Bool, false_from_ne_true}
 use Rattle.std.proofs.lemmas.List.Sums.{sum_by_push, fold-append}
 use Rattle.std.specs.Prelude.{fold, cond}
@@ -7,9 +7,9 @@ use Rattle.std.specs.List.{list_any}
 use Rattle.sf_history.specs.declared.call.CallId.{CallId}
 use Rattle.sf_history.specs.declared.call.Ticket.{Ticket}
 use Rattle.sf_history.specs.declared.event.Event.{Event}
-use Rattle.sf_history.specs.declared.event.Event.TheVariants.{Lead, Enter, Forget, Settle, Handed}
+use Rattle.sf_history.specs.declared.event.Event.TheVariants.{Lead, Enter, Forget, ForgetCall, Settle, Handed}
 use Rattle.sf_history.specs.Calls.{same_call}
-use Rattle.sf_history.specs.History.{holds_call, names, leads, was_led, settles, is_settled, hands, is_handed, opens, open_call, uses, next_generation}
+use Rattle.sf_history.specs.History.{has_closed, holds_call, names, leads, was_led, settles, is_settled, hands, is_handed, opens, open_call, uses, next_generation}
 use Rattle.sf_history.specs.State.{led_call, leaves_led, last_ticket, leaves_ticket, gives, own_ticket}
 use Rattle.sf_history.specs.Legal.{MayFollow, IsLegal}
 use Rattle.sf_lists.proofs.Lists.{push_split, by_push, list_any_push_cases, list_any_push_none, list_any_push_kept, list_any_push_last}
@@ -77,17 +77,18 @@ module _ {K V : Type 0} where
           list_any_push_last (leads a c) h _ (and_from _ _ is (subst (λ (z : CallId). same_call z c ≡ true) (sym calls) (same_call_self c)))
       at_lead h by key call own before false is found = list_any_push_kept (leads a c) h _ (before found)
 
-      at_settle : (h : List (Event K V)) (by : ℕ) (call : CallId) (result : V) (shared : Bool) → (led_call h a ≡ Some c → was_led h a c ≡ true) → (b : Bool)
-          → cond b None (led_call h a) ≡ Some c → was_led (h ++ Settle by call result shared ∷ []) a c ≡ true
-      at_settle h by call result shared before true found = cc
-      at_settle h by call result shared before false found = list_any_push_kept (leads a c) h _ (before found)
+      at_settle : (h : List (Event K V)) (by : ℕ) (call : CallId) (result : V) (joiners : ℕ) → (led_call h a ≡ Some c → was_led h a c ≡ true) → (b : Bool)
+          → cond b None (led_call h a) ≡ Some c → was_led (h ++ Settle by call result joiners ∷ []) a c ≡ true
+      at_settle h by call result joiners before true found = cc
+      at_settle h by call result joiners before false found = list_any_push_kept (leads a c) h _ (before found)
 
       step : (h : List (Event K V)) (e : Event K V) → (led_call h a ≡ Some c → was_led h a c ≡ true) → led_call (h ++ e ∷ []) a ≡ Some c → was_led (h ++ e ∷ []) a c ≡ true
       step h (Lead by key call own) before is = at_lead h by key call own before (by == a) refl (sym (fold_push (leaves_led a) None h _) ∙ is)
       step h (Enter by key call member) before is = list_any_push_kept (leads a c) h _ (before (sym (fold_push (leaves_led a) None h _) ∙ is))
       step h (Forget by key closed) before is = list_any_push_kept (leads a c) h _ (before (sym (fold_push (leaves_led a) None h _) ∙ is))
-      step h (Settle by call result shared) before is =
-          at_settle h by call result shared before (holds_call (led_call h a) call) (sym (fold_push (leaves_led a) None h _) ∙ is)
+      step h (ForgetCall by key call hit) before is = list_any_push_kept (leads a c) h _ (before (sym (fold_push (leaves_led a) None h _) ∙ is))
+      step h (Settle by call result joiners) before is =
+          at_settle h by call result joiners before (holds_call (led_call h a) call) (sym (fold_push (leaves_led a) None h _) ∙ is)
       step h (Handed by call) before is = list_any_push_kept (leads a c) h _ (before (sym (fold_push (leaves_led a) None h _) ∙ is))
 
   -- an open call was named
@@ -110,7 +111,8 @@ module _ {K V : Type 0} where
       step h (Lead by key call own) before is = at_lead h by key call own before (eq key k) (sym (fold_push (opens eq k) None h _) ∙ is)
       step h (Enter by key call member) before is = list_any_push_kept (names c) h _ (before (sym (fold_push (opens eq k) None h _) ∙ is))
       step h (Forget by key closed) before is = at_end h _ before (eq key k) (sym (fold_push (opens eq k) None h _) ∙ is)
-      step h (Settle by call result shared) before is = at_end h _ before (holds_call (open_call eq h k) call) (sym (fold_push (opens eq k) None h _) ∙ is)
+      step h (ForgetCall by key call hit) before is = at_end h _ before (eq key k && has_closed hit) (sym (fold_push (opens eq k) None h _) ∙ is)
+      step h (Settle by call result joiners) before is = at_end h _ before (holds_call (open_call eq h k) call) (sym (fold_push (opens eq k) None h _) ∙ is)
       step h (Handed by call) before is = list_any_push_kept (names c) h _ (before (sym (fold_push (opens eq k) None h _) ∙ is))
 
   -- a call that was led was named
@@ -121,7 +123,8 @@ module _ {K V : Type 0} where
       last h (Lead by key call own) is = list_any_push_last (names c) h (Lead by key call own) (or_left (same_call call c) (holds_call own c) (and_parts (by == a) (same_call call c) is).1)
       last h (Enter by key call member) is = cc
       last h (Forget by key closed) is = cc
-      last h (Settle by call result shared) is = cc
+      last h (ForgetCall by key call hit) is = cc
+      last h (Settle by call result joiners) is = cc
       last h (Handed by call) is = cc
 
       step : (h : List (Event K V)) (e : Event K V) → (was_led h a c ≡ true → list_any (names c) h ≡ true) → was_led (h ++ e ∷ []) a c ≡ true → list_any (names c) (h ++ e ∷ []) ≡ true
@@ -139,7 +142,8 @@ module _ {K V : Type 0} where
       last h (Lead by key call own) follows is = cc
       last h (Enter by key call member) follows is = cc
       last h (Forget by key closed) follows is = cc
-      last h (Settle by call result shared) follows is =
+      last h (ForgetCall by key call hit) follows is = cc
+      last h (Settle by call result joiners) follows is =
           subst (λ (z : CallId). list_any (names z) h ≡ true) (same_call_is call c is) (led_named h by call follows.0)
       last h (Handed by call) follows is = cc
 
@@ -159,7 +163,8 @@ module _ {K V : Type 0} where
       last h (Lead by key call own) follows is = cc
       last h (Enter by key call member) follows is = cc
       last h (Forget by key closed) follows is = cc
-      last h (Settle by call result shared) follows is = cc
+      last h (ForgetCall by key call hit) follows is = cc
+      last h (Settle by call result joiners) follows is = cc
       last h (Handed by call) follows is = subst (λ (z : CallId). is_settled h z ≡ true) (same_call_is call c is) follows.1
 
       step : (h : List (Event K V)) (e : Event K V) → (IsLegal eq h → is_handed h c ≡ true → is_settled h c ≡ true) → IsLegal eq (h ++ e ∷ []) → is_handed (h ++ e ∷ []) c ≡ true → is_settled (h ++ e ∷ []) c ≡ true
@@ -194,10 +199,47 @@ module _ {K V : Type 0} where
           list_any_push_none (settles c) h _ (at_lead h by key call own front (legal_last eq h _ legal) (before front) (by == a) (sym (fold_push (leaves_led a) None h _) ∙ is)) refl
       step h (Enter by key call member) before legal is = list_any_push_none (settles c) h _ (before (legal_front eq h _ legal) (sym (fold_push (leaves_led a) None h _) ∙ is)) refl
       step h (Forget by key closed) before legal is = list_any_push_none (settles c) h _ (before (legal_front eq h _ legal) (sym (fold_push (leaves_led a) None h _) ∙ is)) refl
-      step h (Settle by call result shared) before legal is =
+      step h (ForgetCall by key call hit) before legal is = list_any_push_none (settles c) h _ (before (legal_front eq h _ legal) (sym (fold_push (leaves_led a) None h _) ∙ is)) refl
+      step h (Settle by call result joiners) before legal is =
           let open_parts = at_settle h call (before (legal_front eq h _ legal)) (holds_call (led_call h a) call) refl (sym (fold_push (leaves_led a) None h _) ∙ is) in
           list_any_push_none (settles c) h _ open_parts.0 open_parts.1
       step h (Handed by call) before legal is = list_any_push_none (settles c) h _ (before (legal_front eq h _ legal) (sym (fold_push (leaves_led a) None h _) ∙ is)) refl
+
+  -- an open call is not settled
+  pub open_unsettled : (eq : K → K → Bool) (h : List (Event K V)) (k : K) (c : CallId) → IsLegal eq h → open_call eq h k ≡ Some c → is_settled h c ≡ false
+  open_unsettled eq h k c = by_push (λ (h : List (Event K V)). IsLegal eq h → open_call eq h k ≡ Some c → is_settled h c ≡ false) (λ legal is. refl) step h
+    where
+      at_lead : (h : List (Event K V)) (call : CallId) → IsLegal eq h → list_any (names call) h ≡ false → (open_call eq h k ≡ Some c → is_settled h c ≡ false) → (b : Bool) → cond b (Some call) (open_call eq h k) ≡ Some c → is_settled h c ≡ false
+      at_lead h call legal new before true found =
+          let calls : call ≡ c = cc in
+          let none : list_any (names c) h ≡ false = subst (λ (z : CallId). list_any (names z) h ≡ false) calls new in
+          false_from_ne_true _ (λ settled. let named = settled_named eq h c legal settled in cc)
+      at_lead h call legal new before false found = before found
+
+      at_forget : (h : List (Event K V)) → (open_call eq h k ≡ Some c → is_settled h c ≡ false) → (b : Bool) → cond b None (open_call eq h k) ≡ Some c → is_settled h c ≡ false
+      at_forget h before true found = cc
+      at_forget h before false found = before found
+
+      at_settle : (h : List (Event K V)) (call : CallId) → (open_call eq h k ≡ Some c → is_settled h c ≡ false) → (b : Bool) → holds_call (open_call eq h k) call ≡ b → cond b None (open_call eq h k) ≡ Some c
+          → (is_settled h c ≡ false) × (same_call call c ≡ false)
+      at_settle h call before true is found = cc
+      at_settle h call before false is found =
+          let held : holds_call (Some c) call ≡ false = subst (λ (o : Option CallId). holds_call o call ≡ false) found is in
+          (before found, other_call c call held)
+
+      at : (h : List (Event K V)) (e : Event K V) → IsLegal eq h → MayFollow eq h e → (open_call eq h k ≡ Some c → is_settled h c ≡ false) → opens eq k (open_call eq h k) e ≡ Some c → (is_settled h c ≡ false) × (settles c e ≡ false)
+      at h (Lead by key call own) legal follows before found = (at_lead h call legal follows.1 before (eq key k) found, refl)
+      at h (Enter by key call member) legal follows before found = (before found, refl)
+      at h (Forget by key closed) legal follows before found = (at_forget h before (eq key k) found, refl)
+      at h (ForgetCall by key call hit) legal follows before found = (at_forget h before (eq key k && has_closed hit) found, refl)
+      at h (Settle by call result joiners) legal follows before found = at_settle h call before (holds_call (open_call eq h k) call) refl found
+      at h (Handed by call) legal follows before found = (before found, refl)
+
+      step : (h : List (Event K V)) (e : Event K V) → (IsLegal eq h → open_call eq h k ≡ Some c → is_settled h c ≡ false) → IsLegal eq (h ++ e ∷ []) → open_call eq (h ++ e ∷ []) k ≡ Some c → is_settled (h ++ e ∷ []) c ≡ false
+      step h e before legal is =
+          let front = legal_front eq h e legal in
+          let both = at h e front (legal_last eq h e legal) (before front) (sym (fold_push (opens eq k) None h e) ∙ is) in
+          list_any_push_none (settles c) h e both.0 both.1
 
   -- a caller's last ticket was given to it
   pub last_given : (h : List (Event K V)) (a : ℕ) (t : Ticket) → last_ticket h a ≡ Some t → (t.member.caller ≡ a) × (list_any (gives t) h ≡ true)
@@ -233,5 +275,6 @@ module _ {K V : Type 0} where
             | inr now ↦ (now.0, list_any_push_last (gives t) h _ (and_from _ _ now.1 now.2))
           ]
       step h (Forget by key closed) before is = later h _ (before (sym (fold_push (leaves_ticket a) None h _) ∙ is))
-      step h (Settle by call result shared) before is = later h _ (before (sym (fold_push (leaves_ticket a) None h _) ∙ is))
+      step h (ForgetCall by key call hit) before is = later h _ (before (sym (fold_push (leaves_ticket a) None h _) ∙ is))
+      step h (Settle by call result joiners) before is = later h _ (before (sym (fold_push (leaves_ticket a) None h _) ∙ is))
       step h (Handed by call) before is = later h _ (before (sym (fold_push (leaves_ticket a) None h _) ∙ is))

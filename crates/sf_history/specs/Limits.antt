@@ -2,7 +2,7 @@
 use Rattle.std.specs.Prelude.{ℕ, ◌<◌, ◌≤◌, IfSome}
 use Rattle.sf_history.specs.declared.call.CallId.{CallId}
 use Rattle.sf_history.specs.declared.event.Event.{Event}
-use Rattle.sf_history.specs.declared.event.Event.TheVariants.{Lead, Enter, Forget, Settle, Handed}
+use Rattle.sf_history.specs.declared.event.Event.TheVariants.{Lead, Enter, Forget, ForgetCall, Settle, Handed}
 
 abbrev pub IsCallerNumber : ℕ → Type 0
 IsCallerNumber n = (0 < n) × (n ≤ 65535)
@@ -16,5 +16,6 @@ module _ {K V : Type 0} where
   IsWithinLimits (Lead by key call own) = IsCallerNumber by × IsCallWithin call × IfSome own IsCallWithin
   IsWithinLimits (Enter by key call member) = IsCallerNumber by × IsCallWithin call × IsCallWithin member
   IsWithinLimits (Forget by key closed) = IsCallerNumber by × IfSome closed IsCallWithin
-  IsWithinLimits (Settle by call result shared) = IsCallerNumber by × IsCallWithin call
+  IsWithinLimits (ForgetCall by key call hit) = IsCallerNumber by × IsCallWithin call
+  IsWithinLimits (Settle by call result joiners) = IsCallerNumber by × IsCallWithin call
   IsWithinLimits (Handed by call) = IsCallerNumber by × IsCallWithin call

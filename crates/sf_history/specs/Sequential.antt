@@ -1,7 +1,10 @@
 -- the sequential group: what each command replies and adds
 use Rattle.std.specs.Prelude.{◌≡◌, ℕ, ◌<◌, ◌≤◌, ◌==◌, Bool, true, false, ◌||◌, not, [], ◌∷◌, if◌then◌else◌, Option, Some, None, Result, Ok, Err}
 use Rattle.sf_history.specs.declared.call.CallId.{CallId}
-use Rattle.sf_history.specs.declared.event.Event.TheVariants.{Lead, Enter, Forget, Settle, Handed}
+use Rattle.sf_history.specs.declared.event.Event.TheVariants.{Lead, Enter, Forget, ForgetCall, Settle, Handed}
+use Rattle.sf_history.specs.declared.event.Hit.{Hit}
+use Rattle.sf_history.specs.declared.event.Hit.TheVariants.{Closed, Cleared, Missed}
+use Rattle.sf_history.specs.Limits.{IsCallWithin}
 use Rattle.sf_history.specs.declared.refusal.ModelRefusal.{ModelRefusal}
 use Rattle.sf_history.specs.declared.refusal.ModelRefusal.TheVariants.{NotFree, NotLeading, NothingAsked, Spent, Memory}
 use Rattle.sf_history.specs.declared.command.Asked.{Asked}
@@ -15,17 +18,26 @@ use Rattle.sf_history.specs.declared.command.Taken.TheVariants as taken
 use Rattle.sf_history.specs.declared.command.Command.{Command}
 use Rattle.sf_history.specs.declared.command.Command.TheVariants as command
 use Rattle.sf_history.specs.declared.call.Ticket.{Ticket}
-use Rattle.sf_history.specs.History.{holds_call, open_call, current_call, has_joined, is_handed, answer_of}
+use Rattle.sf_history.specs.History.{holds_call, open_call, current_call, joined, is_handed, answer_of}
 use Rattle.sf_history.specs.State.{GroupState, is_free, is_spent, next_id, led_call, held_ticket, with_events, with_taken}
 
 -- the letter of a call that has this answer
-abbrev pub letter_of : {V : Type 0} → CallId → Option (V × Bool) → Taken V
+abbrev pub letter_of : {V : Type 0} → CallId → Option (V × ℕ) → Taken V
 letter_of c None = taken.Pending c
 letter_of c (Some answer) = taken.Got c answer.0 answer.1
 
 abbrev pub forgotten_as : Option CallId → Forgotten
 forgotten_as None = forgotten.Idle
 forgotten_as (Some c) = forgotten.Closed c
+
+-- what a Forget of one call finds: it open, else current, else neither
+abbrev pub found_as : Bool → Bool → Hit
+found_as true is_current = Closed
+found_as false true = Cleared
+found_as false false = Missed
+
+abbrev pub hit_of : Option CallId → Option CallId → CallId → Hit
+hit_of opened current c = found_as (holds_call opened c) (holds_call current c)
 
 -- a reply of the group, with the state that the call leaves
 abbrev pub replied : {A B S : Type 0} → (A → B) → Result (A × S) ModelRefusal → Result (B × S) ModelRefusal
@@ -71,17 +83,23 @@ module _ {K V : Type 0} where
       else Err (NotFree a)
 
   -- the leader settles its call with the joined mark, and hands out all its letters
-  abbrev pub settles_call : GroupState K V → ℕ → V → Option CallId → Result ((CallId × Bool) × GroupState K V) ModelRefusal
+  abbrev pub settles_call : GroupState K V → ℕ → V → Option CallId → Result ((CallId × ℕ) × GroupState K V) ModelRefusal
   settles_call g a v None = Err (NotLeading a)
-  settles_call g a v (Some c) = Ok ((c, has_joined g.history c), with_events g (Settle a c v (has_joined g.history c) ∷ Handed a c ∷ []))
+  settles_call g a v (Some c) = Ok ((c, joined g.history c), with_events g (Settle a c v (joined g.history c) ∷ Handed a c ∷ []))
 
-  abbrev pub settle_of : GroupState K V → ℕ → V → Result ((CallId × Bool) × GroupState K V) ModelRefusal
+  abbrev pub settle_of : GroupState K V → ℕ → V → Result ((CallId × ℕ) × GroupState K V) ModelRefusal
   settle_of g a v = settles_call g a v (led_call g.history a)
 
   -- a Forget closes the key's open call, if it has one
   abbrev pub forget_of : (K → K → Bool) → GroupState K V → ℕ → K → Result (Forgotten × GroupState K V) ModelRefusal
   forget_of eq g a k =
       if is_free g a then Ok (forgotten_as (open_call eq g.history k), with_events g (Forget a k (open_call eq g.history k) ∷ []))
+      else Err (NotFree a)
+
+  -- a Forget of one call closes it where it is the key's open one, and else ends it where it is the current one
+  abbrev pub forget_call_of : (K → K → Bool) → GroupState K V → ℕ → K → CallId → Result (Hit × GroupState K V) ModelRefusal
+  forget_call_of eq g a k c =
+      if is_free g a then Ok (hit_of (open_call eq g.history k) (current_call eq g.history k) c, with_events g (ForgetCall a k c (hit_of (open_call eq g.history k) (current_call eq g.history k) c) ∷ []))
       else Err (NotFree a)
 
   -- the ticket's letter is taken where it has been handed out
@@ -98,11 +116,12 @@ module _ {K V : Type 0} where
   abbrev pub is_current_of : (K → K → Bool) → GroupState K V → K → CallId → Bool
   is_current_of eq g k c = holds_call (current_call eq g.history k) c
 
-  -- the callers that the command names are among so many
+  -- the callers that the command names are among so many, and a call that is to be forgotten is within the limits
   abbrev pub IsCommandOf : ℕ → Command K V → Type 0
   IsCommandOf callers (command.Ask a k) = (0 < a) × (a ≤ callers)
   IsCommandOf callers (command.AskChan a b k) = ((0 < a) × (a ≤ callers)) × ((0 < b) × (b ≤ callers))
   IsCommandOf callers (command.Settle a v) = (0 < a) × (a ≤ callers)
   IsCommandOf callers (command.Forget a k) = (0 < a) × (a ≤ callers)
+  IsCommandOf callers (command.ForgetCall a k c) = ((0 < a) × (a ≤ callers)) × IsCallWithin c
   IsCommandOf callers (command.Take a) = (0 < a) × (a ≤ callers)
   IsCommandOf callers (command.IsCurrent k c) = Unit {0}

@@ -4,9 +4,9 @@ use Rattle.std.specs.List.{list_any}
 use Rattle.sf_history.specs.declared.call.CallId.{CallId}
 use Rattle.sf_history.specs.declared.call.Ticket.{Ticket}
 use Rattle.sf_history.specs.declared.event.Event.{Event}
-use Rattle.sf_history.specs.declared.event.Event.TheVariants.{Lead, Enter, Forget, Settle, Handed}
+use Rattle.sf_history.specs.declared.event.Event.TheVariants.{Lead, Enter, Forget, ForgetCall, Settle, Handed}
 use Rattle.sf_history.specs.Calls.{same_call}
-use Rattle.sf_history.specs.History.{holds_call, names, was_led, is_settled, next_generation, maker}
+use Rattle.sf_history.specs.History.{holds_call, names, was_led, is_settled, is_handed, joined, next_generation, maker}
 use Rattle.sf_history.specs.Legal.{IsLegal}
 use Rattle.sf_history.specs.Limits.{IsWithinLimits}
 
@@ -36,7 +36,8 @@ module _ {K V : Type 0} where
   leaves_led a found (Lead by key call own) = if by == a then Some call else found
   leaves_led a found (Enter by key call member) = found
   leaves_led a found (Forget by key closed) = found
-  leaves_led a found (Settle by call result shared) = if holds_call found call then None else found
+  leaves_led a found (ForgetCall by key call hit) = found
+  leaves_led a found (Settle by call result joiners) = if holds_call found call then None else found
   leaves_led a found (Handed by call) = found
 
   -- the call that the caller leads: it led it, and no Settle of it stands
@@ -48,7 +49,8 @@ module _ {K V : Type 0} where
   leaves_ticket a found (Lead by key call own) = own_ticket a call own found
   leaves_ticket a found (Enter by key call member) = if member.caller == a then Some (record { call = call; member = member }) else found
   leaves_ticket a found (Forget by key closed) = found
-  leaves_ticket a found (Settle by call result shared) = found
+  leaves_ticket a found (ForgetCall by key call hit) = found
+  leaves_ticket a found (Settle by call result joiners) = found
   leaves_ticket a found (Handed by call) = found
 
   abbrev pub last_ticket : List (Event K V) → ℕ → Option Ticket
@@ -87,7 +89,8 @@ module _ {K V : Type 0} where
   gives t (Lead by key call own) = same_call call t.call && holds_call own t.member
   gives t (Enter by key call member) = same_call call t.call && same_call member t.member
   gives t (Forget by key closed) = false
-  gives t (Settle by call result shared) = false
+  gives t (ForgetCall by key call hit) = false
+  gives t (Settle by call result joiners) = false
   gives t (Handed by call) = false
 
   -- a caller leads a call that it led and that is not settled
@@ -109,3 +112,6 @@ module _ {K V : Type 0} where
     pub within : (a : ℕ) → next_generation g.first g.history a ≤ 2 ^ 32
     pub leads_one : (a : ℕ) (c : CallId) → Leads g a c → led_call g.history a ≡ Some c
     pub holds_one : (a : ℕ) (t : Ticket) → Holds g a t → last_ticket g.history a ≡ Some t
+    pub taken_named : (m : CallId) → has_taken g.taken m ≡ true → list_any (names m) g.history ≡ true
+    pub taken_handed : (t : Ticket) → list_any (gives t) g.history ≡ true → has_taken g.taken t.member ≡ true → is_handed g.history t.call ≡ true
+    pub few_joined : (c : CallId) → joined g.history c ≤ 65535

@@ -32,8 +32,8 @@ pub enum Forgotten {
 /// What taking a letter came to.
 #[derive(PartialEq, Eq, Drop)]
 pub enum Taken<V> {
-    /// The letter of this call: what it was settled with, and whether somebody joined it.
-    Got(CallId, V, bool),
+    /// The letter of this call: what it was settled with, and how many joined it.
+    Got(CallId, V, u32),
     /// The letter of this call is not there yet.
     Pending(CallId),
 }
@@ -49,6 +49,8 @@ pub enum Command<K, V> {
     Settle { caller: u32, result: V },
     /// The caller forgets the key.
     Forget { caller: u32, key: K },
+    /// The caller forgets one call of the key.
+    ForgetCall { caller: u32, key: K, call: CallId },
     /// The caller takes the letter that it asked for.
     Take { caller: u32 },
     /// Whether the call is the key's current one.

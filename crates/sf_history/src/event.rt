@@ -9,6 +9,17 @@ use crate::share::{Memory, Share};
 use std::alloc::{AllocFailed, Global};
 use std::marker::Model;
 
+/// What a Forget of one call found.
+#[derive(Clone, Copy, PartialEq, Eq)]
+pub enum Hit {
+    /// The call was the key's open one, and is closed now.
+    Closed,
+    /// The call was the key's current one, though not open, and is current no more.
+    Cleared,
+    /// The call was not the key's current one, and nothing changed.
+    Missed,
+}
+
 /// One thing that happened in a group, with the caller `by` that made it.
 #[derive(PartialEq, Eq, Drop)]
 pub enum Event<K, V> {
@@ -32,12 +43,19 @@ pub enum Event<K, V> {
         key: K,
         closed: Option<CallId>,
     },
-    /// A leader settles its call for good; `shared` is true where somebody joined it.
+    /// A caller forgets one call of the key, which ends that call alone: a newer one of the key stays.
+    ForgetCall {
+        by: u32,
+        key: K,
+        call: CallId,
+        hit: Hit,
+    },
+    /// A leader settles its call for good; `joiners` callers joined it.
     Settle {
         by: u32,
         call: CallId,
         result: V,
-        shared: bool,
+        joiners: u32,
     },
     /// Each letter that a settled call owed is in its owner's cell.
     Handed {
@@ -133,9 +151,9 @@ impl<K, V> History<K, V> {
         by: u32,
         call: CallId,
         value: V,
-        shared: bool,
+        joiners: u32,
     ) -> Result<(), V>
-        ensures ok { OnOk result (self.new ≡ self.old ++ Settle by call value shared ∷ Handed by call ∷ []) }
+        ensures ok { OnOk result (self.new ≡ self.old ++ Settle by call value joiners ∷ Handed by call ∷ []) }
         ensures refused { IfErr result (λ back. back ≡ value) }
         ensures unchanged { OnErr result (self.new ≡ self.old) }
     {
@@ -147,7 +165,7 @@ impl<K, V> History<K, V> {
                 by,
                 call,
                 result: value,
-                shared,
+                joiners,
             })
             .unwrap();
         self.events.push(Event::Handed { by, call }).unwrap();

@@ -3,15 +3,15 @@
 ghost use Rattle.std.specs.Prelude.{◌≡◌, ℕ, ◌<◌, ◌≤◌, ◌↔◌, true, false, IsTrue, [], Ok, Err, Some, IfOk, IfErr, OnErr, MatchResult, All};
 ghost use Rattle.sf_history.specs.declared.call.CallId.{CallId};
 ghost use Rattle.sf_history.specs.declared.call.Ticket.{Ticket};
-ghost use Rattle.sf_history.specs.History.{maker};
+ghost use Rattle.sf_history.specs.History.{maker, joined};
 ghost use Rattle.sf_history.specs.Legal.{IsLegal};
-ghost use Rattle.sf_history.specs.Limits.{IsWithinLimits};
+ghost use Rattle.sf_history.specs.Limits.{IsCallWithin, IsWithinLimits};
 ghost use Rattle.sf_history.specs.State.{GroupState, IsCaller, Leads, Holds, led_call, held_ticket, is_free, is_spent, next_id};
-ghost use Rattle.sf_history.specs.Sequential.{ask_of, ask_chan_of, settle_of, forget_of, take_of, is_current_of, IsRefusal, MayAskChan};
+ghost use Rattle.sf_history.specs.Sequential.{ask_of, ask_chan_of, settle_of, forget_of, forget_call_of, take_of, is_current_of, IsRefusal, MayAskChan};
 
 use crate::call::{CallId, Ticket};
 use crate::command::{Asked, ChanAsked, Forgotten, Taken};
-use crate::event::{Event, History};
+use crate::event::{Event, History, Hit};
 use crate::refusal::ModelRefusal;
 use crate::share::Share;
 use crate::walk;
@@ -139,11 +139,11 @@ impl<K: Eq, V> SeqGroup<K, V> {
         }
     }
 
-    /// The caller settles the call that it leads, and each letter of it is handed out. It answers the call, and whether
-    /// somebody joined it.
+    /// The caller settles the call that it leads, and each letter of it is handed out. It answers the call, and how
+    /// many joined it.
     ///
     /// Refused is a caller that leads none; Memory comes last. A refused value comes back.
-    pub fn settle(&mut self, caller: u32, value: V) -> Result<(CallId, bool), (ModelRefusal, V)>
+    pub fn settle(&mut self, caller: u32, value: V) -> Result<(CallId, u32), (ModelRefusal, V)>
         requires { IsCaller self.old caller }
         ensures callers { self.new.callers ≡ self.old.callers }
         ensures ok { IfOk result (λ settled. settle_of self.old caller value ≡ Ok (settled, self.new)) }
@@ -153,11 +153,11 @@ impl<K: Eq, V> SeqGroup<K, V> {
         let Some(call) = walk::led_call(self.history.events(), caller) else {
             return Err((ModelRefusal::NotLeading(caller), value));
         };
-        let shared = walk::is_joined(self.history.events(), call);
-        if let Err(value) = self.history.push_settled(caller, call, value, shared) {
+        let joiners = self.joined(call);
+        if let Err(value) = self.history.push_settled(caller, call, value, joiners) {
             return Err((ModelRefusal::Memory, value));
         }
-        Ok((call, shared))
+        Ok((call, joiners))
     }
 
     /// The caller forgets the key, which closes its open call, if it has one. Those who joined that call still get its answer.
@@ -186,6 +186,32 @@ impl<K: Eq, V> SeqGroup<K, V> {
         }
     }
 
+    /// The caller forgets one call of the key, whichever it is: it closes that call where it is the key's open one, and ends
+    /// it where it is the current one. Another call of the key stays as it is.
+    ///
+    /// Refused is a caller that is not free; Memory comes last.
+    pub fn forget_call(&mut self, caller: u32, key: K, call: CallId) -> Result<Hit, ModelRefusal>
+    where
+        K: Drop,
+        V: Drop,
+        requires caller { IsCaller self.old caller }
+        requires call { IsCallWithin call }
+        ensures callers { self.new.callers ≡ self.old.callers }
+        ensures ok { IfOk result (λ hit. forget_call_of K.eq self.old caller key call ≡ Ok (hit, self.new)) }
+        ensures refused { IfErr result (IsRefusal (forget_call_of K.eq self.old caller key call)) }
+        ensures unchanged { OnErr result (self.new ≡ self.old) }
+    {
+        self.check_free(caller)?;
+        let hit = walk::hit(self.history.events(), &key, call);
+        self.history.push(Event::ForgetCall {
+            by: caller,
+            key,
+            call,
+            hit,
+        })?;
+        Ok(hit)
+    }
+
     /// The caller takes the letter that it holds a ticket for, and is then free. The letter is pending until the call's
     /// letters are handed out.
     ///
@@ -205,10 +231,10 @@ impl<K: Eq, V> SeqGroup<K, V> {
         if !walk::is_handed(self.history.events(), ticket.call) {
             return Ok(Taken::Pending(ticket.call));
         }
-        let shared = walk::is_joined(self.history.events(), ticket.call);
+        let joiners = self.joined(ticket.call);
         self.taken.reserve(1)?;
         let letter = match self.history.share_result(ticket.call)? {
-            Some(value) => Taken::Got(ticket.call, value, shared),
+            Some(value) => Taken::Got(ticket.call, value, joiners),
             None => Taken::Pending(ticket.call),
         };
         self.taken.push(ticket.member).unwrap();
@@ -249,6 +275,13 @@ impl<K: Eq, V> SeqGroup<K, V> {
         } else {
             Some(ticket)
         }
+    }
+
+    /// How many joined the call.
+    fn joined(&self, call: CallId) -> u32
+        ensures { result ≡ joined self.now.history call }
+    {
+        walk::joined(self.history.events(), call) as u32
     }
 
     /// Refuses a caller that leads or holds a ticket.

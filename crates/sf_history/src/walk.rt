@@ -2,12 +2,13 @@
 
 ghost use Rattle.std.specs.Prelude.{◌≡◌, ◌≢◌, ◌+◌, ◌^◌, ◌<◌, None, IfSome};
 ghost use Rattle.sf_history.specs.Calls.{same_call};
-ghost use Rattle.sf_history.specs.History.{holds_call, uses_member, opens, open_call, keeps_current, current_call, enters, has_joined};
+ghost use Rattle.sf_history.specs.History.{holds_call, uses_member, opens, open_call, keeps_current, current_call, enters, joined};
 ghost use Rattle.sf_history.specs.History.{hands, is_handed, uses, next_generation};
+ghost use Rattle.sf_history.specs.Sequential.{hit_of};
 ghost use Rattle.sf_history.specs.State.{own_ticket, has_taken, leaves_led, led_call, leaves_ticket, last_ticket};
 
 use crate::call::{CallId, Ticket};
-use crate::event::Event;
+use crate::event::{Event, Hit};
 
 /// Whether the option is this call.
 pub fn is_call(found: Option<CallId>, call: CallId) -> bool
@@ -25,6 +26,11 @@ fn opened<K: Eq, V>(found: Option<CallId>, event: &Event<K, V>, key: &K) -> Opti
     match event {
         Event::Lead { key: led, call, .. } if led == key => Some(*call),
         Event::Forget { key: forgotten, .. } if forgotten == key => None,
+        Event::ForgetCall {
+            key: forgotten,
+            hit: Hit::Closed,
+            ..
+        } if forgotten == key => None,
         Event::Settle { call, .. } if is_call(found, *call) => None,
         _ => found,
     }
@@ -45,18 +51,42 @@ fn kept_current<K: Eq, V>(found: Option<CallId>, event: &Event<K, V>, key: &K) -
     match event {
         Event::Lead { key: led, call, .. } if led == key => Some(*call),
         Event::Forget { key: ended, .. } if ended == key => None,
+        Event::ForgetCall {
+            key: ended,
+            hit: Hit::Closed | Hit::Cleared,
+            ..
+        } if ended == key => None,
         _ => found,
     }
+}
+
+/// The key's current call.
+pub fn current_call<K: Eq, V>(events: &[Event<K, V>], key: &K) -> Option<CallId>
+    ensures { result ≡ current_call K.eq events.now key.now }
+{
+    events
+        .iter()
+        .fold(None, |found, event| kept_current(found, event, key))
 }
 
 /// Whether the call is the key's current one.
 pub(crate) fn is_current<K: Eq, V>(events: &[Event<K, V>], key: &K, call: CallId) -> bool
     ensures { result ≡ holds_call (current_call K.eq events.now key.now) call }
 {
-    let current = events
-        .iter()
-        .fold(None, |found, event| kept_current(found, event, key));
-    is_call(current, call)
+    is_call(current_call(events, key), call)
+}
+
+/// What a Forget of the call finds.
+pub fn hit<K: Eq, V>(events: &[Event<K, V>], key: &K, call: CallId) -> Hit
+    ensures { result ≡ hit_of (open_call K.eq events.now key.now) (current_call K.eq events.now key.now) call }
+{
+    if is_call(open_call(events, key), call) {
+        Hit::Closed
+    } else if is_current(events, key, call) {
+        Hit::Cleared
+    } else {
+        Hit::Missed
+    }
 }
 
 fn enters_call<K, V>(event: &Event<K, V>, entered: CallId) -> bool
@@ -68,11 +98,14 @@ fn enters_call<K, V>(event: &Event<K, V>, entered: CallId) -> bool
     }
 }
 
-/// Whether somebody joined the call; its own channel does not count.
-pub fn is_joined<K, V>(events: &[Event<K, V>], call: CallId) -> bool
-    ensures { result ≡ has_joined events.now call }
+/// How many joined the call; its own channel does not count.
+pub fn joined<K, V>(events: &[Event<K, V>], call: CallId) -> usize
+    ensures { result ≡ joined events.now call }
 {
-    events.iter().any(|event| enters_call(event, call))
+    events
+        .iter()
+        .filter(|event| enters_call(event, call))
+        .count()
 }
 
 fn hands_call<K, V>(event: &Event<K, V>, handed: CallId) -> bool

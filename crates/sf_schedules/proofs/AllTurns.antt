@@ -1,5 +1,5 @@
 -- every turn keeps the invariant
-use Rattle.std.proofs.Common.{◌≡◌, ◌≢◌, ℕ, Bool, true, false, ◌==◌, ◌||◌, List, [], ◌∷◌, ◌++◌, inl, inr, Option, Some, None, refl, sym, ◌∙◌, ap, subst, append_assoc, eq-eqb}
+use Rattle.std.proofs.Common.{◌≡◌, ◌≢◌, ℕ, Bool, true, false, ◌==◌, ◌||◌, List, ◌++◌, inl, inr, Option, Some, None, refl, sym, ◌∙◌, ap, subst, eq-eqb}
 use Rattle.std.proofs.lemmas.Bool.{or_parts, true≢false}
 use Rattle.std.specs.Prelude.{cond}
 use Rattle.sf_history.specs.declared.call.CallId.{CallId}
@@ -8,7 +8,7 @@ use Rattle.sf_words.specs.declared.key_word.KeyState.TheVariants.{Names}
 use Rattle.sf_schedules.specs.declared.operation.Op.{Op}
 use Rattle.sf_schedules.specs.declared.operation.Op.TheVariants as op
 use Rattle.sf_schedules.specs.declared.operation.Stage.{Stage}
-use Rattle.sf_schedules.specs.declared.operation.Stage.TheVariants.{Free, Leading, Holding, Polling, Seconding, Asking, Settling, Forgetting, Questioning}
+use Rattle.sf_schedules.specs.declared.operation.Stage.TheVariants.{Free, Leading, Holding, Polling, Seconding, Asking, Settling, Forgetting, Naming, Questioning}
 use Rattle.sf_schedules.specs.declared.operation.AskStep.{AskStep}
 use Rattle.sf_schedules.specs.declared.operation.AskStep.TheVariants as ask
 use Rattle.sf_schedules.specs.declared.operation.SettleStep.{SettleStep}
@@ -20,20 +20,21 @@ use Rattle.sf_schedules.specs.declared.turn.Turn.{Turn}
 use Rattle.sf_schedules.specs.declared.turn.Turn.TheVariants as turn
 use Rattle.sf_schedules.specs.World.{World, with_stage, is_spent, same_key, is_open_with, is_forgot_in, is_full}
 use Rattle.sf_schedules.specs.Askings.{ready_own, ask_stepped}
-use Rattle.sf_schedules.specs.Turns.{at_members, cleared, settle_stepped, current_peeked, current_stepped, stepped, chan_started, started, left, freed, turned, run}
-use Rattle.sf_schedules.specs.Events.{ask_events, settle_events, step_events, turn_events, adds}
-use Rattle.sf_schedules.specs.Schedules.{Setting, AsksOfLed, was_led_on, IsTurn, IsScheduleFrom}
+use Rattle.sf_schedules.specs.Turns.{cleared, settle_stepped, current_peeked, current_stepped, stepped, chan_started, started, left, freed, turned, at_count}
+use Rattle.sf_schedules.specs.Events.{ask_events, settle_events, step_events, turn_events}
+use Rattle.sf_schedules.specs.Schedules.{Setting, AsksOfLed, was_led_on, IsTurn}
 use Rattle.sf_schedules.proofs.Growing.{grows_none}
 use Rattle.sf_lists.proofs.Functions.{put_here, put_else}
-use Rattle.sf_schedules.proofs.Sound.{call_of, unsettled, uncleared, ticket, GoodSecond, GoodAsk, Good, Caller, Sound}
+use Rattle.sf_schedules.proofs.Sound.{call_of, unsettled, uncleared, ticket, GoodSecond, GoodAsk, Good, GoodFlag, Caller, Sound}
 use Rattle.sf_schedules.proofs.Kept.{Same, sound_after}
 use Rattle.sf_schedules.proofs.Quiet.{same_stage, same_then, Two, split_two, Idle, idle_self, idle_second, idle_spared, not_held, not_owing, key_kept, debt_same, still, quiet}
 use Rattle.sf_schedules.proofs.AskSteps.{second_apart, look_sound, peek_sound, ready_own_sound, ready_lead_sound, ready_join_sound, link_sound}
 use Rattle.sf_schedules.proofs.LeadSteps.{lead_either}
 use Rattle.sf_schedules.proofs.EnterSteps.{enter_either}
-use Rattle.sf_schedules.proofs.SettleSteps.{settle_started, peek_either, close_either, clear_either}
-use Rattle.sf_schedules.proofs.DeliverSteps.{follow_sound, peek_member_sound, deliver_sound, peek_own_sound, deliver_own_sound, poll_either, poll_started}
+use Rattle.sf_schedules.proofs.SettleSteps.{FewMembers, settle_started, peek_either, close_either, clear_either}
+use Rattle.sf_schedules.proofs.DeliverSteps.{count_sound, follow_sound, peek_member_sound, deliver_sound, peek_own_sound, deliver_own_sound, poll_either, poll_started}
 use Rattle.sf_schedules.proofs.ForgetSteps.{forget_sound}
+use Rattle.sf_schedules.proofs.Callers.{Fair, few_members}
 
 module _ {V : Type 0} where
   peeked_either : (first : ℕ) (h : List (Event ℕ V)) (w : World V) (a k : ℕ) (c : CallId) → w.stages a ≡ Questioning k c current.Peek → Sound first h w → (b : Bool) → Sound first h (with_stage w a (current_peeked k c b))
@@ -56,29 +57,31 @@ module _ {V : Type 0} where
   ask_sound first h w a k s (ask.Link c seen) at sound = still first h (ask_stepped w a k s (ask.Link c seen)) (link_sound first h w a k s c seen at sound)
   ask_sound first h w a k s (ask.Enter c seen) at sound = enter_either first h w a k s c seen at sound (is_open_with seen (w.calls c.caller)) refl
 
-  settle_sound : (first : ℕ) (h : List (Event ℕ V)) (w : World V) (a k g : ℕ) (own : Option CallId) (v : V) (step : SettleStep) → w.stages a ≡ Settling k g own v step → Sound first h w
+  settle_sound : (first : ℕ) (h : List (Event ℕ V)) (w : World V) (a k g : ℕ) (own : Option CallId) (v : V) (step : SettleStep) → w.stages a ≡ Settling k g own v step → Sound first h w → FewMembers h w a
       → Sound first (h ++ settle_events w a (call_of a g) own v step) (settle_stepped w a k g own v step)
-  settle_sound first h w a k g own v settle.Peek at sound = peek_either first h w a k g own v at sound (w.calls a) refl
-  settle_sound first h w a k g own v (settle.Close seen) at sound = close_either first h w a k g own v seen at sound (is_open_with seen (w.calls a)) refl
-  settle_sound first h w a k g own v (settle.Clear shared top) at sound =
+  settle_sound first h w a k g own v settle.Peek at sound most = peek_either first h w a k g own v at sound most (w.calls a) refl
+  settle_sound first h w a k g own v (settle.Close seen) at sound most = close_either first h w a k g own v seen at sound most (is_open_with seen (w.calls a)) refl
+  settle_sound first h w a k g own v (settle.Clear top) at sound most =
       let tested : Bool = same_key (w.keys k) (Names a g false) in
-      still first h (with_stage (cleared w k (call_of a g) tested) a (at_members k g own v shared top)) (clear_either first h w a k g own v shared top at sound tested refl)
-  settle_sound first h w a k g own v (settle.Follow shared m) at sound = still first h (settle_stepped w a k g own v (settle.Follow shared m)) (follow_sound first h w a k g own v shared m at sound)
-  settle_sound first h w a k g own v (settle.PeekMember shared m next) at sound = still first h (settle_stepped w a k g own v (settle.PeekMember shared m next)) (peek_member_sound first h w a k g own v shared m next at sound)
-  settle_sound first h w a k g own v (settle.Deliver shared m next) at sound = deliver_sound first h w a k g own v shared m next at sound
-  settle_sound first h w a k g own v (settle.PeekOwn shared) at sound = still first h (settle_stepped w a k g own v (settle.PeekOwn shared)) (peek_own_sound first h w a k g own v shared at sound)
-  settle_sound first h w a k g own v (settle.DeliverOwn shared m) at sound = deliver_own_sound first h w a k g own v shared m at sound
+      still first h (with_stage (cleared w k (call_of a g) tested) a (at_count k g own v top)) (clear_either first h w a k g own v top at sound tested refl)
+  settle_sound first h w a k g own v (settle.Count n m top) at sound most = still first h (settle_stepped w a k g own v (settle.Count n m top)) (count_sound first h w a k g own v n m top at sound)
+  settle_sound first h w a k g own v (settle.Follow joiners m) at sound most = still first h (settle_stepped w a k g own v (settle.Follow joiners m)) (follow_sound first h w a k g own v joiners m at sound)
+  settle_sound first h w a k g own v (settle.PeekMember joiners m next) at sound most = still first h (settle_stepped w a k g own v (settle.PeekMember joiners m next)) (peek_member_sound first h w a k g own v joiners m next at sound)
+  settle_sound first h w a k g own v (settle.Deliver joiners m next) at sound most = deliver_sound first h w a k g own v joiners m next at sound
+  settle_sound first h w a k g own v (settle.PeekOwn joiners) at sound most = still first h (settle_stepped w a k g own v (settle.PeekOwn joiners)) (peek_own_sound first h w a k g own v joiners at sound)
+  settle_sound first h w a k g own v (settle.DeliverOwn joiners m) at sound most = deliver_own_sound first h w a k g own v joiners m at sound
 
-  step_sound : (first : ℕ) (h : List (Event ℕ V)) (w : World V) (a : ℕ) (p : Stage V) → w.stages a ≡ p → Sound first h w → Sound first (h ++ step_events w a p) (stepped w a p)
-  step_sound first h w a Free at sound = still first h w sound
-  step_sound first h w a (Leading k g own) at sound = still first h w sound
-  step_sound first h w a (Holding k g c) at sound = still first h w sound
-  step_sound first h w a (Polling k g c) at sound = still first h (stepped w a (Polling k g c)) (poll_either first h w a k g c at sound (is_full (w.calls a)) refl)
-  step_sound first h w a (Seconding one) at sound = still first h w sound
-  step_sound first h w a (Asking k s step) at sound = ask_sound first h w a k s step at sound
-  step_sound first h w a (Settling k g own v step) at sound = settle_sound first h w a k g own v step at sound
-  step_sound first h w a (Forgetting k step) at sound = forget_sound first h w a k step at sound
-  step_sound first h w a (Questioning k c step) at sound = still first h (current_stepped w a k c step) (current_sound first h w a k c step at sound)
+  step_sound : (first : ℕ) (h : List (Event ℕ V)) (w : World V) (a : ℕ) (p : Stage V) → w.stages a ≡ p → Sound first h w → GoodFlag h w p → FewMembers h w a → Sound first (h ++ step_events w a p) (stepped w a p)
+  step_sound first h w a Free at sound flag most = still first h w sound
+  step_sound first h w a (Leading k g own) at sound flag most = still first h w sound
+  step_sound first h w a (Holding k g c) at sound flag most = still first h w sound
+  step_sound first h w a (Polling k g c) at sound flag most = still first h (stepped w a (Polling k g c)) (poll_either first h w a k g c at sound (is_full (w.calls a)) refl)
+  step_sound first h w a (Seconding one) at sound flag most = still first h w sound
+  step_sound first h w a (Asking k s step) at sound flag most = ask_sound first h w a k s step at sound
+  step_sound first h w a (Settling k g own v step) at sound flag most = settle_sound first h w a k g own v step at sound most
+  step_sound first h w a (Forgetting k target step) at sound flag most = forget_sound first h w a k target step at sound flag
+  step_sound first h w a (Naming k) at sound flag most = still first h (with_stage w a Free) (quiet first h w a (Naming k) Free at sound refl (λ b x. cc) refl (λ i g key owes. cc) tt)
+  step_sound first h w a (Questioning k c step) at sound flag most = still first h (current_stepped w a k c step) (current_sound first h w a k c step at sound)
 
   -- two callers who lead nothing and hold no ticket change their stages together
   two_staged : (first : ℕ) (h : List (Event ℕ V)) (w : World V) (a b : ℕ) (p q : Stage V) → Sound first h w → Idle w a a → Idle w a b → b ≢ a → Good h (with_stage (with_stage w b q) a p) a p → Good h (with_stage (with_stage w b q) a p) b q
@@ -88,6 +91,7 @@ module _ {V : Type 0} where
       let untouched : (z : ℕ) → z ≢ a → z ≢ b → Same w w' z = λ z other far. same_then w (with_stage w b q) w' z (same_stage w b q z far) (same_stage (with_stage w b q) a p z other) in
       let stage_there : w'.stages b ≡ q = put_else (with_stage w b q).stages a p b apart ∙ put_here w.stages b q in
       sound_after first a (Two a b) h w h w' sound (record {
+        bound = refl;
         past = sound.past;
         grows = grows_none a h;
         mine = inl refl;
@@ -149,7 +153,8 @@ module _ {V : Type 0} where
   chan_sound first h w a b k (Seconding one) at there sound = sound
   chan_sound first h w a b k (Asking i s step) at there sound = sound
   chan_sound first h w a b k (Settling i g own v step) at there sound = sound
-  chan_sound first h w a b k (Forgetting i step) at there sound = sound
+  chan_sound first h w a b k (Forgetting i target step) at there sound = sound
+  chan_sound first h w a b k (Naming i) at there sound = sound
   chan_sound first h w a b k (Questioning i c step) at there sound = sound
 
   chan_started_sound : (first : ℕ) (h : List (Event ℕ V)) (w : World V) (a b k : ℕ) → w.stages a ≡ Free → Sound first h w → (t : Bool) → Sound first h (cond t w (chan_started w a b k (w.stages b)))
@@ -163,8 +168,12 @@ module _ {V : Type 0} where
   start_sound first h w a (op.Chan b k) _ at sound led = sound
   start_sound first h w a (op.Settle v) (Leading k g own) at sound led = settle_started first h w a k g own v at sound
   start_sound first h w a (op.Settle v) _ at sound led = sound
-  start_sound first h w a (op.Forget k) Free at sound led = quiet first h w a Free (Forgetting k (forget.Look false)) at sound refl (λ b x. cc) refl (λ i g key owes. cc) tt
+  start_sound first h w a (op.Forget k) Free at sound led = quiet first h w a Free (Forgetting k None (forget.Look false)) at sound refl (λ b x. cc) refl (λ i g key owes. cc) tt
+  start_sound first h w a (op.ForgetCall k d) Free at sound led = quiet first h w a Free (Forgetting k (Some d) (forget.Look false)) at sound refl (λ b x. cc) refl (λ i g key owes. cc) tt
+  start_sound first h w a (op.Named k) Free at sound led = quiet first h w a Free (Naming k) at sound refl (λ b x. cc) refl (λ i g key owes. cc) tt
   start_sound first h w a (op.Forget k) _ at sound led = sound
+  start_sound first h w a (op.ForgetCall k d) _ at sound led = sound
+  start_sound first h w a (op.Named k) _ at sound led = sound
   start_sound first h w a op.Poll (Holding k g c) at sound led = poll_started first h w a k g c at sound
   start_sound first h w a op.Poll _ at sound led = sound
   start_sound first h w a (op.Current k c) Free at sound led = quiet first h w a Free (Questioning k c current.Peek) at sound refl (λ b x. cc) refl (λ i g key owes. cc) led
@@ -178,16 +187,11 @@ module _ {V : Type 0} where
 
   leave_sound : (first : ℕ) (h : List (Event ℕ V)) (w : World V) (a : ℕ) (p : Stage V) → w.stages a ≡ p → Sound first h w → Sound first h (left w a p)
   leave_sound first h w a (Asking k s (ask.Look true)) at sound = freed_sound first h w a k s at sound
-  leave_sound first h w a (Forgetting k (forget.Look true)) at sound = quiet first h w a (Forgetting k (forget.Look true)) Free at sound refl (λ b x. cc) refl (λ i g key owes. cc) tt
+  leave_sound first h w a (Forgetting k target (forget.Look true)) at sound = quiet first h w a (Forgetting k target (forget.Look true)) Free at sound refl (λ b x. cc) refl (λ i g key owes. cc) tt
   leave_sound first h w a _ at sound = sound
 
-  pub turn_sound : (z : Setting) (h : List (Event ℕ V)) (w : World V) (t : Turn V) → Sound z.first h w → IsTurn z h w t → Sound z.first (h ++ turn_events w t) (turned w t)
-  turn_sound z h w (turn.Start a o) sound allowed = still z.first h (started w a o (w.stages a)) (start_sound z.first h w a o (w.stages a) refl sound allowed.2)
-  turn_sound z h w (turn.Step a) sound allowed = step_sound z.first h w a (w.stages a) refl sound
-  turn_sound z h w (turn.Leave a) sound allowed = still z.first h (left w a (w.stages a)) (leave_sound z.first h w a (w.stages a) refl sound)
-
-  pub run_sound : (z : Setting) (ts : List (Turn V)) (h : List (Event ℕ V)) (w : World V) → Sound z.first h w → IsScheduleFrom z h w ts → Sound z.first (h ++ adds w ts) (run w ts)
-  run_sound z [] h w sound allowed = still z.first h w sound
-  run_sound z (t ∷ ts) h w sound allowed =
-      subst (λ (q : List (Event ℕ V)). Sound z.first q (run (turned w t) ts)) (append_assoc h (turn_events w t) (adds (turned w t) ts))
-      (run_sound z ts (h ++ turn_events w t) (turned w t) (turn_sound z h w t sound allowed.0) allowed.1)
+  -- what callers know of words that they saw is asked for too, since a forget of one call ends the current one by it
+  pub turn_sound : (z : Setting) (h : List (Event ℕ V)) (w : World V) (t : Turn V) → Fair z h w → IsTurn z h w t → Sound z.first (h ++ turn_events w t) (turned w t)
+  turn_sound z h w (turn.Start a o) fair allowed = still z.first h (started w a o (w.stages a)) (start_sound z.first h w a o (w.stages a) refl fair.sound allowed.2)
+  turn_sound z h w (turn.Step a) fair allowed = step_sound z.first h w a (w.stages a) refl fair.sound (fair.flags a) (λ k g leads. few_members z h w a k g fair leads)
+  turn_sound z h w (turn.Leave a) fair allowed = still z.first h (left w a (w.stages a)) (leave_sound z.first h w a (w.stages a) refl fair.sound)

@@ -1,5 +1,5 @@
 -- the steps of an asking leave each member that waits on its leader's list
-use Rattle.std.proofs.Common.{◌≡◌, ◌≢◌, ℕ, Bool, true, false, ◌⊎◌, List, ◌∷◌, inl, inr, Option, Some, None, refl, sym, ◌∙◌, ap, subst}
+use Rattle.std.proofs.Common.{◌≡◌, ◌≢◌, ℕ, Bool, true, false, ◌⊎◌, List, ◌∷◌, ◌++◌, inl, inr, Option, Some, None, refl, sym, ◌∙◌, ap, subst}
 use Rattle.std.proofs.lemmas.Bool.{cases_eq}
 use Rattle.sf_history.specs.declared.call.CallId.{CallId}
 use Rattle.sf_history.specs.declared.event.Event.{Event}
@@ -7,7 +7,7 @@ use Rattle.sf_words.specs.declared.call_word.LeaderState.{LeaderState}
 use Rattle.sf_words.specs.declared.call_word.CallState.{CallState}
 use Rattle.sf_words.specs.declared.call_word.CallState.TheVariants as word
 use Rattle.sf_schedules.specs.declared.operation.Stage.{Stage}
-use Rattle.sf_schedules.specs.declared.operation.Stage.TheVariants.{Free, Leading, Holding, Polling, Seconding, Asking, Settling, Forgetting, Questioning}
+use Rattle.sf_schedules.specs.declared.operation.Stage.TheVariants.{Free, Leading, Holding, Polling, Seconding, Asking, Settling, Forgetting, Naming, Questioning}
 use Rattle.sf_schedules.specs.declared.operation.AskStep.{AskStep}
 use Rattle.sf_schedules.specs.declared.operation.AskStep.TheVariants as ask
 use Rattle.sf_schedules.specs.declared.operation.SettleStep.TheVariants as settle
@@ -15,7 +15,8 @@ use Rattle.sf_schedules.specs.World.{World, next_id, same_key, is_open_with, ope
 use Rattle.sf_lists.specs.Functions.{put}
 use Rattle.sf_schedules.specs.Askings.{looked, peeked, joiner, with_top, led, entered, after_lead, after_enter, ask_stepped}
 use Rattle.sf_schedules.proofs.Histories.{opened}
-use Rattle.sf_schedules.proofs.Members.{Each, each_map, Chain, chain_kept, line, line_members, members}
+use Rattle.sf_history.proofs.Members.{Each, each_map, members}
+use Rattle.sf_schedules.proofs.Members.{Chain, chain_kept, line, line_members}
 use Rattle.sf_lists.proofs.Functions.{put_here, put_else}
 use Rattle.sf_schedules.proofs.Compared.{same_pair, open_with_is}
 use Rattle.sf_schedules.proofs.Sound.{call_of, top_in, Held, unsettled, ticket, Waits, Leads, ready_word, GoodSecond, GoodAsk, Good, Sound, live_open}
@@ -36,13 +37,15 @@ module _ {V : Type 0} where
   unsettled_serves w u l (Asking i s step) x k g m is line serves = cc
   unsettled_serves w u l (Settling i n own v settle.Peek) x k g m is line serves = (serves.0, serves.1, line own serves.2)
   unsettled_serves w u l (Settling i n own v (settle.Close seen)) x k g m is line serves = (serves.0, serves.1, line own serves.2)
-  unsettled_serves w u l (Settling i n own v (settle.Clear shared top)) x k g m is line serves = cc
-  unsettled_serves w u l (Settling i n own v (settle.Follow shared y)) x k g m is line serves = cc
-  unsettled_serves w u l (Settling i n own v (settle.PeekMember shared y next)) x k g m is line serves = cc
-  unsettled_serves w u l (Settling i n own v (settle.Deliver shared y next)) x k g m is line serves = cc
-  unsettled_serves w u l (Settling i n own v (settle.PeekOwn shared)) x k g m is line serves = cc
-  unsettled_serves w u l (Settling i n own v (settle.DeliverOwn shared y)) x k g m is line serves = cc
-  unsettled_serves w u l (Forgetting i step) x k g m is line serves = cc
+  unsettled_serves w u l (Settling i n own v (settle.Clear top)) x k g m is line serves = cc
+  unsettled_serves w u l (Settling i n own v (settle.Count j y top)) x k g m is line serves = cc
+  unsettled_serves w u l (Settling i n own v (settle.Follow joiners y)) x k g m is line serves = cc
+  unsettled_serves w u l (Settling i n own v (settle.PeekMember joiners y next)) x k g m is line serves = cc
+  unsettled_serves w u l (Settling i n own v (settle.Deliver joiners y next)) x k g m is line serves = cc
+  unsettled_serves w u l (Settling i n own v (settle.PeekOwn joiners)) x k g m is line serves = cc
+  unsettled_serves w u l (Settling i n own v (settle.DeliverOwn joiners y)) x k g m is line serves = cc
+  unsettled_serves w u l (Forgetting i target step) x k g m is line serves = cc
+  unsettled_serves w u l (Naming i) x k g m is line serves = cc
   unsettled_serves w u l (Questioning i c step) x k g m is line serves = cc
 
   -- a new member on top is served
@@ -55,13 +58,15 @@ module _ {V : Type 0} where
   unsettled_new u l (Asking i s step) k g m is line = cc
   unsettled_new u l (Settling i n own v settle.Peek) k g m is line = let same = same_pair (i, n) (k, g) is in (ap (λ (x : ℕ × ℕ). x.0) same, ap (λ (x : ℕ × ℕ). x.1) same, line own)
   unsettled_new u l (Settling i n own v (settle.Close seen)) k g m is line = let same = same_pair (i, n) (k, g) is in (ap (λ (x : ℕ × ℕ). x.0) same, ap (λ (x : ℕ × ℕ). x.1) same, line own)
-  unsettled_new u l (Settling i n own v (settle.Clear shared top)) k g m is line = cc
-  unsettled_new u l (Settling i n own v (settle.Follow shared y)) k g m is line = cc
-  unsettled_new u l (Settling i n own v (settle.PeekMember shared y next)) k g m is line = cc
-  unsettled_new u l (Settling i n own v (settle.Deliver shared y next)) k g m is line = cc
-  unsettled_new u l (Settling i n own v (settle.PeekOwn shared)) k g m is line = cc
-  unsettled_new u l (Settling i n own v (settle.DeliverOwn shared y)) k g m is line = cc
-  unsettled_new u l (Forgetting i step) k g m is line = cc
+  unsettled_new u l (Settling i n own v (settle.Clear top)) k g m is line = cc
+  unsettled_new u l (Settling i n own v (settle.Count j y top)) k g m is line = cc
+  unsettled_new u l (Settling i n own v (settle.Follow joiners y)) k g m is line = cc
+  unsettled_new u l (Settling i n own v (settle.PeekMember joiners y next)) k g m is line = cc
+  unsettled_new u l (Settling i n own v (settle.Deliver joiners y next)) k g m is line = cc
+  unsettled_new u l (Settling i n own v (settle.PeekOwn joiners)) k g m is line = cc
+  unsettled_new u l (Settling i n own v (settle.DeliverOwn joiners y)) k g m is line = cc
+  unsettled_new u l (Forgetting i target step) k g m is line = cc
+  unsettled_new u l (Naming i) k g m is line = cc
   unsettled_new u l (Questioning i c step) k g m is line = cc
 
   pub asking_serves : (w : World V) (a i : ℕ) (s : Option ℕ) (step : AskStep) → w.stages a ≡ Asking i s step → (k g : ℕ) (m : CallId) → Serves w a (w.stages a) k g m → ⊥
@@ -267,29 +272,36 @@ module _ {V : Type 0} where
     subst (λ (f : ℕ → Option ℕ). InLine f own (top_in (u.calls l)) m) (sym nexts) (subst (λ (f : ℕ → CallState). InLine (put w.nexts j t) own (top_in (f l)) m) (sym calls)
         (line_linked w i (call_of l n) j t (top_in (w.calls l)) (members h (call_of l n)) none (line_members (Waits w i (call_of l n)) own (members h (call_of l n)) good.0.waits) good.0.chain own m is.2)),
   )
-  serves_linked h w u l (Settling i n own v (settle.Clear shared top)) j t k g m nexts calls none good is = (
+  serves_linked h w u l (Settling i n own v (settle.Clear top)) j t k g m nexts calls none good is = (
     is.0,
     is.1,
-    subst (λ (f : ℕ → Option ℕ). InLine f own top m) (sym nexts) (line_linked w i (call_of l n) j t top good.0 none (line_members (Waits w i (call_of l n)) own good.0 good.1.waits) good.1.chain own m is.2),
+    subst (λ (f : ℕ → Option ℕ). InLine f own top m) (sym nexts) (line_linked w i (call_of l n) j t top good.0 none (line_members (Waits w i (call_of l n)) own good.0 good.2.waits) good.2.chain own m is.2),
   )
-  serves_linked h w u l (Settling i n own v (settle.Follow shared y)) j t k g m nexts calls none good is = (
+  serves_linked h w u l (Settling i n own v (settle.Count p y top)) j t k g m nexts calls none good is = (
+    is.0,
+    is.1,
+    subst (λ (f : ℕ → Option ℕ). InLine f own (Some top) m) (sym nexts)
+        (line_linked w i (call_of l n) j t (Some top) (good.0 ++ good.1) none (line_members (Waits w i (call_of l n)) own (good.0 ++ good.1) good.3.waits) good.3.chain own m is.2),
+  )
+  serves_linked h w u l (Settling i n own v (settle.Follow joiners y)) j t k g m nexts calls none good is = (
     is.0,
     is.1,
     subst (λ (f : ℕ → Option ℕ). InLine f own (Some y) m) (sym nexts) (line_linked w i (call_of l n) j t (Some y) good.0 none (line_members (Waits w i (call_of l n)) own good.0 good.1.waits) good.1.chain own m is.2),
   )
-  serves_linked h w u l (Settling i n own v (settle.PeekMember shared y next)) j t k g m nexts calls none good is = (
+  serves_linked h w u l (Settling i n own v (settle.PeekMember joiners y next)) j t k g m nexts calls none good is = (
     is.0,
     is.1,
     subst (λ (f : ℕ → Option ℕ). InLine f own (Some y) m) (sym nexts) (line_linked w i (call_of l n) j t (Some y) good.0 none (line_members (Waits w i (call_of l n)) own good.0 good.1.waits) good.1.chain own m is.2),
   )
-  serves_linked h w u l (Settling i n own v (settle.Deliver shared y next)) j t k g m nexts calls none good is = (
+  serves_linked h w u l (Settling i n own v (settle.Deliver joiners y next)) j t k g m nexts calls none good is = (
     is.0,
     is.1,
     subst (λ (f : ℕ → Option ℕ). InLine f own (Some y.caller) m) (sym nexts) (line_linked w i (call_of l n) j t (Some y.caller) (y ∷ good.0) none (line_members (Waits w i (call_of l n)) own (y ∷ good.0) good.1.waits) good.1.chain own m is.2),
   )
-  serves_linked h w u l (Settling i n own v (settle.PeekOwn shared)) j t k g m nexts calls none good is = is
-  serves_linked h w u l (Settling i n own v (settle.DeliverOwn shared y)) j t k g m nexts calls none good is = is
-  serves_linked h w u l (Forgetting i step) j t k g m nexts calls none good is = is
+  serves_linked h w u l (Settling i n own v (settle.PeekOwn joiners)) j t k g m nexts calls none good is = is
+  serves_linked h w u l (Settling i n own v (settle.DeliverOwn joiners y)) j t k g m nexts calls none good is = is
+  serves_linked h w u l (Forgetting i target step) j t k g m nexts calls none good is = is
+  serves_linked h w u l (Naming i) j t k g m nexts calls none good is = is
   serves_linked h w u l (Questioning i c step) j t k g m nexts calls none good is = is
 
   link_awaited : (first : ℕ) (h : List (Event ℕ V)) (w : World V) (a k : ℕ) (s : Option ℕ) (c₀ : CallId) (seen : LeaderState) → w.stages a ≡ Asking k s (ask.Link c₀ seen) → Sound first h w → Awaited w → Awaited (ask_stepped w a k s (ask.Link c₀ seen))

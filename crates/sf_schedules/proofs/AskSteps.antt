@@ -71,6 +71,7 @@ module _ {V : Type 0} where
       let second : GoodSecond w a s = (subst (λ (p : Stage V). Good h w a p) at (sound.callers a).good).0 in
       let untouched : (z : ℕ) → z ≢ a → z ≢ x → Same w w' z = λ z other far. same_then w (with_call w x u) w' z (same_word w x u z far) (same_stage (with_call w x u) a q z other) in
       sound_after first a (Two a x) h w h w' sound (record {
+        bound = refl;
         past = sound.past;
         grows = grows_none a h;
         mine = inl refl;
@@ -118,6 +119,7 @@ module _ {V : Type 0} where
       let second : GoodSecond w a s = (subst (λ (p : Stage V). Good h w a p) at (sound.callers a).good).0 in
       let untouched : (z : ℕ) → z ≢ a → z ≢ x → Same w w' z = λ z other far. same_then w (with_next w x n) w' z (same_next w x n z far) (same_stage (with_next w x n) a q z other) in
       sound_after first a (Two a x) h w h w' sound (record {
+        bound = refl;
         past = sound.past;
         grows = grows_none a h;
         mine = inl refl;

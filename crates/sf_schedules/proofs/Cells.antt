@@ -5,7 +5,8 @@ use Rattle.sf_history.specs.declared.event.Event.{Event}
 use Rattle.sf_schedules.specs.Events.{turn_events, events_of}
 use Rattle.sf_schedules.specs.Schedules.{Setting, IsScheduleFrom}
 use Rattle.sf_schedules.proofs.Sound.{Sound}
-use Rattle.sf_schedules.proofs.AllTurns.{turn_sound}
+use Rattle.sf_schedules.proofs.Flags.{turn_fair}
+use Rattle.sf_schedules.proofs.Callers.{Fair}
 use Rattle.std.specs.Prelude.{cond}
 use Rattle.sf_history.specs.declared.call.CallId.{CallId}
 use Rattle.sf_words.specs.declared.key_word.KeyState.{KeyState}
@@ -16,7 +17,7 @@ use Rattle.sf_schedules.specs.declared.letter.Letter.{Letter}
 use Rattle.sf_schedules.specs.declared.operation.Op.{Op}
 use Rattle.sf_schedules.specs.declared.operation.Op.TheVariants as op
 use Rattle.sf_schedules.specs.declared.operation.Stage.{Stage}
-use Rattle.sf_schedules.specs.declared.operation.Stage.TheVariants.{Free, Leading, Holding, Polling, Seconding, Asking, Settling, Forgetting, Questioning}
+use Rattle.sf_schedules.specs.declared.operation.Stage.TheVariants.{Free, Leading, Holding, Polling, Seconding, Asking, Settling, Forgetting, Naming, Questioning}
 use Rattle.sf_schedules.specs.declared.operation.AskStep.{AskStep}
 use Rattle.sf_schedules.specs.declared.operation.AskStep.TheVariants as ask
 use Rattle.sf_schedules.specs.declared.operation.SettleStep.{SettleStep}
@@ -37,7 +38,7 @@ use Rattle.sf_schedules.specs.Delivered.{delivers, Collects}
 use Rattle.sf_schedules.specs.Laws.{LettersArrive, CellsAreCollected, FirstLettersAreCollected}
 use Rattle.sf_lists.proofs.Functions.{put_here, put_else, put_cases}
 use Rattle.sf_schedules.proofs.Sound.{call_of}
-use Rattle.sf_schedules.proofs.RightAnswers.{run_append, schedule_parts, always}
+use Rattle.sf_schedules.proofs.RightAnswers.{run_append, schedule_parts, always_fair}
 use Rattle.sf_schedules.proofs.Letters.{same_pair, deliver_right, letters_are_answers}
 
 module _ {V : Type 0} where
@@ -87,28 +88,29 @@ module _ {V : Type 0} where
   settle_empties : (w : World V) (a i g x : ℕ) (own : Option CallId) (v : V) (step : SettleStep) (l : Letter V) → w.cells x ≡ Some l → (settle_stepped w a i g own v step).cells x ≡ None → Empties w a x
   settle_empties w a i g x own v settle.Peek l is none = stays w w a x l refl is none
   settle_empties w a i g x own v (settle.Close seen) l is none = stays w (after_close w a i g own v seen (is_open_with seen (w.calls a))) a x l (close_stays w a i g x own v seen (is_open_with seen (w.calls a))) is none
-  settle_empties w a i g x own v (settle.Clear shared top) l is none =
+  settle_empties w a i g x own v (settle.Clear top) l is none =
       stays w (cleared w i (call_of a g) (same_key (w.keys i) (Names a g false))) a x l (cleared_stays w i x (call_of a g) (same_key (w.keys i) (Names a g false))) is none
-  settle_empties w a i g x own v (settle.Follow shared m) l is none = stays w w a x l refl is none
-  settle_empties w a i g x own v (settle.PeekMember shared m next) l is none = stays w w a x l refl is none
-  settle_empties w a i g x own v (settle.Deliver shared m next) l is none = filled w a m.caller x (record { place = i; call = call_of a g; value = v; shared = shared }) l is none
-  settle_empties w a i g x own v (settle.PeekOwn shared) l is none = stays w w a x l refl is none
-  settle_empties w a i g x own v (settle.DeliverOwn shared m) l is none = filled w a m.caller x (record { place = i; call = call_of a g; value = v; shared = shared }) l is none
+  settle_empties w a i g x own v (settle.Count n m top) l is none = stays w w a x l refl is none
+  settle_empties w a i g x own v (settle.Follow joiners m) l is none = stays w w a x l refl is none
+  settle_empties w a i g x own v (settle.PeekMember joiners m next) l is none = stays w w a x l refl is none
+  settle_empties w a i g x own v (settle.Deliver joiners m next) l is none = filled w a m.caller x (record { place = i; call = call_of a g; value = v; joiners = joiners }) l is none
+  settle_empties w a i g x own v (settle.PeekOwn joiners) l is none = stays w w a x l refl is none
+  settle_empties w a i g x own v (settle.DeliverOwn joiners m) l is none = filled w a m.caller x (record { place = i; call = call_of a g; value = v; joiners = joiners }) l is none
 
-  forgot_stays : (w : World V) (a i x : ℕ) (d : CallId) (seen : LeaderState) (b : Bool) → (forgot w a i d seen b).cells x ≡ w.cells x
-  forgot_stays w a i x d seen false = refl
-  forgot_stays w a i x d seen true = refl
+  forgot_stays : (w : World V) (a i x : ℕ) (target : Option CallId) (d : CallId) (seen : LeaderState) (b : Bool) → (forgot w a i target d seen b).cells x ≡ w.cells x
+  forgot_stays w a i x target d seen false = refl
+  forgot_stays w a i x target d seen true = refl
 
-  first_stays : (w : World V) (a i x : ℕ) (d : CallId) (b : Bool) → (forget_cleared w a i d b).cells x ≡ w.cells x
-  first_stays w a i x d false = refl
-  first_stays w a i x d true = refl
+  first_stays : (w : World V) (a i x : ℕ) (target : Option CallId) (d : CallId) (b : Bool) → (forget_cleared w a i target d b).cells x ≡ w.cells x
+  first_stays w a i x target d false = refl
+  first_stays w a i x target d true = refl
 
-  forget_stays : (w : World V) (a i x : ℕ) (step : ForgetStep) → (forget_stepped w a i step).cells x ≡ w.cells x
-  forget_stays w a i x (forget.Look failed) = refl
-  forget_stays w a i x (forget.Peek d) = refl
-  forget_stays w a i x (forget.Close d seen) = forgot_stays w a i x d seen (is_open_with seen (w.calls d.caller))
-  forget_stays w a i x (forget.FirstClear d) = first_stays w a i x d (same_key (w.keys i) (key_of d))
-  forget_stays w a i x (forget.LastClear d) = cleared_stays w i x d (same_key (w.keys i) (key_of d))
+  forget_stays : (w : World V) (a i x : ℕ) (target : Option CallId) (step : ForgetStep) → (forget_stepped w a i target step).cells x ≡ w.cells x
+  forget_stays w a i x target (forget.Look failed) = refl
+  forget_stays w a i x target (forget.Peek d) = refl
+  forget_stays w a i x target (forget.Close d seen) = forgot_stays w a i x target d seen (is_open_with seen (w.calls d.caller))
+  forget_stays w a i x target (forget.FirstClear d) = first_stays w a i x target d (same_key (w.keys i) (key_of d))
+  forget_stays w a i x target (forget.LastClear d) = cleared_stays w i x d (same_key (w.keys i) (key_of d))
 
   current_stays : (w : World V) (a i x : ℕ) (d : CallId) (step : CurrentStep) → (current_stepped w a i d step).cells x ≡ w.cells x
   current_stays w a i x d current.Peek = refl
@@ -128,7 +130,8 @@ module _ {V : Type 0} where
   step_empties w a x (Seconding one) l at is none = stays w w a x l refl is none
   step_empties w a x (Asking i s step) l at is none = stays w (ask_stepped w a i s step) a x l (ask_stays w a i x s step) is none
   step_empties w a x (Settling i g own v step) l at is none = settle_empties w a i g x own v step l is none
-  step_empties w a x (Forgetting i step) l at is none = stays w (forget_stepped w a i step) a x l (forget_stays w a i x step) is none
+  step_empties w a x (Forgetting i target step) l at is none = stays w (forget_stepped w a i target step) a x l (forget_stays w a i x target step) is none
+  step_empties w a x (Naming i) l at is none = stays w (with_stage w a Free) a x l refl is none
   step_empties w a x (Questioning i d step) l at is none = stays w (current_stepped w a i d step) a x l (current_stays w a i x d step) is none
 
   -- starts and leaves change no cell
@@ -146,6 +149,8 @@ module _ {V : Type 0} where
   start_stays w a x (op.Chan b i) Free = chan_stays w a b i x (w.stages b) (is_spent w a)
   start_stays w a x (op.Settle v) (Leading i g own) = refl
   start_stays w a x (op.Forget i) Free = refl
+  start_stays w a x (op.ForgetCall i d) Free = refl
+  start_stays w a x (op.Named i) Free = refl
   start_stays w a x op.Poll (Holding i g c) = refl
   start_stays w a x (op.Current i c) Free = refl
   start_stays w a x _ _ = refl
@@ -156,7 +161,7 @@ module _ {V : Type 0} where
 
   pub leave_stays : (w : World V) (a x : ℕ) (p : Stage V) → (left w a p).cells x ≡ w.cells x
   leave_stays w a x (Asking i s (ask.Look true)) = freed_stays w a x s
-  leave_stays w a x (Forgetting i (forget.Look true)) = refl
+  leave_stays w a x (Forgetting i target (forget.Look true)) = refl
   leave_stays w a x _ = refl
 
   turn_empties : (w : World V) (x : ℕ) (t : Turn V) (l : Letter V) → w.cells x ≡ Some l → (turned w t).cells x ≡ None → (t ≡ turn.Step x) × Collects w x
@@ -182,16 +187,17 @@ module _ {V : Type 0} where
   settle_fills : (w : World V) (a i g : ℕ) (own : Option CallId) (v : V) (step : SettleStep) (x : CallId × Letter V) → delivers a (Settling i g own v step) ≡ Some x → (settle_stepped w a i g own v step).cells x.0.caller ≡ Some x.1
   settle_fills w a i g own v settle.Peek x is = cc
   settle_fills w a i g own v (settle.Close seen) x is = cc
-  settle_fills w a i g own v (settle.Clear shared top) x is = cc
-  settle_fills w a i g own v (settle.Follow shared m) x is = cc
-  settle_fills w a i g own v (settle.PeekMember shared m next) x is = cc
-  settle_fills w a i g own v (settle.Deliver shared m next) x is =
-      let letter : Letter V = record { place = i; call = call_of a g; value = v; shared = shared } in
-      subst (λ (y : CallId × Letter V). (settle_stepped w a i g own v (settle.Deliver shared m next)).cells y.0.caller ≡ Some y.1) (same_pair (m, letter) x is) (put_here w.cells m.caller (Some letter))
-  settle_fills w a i g own v (settle.PeekOwn shared) x is = cc
-  settle_fills w a i g own v (settle.DeliverOwn shared m) x is =
-      let letter : Letter V = record { place = i; call = call_of a g; value = v; shared = shared } in
-      subst (λ (y : CallId × Letter V). (settle_stepped w a i g own v (settle.DeliverOwn shared m)).cells y.0.caller ≡ Some y.1) (same_pair (m, letter) x is) (put_here w.cells m.caller (Some letter))
+  settle_fills w a i g own v (settle.Clear top) x is = cc
+  settle_fills w a i g own v (settle.Count n m top) x is = cc
+  settle_fills w a i g own v (settle.Follow joiners m) x is = cc
+  settle_fills w a i g own v (settle.PeekMember joiners m next) x is = cc
+  settle_fills w a i g own v (settle.Deliver joiners m next) x is =
+      let letter : Letter V = record { place = i; call = call_of a g; value = v; joiners = joiners } in
+      subst (λ (y : CallId × Letter V). (settle_stepped w a i g own v (settle.Deliver joiners m next)).cells y.0.caller ≡ Some y.1) (same_pair (m, letter) x is) (put_here w.cells m.caller (Some letter))
+  settle_fills w a i g own v (settle.PeekOwn joiners) x is = cc
+  settle_fills w a i g own v (settle.DeliverOwn joiners m) x is =
+      let letter : Letter V = record { place = i; call = call_of a g; value = v; joiners = joiners } in
+      subst (λ (y : CallId × Letter V). (settle_stepped w a i g own v (settle.DeliverOwn joiners m)).cells y.0.caller ≡ Some y.1) (same_pair (m, letter) x is) (put_here w.cells m.caller (Some letter))
 
   deliver_fills : (w : World V) (a : ℕ) (p : Stage V) (x : CallId × Letter V) → delivers a p ≡ Some x → (stepped w a p).cells x.0.caller ≡ Some x.1
   deliver_fills w a Free x is = cc
@@ -201,22 +207,24 @@ module _ {V : Type 0} where
   deliver_fills w a (Seconding one) x is = cc
   deliver_fills w a (Asking i s step) x is = cc
   deliver_fills w a (Settling i g own v step) x is = settle_fills w a i g own v step x is
-  deliver_fills w a (Forgetting i step) x is = cc
+  deliver_fills w a (Forgetting i target step) x is = cc
+  deliver_fills w a (Naming i) x is = cc
   deliver_fills w a (Questioning i d step) x is = cc
 
   settle_fulls : (w : World V) (a i g : ℕ) (own : Option CallId) (v : V) (step : SettleStep) (x : CallId × Letter V) → delivers a (Settling i g own v step) ≡ Some x → (settle_stepped w a i g own v step).calls x.0.caller ≡ word.Full x.0.generation
   settle_fulls w a i g own v settle.Peek x is = cc
   settle_fulls w a i g own v (settle.Close seen) x is = cc
-  settle_fulls w a i g own v (settle.Clear shared top) x is = cc
-  settle_fulls w a i g own v (settle.Follow shared m) x is = cc
-  settle_fulls w a i g own v (settle.PeekMember shared m next) x is = cc
-  settle_fulls w a i g own v (settle.Deliver shared m next) x is =
-      let letter : Letter V = record { place = i; call = call_of a g; value = v; shared = shared } in
-      subst (λ (y : CallId × Letter V). (settle_stepped w a i g own v (settle.Deliver shared m next)).calls y.0.caller ≡ word.Full y.0.generation) (same_pair (m, letter) x is) (put_here w.calls m.caller (word.Full m.generation))
-  settle_fulls w a i g own v (settle.PeekOwn shared) x is = cc
-  settle_fulls w a i g own v (settle.DeliverOwn shared m) x is =
-      let letter : Letter V = record { place = i; call = call_of a g; value = v; shared = shared } in
-      subst (λ (y : CallId × Letter V). (settle_stepped w a i g own v (settle.DeliverOwn shared m)).calls y.0.caller ≡ word.Full y.0.generation) (same_pair (m, letter) x is) (put_here w.calls m.caller (word.Full m.generation))
+  settle_fulls w a i g own v (settle.Clear top) x is = cc
+  settle_fulls w a i g own v (settle.Count n m top) x is = cc
+  settle_fulls w a i g own v (settle.Follow joiners m) x is = cc
+  settle_fulls w a i g own v (settle.PeekMember joiners m next) x is = cc
+  settle_fulls w a i g own v (settle.Deliver joiners m next) x is =
+      let letter : Letter V = record { place = i; call = call_of a g; value = v; joiners = joiners } in
+      subst (λ (y : CallId × Letter V). (settle_stepped w a i g own v (settle.Deliver joiners m next)).calls y.0.caller ≡ word.Full y.0.generation) (same_pair (m, letter) x is) (put_here w.calls m.caller (word.Full m.generation))
+  settle_fulls w a i g own v (settle.PeekOwn joiners) x is = cc
+  settle_fulls w a i g own v (settle.DeliverOwn joiners m) x is =
+      let letter : Letter V = record { place = i; call = call_of a g; value = v; joiners = joiners } in
+      subst (λ (y : CallId × Letter V). (settle_stepped w a i g own v (settle.DeliverOwn joiners m)).calls y.0.caller ≡ word.Full y.0.generation) (same_pair (m, letter) x is) (put_here w.calls m.caller (word.Full m.generation))
 
   deliver_fulls : (w : World V) (a : ℕ) (p : Stage V) (x : CallId × Letter V) → delivers a p ≡ Some x → (stepped w a p).calls x.0.caller ≡ word.Full x.0.generation
   deliver_fulls w a Free x is = cc
@@ -226,27 +234,28 @@ module _ {V : Type 0} where
   deliver_fulls w a (Seconding one) x is = cc
   deliver_fulls w a (Asking i s step) x is = cc
   deliver_fulls w a (Settling i g own v step) x is = settle_fulls w a i g own v step x is
-  deliver_fulls w a (Forgetting i step) x is = cc
+  deliver_fulls w a (Forgetting i target step) x is = cc
+  deliver_fulls w a (Naming i) x is = cc
   deliver_fulls w a (Questioning i d step) x is = cc
 
   pub letters_arrive : LettersArrive V
   letters_arrive z p a m l is =
-      let w : World V = world_after z.first p in
-      let there : world_after z.first (p ++ turn.Step a ∷ []) ≡ stepped w a (w.stages a) = run_append (first_world z.first) p (turn.Step a ∷ []) in (
+      let w : World V = world_after z.callers z.first p in
+      let there : world_after z.callers z.first (p ++ turn.Step a ∷ []) ≡ stepped w a (w.stages a) = run_append (first_world z.callers z.first) p (turn.Step a ∷ []) in (
         ap (λ (u : World V). u.cells m.caller) there ∙ deliver_fills w a (w.stages a) (m, l) is,
         ap (λ (u : World V). u.calls m.caller) there ∙ deliver_fulls w a (w.stages a) (m, l) is,
       )
 
   pub cells_are_collected : CellsAreCollected V
   cells_are_collected z p between a b m n l k is same first next =
-      let w : World V = world_after z.first p in
+      let w : World V = world_after z.callers z.first p in
       let u : World V = turned w (turn.Step a) in
-      let there : world_after z.first (p ++ turn.Step a ∷ between) ≡ run u between = run_append (first_world z.first) p (turn.Step a ∷ between) in
+      let there : world_after z.callers z.first (p ++ turn.Step a ∷ between) ≡ run u between = run_append (first_world z.callers z.first) p (turn.Step a ∷ between) in
       let whole : IsSchedule z ((p ++ turn.Step a ∷ between) ++ turn.Step b ∷ []) = subst (λ (ts : List (Turn V)). IsSchedule z ts) (sym (append_assoc p (turn.Step a ∷ between) (turn.Step b ∷ []))) is in
-      let empty : (world_after z.first (p ++ turn.Step a ∷ between)).cells n.caller ≡ None = (letters_are_answers z (p ++ turn.Step a ∷ between) [] b n k whole next).0.empty in
-      let gone : (run u between).cells m.caller ≡ None = ap (λ (v : World V). v.cells m.caller) (sym there) ∙ (ap (λ (i : ℕ). (world_after z.first (p ++ turn.Step a ∷ between)).cells i) (sym same) ∙ empty) in
+      let empty : (world_after z.callers z.first (p ++ turn.Step a ∷ between)).cells n.caller ≡ None = (letters_are_answers z (p ++ turn.Step a ∷ between) [] b n k whole next).0.empty in
+      let gone : (run u between).cells m.caller ≡ None = ap (λ (v : World V). v.cells m.caller) (sym there) ∙ (ap (λ (i : ℕ). (world_after z.callers z.first (p ++ turn.Step a ∷ between)).cells i) (sym same) ∙ empty) in
       let found = collected u m.caller between l (deliver_fills w a (w.stages a) (m, l) first) gone in
-      (found.0, found.1, found.2, subst (λ (v : World V). Collects v m.caller) (sym (run_append (first_world z.first) p (turn.Step a ∷ found.0))) found.3)
+      (found.0, found.1, found.2, subst (λ (v : World V). Collects v m.caller) (sym (run_append (first_world z.callers z.first) p (turn.Step a ∷ found.0))) found.3)
 
   -- what a step makes of a cell: it stays, it is emptied, or a letter is delivered into it
   abbrev pub Becomes : World V → World V → ℕ → Stage V → ℕ → Type 0
@@ -255,18 +264,19 @@ module _ {V : Type 0} where
   settle_becomes : (w : World V) (a i g x : ℕ) (own : Option CallId) (v : V) (step : SettleStep) → Becomes w (settle_stepped w a i g own v step) a (Settling i g own v step) x
   settle_becomes w a i g x own v settle.Peek = inl refl
   settle_becomes w a i g x own v (settle.Close seen) = inl (close_stays w a i g x own v seen (is_open_with seen (w.calls a)))
-  settle_becomes w a i g x own v (settle.Clear shared top) = inl (cleared_stays w i x (call_of a g) (same_key (w.keys i) (Names a g false)))
-  settle_becomes w a i g x own v (settle.Follow shared m) = inl refl
-  settle_becomes w a i g x own v (settle.PeekMember shared m next) = inl refl
-  settle_becomes w a i g x own v (settle.Deliver shared m next) =
-      let letter : Letter V = record { place = i; call = call_of a g; value = v; shared = shared } in
+  settle_becomes w a i g x own v (settle.Clear top) = inl (cleared_stays w i x (call_of a g) (same_key (w.keys i) (Names a g false)))
+  settle_becomes w a i g x own v (settle.Count n m top) = inl refl
+  settle_becomes w a i g x own v (settle.Follow joiners m) = inl refl
+  settle_becomes w a i g x own v (settle.PeekMember joiners m next) = inl refl
+  settle_becomes w a i g x own v (settle.Deliver joiners m next) =
+      let letter : Letter V = record { place = i; call = call_of a g; value = v; joiners = joiners } in
       elim (cases_eq x m.caller) [
         | inl here ↦ inr (inr (m, letter, refl, here))
         | inr other ↦ inl (put_else w.cells m.caller (Some letter) x other)
       ]
-  settle_becomes w a i g x own v (settle.PeekOwn shared) = inl refl
-  settle_becomes w a i g x own v (settle.DeliverOwn shared m) =
-      let letter : Letter V = record { place = i; call = call_of a g; value = v; shared = shared } in
+  settle_becomes w a i g x own v (settle.PeekOwn joiners) = inl refl
+  settle_becomes w a i g x own v (settle.DeliverOwn joiners m) =
+      let letter : Letter V = record { place = i; call = call_of a g; value = v; joiners = joiners } in
       elim (cases_eq x m.caller) [
         | inl here ↦ inr (inr (m, letter, refl, here))
         | inr other ↦ inl (put_else w.cells m.caller (Some letter) x other)
@@ -287,7 +297,8 @@ module _ {V : Type 0} where
   step_becomes w a x (Seconding one) = inl refl
   step_becomes w a x (Asking i s step) = inl (ask_stays w a i x s step)
   step_becomes w a x (Settling i g own v step) = settle_becomes w a i g x own v step
-  step_becomes w a x (Forgetting i step) = inl (forget_stays w a i x step)
+  step_becomes w a x (Forgetting i target step) = inl (forget_stays w a i x target step)
+  step_becomes w a x (Naming i) = inl refl
   step_becomes w a x (Questioning i d step) = inl (current_stays w a i x d step)
 
   -- a letter in a cell stays, or the cell is emptied
@@ -306,9 +317,9 @@ module _ {V : Type 0} where
   abbrev LetterWasCollected : World V → ℕ → List (Turn V) → Letter V → Type 0
   LetterWasCollected w x ts l = (front back : List (Turn V)) × (ts ≡ front ++ turn.Step x ∷ back) × Collects (run w front) x × ((run w front).cells x ≡ Some l)
 
-  letter_collected : (z : Setting) (h : List (Event ℕ V)) (w : World V) (x : ℕ) (ts : List (Turn V)) (l : Letter V) → Sound z.first h w → IsScheduleFrom z h w ts → w.cells x ≡ Some l → (run w ts).cells x ≡ None → LetterWasCollected w x ts l
+  letter_collected : (z : Setting) (h : List (Event ℕ V)) (w : World V) (x : ℕ) (ts : List (Turn V)) (l : Letter V) → Fair z h w → IsScheduleFrom z h w ts → w.cells x ≡ Some l → (run w ts).cells x ≡ None → LetterWasCollected w x ts l
   letter_collected z h w x [] l sound allowed is none = let clash : Some l ≡ None = sym is ∙ none in cc
-  letter_collected z h w x (t ∷ ts) l sound allowed is none = at (turn_cell z.first h w x t l sound is) (λ kept. letter_collected z (h ++ turn_events w t) (turned w t) x ts l (turn_sound z h w t sound allowed.0) allowed.1 kept none)
+  letter_collected z h w x (t ∷ ts) l sound allowed is none = at (turn_cell z.first h w x t l sound.sound is) (λ kept. letter_collected z (h ++ turn_events w t) (turned w t) x ts l (turn_fair z h w t sound allowed.0) allowed.1 kept none)
     where
       at : ((turned w t).cells x ≡ Some l) ⊎ ((turned w t).cells x ≡ None) → ((turned w t).cells x ≡ Some l → LetterWasCollected (turned w t) x ts l) → LetterWasCollected w x (t ∷ ts) l
       at (inl kept) later = let there = later kept in (t ∷ there.0, there.1, ap (λ (us : List (Turn V)). t ∷ us) there.2, there.3, there.4)
@@ -316,16 +327,16 @@ module _ {V : Type 0} where
 
   pub first_letters_are_collected : FirstLettersAreCollected V
   first_letters_are_collected z p between a b m n l k is same first next =
-      let w : World V = world_after z.first p in
-      let h : List (Event ℕ V) = events_of z.first p in
+      let w : World V = world_after z.callers z.first p in
+      let h : List (Event ℕ V) = events_of z.callers z.first p in
       let u : World V = turned w (turn.Step a) in
-      let there : world_after z.first (p ++ turn.Step a ∷ between) ≡ run u between = run_append (first_world z.first) p (turn.Step a ∷ between) in
+      let there : world_after z.callers z.first (p ++ turn.Step a ∷ between) ≡ run u between = run_append (first_world z.callers z.first) p (turn.Step a ∷ between) in
       let whole : IsSchedule z ((p ++ turn.Step a ∷ between) ++ turn.Step b ∷ []) = subst (λ (ts : List (Turn V)). IsSchedule z ts) (sym (append_assoc p (turn.Step a ∷ between) (turn.Step b ∷ []))) is in
-      let parts = schedule_parts z p (turn.Step a ∷ (between ++ turn.Step b ∷ [])) [] (first_world z.first) is in
+      let parts = schedule_parts z p (turn.Step a ∷ (between ++ turn.Step b ∷ [])) [] (first_world z.callers z.first) is in
       let rest = (schedule_parts z between (turn.Step b ∷ []) (h ++ turn_events w (turn.Step a)) u parts.1.1).0 in
-      let sound : Sound z.first (h ++ turn_events w (turn.Step a)) u = turn_sound z h w (turn.Step a) (always z p parts.0) parts.1.0 in
-      let empty : (world_after z.first (p ++ turn.Step a ∷ between)).cells n.caller ≡ None = (letters_are_answers z (p ++ turn.Step a ∷ between) [] b n k whole next).0.empty in
-      let gone : (run u between).cells m.caller ≡ None = ap (λ (v : World V). v.cells m.caller) (sym there) ∙ (ap (λ (i : ℕ). (world_after z.first (p ++ turn.Step a ∷ between)).cells i) (sym same) ∙ empty) in
+      let sound : Fair z (h ++ turn_events w (turn.Step a)) u = turn_fair z h w (turn.Step a) (always_fair z p parts.0) parts.1.0 in
+      let empty : (world_after z.callers z.first (p ++ turn.Step a ∷ between)).cells n.caller ≡ None = (letters_are_answers z (p ++ turn.Step a ∷ between) [] b n k whole next).0.empty in
+      let gone : (run u between).cells m.caller ≡ None = ap (λ (v : World V). v.cells m.caller) (sym there) ∙ (ap (λ (i : ℕ). (world_after z.callers z.first (p ++ turn.Step a ∷ between)).cells i) (sym same) ∙ empty) in
       let found = letter_collected z (h ++ turn_events w (turn.Step a)) u m.caller between l sound rest (deliver_fills w a (w.stages a) (m, l) first) gone in
-      let back : world_after z.first (p ++ turn.Step a ∷ found.0) ≡ run u found.0 = run_append (first_world z.first) p (turn.Step a ∷ found.0) in
+      let back : world_after z.callers z.first (p ++ turn.Step a ∷ found.0) ≡ run u found.0 = run_append (first_world z.callers z.first) p (turn.Step a ∷ found.0) in
       (found.0, found.1, found.2, subst (λ (v : World V). Collects v m.caller) (sym back) found.3, ap (λ (v : World V). v.cells m.caller) back ∙ found.4)

@@ -1,5 +1,5 @@
 -- a leader's exchange to close its call fails once for each member that enters it, and once for its Forget
-use Rattle.std.proofs.Common.{◌≡◌, ◌≢◌, ℕ, ◌+◌, ◌<◌, ◌≤◌, Bool, true, false, ◌==◌, ◌&&◌, not, ◌⊎◌, List, [], ◌∷◌, ◌++◌, length, inl, inr, Option, Some, None, refl, sym, ◌∙◌, ap, subst, append_assoc, arith}
+use Rattle.std.proofs.Common.{◌≡◌, ℕ, ◌+◌, ◌<◌, ◌≤◌, Bool, true, false, ◌==◌, ◌&&◌, not, ◌⊎◌, List, [], ◌∷◌, ◌++◌, length, inl, inr, Option, Some, refl, sym, ◌∙◌, ap, subst, append_assoc, arith}
 use Rattle.std.proofs.lemmas.List.{append-nil, length-append}
 use Rattle.std.proofs.lemmas.List.Sums.{sum_by-append}
 use Rattle.std.proofs.lemmas.Bool.{ne_eqb, cases_eq}
@@ -7,15 +7,14 @@ use Rattle.std.specs.Prelude.{cond}
 use Rattle.std.specs.Prelude.{sum_by}
 use Rattle.sf_history.specs.declared.call.CallId.{CallId}
 use Rattle.sf_history.specs.declared.event.Event.{Event}
-use Rattle.sf_history.specs.declared.event.Event.TheVariants.{Lead, Enter, Forget, Settle, Handed}
+use Rattle.sf_history.specs.declared.event.Event.TheVariants.{Lead, Enter, Forget, ForgetCall, Settle, Handed}
 use Rattle.sf_history.specs.Calls.{same_call}
 use Rattle.sf_history.specs.History.{uses, next_generation}
 use Rattle.sf_words.specs.declared.call_word.LeaderState.{LeaderState}
 use Rattle.sf_words.specs.declared.call_word.CallState.{CallState}
 use Rattle.sf_words.specs.declared.call_word.CallState.TheVariants as word
-use Rattle.sf_schedules.specs.declared.operation.Op.TheVariants as op
 use Rattle.sf_schedules.specs.declared.operation.Stage.{Stage}
-use Rattle.sf_schedules.specs.declared.operation.Stage.TheVariants.{Free, Leading, Holding, Polling, Seconding, Asking, Settling, Forgetting, Questioning}
+use Rattle.sf_schedules.specs.declared.operation.Stage.TheVariants.{Free, Leading, Holding, Polling, Seconding, Asking, Settling, Forgetting, Naming, Questioning}
 use Rattle.sf_schedules.specs.declared.operation.SettleStep.TheVariants as settle
 use Rattle.sf_schedules.specs.declared.turn.Turn.{Turn}
 use Rattle.sf_schedules.specs.declared.turn.Turn.TheVariants as turn
@@ -23,17 +22,19 @@ use Rattle.sf_schedules.specs.World.{World, first_world, is_open_with}
 use Rattle.sf_schedules.specs.Askings.{with_top}
 use Rattle.sf_schedules.specs.Turns.{left, turned}
 use Rattle.sf_schedules.specs.Events.{turn_events}
-use Rattle.sf_schedules.specs.Schedules.{Setting, IsCaller, IsTurn, IsScheduleFrom}
-use Rattle.sf_schedules.specs.Left.{Concerns, HoldsTicket, IsLeft}
+use Rattle.sf_schedules.specs.Schedules.{Setting, IsTurn, IsScheduleFrom}
+use Rattle.sf_schedules.specs.Left.{HoldsTicket, IsLeft}
 use Rattle.sf_schedules.specs.Closes.{fails_at, fails, failed_closes}
 use Rattle.sf_schedules.specs.Laws.{ClosesFailSeldom}
 use Rattle.sf_schedules.proofs.Histories.{led_on_named}
-use Rattle.sf_schedules.proofs.Members.{each_map, line_apart, Chain, line_members, joins, members, members_push}
-use Rattle.sf_schedules.proofs.Sound.{call_of, top_in, unsettled, ticket, Waits, Leads, Sound, sound_begins}
-use Rattle.sf_schedules.proofs.Leaders.{unsettled_good, ticket_apart, leader_ticketless}
+use Rattle.sf_history.proofs.Members.{joins, members, members_push}
+use Rattle.sf_schedules.proofs.Members.{Chain}
+use Rattle.sf_schedules.proofs.Sound.{call_of, top_in, unsettled, Leads, Sound}
+use Rattle.sf_schedules.proofs.Leaders.{unsettled_good}
 use Rattle.sf_schedules.proofs.AllTurns.{turn_sound}
+use Rattle.sf_schedules.proofs.Flags.{turn_fair}
+use Rattle.sf_schedules.proofs.Callers.{members_few, Fair, fair_begins}
 use Rattle.sf_schedules.proofs.Others.{turn_left}
-use Rattle.sf_schedules.proofs.Counted.{IsOther, few}
 use Rattle.sf_schedules.proofs.OwnLeads.{chain_tops, forgets, forgets_most, one_at_most, IsBy, own_turn}
 use Rattle.sf_schedules.proofs.OthersRest.{others_turn}
 
@@ -47,7 +48,8 @@ module _ {V : Type 0} where
       at true = (x ++ member ∷ [], sym (append_assoc x (member ∷ []) l))
       at false = (x, refl)
   joins_more c l x (Forget by key closed) = (x, refl)
-  joins_more c l x (Settle by call result shared) = (x, refl)
+  joins_more c l x (ForgetCall by key call hit) = (x, refl)
+  joins_more c l x (Settle by call result joiners) = (x, refl)
   joins_more c l x (Handed by call) = (x, refl)
 
   members_more : (c : CallId) (es h : List (Event ℕ V)) → (x : List CallId) × (members (h ++ es) c ≡ x ++ members h c)
@@ -56,10 +58,6 @@ module _ {V : Type 0} where
       let rest = members_more c es (h ++ e ∷ []) in
       let one = joins_more c (members h c) rest.0 e in
       (one.0, ap (λ (q : List (Event ℕ V)). members q c) (sym (append_assoc h (e ∷ []) es)) ∙ (rest.1 ∙ (ap (λ (l : List CallId). rest.0 ++ l) (members_push h e c) ∙ one.1)))
-
-  -- what is kept for the count: where a caller of the setting stands
-  abbrev pub AreCallers : Setting → World V → Type 0
-  AreCallers z w = (b : ℕ) → w.stages b ≢ Free → IsCaller z b
 
   fails_most : (g : ℕ) (u : CallState) (p : Stage V) → fails_at g u p ≤ 1
   fails_most g u (Settling k i own v (settle.Close seen)) = one_at_most ((i == g) && not (is_open_with seen u))
@@ -77,65 +75,6 @@ module _ {V : Type 0} where
     pub few : n ≤ z.callers
     pub fresh : w.generations a ≤ g → n ≡ 0
     pub spare : (k : ℕ) → unsettled (w.stages a) ≡ Some (k, g) → n + fails_at g (w.calls a) (w.stages a) ≤ length (members h (call_of a g)) + forgets (w.calls a)
-
-  -- callers alone have stages
-  pub callers_turn : (z : Setting) (h : List (Event ℕ V)) (w : World V) (t : Turn V) → Sound z.first h w → IsTurn z h w t → AreCallers z w → AreCallers z (turned w t)
-  callers_turn z h w t sound allowed are b busy = at (w.stages b) refl
-    where
-      was_free : w.stages b ≡ Free → (Concerns w t b → ⊥) → ⊥
-      was_free free apart = busy ((turn_left z.first h w t b sound apart).stage ∙ free)
-
-      one : (a : ℕ) → IsCaller z a → (b ≢ a → ⊥) → IsCaller z b
-      one a is_caller same = elim (cases_eq b a) [
-        | inl here ↦ subst (λ (n : ℕ). IsCaller z n) (sym here) is_caller
-        | inr other ↦ absurd (same other)
-      ]
-
-      free_caller : (t : Turn V) → IsTurn z h w t → w.stages b ≡ Free → ((Concerns w t b → ⊥) → ⊥) → IsCaller z b
-      free_caller (turn.Start a (op.Ask k)) allowed free apart = one a allowed.0 (λ other. apart other)
-      free_caller (turn.Start a (op.Chan j k)) allowed free apart = elim (cases_eq b j) [
-        | inl here ↦ subst (λ (n : ℕ). IsCaller z n) (sym here) allowed.1.1
-        | inr far ↦ one a allowed.0 (λ other. apart (λ (c : (b ≡ a) ⊎ (b ≡ j)). elim c [
-          | inl is ↦ other is
-          | inr is ↦ far is
-        ]))
-      ]
-      free_caller (turn.Start a (op.Settle v)) allowed free apart = one a allowed.0 (λ other. apart other)
-      free_caller (turn.Start a (op.Forget k)) allowed free apart = one a allowed.0 (λ other. apart other)
-      free_caller (turn.Start a op.Poll) allowed free apart = one a allowed.0 (λ other. apart other)
-      free_caller (turn.Start a (op.Current k c)) allowed free apart = one a allowed.0 (λ other. apart other)
-      free_caller (turn.Step a) allowed free apart = one a allowed.0 (λ other. apart (λ (c : (b ≡ a) ⊎ (w.stages b ≡ Seconding a)). elim c [
-        | inl is ↦ other is
-        | inr serves ↦ let clash : Free ≡ Seconding a = sym free ∙ serves in cc
-      ]))
-      free_caller (turn.Leave a) allowed free apart = one a allowed.0 (λ other. apart (λ (c : (b ≡ a) ⊎ (w.stages b ≡ Seconding a)). elim c [
-        | inl is ↦ other is
-        | inr serves ↦ let clash : Free ≡ Seconding a = sym free ∙ serves in cc
-      ]))
-
-      at : (p : Stage V) → w.stages b ≡ p → IsCaller z b
-      at Free is = free_caller t allowed is (was_free is)
-      at (Leading k g own) is = are b (λ free. let clash : Leading k g own ≡ Free = sym is ∙ free in cc)
-      at (Holding k g c) is = are b (λ free. let clash : Holding k g c ≡ Free = sym is ∙ free in cc)
-      at (Polling k g c) is = are b (λ free. let clash : Polling k g c ≡ Free = sym is ∙ free in cc)
-      at (Seconding first) is = are b (λ free. let clash : Seconding first ≡ Free = sym is ∙ free in cc)
-      at (Asking k s step) is = are b (λ free. let clash : Asking k s step ≡ Free = sym is ∙ free in cc)
-      at (Settling k g own v step) is = are b (λ free. let clash : Settling k g own v step ≡ Free = sym is ∙ free in cc)
-      at (Forgetting k step) is = are b (λ free. let clash : Forgetting k step ≡ Free = sym is ∙ free in cc)
-      at (Questioning k c step) is = are b (λ free. let clash : Questioning k c step ≡ Free = sym is ∙ free in cc)
-
-  -- a leader and the members of its call are not more than the callers
-  pub members_few : (z : Setting) (h : List (Event ℕ V)) (w : World V) (a k g : ℕ) → Sound z.first h w → AreCallers z w → unsettled (w.stages a) ≡ Some (k, g) → length (members h (call_of a g)) + 1 ≤ z.callers
-  members_few z h w a k g sound are leads =
-      let good = unsettled_good h w a (w.stages a) k g leads (sound.callers a).good in
-      let waits = line_members (Waits w k (call_of a g)) good.0 (members h (call_of a g)) good.1.waits in
-      let none : ticket (w.stages a) ≡ None = leader_ticketless (w.stages a) (k, g) leads in
-      let self : IsCaller z a = are a (λ free. let clash : None ≡ Some (k, g) = sym (ap unsettled free) ∙ leads in cc) in
-      few a z.callers (members h (call_of a g)) self.0 self.1
-      (each_map (Waits w k (call_of a g)) (IsOther a z.callers) (λ m waiting.
-      let caller : IsCaller z m.caller = are m.caller (λ free. let clash : None ≡ Some (k, m.generation, call_of a g) = sym (ap ticket free) ∙ waiting.0 in cc) in
-      (ticket_apart w k (call_of a g) m a waiting none, caller.0, caller.1)) (members h (call_of a g)) waits)
-      (line_apart good.0 (members h (call_of a g)) good.1.apart)
 
   -- a turn that fails is the leader's, before its settle
   fails_turn : (w : World V) (a g : ℕ) (t : Turn V) → (fails w a g t ≡ 0) ⊎ ((k : ℕ) × (unsettled (w.stages a) ≡ Some (k, g)) × (fails w a g t ≤ fails_at g (w.calls a) (w.stages a)))
@@ -171,7 +110,8 @@ module _ {V : Type 0} where
   holds_nothing (Seconding first) x holds is = holds
   holds_nothing (Asking k s step) x holds is = holds
   holds_nothing (Settling k g own v step) x holds is = holds
-  holds_nothing (Forgetting k step) x holds is = holds
+  holds_nothing (Forgetting k target step) x holds is = holds
+  holds_nothing (Naming k) x holds is = holds
   holds_nothing (Questioning k c step) x holds is = holds
 
   -- another's turn: the word of a leader changes by a new member or by a Forget alone
@@ -215,13 +155,13 @@ module _ {V : Type 0} where
           let most : fails_at g (w'.calls a) (w'.stages a) ≤ 1 = fails_most g (w'.calls a) (w'.stages a) in
           omega (arith, longer, one, not_forgot, most)
 
-  bounded_turn : (z : Setting) (h : List (Event ℕ V)) (w : World V) (a g n : ℕ) (t : Turn V) → Sound z.first h w → AreCallers z w → IsTurn z h w t → Bounded z a g n h w → Bounded z a g (n + fails w a g t) (h ++ turn_events w t) (turned w t)
-  bounded_turn z h w a g n t sound are allowed bound = record {
+  bounded_turn : (z : Setting) (h : List (Event ℕ V)) (w : World V) (a g n : ℕ) (t : Turn V) → Fair z h w → IsTurn z h w t → Bounded z a g n h w → Bounded z a g (n + fails w a g t) (h ++ turn_events w t) (turned w t)
+  bounded_turn z h w a g n t fair allowed bound = record {
     few = elim (fails_turn w a g t) [
       | inl none ↦ let was : n ≤ z.callers = bound.few in omega (arith, none)
       | inr failed ↦
           let spare : n + fails_at g (w.calls a) (w.stages a) ≤ length (members h (call_of a g)) + forgets (w.calls a) = bound.spare failed.0 failed.1 in
-          let room : length (members h (call_of a g)) + 1 ≤ z.callers = members_few z h w a failed.0 g sound are failed.1 in
+          let room : length (members h (call_of a g)) + 1 ≤ z.callers = members_few z h w a failed.0 g sound fair.are failed.1 in
           let most : forgets (w.calls a) ≤ 1 = forgets_most (w.calls a) in
           let less : fails w a g t ≤ fails_at g (w.calls a) (w.stages a) = failed.2 in
           omega (arith, spare, room, most, less)
@@ -243,7 +183,10 @@ module _ {V : Type 0} where
       w' = turned w t
 
       after : Sound z.first h' w'
-      after = turn_sound z h w t sound allowed
+      after = turn_sound z h w t fair allowed
+
+      sound : Sound z.first h w
+      sound = fair.sound
 
       is_by : (a : ℕ) (t : Turn V) → IsBy a t ⊎ ((IsBy a t → ⊥) × ((g : ℕ) → fails w a g t ≡ 0))
       is_by a (turn.Start b o) = elim (cases_eq b a) [
@@ -290,16 +233,16 @@ module _ {V : Type 0} where
           spare_left h h' w w' a k g n good.0 good'.0 more.0 good.1 good'.1 left led more.1 (bound.spare k led) in
           omega (arith, none, kept)
 
-  bounded_run : (z : Setting) (a g : ℕ) (ts : List (Turn V)) (n : ℕ) (h : List (Event ℕ V)) (w : World V) → Sound z.first h w → AreCallers z w → IsScheduleFrom z h w ts → Bounded z a g n h w → n + failed_closes w a g ts ≤ z.callers
-  bounded_run z a g [] n h w sound are is bound = let most : n ≤ z.callers = bound.few in omega arith
-  bounded_run z a g (t ∷ ts) n h w sound are is bound =
+  bounded_run : (z : Setting) (a g : ℕ) (ts : List (Turn V)) (n : ℕ) (h : List (Event ℕ V)) (w : World V) → Fair z h w → IsScheduleFrom z h w ts → Bounded z a g n h w → n + failed_closes w a g ts ≤ z.callers
+  bounded_run z a g [] n h w fair is bound = let most : n ≤ z.callers = bound.few in omega arith
+  bounded_run z a g (t ∷ ts) n h w fair is bound =
       let rest : (n + fails w a g t) + failed_closes (turned w t) a g ts ≤ z.callers =
-      bounded_run z a g ts (n + fails w a g t) (h ++ turn_events w t) (turned w t) (turn_sound z h w t sound is.0) (callers_turn z h w t sound is.0 are) is.1 (bounded_turn z h w a g n t sound are is.0 bound) in
+      bounded_run z a g ts (n + fails w a g t) (h ++ turn_events w t) (turned w t) (turn_fair z h w t fair is.0) is.1 (bounded_turn z h w a g n t fair is.0 bound) in
       omega arith
 
   pub closes_fail_seldom : ClosesFailSeldom V
   closes_fail_seldom z s a g is =
-      let all : 0 + failed_closes (first_world z.first) a g s ≤ z.callers = bounded_run z a g s 0 [] (first_world z.first) (sound_begins z.first) (λ b busy. absurd (busy refl)) is (record {
+      let all : 0 + failed_closes (first_world z.callers z.first) a g s ≤ z.callers = bounded_run z a g s 0 [] (first_world z.callers z.first) (fair_begins z) is (record {
         few = omega arith;
         fresh = λ low. refl;
         spare = λ k leads. cc;

@@ -9,18 +9,19 @@ use Rattle.sf_history.specs.History.{settles, is_settled}
 use Rattle.sf_history.proofs.LegalHistories.{same_call_self}
 use Rattle.sf_words.specs.declared.call_word.LeaderState.{LeaderState}
 use Rattle.sf_schedules.specs.declared.operation.Stage.{Stage}
-use Rattle.sf_schedules.specs.declared.operation.Stage.TheVariants.{Free, Leading, Holding, Polling, Seconding, Asking, Settling, Forgetting, Questioning}
+use Rattle.sf_schedules.specs.declared.operation.Stage.TheVariants.{Free, Leading, Holding, Polling, Seconding, Asking, Settling, Forgetting, Naming, Questioning}
 use Rattle.sf_schedules.specs.declared.operation.SettleStep.TheVariants as settle
 use Rattle.sf_schedules.specs.declared.turn.Turn.{Turn}
 use Rattle.sf_schedules.specs.declared.turn.Turn.TheVariants as turn
-use Rattle.sf_schedules.specs.World.{World, first_world, is_open_with}
+use Rattle.sf_schedules.specs.World.{World, first_world, is_open_with, count}
 use Rattle.sf_schedules.specs.Turns.{turned, run}
 use Rattle.sf_schedules.specs.Events.{handed, settled, close_events, step_events, turn_events}
 use Rattle.sf_schedules.specs.Closes.{fails_at, fails, failed_closes, closes_at, closes_in, closes}
 use Rattle.sf_schedules.specs.Schedules.{Setting, IsScheduleFrom}
 use Rattle.sf_schedules.specs.Laws.{ClosesAreFew, ClosesAdd}
-use Rattle.sf_schedules.proofs.Sound.{call_of, Good, Sound, sound_begins}
-use Rattle.sf_schedules.proofs.AllTurns.{turn_sound}
+use Rattle.sf_schedules.proofs.Sound.{call_of, Good, Sound}
+use Rattle.sf_schedules.proofs.Flags.{turn_fair}
+use Rattle.sf_schedules.proofs.Callers.{Fair, fair_begins}
 use Rattle.sf_schedules.proofs.Closes.{closes_fail_seldom}
 
 any_append : {A : Type 0} (f : A → Bool) (xs ys : List A) → list_any f xs ≡ true → list_any f (xs ++ ys) ≡ true
@@ -46,21 +47,21 @@ module _ {V : Type 0} where
   kept : (h es : List (Event ℕ V)) (c : CallId) → 0 + left (is_settled (h ++ es) c) ≤ 0 + left (is_settled h c)
   kept h es c = let less : left (is_settled (h ++ es) c) ≤ left (is_settled h c) = left_less (is_settled h c) (is_settled (h ++ es) c) (any_append (settles c) h es) in omega (arith, less)
 
-  closes_once : (h : List (Event ℕ V)) (a g : ℕ) (own : Option CallId) (v : V) (seen : LeaderState) → is_settled h (call_of a g) ≡ false → (b : Bool)
-      → 1 + left (is_settled (h ++ close_events a (call_of a g) own v seen b) (call_of a g)) ≤ cond (not b) 1 0 + left (is_settled h (call_of a g))
-  closes_once h a g own v seen unsettled false = let less = kept h [] (call_of a g) in omega (arith, less)
-  closes_once h a g own v seen unsettled true =
-      let first : list_any (settles {K = ℕ} {V = V} (call_of a g)) (settled a (call_of a g) own v seen.top) ≡ true = ap (λ (b : Bool). b || list_any (settles {K = ℕ} {V = V} (call_of a g)) (handed a (call_of a g) own seen.top)) (same_call_self (call_of a g)) in
-      let now : left (is_settled (h ++ settled a (call_of a g) own v seen.top) (call_of a g)) ≡ 0 = ap left (any_later (settles {K = ℕ} {V = V} (call_of a g)) h (settled a (call_of a g) own v seen.top) first) in
+  closes_once : (h : List (Event ℕ V)) (w : World V) (a g : ℕ) (own : Option CallId) (v : V) (seen : LeaderState) → is_settled h (call_of a g) ≡ false → (b : Bool)
+      → 1 + left (is_settled (h ++ close_events w a (call_of a g) own v seen b) (call_of a g)) ≤ cond (not b) 1 0 + left (is_settled h (call_of a g))
+  closes_once h w a g own v seen unsettled false = let less = kept h [] (call_of a g) in omega (arith, less)
+  closes_once h w a g own v seen unsettled true =
+      let first : list_any (settles {K = ℕ} {V = V} (call_of a g)) (settled a (call_of a g) own v (count seen.top w.callers w.nexts) seen.top) ≡ true = ap (λ (b : Bool). b || list_any (settles {K = ℕ} {V = V} (call_of a g)) (handed a (call_of a g) own seen.top)) (same_call_self (call_of a g)) in
+      let now : left (is_settled (h ++ settled a (call_of a g) own v (count seen.top w.callers w.nexts) seen.top) (call_of a g)) ≡ 0 = ap left (any_later (settles {K = ℕ} {V = V} (call_of a g)) h (settled a (call_of a g) own v (count seen.top w.callers w.nexts) seen.top) first) in
       let was : left (is_settled h (call_of a g)) ≡ 1 = ap left unsettled in
       omega (arith, now, was)
 
   close_few : (h : List (Event ℕ V)) (w : World V) (a i g : ℕ) (own : Option CallId) (v : V) (seen : LeaderState) → is_settled h (call_of a i) ≡ false → (b : Bool) → (i == g) ≡ b
-      → cond {A = ℕ} b 1 0 + left (is_settled (h ++ close_events a (call_of a i) own v seen (is_open_with seen (w.calls a))) (call_of a g))
+      → cond {A = ℕ} b 1 0 + left (is_settled (h ++ close_events w a (call_of a i) own v seen (is_open_with seen (w.calls a))) (call_of a g))
       ≤ cond {A = ℕ} (b && not (is_open_with seen (w.calls a))) 1 0 + left (is_settled h (call_of a g))
-  close_few h w a i g own v seen unsettled false other = kept h (close_events a (call_of a i) own v seen (is_open_with seen (w.calls a))) (call_of a g)
-  close_few h w a i g own v seen unsettled true same = subst (λ (n : ℕ). 1 + left (is_settled (h ++ close_events a (call_of a i) own v seen (is_open_with seen (w.calls a))) (call_of a n)) ≤ cond {A = ℕ} (not (is_open_with seen (w.calls a))) 1 0 + left (is_settled h (call_of a n))) (eqb-true i g same)
-      (closes_once h a i own v seen unsettled (is_open_with seen (w.calls a)))
+  close_few h w a i g own v seen unsettled false other = kept h (close_events w a (call_of a i) own v seen (is_open_with seen (w.calls a))) (call_of a g)
+  close_few h w a i g own v seen unsettled true same = subst (λ (n : ℕ). 1 + left (is_settled (h ++ close_events w a (call_of a i) own v seen (is_open_with seen (w.calls a))) (call_of a n)) ≤ cond {A = ℕ} (not (is_open_with seen (w.calls a))) 1 0 + left (is_settled h (call_of a n))) (eqb-true i g same)
+      (closes_once h w a i own v seen unsettled (is_open_with seen (w.calls a)))
 
   stage_few : (h : List (Event ℕ V)) (w : World V) (a g : ℕ) (p : Stage V) → Good h w a p → closes_at g p + left (is_settled (h ++ step_events w a p) (call_of a g)) ≤ fails_at g (w.calls a) p + left (is_settled h (call_of a g))
   stage_few h w a g Free good = kept h [] (call_of a g)
@@ -71,13 +72,15 @@ module _ {V : Type 0} where
   stage_few h w a g (Asking k s step) good = kept h (step_events w a (Asking k s step)) (call_of a g)
   stage_few h w a g (Settling k i own v settle.Peek) good = kept h (step_events w a (Settling k i own v settle.Peek)) (call_of a g)
   stage_few h w a g (Settling k i own v (settle.Close seen)) good = close_few h w a i g own v seen good.0.not_settled (i == g) refl
-  stage_few h w a g (Settling k i own v (settle.Clear shared top)) good = kept h [] (call_of a g)
-  stage_few h w a g (Settling k i own v (settle.Follow shared m)) good = kept h [] (call_of a g)
-  stage_few h w a g (Settling k i own v (settle.PeekMember shared m next)) good = kept h [] (call_of a g)
-  stage_few h w a g (Settling k i own v (settle.Deliver shared m next)) good = kept h (step_events w a (Settling k i own v (settle.Deliver shared m next))) (call_of a g)
-  stage_few h w a g (Settling k i own v (settle.PeekOwn shared)) good = kept h [] (call_of a g)
-  stage_few h w a g (Settling k i own v (settle.DeliverOwn shared m)) good = kept h (step_events w a (Settling k i own v (settle.DeliverOwn shared m))) (call_of a g)
-  stage_few h w a g (Forgetting k step) good = kept h (step_events w a (Forgetting k step)) (call_of a g)
+  stage_few h w a g (Settling k i own v (settle.Clear top)) good = kept h [] (call_of a g)
+  stage_few h w a g (Settling k i own v (settle.Count n m top)) good = kept h [] (call_of a g)
+  stage_few h w a g (Settling k i own v (settle.Follow joiners m)) good = kept h [] (call_of a g)
+  stage_few h w a g (Settling k i own v (settle.PeekMember joiners m next)) good = kept h [] (call_of a g)
+  stage_few h w a g (Settling k i own v (settle.Deliver joiners m next)) good = kept h (step_events w a (Settling k i own v (settle.Deliver joiners m next))) (call_of a g)
+  stage_few h w a g (Settling k i own v (settle.PeekOwn joiners)) good = kept h [] (call_of a g)
+  stage_few h w a g (Settling k i own v (settle.DeliverOwn joiners m)) good = kept h (step_events w a (Settling k i own v (settle.DeliverOwn joiners m))) (call_of a g)
+  stage_few h w a g (Forgetting k target step) good = kept h (step_events w a (Forgetting k target step)) (call_of a g)
+  stage_few h w a g (Naming k) good = kept h [] (call_of a g)
   stage_few h w a g (Questioning k c step) good = kept h [] (call_of a g)
 
   turn_few : (first : ℕ) (h : List (Event ℕ V)) (w : World V) (a g : ℕ) (t : Turn V) → Sound first h w → closes_in w a g t + left (is_settled (h ++ turn_events w t) (call_of a g)) ≤ fails w a g t + left (is_settled h (call_of a g))
@@ -90,16 +93,16 @@ module _ {V : Type 0} where
       at true same = subst (λ (n : ℕ). closes_at g (w.stages a) + left (is_settled (h ++ step_events w n (w.stages n)) (call_of a g)) ≤ fails_at g (w.calls a) (w.stages a) + left (is_settled h (call_of a g))) (sym (eqb-true b a same))
           (stage_few h w a g (w.stages a) (sound.callers a).good)
 
-  few_from : (z : Setting) (ts : List (Turn V)) (h : List (Event ℕ V)) (w : World V) (a g : ℕ) → Sound z.first h w → IsScheduleFrom z h w ts → closes w a g ts ≤ failed_closes w a g ts + left (is_settled h (call_of a g))
+  few_from : (z : Setting) (ts : List (Turn V)) (h : List (Event ℕ V)) (w : World V) (a g : ℕ) → Fair z h w → IsScheduleFrom z h w ts → closes w a g ts ≤ failed_closes w a g ts + left (is_settled h (call_of a g))
   few_from z [] h w a g sound is = omega arith
   few_from z (t ∷ ts) h w a g sound is =
-      let here = turn_few z.first h w a g t sound in
-      let rest = few_from z ts (h ++ turn_events w t) (turned w t) a g (turn_sound z h w t sound is.0) is.1 in
+      let here = turn_few z.first h w a g t sound.sound in
+      let rest = few_from z ts (h ++ turn_events w t) (turned w t) a g (turn_fair z h w t sound is.0) is.1 in
       omega (arith, here, rest)
 
   pub closes_are_few : ClosesAreFew V
   closes_are_few z s a g is =
-      let once : closes (first_world {V = V} z.first) a g s ≤ failed_closes (first_world z.first) a g s + 1 = few_from z s [] (first_world z.first) a g (sound_begins z.first) is in
+      let once : closes (first_world {V = V} z.callers z.first) a g s ≤ failed_closes (first_world z.callers z.first) a g s + 1 = few_from z s [] (first_world z.callers z.first) a g (fair_begins z) is in
       let seldom = closes_fail_seldom z s a g is in
       omega (arith, once, seldom)
 

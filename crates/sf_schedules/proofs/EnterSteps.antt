@@ -23,7 +23,8 @@ use Rattle.sf_schedules.specs.Events.{enter_events}
 use Rattle.sf_schedules.specs.Schedules.{was_led_on}
 use Rattle.sf_schedules.proofs.Histories.{opened, opened_push, now_push}
 use Rattle.sf_schedules.proofs.Growing.{apart_call, Grows, grows_push}
-use Rattle.sf_schedules.proofs.Members.{Each, each_map, IsApart, Apart, Chain, line, line_push, apart_push, members, members_push, members_kept}
+use Rattle.sf_history.proofs.Members.{Each, each_map, IsApart, Apart, members, members_push, members_kept}
+use Rattle.sf_schedules.proofs.Members.{Chain, line, line_push, apart_push}
 use Rattle.sf_schedules.proofs.Past.{past_enter, next_is_new}
 use Rattle.sf_lists.proofs.Functions.{put_here, put_else}
 use Rattle.sf_schedules.proofs.Compared.{open_with_is}
@@ -38,6 +39,7 @@ module _ {V : Type 0} where
       → Sound first (h ++ Enter (joiner a s) k c (next_id w (joiner a s)) ∷ []) (entered w a k c seen (joiner a s))
   enter_sound first h w a k s c seen at sound is =
       sound_after first a (Three a j l) h w h' w' sound (record {
+        bound = refl;
         past = past_enter first h w.generations j k c sound.past is_open;
         grows = grows;
         mine = inl refl;

@@ -1,5 +1,5 @@
 -- what a caller's stage, word and cell promise outlasts the turns of others, and a turn keeps the invariant that keeps it for those whom it touches
-use Rattle.std.proofs.Common.{◌≡◌, ◌≢◌, ℕ, Bool, true, false, List, [], ◌∷◌, ◌⊎◌, inl, inr, Option, Some, None, refl, sym, ◌∙◌, ap, subst}
+use Rattle.std.proofs.Common.{◌≡◌, ◌≢◌, ◌≤◌, ℕ, true, false, List, [], ◌∷◌, ◌++◌, ◌⊎◌, inl, inr, Option, Some, None, refl, sym, ◌∙◌, ap, subst}
 use Rattle.sf_history.specs.declared.call.CallId.{CallId}
 use Rattle.sf_history.specs.declared.event.Event.{Event}
 use Rattle.sf_words.specs.declared.key_word.KeyState.{KeyState}
@@ -8,7 +8,7 @@ use Rattle.sf_words.specs.declared.call_word.CallState.{CallState}
 use Rattle.sf_words.specs.declared.call_word.CallState.TheVariants as word
 use Rattle.sf_schedules.specs.declared.letter.Letter.{Letter}
 use Rattle.sf_schedules.specs.declared.operation.Stage.{Stage}
-use Rattle.sf_schedules.specs.declared.operation.Stage.TheVariants.{Free, Leading, Holding, Polling, Seconding, Asking, Settling, Forgetting, Questioning}
+use Rattle.sf_schedules.specs.declared.operation.Stage.TheVariants.{Free, Leading, Holding, Polling, Seconding, Asking, Settling, Forgetting, Naming, Questioning}
 use Rattle.sf_schedules.specs.declared.operation.AskStep.{AskStep}
 use Rattle.sf_schedules.specs.declared.operation.AskStep.TheVariants as ask
 use Rattle.sf_schedules.specs.declared.operation.SettleStep.{SettleStep}
@@ -19,7 +19,8 @@ use Rattle.sf_schedules.specs.World.{World}
 use Rattle.sf_schedules.specs.Askings.{joiner}
 use Rattle.sf_schedules.proofs.Histories.{opened}
 use Rattle.sf_schedules.proofs.Growing.{Grows}
-use Rattle.sf_schedules.proofs.Members.{Each, each_map, Apart, Chain, chain_kept, line, line_members, members}
+use Rattle.sf_history.proofs.Members.{Each, each_map, Apart, members}
+use Rattle.sf_schedules.proofs.Members.{Chain, chain_kept, line, line_members, line_after}
 use Rattle.sf_schedules.proofs.Past.{Past}
 use Rattle.sf_schedules.proofs.Sound.{call_of, IsLeadersWord, IsForgotWord, top_in, unsettled, ticket, Waits, Leads, Owes, Unhanded, IsTicket, Holds, SawClosed, IsListed, ready_word, GoodSecond, ReadySecond, GoodAsk, GoodSettle, GoodForget, Good, GoodKey, Held, Caller, Sound}
 
@@ -39,6 +40,7 @@ module _ {V : Type 0} where
 
   -- a turn of the caller a leaves b alone
   pub record Kept (a b : ℕ) (h : List (Event ℕ V)) (w : World V) (h' : List (Event ℕ V)) (w' : World V) : Type 0 where
+    pub bound : w'.callers ≡ w.callers
     pub other : b ≢ a
     pub grows : Grows a h h'
     pub members : (c : CallId) → c.caller ≡ b → members h' c ≡ members h c
@@ -74,11 +76,11 @@ module _ {V : Type 0} where
           apart = subst (λ (l : List CallId). Apart (line own l)) (sym same) is.apart;
         }
 
-    owes_kept : (k g : ℕ) (own : Option CallId) (v : V) (shared : Bool) (top : Option ℕ) (rest : List CallId) → Owes h w b k g own v shared top rest → Owes h' w' b k g own v shared top rest
-    owes_kept k g own v shared top rest is = record {
+    owes_kept : (k g : ℕ) (own : Option CallId) (v : V) (joiners : ℕ) (top : Option ℕ) (rest : List CallId) → Owes h w b k g own v joiners top rest → Owes h' w' b k g own v joiners top rest
+    owes_kept k g own v joiners top rest is = record {
       led = f.grows.led k (call_of b g) is.led;
       mine = f.grows.mine b (call_of b g) is.mine;
-      answered = f.grows.answered (call_of b g) v shared is.answered;
+      answered = f.grows.answered (call_of b g) v joiners is.answered;
       chain = list_kept k g own top rest is.waits is.chain;
       waits = line_kept k g (line own rest) is.waits;
       apart = is.apart;
@@ -87,9 +89,9 @@ module _ {V : Type 0} where
     unhanded_kept : (g : ℕ) → Unhanded h b g → Unhanded h' b g
     unhanded_kept g isnt = f.grows.not_handed (call_of b g) f.other isnt
 
-    next_kept : (k g : ℕ) (own : Option CallId) (v : V) (shared : Bool) (m : ℕ) (rest : List CallId) → Owes h w b k g own v shared (Some m) rest → w'.nexts m ≡ w.nexts m
-    next_kept k g own v shared m [] is = absurd is.chain
-    next_kept k g own v shared m (n ∷ rest) is =
+    next_kept : (k g : ℕ) (own : Option CallId) (v : V) (joiners : ℕ) (m : ℕ) (rest : List CallId) → Owes h w b k g own v joiners (Some m) rest → w'.nexts m ≡ w.nexts m
+    next_kept k g own v joiners m [] is = absurd is.chain
+    next_kept k g own v joiners m (n ∷ rest) is =
         subst (λ (x : ℕ). w'.nexts x ≡ w.nexts x) (sym is.chain.0) (waits_kept k (call_of b g) n refl (line_members (Waits w k (call_of b g)) own (n ∷ rest) is.waits).0).1
 
     ticket_longer : (k g : ℕ) (c : CallId) (u : CallState) (cell : Option (Letter V)) → IsTicket h k g c u cell → IsTicket h' k g c u cell
@@ -154,19 +156,32 @@ module _ {V : Type 0} where
     settle_kept : (k g : ℕ) (own : Option CallId) (v : V) (p : SettleStep) → GoodSettle h w b k g own v p → GoodSettle h' w' b k g own v p
     settle_kept k g own v settle.Peek good = leads_kept k g own good
     settle_kept k g own v (settle.Close seen) good = (leads_kept k g own good.0, good.1)
-    settle_kept k g own v (settle.Clear shared top) good = (
+    settle_kept k g own v (settle.Clear top) good = (
       good.0,
-      owes_kept k g own v shared top good.0 good.1,
-      subst (λ (u : CallState). IsForgotWord g u) (sym f.same.word) good.2,
-      λ owed. unhanded_kept g (good.3 owed),
+      good.1,
+      owes_kept k g own v good.1 top good.0 good.2,
+      subst (λ (u : CallState). IsForgotWord g u) (sym f.same.word) good.3,
+      λ owed. unhanded_kept g (good.4 owed),
+      good.5,
+      subst (λ (n : ℕ). good.1 ≤ n) (sym f.bound) good.6,
     )
-    settle_kept k g own v (settle.Follow shared m) good = (good.0, owes_kept k g own v shared (Some m) good.0 good.1, unhanded_kept g good.2)
-    settle_kept k g own v (settle.PeekMember shared m next) good =
-        (good.0, owes_kept k g own v shared (Some m) good.0 good.1, unhanded_kept g good.2, good.3 ∙ sym (next_kept k g own v shared m good.0 good.1))
-    settle_kept k g own v (settle.Deliver shared m next) good =
-        (good.0, owes_kept k g own v shared (Some m.caller) (m ∷ good.0) good.1, unhanded_kept g good.2, good.3 ∙ sym (next_kept k g own v shared m.caller (m ∷ good.0) good.1))
-    settle_kept k g own v (settle.PeekOwn shared) good = (owes_kept k g own v shared None [] good.0, unhanded_kept g good.1)
-    settle_kept k g own v (settle.DeliverOwn shared m) good = (owes_kept k g own v shared None [] good.0, unhanded_kept g good.1, good.2)
+    settle_kept k g own v (settle.Count joiners m top) good = (
+      good.0,
+      good.1,
+      good.2,
+      owes_kept k g own v good.2 (Some top) (good.0 ++ good.1) good.3,
+      unhanded_kept g good.4,
+      list_kept k g own (Some m) good.1 (line_after (Waits w k (call_of b g)) own good.0 good.1 good.3.waits) good.5,
+      good.6,
+      subst (λ (n : ℕ). good.2 ≤ n) (sym f.bound) good.7,
+    )
+    settle_kept k g own v (settle.Follow joiners m) good = (good.0, owes_kept k g own v joiners (Some m) good.0 good.1, unhanded_kept g good.2)
+    settle_kept k g own v (settle.PeekMember joiners m next) good =
+        (good.0, owes_kept k g own v joiners (Some m) good.0 good.1, unhanded_kept g good.2, good.3 ∙ sym (next_kept k g own v joiners m good.0 good.1))
+    settle_kept k g own v (settle.Deliver joiners m next) good =
+        (good.0, owes_kept k g own v joiners (Some m.caller) (m ∷ good.0) good.1, unhanded_kept g good.2, good.3 ∙ sym (next_kept k g own v joiners m.caller (m ∷ good.0) good.1))
+    settle_kept k g own v (settle.PeekOwn joiners) good = (owes_kept k g own v joiners None [] good.0, unhanded_kept g good.1)
+    settle_kept k g own v (settle.DeliverOwn joiners m) good = (owes_kept k g own v joiners None [] good.0, unhanded_kept g good.1, good.2)
 
     forget_kept : (k : ℕ) (p : ForgetStep) → GoodForget h k p → GoodForget h' k p
     forget_kept k (forget.Look failed) good = tt
@@ -183,7 +198,8 @@ module _ {V : Type 0} where
     good_kept (Seconding first) good = tt
     good_kept (Asking k s step) good = (second_kept s good.0, ask_kept k s step good.0 good.1)
     good_kept (Settling k g own v step) good = settle_kept k g own v step good
-    good_kept (Forgetting k step) good = forget_kept k step good
+    good_kept (Forgetting k target step) good = forget_kept k step good
+    good_kept (Naming k) good = tt
     good_kept (Questioning k c step) good = f.grows.led k c good
 
     caller_kept : ((k : ℕ) (c : CallId) → c.caller ≡ b → opened h k ≡ Some c → opened h' k ≡ Some c) → Caller h w b → Caller h' w' b
@@ -196,6 +212,7 @@ module _ {V : Type 0} where
 
   -- a turn: its events, the callers that it touches, and what it keeps for them
   pub record Step (first a : ℕ) (touched : ℕ → Type 0) (h : List (Event ℕ V)) (w : World V) (h' : List (Event ℕ V)) (w' : World V) : Type 0 where
+    pub bound : w'.callers ≡ w.callers
     pub past : Past first h' w'.generations
     pub grows : Grows a h h'
     pub mine : touched a
@@ -220,6 +237,7 @@ module _ {V : Type 0} where
     callers = λ b. elim (t.split b) [
       | inl one ↦ t.callers b one
       | inr free ↦ caller_kept a b h w h' w' (record {
+        bound = t.bound;
         other = apart b free.0;
         grows = t.grows;
         members = λ c is. t.members c (of c.caller b is free.0);

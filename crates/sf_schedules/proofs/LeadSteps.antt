@@ -1,15 +1,15 @@
 -- an asking that leads a new call keeps the invariant
-use Rattle.std.proofs.Common.{◌≡◌, ◌≢◌, ℕ, ◌+◌, Bool, true, false, ◌==◌, ◌||◌, List, [], ◌∷◌, ◌++◌, inl, inr, Option, Some, None, refl, sym, ◌∙◌, ap, subst, eq-eqb}
-use Rattle.std.proofs.lemmas.Bool.{and_parts, and_from, eqb-true, ne_eqb, cases_eq, or_parts, or_from, true≢false}
+use Rattle.std.proofs.Common.{◌≡◌, ◌≢◌, ℕ, ◌+◌, Bool, true, false, ◌==◌, List, [], ◌∷◌, ◌++◌, inl, inr, Option, Some, None, refl, sym, ◌∙◌, ap, subst, eq-eqb}
+use Rattle.std.proofs.lemmas.Bool.{and_parts, and_from, eqb-true, ne_eqb, cases_eq, or_parts, true≢false}
 use Rattle.std.specs.Prelude.{nat_eq, cond, is_some}
 use Rattle.std.specs.List.{list_any}
 use Rattle.sf_history.specs.declared.call.CallId.{CallId}
 use Rattle.sf_history.specs.declared.event.Event.{Event}
-use Rattle.sf_history.specs.declared.event.Event.TheVariants.{Lead, Enter, Forget, Settle, Handed}
+use Rattle.sf_history.specs.declared.event.Event.TheVariants.{Lead, Enter, Forget, ForgetCall, Settle, Handed}
 use Rattle.sf_history.specs.Calls.{same_call}
-use Rattle.sf_history.specs.History.{holds_call, names, enters, has_joined, leads, settles}
+use Rattle.sf_history.specs.History.{names, enters, leads, settles}
 use Rattle.sf_history.specs.Legal.{MayFollow}
-use Rattle.sf_lists.proofs.Lists.{list_any_push_cases, list_any_push_last, list_any_push_none}
+use Rattle.sf_lists.proofs.Lists.{by_push, list_any_push_cases, list_any_push_last, list_any_push_none, list_any_push_parts}
 use Rattle.sf_history.proofs.LegalHistories.{same_call_self}
 use Rattle.sf_words.specs.declared.key_word.KeyState.{KeyState}
 use Rattle.sf_words.specs.declared.call_word.CallState.{CallState}
@@ -25,7 +25,8 @@ use Rattle.sf_schedules.specs.Events.{lead_events}
 use Rattle.sf_schedules.specs.Schedules.{leads_on, was_led_on}
 use Rattle.sf_schedules.proofs.Histories.{opened, now, opened_push, now_push, led_on_named}
 use Rattle.sf_schedules.proofs.Growing.{Grows, grows_push}
-use Rattle.sf_schedules.proofs.Members.{Each, Apart, Chain, line, is_cons, members, members_kept, joined_members}
+use Rattle.sf_history.proofs.Members.{Each, Apart, members, members_kept}
+use Rattle.sf_schedules.proofs.Members.{Chain, line}
 use Rattle.sf_schedules.proofs.Past.{Past, lead_generations, past_lead, next_is_new, new_unsettled}
 use Rattle.sf_lists.proofs.Functions.{put_here, put_else, put_cases}
 use Rattle.sf_schedules.proofs.Compared.{same_key_is}
@@ -35,25 +36,23 @@ use Rattle.sf_schedules.proofs.Quiet.{Two, split_two, Idle, idle_self, idle_seco
 use Rattle.sf_schedules.proofs.Leaders.{unopened}
 use Rattle.sf_schedules.proofs.AskSteps.{second_apart, ask_on}
 
-no_members : (l : List CallId) → is_cons l ≡ false → l ≡ []
-no_members [] is = refl
-no_members (m ∷ l) is = cc
-
 module _ {V : Type 0} where
-  -- an Enter names its call
-  enters_names : (c : CallId) (e : Event ℕ V) (x y : Bool) → (names c e || y) ≡ false → (y ≡ false → x ≡ false) → (enters c e || x) ≡ false
-  enters_names c (Lead by key call own) x y is rest = rest (or_parts (same_call call c || holds_call own c) y is).1
-  enters_names c (Enter by key call member) x y is rest =
-      let outer = or_parts (same_call call c || same_call member c) y is in
-      or_from (same_call call c) x (or_parts (same_call call c) (same_call member c) outer.0).0 (rest outer.1)
-  enters_names c (Forget by key closed) x y is rest = rest is
-  enters_names c (Settle by call result shared) x y is rest = rest is
-  enters_names c (Handed by call) x y is rest = rest is
-
   -- a new call has no members
-  new_unjoined : (h : List (Event ℕ V)) (c : CallId) → list_any (names c) h ≡ false → has_joined h c ≡ false
-  new_unjoined [] c new = refl
-  new_unjoined (e ∷ h) c new = enters_names c e (has_joined h c) (list_any (names c) h) new (new_unjoined h c)
+  new_unjoined : (h : List (Event ℕ V)) (c : CallId) → list_any (names c) h ≡ false → members h c ≡ []
+  new_unjoined h c = by_push (λ (h : List (Event ℕ V)). list_any (names c) h ≡ false → members h c ≡ []) (λ new. refl) step h
+    where
+      unentered : (e : Event ℕ V) → names c e ≡ false → enters c e ≡ false
+      unentered (Lead by key call own) none = refl
+      unentered (Enter by key call member) none = (or_parts (same_call call c) (same_call member c) none).0
+      unentered (Forget by key closed) none = refl
+      unentered (ForgetCall by key call hit) none = refl
+      unentered (Settle by call result joiners) none = refl
+      unentered (Handed by call) none = refl
+
+      step : (h : List (Event ℕ V)) (e : Event ℕ V) → (list_any (names c) h ≡ false → members h c ≡ []) → list_any (names c) (h ++ e ∷ []) ≡ false → members (h ++ e ∷ []) c ≡ []
+      step h e before new =
+          let parts = list_any_push_parts (names c) h e new in
+          members_kept h e c (unentered e parts.1) ∙ before parts.0
 
   -- the world after a Lead
   abbrev lead_world : World V → ℕ → CallId → (ℕ → Stage V) → (ℕ → ℕ) → World V
@@ -67,6 +66,7 @@ module _ {V : Type 0} where
       → Sound first (h ++ Lead a k (next_id w a) own ∷ []) (lead_world w k (next_id w a) st gn)
   lead_made first h w a k j s step own st gn at sound idle none follows past ready stage untouched own_waits own_apart second =
       sound_after first a (Two a j) h w h' w' sound (record {
+        bound = refl;
         past = past;
         grows = grows;
         mine = inl refl;
@@ -143,7 +143,7 @@ module _ {V : Type 0} where
       opened_else i other = opened_push h e i ∙ ap (λ (b : Bool). cond b (Some c) (opened h i)) (ne_eqb k i (λ x. other (sym x)))
 
       nobody : members h' c ≡ []
-      nobody = members_kept h e c refl ∙ no_members (members h c) (sym (joined_members h c) ∙ new_unjoined h c (next_is_new first h w.generations a sound.past))
+      nobody = members_kept h e c refl ∙ new_unjoined h c (next_is_new first h w.generations a sound.past)
 
       leader : Caller h' w' a
       leader = record {
@@ -188,7 +188,7 @@ module _ {V : Type 0} where
       → Sound first (h ++ Lead a k (next_id w a) (own_of w s) ∷ []) (led w a k s)
   lead_sound first h w a k None seen f at sound same =
       let good : GoodSecond w a None × GoodAsk h w a k None (ask.Lead seen f) = subst (λ (q : Stage V). Good h w a q) at (sound.callers a).good in
-      let none : opened h k ≡ None = unopened h w k (w.keys k) (sound.keys k) (subst (λ (v : KeyState). SawClosed h k v) (sym (same_key_is (w.keys k) seen same)) good.1.0) in
+      let none : opened h k ≡ None = unopened h w k (w.keys k) sound.past.legal (sound.keys k) (subst (λ (v : KeyState). SawClosed h k v) (sym (same_key_is (w.keys k) seen same)) good.1.0) in
       let follows : MayFollow nat_eq h (Lead a k (next_id w a) None) = (refl, next_is_new first h w.generations a sound.past, tt, none) in
       let st : ℕ → Stage V = put w.stages a (Leading k (w.generations a) None) in
       lead_made first h w a k a None (ask.Lead seen f) None st (lead_generations w.generations a None) at sound (idle_self w a k None (ask.Lead seen f) at) none follows
@@ -198,7 +198,7 @@ module _ {V : Type 0} where
   lead_sound first h w a k (Some b) seen f at sound same =
       let good : GoodSecond w a (Some b) × GoodAsk h w a k (Some b) (ask.Lead seen f) = subst (λ (q : Stage V). Good h w a q) at (sound.callers a).good in
       let apart : b ≢ a = second_apart w a b k (Some b) (ask.Lead seen f) at good.0 in
-      let none : opened h k ≡ None = unopened h w k (w.keys k) (sound.keys k) (subst (λ (v : KeyState). SawClosed h k v) (sym (same_key_is (w.keys k) seen same)) good.1.0) in
+      let none : opened h k ≡ None = unopened h w k (w.keys k) sound.past.legal (sound.keys k) (subst (λ (v : KeyState). SawClosed h k v) (sym (same_key_is (w.keys k) seen same)) good.1.0) in
       let c : CallId = next_id w a in
       let m : CallId = next_id w b in
       let follows : MayFollow nat_eq h (Lead a k c (Some m)) = (refl, next_is_new first h w.generations a sound.past, (next_is_new first h w.generations b sound.past, λ (e : m ≡ c). apart (ap (λ (z : CallId). z.caller) e)), none) in

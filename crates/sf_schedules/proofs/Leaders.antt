@@ -2,12 +2,14 @@
 use Rattle.std.proofs.Common.{◌≡◌, ◌≢◌, ℕ, true, false, List, [], ◌∷◌, ◌++◌, inl, inr, Option, Some, None, refl, sym, ◌∙◌, ap, subst}
 use Rattle.sf_history.specs.declared.call.CallId.{CallId}
 use Rattle.sf_history.specs.declared.event.Event.{Event}
+use Rattle.std.specs.Prelude.{nat_eq}
+use Rattle.sf_history.specs.Legal.{IsLegal}
 use Rattle.sf_words.specs.declared.key_word.KeyState.{KeyState}
 use Rattle.sf_words.specs.declared.key_word.KeyState.TheVariants.{Never, Names}
 use Rattle.sf_words.specs.declared.call_word.CallState.{CallState}
 use Rattle.sf_words.specs.declared.call_word.CallState.TheVariants as word
 use Rattle.sf_schedules.specs.declared.operation.Stage.{Stage}
-use Rattle.sf_schedules.specs.declared.operation.Stage.TheVariants.{Free, Leading, Holding, Polling, Seconding, Asking, Settling, Forgetting, Questioning}
+use Rattle.sf_schedules.specs.declared.operation.Stage.TheVariants.{Free, Leading, Holding, Polling, Seconding, Asking, Settling, Forgetting, Naming, Questioning}
 use Rattle.sf_schedules.specs.declared.operation.SettleStep.TheVariants as settle
 use Rattle.sf_schedules.specs.World.{World, key_of, open_in}
 use Rattle.sf_schedules.specs.Schedules.{leads_on, was_led_on}
@@ -19,12 +21,12 @@ use Rattle.sf_schedules.proofs.Kept.{Same}
 
 module _ {V : Type 0} where
   -- a key without a current call has no open one
-  pub not_now_not_open : (h : List (Event ℕ V)) (k : ℕ) → now h k ≡ None → opened h k ≡ None
-  not_now_not_open h k none = at (opened h k) refl
+  pub not_now_not_open : (h : List (Event ℕ V)) (k : ℕ) → IsLegal nat_eq h → now h k ≡ None → opened h k ≡ None
+  not_now_not_open h k legal none = at (opened h k) refl
     where
       at : (o : Option CallId) → opened h k ≡ o → opened h k ≡ None
       at None is = is
-      at (Some c) is = let current : now h k ≡ Some c = opened_now h k c is in cc
+      at (Some c) is = let current : now h k ≡ Some c = opened_now h k c legal is in cc
 
   -- a word that is not found open is not that of an open call
   pub not_open_in : (first : ℕ) (h : List (Event ℕ V)) (w : World V) (k : ℕ) (c : CallId) → Sound first h w → open_in c.generation (w.calls c.caller) ≡ None → opened h k ≢ Some c
@@ -34,15 +36,15 @@ module _ {V : Type 0} where
       cc
 
   -- where the key word is still the one by which an asking may lead, no call of the key is open
-  pub unopened : (h : List (Event ℕ V)) (w : World V) (k : ℕ) (v : KeyState) → GoodKey h w k v → SawClosed h k v → opened h k ≡ None
-  unopened h w k Never good saw = not_now_not_open h k good
-  unopened h w k (Names b g true) good saw = not_now_not_open h k good
-  unopened h w k (Names b g false) good saw = at (opened h k) refl
+  pub unopened : (h : List (Event ℕ V)) (w : World V) (k : ℕ) (v : KeyState) → IsLegal nat_eq h → GoodKey h w k v → SawClosed h k v → opened h k ≡ None
+  unopened h w k Never legal good saw = not_now_not_open h k legal good
+  unopened h w k (Names b g true) legal good saw = not_now_not_open h k legal good
+  unopened h w k (Names b g false) legal good saw = at (opened h k) refl
     where
       at : (o : Option CallId) → opened h k ≡ o → opened h k ≡ None
       at None is = is
       at (Some c) is =
-          let current : now h k ≡ Some c = opened_now h k c is in
+          let current : now h k ≡ Some c = opened_now h k c legal is in
           elim good.1 [
             | inl same ↦ absurd (saw.1 (is ∙ (sym current ∙ same)))
             | inr debt ↦ let none : now h k ≡ None = debt.0 in cc
@@ -90,13 +92,15 @@ module _ {V : Type 0} where
   unsettled_good h w l (Settling i n own v (settle.Close seen)) k g is good =
       let same : (i, n) ≡ (k, g) = same_pair (i, n) (k, g) is in
       (own, subst (λ (y : ℕ × ℕ). Leads h w l y.0 y.1 own) same good.0, λ j u leads. (subst (λ (y : ℕ × ℕ). Leads j u l y.0 y.1 own) (sym same) leads, good.1))
-  unsettled_good h w l (Settling i n own v (settle.Clear shared top)) k g is good = cc
-  unsettled_good h w l (Settling i n own v (settle.Follow shared m)) k g is good = cc
-  unsettled_good h w l (Settling i n own v (settle.PeekMember shared m next)) k g is good = cc
-  unsettled_good h w l (Settling i n own v (settle.Deliver shared m next)) k g is good = cc
-  unsettled_good h w l (Settling i n own v (settle.PeekOwn shared)) k g is good = cc
-  unsettled_good h w l (Settling i n own v (settle.DeliverOwn shared m)) k g is good = cc
-  unsettled_good h w l (Forgetting i step) k g is good = cc
+  unsettled_good h w l (Settling i n own v (settle.Clear top)) k g is good = cc
+  unsettled_good h w l (Settling i n own v (settle.Count j m top)) k g is good = cc
+  unsettled_good h w l (Settling i n own v (settle.Follow joiners m)) k g is good = cc
+  unsettled_good h w l (Settling i n own v (settle.PeekMember joiners m next)) k g is good = cc
+  unsettled_good h w l (Settling i n own v (settle.Deliver joiners m next)) k g is good = cc
+  unsettled_good h w l (Settling i n own v (settle.PeekOwn joiners)) k g is good = cc
+  unsettled_good h w l (Settling i n own v (settle.DeliverOwn joiners m)) k g is good = cc
+  unsettled_good h w l (Forgetting i target step) k g is good = cc
+  unsettled_good h w l (Naming i) k g is good = cc
   unsettled_good h w l (Questioning i c step) k g is good = cc
 
   -- who holds a ticket is another caller than one who holds none
@@ -115,7 +119,8 @@ module _ {V : Type 0} where
   leader_ticketless (Seconding first) x is = refl
   leader_ticketless (Asking k s step) x is = refl
   leader_ticketless (Settling k g own v step) x is = refl
-  leader_ticketless (Forgetting k step) x is = refl
+  leader_ticketless (Forgetting k target step) x is = refl
+  leader_ticketless (Naming k) x is = refl
   leader_ticketless (Questioning k c step) x is = refl
 
   -- who waits still waits where it is as before

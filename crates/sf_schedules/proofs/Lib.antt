@@ -14,13 +14,15 @@ pub mod SettleSteps
 pub mod DeliverSteps
 pub mod ForgetSteps
 pub mod AllTurns
+pub mod Flags
 pub mod RightAnswers
 pub mod Peeks
 pub mod Letters
 pub mod Cells
 pub mod Others
-pub mod Counted
+pub mod Callers
 pub mod OwnLeads
+pub mod LeftAlone
 pub mod OthersRest
 pub mod Closes
 pub mod Serving
@@ -38,3 +40,6 @@ pub mod Lined
 pub mod Owing
 pub mod Changes
 pub mod Closings
+pub mod LastLed
+pub mod Hits
+pub mod Counting

@@ -10,29 +10,28 @@ use Rattle.sf_words.specs.declared.call_word.CallState.TheVariants as word
 use Rattle.sf_schedules.specs.declared.operation.Op.{Op}
 use Rattle.sf_schedules.specs.declared.operation.Op.TheVariants as op
 use Rattle.sf_schedules.specs.declared.operation.Stage.{Stage}
-use Rattle.sf_schedules.specs.declared.operation.Stage.TheVariants.{Free, Leading, Holding, Polling, Seconding, Asking, Settling, Forgetting, Questioning}
+use Rattle.sf_schedules.specs.declared.operation.Stage.TheVariants.{Free, Leading, Holding, Polling, Seconding, Asking, Settling, Forgetting, Naming, Questioning}
 use Rattle.sf_schedules.specs.declared.operation.AskStep.TheVariants as ask
 use Rattle.sf_schedules.specs.declared.turn.Turn.{Turn}
 use Rattle.sf_schedules.specs.declared.turn.Turn.TheVariants as turn
 use Rattle.sf_schedules.specs.World.{World, first_world, is_full, is_spent}
 use Rattle.sf_lists.specs.Functions.{put}
-use Rattle.sf_schedules.specs.Turns.{polled, stepped, chan_started, started, left, turned, run}
-use Rattle.sf_schedules.specs.Events.{turn_events, events_of, world_after}
+use Rattle.sf_schedules.specs.Turns.{polled, stepped, chan_started, started, left, turned}
+use Rattle.sf_schedules.specs.Events.{events_of, world_after}
 use Rattle.sf_schedules.specs.Schedules.{Setting, IsSchedule}
 use Rattle.sf_schedules.specs.Left.{Concerns, AreOthers, LeadsUnsettled, IsLeft, IsFilled}
 use Rattle.sf_schedules.specs.declared.operation.SettleStep.TheVariants as settle
-use Rattle.sf_schedules.specs.Schedules.{IsScheduleFrom}
 use Rattle.sf_schedules.specs.Waiting.{IsWaiting, IsListed, ListsStay, list_top, leads_of, OwnWaits, LeadersHaveLists}
-use Rattle.sf_schedules.proofs.Members.{Each, Chain, line, line_members, members}
-use Rattle.sf_schedules.proofs.AllTurns.{turn_sound}
-use Rattle.sf_schedules.proofs.Closes.{AreCallers, callers_turn, members_few}
+use Rattle.sf_schedules.proofs.Members.{Chain, line, line_members}
+use Rattle.sf_schedules.proofs.Callers.{AreCallers, members_few}
+use Rattle.sf_history.proofs.Members.{Each, members}
 use Rattle.sf_lists.proofs.Functions.{put_here}
-use Rattle.sf_schedules.proofs.Sound.{call_of, top_in, unsettled, Waits, Leads, Good, Sound, sound_begins}
+use Rattle.sf_schedules.proofs.Sound.{call_of, top_in, unsettled, Waits, Leads, Good, Sound}
 use Rattle.sf_schedules.proofs.Letters.{ticket_is, deliver_right}
 use Rattle.sf_schedules.proofs.Cells.{Becomes, step_becomes, start_stays, leave_stays}
 use Rattle.sf_schedules.proofs.Others.{turn_left}
 use Rattle.sf_schedules.proofs.Apart.{letter_of, ticket_call}
-use Rattle.sf_schedules.proofs.RightAnswers.{run_append, schedule_parts, always}
+use Rattle.sf_schedules.proofs.RightAnswers.{run_append, schedule_parts, always, always_fair}
 
 same_top : (u : CallState) → top_in u ≡ list_top u
 same_top word.Free = refl
@@ -125,8 +124,10 @@ module _ {V : Type 0} where
   own_step w k c m (Asking i s step) (inr is) waits = cc
   own_step w k c m (Settling i g own v step) (inl is) waits = cc
   own_step w k c m (Settling i g own v step) (inr is) waits = cc
-  own_step w k c m (Forgetting i step) (inl is) waits = cc
-  own_step w k c m (Forgetting i step) (inr is) waits = cc
+  own_step w k c m (Forgetting i target step) (inl is) waits = cc
+  own_step w k c m (Naming i) (inl is) waits = cc
+  own_step w k c m (Forgetting i target step) (inr is) waits = cc
+  own_step w k c m (Naming i) (inr is) waits = cc
   own_step w k c m (Questioning i d step) (inl is) waits = cc
   own_step w k c m (Questioning i d step) (inr is) waits = cc
 
@@ -149,6 +150,8 @@ module _ {V : Type 0} where
   own_start w k c m (op.Settle v) (Leading i g own) (inl is) waits = cc
   own_start w k c m (op.Settle v) (Leading i g own) (inr is) waits = cc
   own_start w k c m (op.Forget i) Free is waits = absurd (no_free k m.generation c is)
+  own_start w k c m (op.ForgetCall i d) Free is waits = absurd (no_free k m.generation c is)
+  own_start w k c m (op.Named i) Free is waits = absurd (no_free k m.generation c is)
   own_start w k c m op.Poll (Holding i g d) is waits = start_poll w k i g c d m is waits
   own_start w k c m (op.Current i d) Free is waits = absurd (no_free k m.generation c is)
   own_start w k c m _ _ is waits = same_waits w k c m waits
@@ -156,8 +159,8 @@ module _ {V : Type 0} where
   own_leave : (w : World V) (k : ℕ) (c m : CallId) (p : Stage V) → Ticket p k m.generation c → IsWaiting w k c m → StillWaits w (left w m.caller p) k c m
   own_leave w k c m (Asking i s (ask.Look true)) (inl is) waits = cc
   own_leave w k c m (Asking i s (ask.Look true)) (inr is) waits = cc
-  own_leave w k c m (Forgetting i step) (inl is) waits = cc
-  own_leave w k c m (Forgetting i step) (inr is) waits = cc
+  own_leave w k c m (Forgetting i target step) (inl is) waits = cc
+  own_leave w k c m (Forgetting i target step) (inr is) waits = cc
   own_leave w k c m _ is waits = same_waits w k c m waits
 
   -- a chan is not started with a second that is not free
@@ -213,6 +216,8 @@ module _ {V : Type 0} where
           ]
           unlike (op.Settle v) apart other = rest (op.Settle v) apart other
           unlike (op.Forget i) apart other = rest (op.Forget i) apart other
+          unlike (op.ForgetCall i d) apart other = rest (op.ForgetCall i d) apart other
+          unlike (op.Named i) apart other = rest (op.Named i) apart other
           unlike op.Poll apart other = rest op.Poll apart other
           unlike (op.Current i d) apart other = rest (op.Current i d) apart other
 
@@ -225,19 +230,15 @@ module _ {V : Type 0} where
       (is.0, one.0, subst (λ (n : Option ℕ). IsListed (turned w t) k c n l) (sym one.1) (list_turn first h w t k c sound apart (w.nexts m.caller) l is.2))
 
   pub lists_stay : ListsStay V
-  lists_stay z s [] is k c top l others listed = subst (λ (q : List (Turn V)). IsListed (world_after z.first q) k c top l) (sym (append-nil s)) listed
+  lists_stay z s [] is k c top l others listed = subst (λ (q : List (Turn V)). IsListed (world_after z.callers z.first q) k c top l) (sym (append-nil s)) listed
   lists_stay z s (t ∷ ts) is k c top l others listed =
-      let w : World V = world_after z.first s in
+      let w : World V = world_after z.callers z.first s in
       let parts : IsSchedule z ((s ++ t ∷ []) ++ ts) = subst (λ (q : List (Turn V)). IsSchedule z q) (sym (append_assoc s (t ∷ []) ts)) is in
-      let front : IsSchedule z s = (schedule_parts z s (t ∷ ts) [] (first_world z.first) is).0 in
-      let there : world_after z.first (s ++ t ∷ []) ≡ turned w t = run_append (first_world z.first) s (t ∷ []) in
-      let one : IsListed (world_after z.first (s ++ t ∷ [])) k c top l = subst (λ (u : World V). IsListed u k c top l) (sym there) (list_turn z.first (events_of z.first s) w t k c (always z s front) others.0 top l listed) in
-      subst (λ (q : List (Turn V)). IsListed (world_after z.first q) k c top l) (append_assoc s (t ∷ []) ts)
+      let front : IsSchedule z s = (schedule_parts z s (t ∷ ts) [] (first_world z.callers z.first) is).0 in
+      let there : world_after z.callers z.first (s ++ t ∷ []) ≡ turned w t = run_append (first_world z.callers z.first) s (t ∷ []) in
+      let one : IsListed (world_after z.callers z.first (s ++ t ∷ [])) k c top l = subst (λ (u : World V). IsListed u k c top l) (sym there) (list_turn z.first (events_of z.callers z.first s) w t k c (always z s front) others.0 top l listed) in
+      subst (λ (q : List (Turn V)). IsListed (world_after z.callers z.first q) k c top l) (append_assoc s (t ∷ []) ts)
       (lists_stay z (s ++ t ∷ []) ts parts k c top l (subst (λ (u : World V). AreOthers u ts c.caller) (sym there) others.1) one)
-
-  pub callers_run : (z : Setting) (ts : List (Turn V)) (h : List (Event ℕ V)) (w : World V) → Sound z.first h w → IsScheduleFrom z h w ts → AreCallers z w → AreCallers z (run w ts)
-  callers_run z [] h w sound is are = are
-  callers_run z (t ∷ ts) h w sound is are = callers_run z ts (h ++ turn_events w t) (turned w t) (turn_sound z h w t sound is.0) is.1 (callers_turn z h w t sound is.0 are)
 
   pub waiting : (w : World V) (k : ℕ) (c m : CallId) → Waits w k c m → IsWaiting w k c m
   waiting w k c m waits = (ticket_is (w.stages m.caller) k m.generation c waits.0, waits.1)
@@ -274,18 +275,20 @@ module _ {V : Type 0} where
       subst (λ (y : ℕ × ℕ × Option CallId). HasList z w a y.0 y.1 y.2) (same_led (i, n, o) (k, g, own) is) (led_list z h w a i n o sound are (ap unsettled at) good)
   stage_list z h w a k g own (Settling i n o v (settle.Close seen)) at sound are good is =
       subst (λ (y : ℕ × ℕ × Option CallId). HasList z w a y.0 y.1 y.2) (same_led (i, n, o) (k, g, own) is) (led_list z h w a i n o sound are (ap unsettled at) good.0)
-  stage_list z h w a k g own (Settling i n o v (settle.Clear shared top)) at sound are good is = cc
-  stage_list z h w a k g own (Settling i n o v (settle.Follow shared m)) at sound are good is = cc
-  stage_list z h w a k g own (Settling i n o v (settle.PeekMember shared m next)) at sound are good is = cc
-  stage_list z h w a k g own (Settling i n o v (settle.Deliver shared m next)) at sound are good is = cc
-  stage_list z h w a k g own (Settling i n o v (settle.PeekOwn shared)) at sound are good is = cc
-  stage_list z h w a k g own (Settling i n o v (settle.DeliverOwn shared m)) at sound are good is = cc
-  stage_list z h w a k g own (Forgetting i step) at sound are good is = cc
+  stage_list z h w a k g own (Settling i n o v (settle.Clear top)) at sound are good is = cc
+  stage_list z h w a k g own (Settling i n o v (settle.Count j m top)) at sound are good is = cc
+  stage_list z h w a k g own (Settling i n o v (settle.Follow joiners m)) at sound are good is = cc
+  stage_list z h w a k g own (Settling i n o v (settle.PeekMember joiners m next)) at sound are good is = cc
+  stage_list z h w a k g own (Settling i n o v (settle.Deliver joiners m next)) at sound are good is = cc
+  stage_list z h w a k g own (Settling i n o v (settle.PeekOwn joiners)) at sound are good is = cc
+  stage_list z h w a k g own (Settling i n o v (settle.DeliverOwn joiners m)) at sound are good is = cc
+  stage_list z h w a k g own (Forgetting i target step) at sound are good is = cc
+  stage_list z h w a k g own (Naming i) at sound are good is = cc
   stage_list z h w a k g own (Questioning i c step) at sound are good is = cc
 
   pub leaders_have_lists : LeadersHaveLists V
   leaders_have_lists z s is a k g own leads =
-      let w : World V = world_after z.first s in
+      let w : World V = world_after z.callers z.first s in
       let sound = always z s is in
-      let are = callers_run z s [] (first_world z.first) (sound_begins z.first) is (λ b busy. absurd (busy refl)) in
-      stage_list z (events_of z.first s) w a k g own (w.stages a) refl sound are (sound.callers a).good leads
+      let are = (always_fair z s is).are in
+      stage_list z (events_of z.callers z.first s) w a k g own (w.stages a) refl sound are (sound.callers a).good leads

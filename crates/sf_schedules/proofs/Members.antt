@@ -1,37 +1,16 @@
--- the members of a call, and the list of them that its words and next words hold
-use Rattle.std.proofs.Common.{◌≡◌, ◌≢◌, ℕ, Bool, true, false, ◌||◌, List, [], ◌∷◌, ◌++◌, Option, Some, None, refl, sym, ◌∙◌, ap, subst}
-use Rattle.std.proofs.Math.Bool.{or-false}
-use Rattle.std.proofs.lemmas.Bool.{or_right}
-use Rattle.std.specs.Prelude.{cond, fold, is_some}
+-- the list of a call's members that its words and next words hold
+use Rattle.std.proofs.Common.{◌≡◌, ℕ, zero, suc, ◌≤◌, List, [], ◌∷◌, ◌++◌, length, Option, Some, None, refl, sym, ap, subst, arith}
 use Rattle.sf_history.specs.declared.call.CallId.{CallId}
-use Rattle.sf_history.specs.declared.event.Event.{Event}
-use Rattle.sf_history.specs.declared.event.Event.TheVariants.{Lead, Enter, Forget, Settle, Handed}
-use Rattle.sf_history.specs.Calls.{same_call}
-use Rattle.sf_history.specs.History.{enters, has_joined}
-use Rattle.sf_lists.proofs.Lists.{by_push, list_any_push}
-use Rattle.sf_history.proofs.LegalHistories.{fold_push}
-
--- the predicate holds of each call of the list
-abbrev pub Each : (CallId → Type 0) → List CallId → Type 0
-Each P [] = Unit {0}
-Each P (m ∷ l) = P m × Each P l
-
-pub each_map : (P Q : CallId → Type 0) → ((m : CallId) → P m → Q m) → (l : List CallId) → Each P l → Each Q l
-each_map P Q f [] is = tt
-each_map P Q f (m ∷ l) is = (f m is.0, each_map P Q f l is.1)
+use Rattle.sf_history.proofs.Members.{Each, IsApart, Apart}
+use Rattle.sf_schedules.specs.World.{count}
 
 pub each_both : (P Q R : CallId → Type 0) → ((m : CallId) → P m → Q m → R m) → (l : List CallId) → Each P l → Each Q l → Each R l
 each_both P Q R f [] p q = tt
 each_both P Q R f (m ∷ l) p q = (f m p.0 q.0, each_both P Q R f l p.1 q.1)
 
--- a call of another caller
-abbrev pub IsApart : CallId → CallId → Type 0
-IsApart m n = n.caller ≢ m.caller
-
--- the calls are of different callers
-abbrev pub Apart : List CallId → Type 0
-Apart [] = Unit {0}
-Apart (m ∷ l) = Each (IsApart m) l × Apart l
+pub each_after : (P : CallId → Type 0) (p q : List CallId) → Each P (p ++ q) → Each P q
+each_after P [] q is = is
+each_after P (m ∷ p) q is = each_after P p q is.1
 
 -- who waits for a call: its own channel, and these members
 abbrev pub line : Option CallId → List CallId → List CallId
@@ -53,6 +32,11 @@ line_tail P (Some o) m l is = (is.0, is.1.1)
 pub line_push : (P : CallId → Type 0) (own : Option CallId) (m : CallId) (l : List CallId) → P m → Each P (line own l) → Each P (line own (m ∷ l))
 line_push P None m l new is = (new, is)
 line_push P (Some o) m l new is = (is.0, (new, is.1))
+
+-- those who come after some of the members
+pub line_after : (P : CallId → Type 0) (own : Option CallId) (p q : List CallId) → Each P (line own (p ++ q)) → Each P (line own q)
+line_after P None p q is = each_after P p q is
+line_after P (Some o) p q is = (is.0, each_after P p q is.1)
 
 pub line_apart : (own : Option CallId) (l : List CallId) → Apart (line own l) → Apart l
 line_apart None l is = is
@@ -83,57 +67,13 @@ chain_kept f g [] (Some x) same chain = absurd chain
 chain_kept f g (m ∷ l) None same chain = absurd chain
 chain_kept f g (m ∷ l) (Some x) same chain = (chain.0, subst (λ (t : Option ℕ). Chain g t l) (sym same.0) (chain_kept f g l (f m.caller) same.1 chain.1))
 
-abbrev pub is_cons : List CallId → Bool
-is_cons [] = false
-is_cons (m ∷ l) = true
-
-pub chain_top : (f : ℕ → Option ℕ) (l : List CallId) (top : Option ℕ) → Chain f top l → is_some top ≡ is_cons l
-chain_top f [] None chain = refl
-chain_top f [] (Some x) chain = absurd chain
-chain_top f (m ∷ l) None chain = absurd chain
-chain_top f (m ∷ l) (Some x) chain = refl
-
-module _ {V : Type 0} where
-  -- what an event leaves of the members of a call
-  abbrev pub joins : CallId → List CallId → Event ℕ V → List CallId
-  joins c found (Lead by key call own) = found
-  joins c found (Enter by key call member) = cond (same_call call c) (member ∷ found) found
-  joins c found (Forget by key closed) = found
-  joins c found (Settle by call result shared) = found
-  joins c found (Handed by call) = found
-
-  -- who joined the call, the newest first
-  abbrev pub members : List (Event ℕ V) → CallId → List CallId
-  members h c = fold (joins c) [] h
-
-  pub members_push : (h : List (Event ℕ V)) (e : Event ℕ V) (c : CallId) → members (h ++ e ∷ []) c ≡ joins c (members h c) e
-  members_push h e c = fold_push (joins c) [] h e
-
-  -- an event that is no Enter on the call leaves its members
-  pub members_kept : (h : List (Event ℕ V)) (e : Event ℕ V) (c : CallId) → enters c e ≡ false → members (h ++ e ∷ []) c ≡ members h c
-  members_kept h e c none = members_push h e c ∙ at e none
-    where
-      at : (e : Event ℕ V) → enters c e ≡ false → joins c (members h c) e ≡ members h c
-      at (Lead by key call own) none = refl
-      at (Enter by key call member) none = ap (λ (b : Bool). cond b (member ∷ members h c) (members h c)) none
-      at (Forget by key closed) none = refl
-      at (Settle by call result shared) none = refl
-      at (Handed by call) none = refl
-
-  -- a call is joined where it has members
-  pub joined_members : (h : List (Event ℕ V)) (c : CallId) → has_joined h c ≡ is_cons (members h c)
-  joined_members h c = by_push (λ (h : List (Event ℕ V)). has_joined h c ≡ is_cons (members h c)) refl step h
-    where
-      joined : (l : List CallId) (m : CallId) (b t : Bool) → b ≡ is_cons l → (b || t) ≡ is_cons (cond t (m ∷ l) l)
-      joined l m b true is = or_right b true refl
-      joined l m b false is = or-false b ∙ is
-
-      at : (h : List (Event ℕ V)) (e : Event ℕ V) → has_joined h c ≡ is_cons (members h c) → (has_joined h c || enters c e) ≡ is_cons (joins c (members h c) e)
-      at h (Lead by key call own) is = or-false (has_joined h c) ∙ is
-      at h (Enter by key call member) is = joined (members h c) member (has_joined h c) (same_call call c) is
-      at h (Forget by key closed) is = or-false (has_joined h c) ∙ is
-      at h (Settle by call result shared) is = or-false (has_joined h c) ∙ is
-      at h (Handed by call) is = or-false (has_joined h c) ∙ is
-
-      step : (h : List (Event ℕ V)) (e : Event ℕ V) → has_joined h c ≡ is_cons (members h c) → has_joined (h ++ e ∷ []) c ≡ is_cons (members (h ++ e ∷ []) c)
-      step h e is = list_any_push (enters c) h e ∙ (at h e is ∙ ap is_cons (sym (members_push h e c)))
+-- a walk over next words counts the list that they hold, if it may go so far
+pub chain_count : (f : ℕ → Option ℕ) (l : List CallId) (top : Option ℕ) (most : ℕ) → Chain f top l → length l ≤ most → count top most f ≡ length l
+chain_count f [] None most chain few = refl
+chain_count f [] (Some x) most chain few = absurd chain
+chain_count f (m ∷ l) None most chain few = absurd chain
+chain_count f (m ∷ l) (Some x) zero chain few = absurd (omega (arith, few))
+chain_count f (m ∷ l) (Some x) (suc most) chain few =
+    let rest : count (f m.caller) most f ≡ length l = chain_count f l (f m.caller) most chain.1 (omega (arith, few)) in
+    let same : count (f x) most f ≡ count (f m.caller) most f = ap (λ (y : ℕ). count (f y) most f) chain.0 in
+    omega (arith, rest, same)

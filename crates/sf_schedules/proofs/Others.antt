@@ -1,7 +1,7 @@
 -- what each turn leaves to the callers that it does not concern
-use Rattle.std.proofs.Common.{◌≡◌, ◌≢◌, ℕ, ◌+◌, Bool, true, false, ◌==◌, ◌||◌, List, [], ◌∷◌, ◌++◌, inl, inr, Option, Some, None, refl, sym, ◌∙◌, ap, subst, append_assoc}
+use Rattle.std.proofs.Common.{◌≡◌, ◌≢◌, ℕ, ◌+◌, Bool, true, false, ◌==◌, ◌||◌, List, [], ◌∷◌, inl, inr, Option, Some, None, refl, sym, ◌∙◌, ap, subst}
 use Rattle.std.proofs.lemmas.Bool.{cases_eq}
-use Rattle.std.specs.Prelude.{cond, is_some}
+use Rattle.std.specs.Prelude.{cond}
 use Rattle.sf_history.specs.declared.call.CallId.{CallId}
 use Rattle.sf_history.specs.declared.event.Event.{Event}
 use Rattle.sf_words.specs.declared.key_word.KeyState.{KeyState}
@@ -12,7 +12,7 @@ use Rattle.sf_schedules.specs.declared.letter.Letter.{Letter}
 use Rattle.sf_schedules.specs.declared.operation.Op.{Op}
 use Rattle.sf_schedules.specs.declared.operation.Op.TheVariants as op
 use Rattle.sf_schedules.specs.declared.operation.Stage.{Stage}
-use Rattle.sf_schedules.specs.declared.operation.Stage.TheVariants.{Free, Leading, Holding, Polling, Seconding, Asking, Settling, Forgetting, Questioning}
+use Rattle.sf_schedules.specs.declared.operation.Stage.TheVariants.{Free, Leading, Holding, Polling, Seconding, Asking, Settling, Forgetting, Naming, Questioning}
 use Rattle.sf_schedules.specs.declared.operation.AskStep.{AskStep}
 use Rattle.sf_schedules.specs.declared.operation.AskStep.TheVariants as ask
 use Rattle.sf_schedules.specs.declared.operation.SettleStep.{SettleStep}
@@ -23,23 +23,20 @@ use Rattle.sf_schedules.specs.declared.operation.CurrentStep.{CurrentStep}
 use Rattle.sf_schedules.specs.declared.operation.CurrentStep.TheVariants as current
 use Rattle.sf_schedules.specs.declared.turn.Turn.{Turn}
 use Rattle.sf_schedules.specs.declared.turn.Turn.TheVariants as turn
-use Rattle.sf_schedules.specs.World.{World, first_world, with_stage, with_call, with_next, with_key, with_cell, next_id, key_of, cleared_key_of, same_key, is_open_with, open_in, is_forgot_in, generation_in, is_full, is_spent}
+use Rattle.sf_schedules.specs.World.{World, with_stage, with_call, with_next, with_key, with_cell, next_id, key_of, cleared_key_of, same_key, is_open_with, open_in, is_forgot_in, generation_in, is_full, is_spent, one_more}
 use Rattle.sf_lists.specs.Functions.{put}
 use Rattle.sf_schedules.specs.Askings.{looked, peeked, joiner, with_top, ready_own, after_lead, after_enter, ask_stepped}
-use Rattle.sf_schedules.specs.Turns.{after_own_peek, at_members, after_close, cleared, delivered, own_peeked, settle_stepped, forget_looked, forget_peeked, forgot, forget_cleared, forget_stepped, polled, current_peeked, current_stepped, stepped, chan_started, started, freed, left, turned}
-use Rattle.sf_schedules.specs.Events.{events_of, world_after}
-use Rattle.sf_schedules.specs.Schedules.{IsSchedule}
-use Rattle.sf_schedules.specs.Left.{Concerns, AreOthers, LeadsUnsettled, HoldsTicket, IsLeft}
-use Rattle.sf_schedules.specs.Laws.{OthersAreLeft, OwnTurnsDecide}
+use Rattle.sf_schedules.specs.Turns.{after_own_peek, at_members, after_close, cleared, delivered, own_peeked, settle_stepped, forget_looked, misses, peek_missed, forgot, forget_cleared, forget_stepped, polled, current_peeked, current_stepped, stepped, chan_started, started, freed, left, turned, at_count, after_count}
+use Rattle.sf_schedules.specs.Left.{Concerns, LeadsUnsettled, HoldsTicket, IsLeft}
 use Rattle.sf_schedules.proofs.Histories.{opened}
 use Rattle.sf_lists.proofs.Functions.{put_here, put_else}
 use Rattle.sf_schedules.proofs.Compared.{open_with_is}
-use Rattle.sf_schedules.proofs.Members.{Each, line, line_head}
+use Rattle.sf_history.proofs.Members.{Each}
+use Rattle.sf_schedules.proofs.Members.{line, line_head}
 use Rattle.sf_schedules.proofs.Sound.{call_of, ready_word, unsettled, ticket, Waits, IsTicket, GoodSecond, GoodAsk, GoodSettle, GoodForget, Good, Sound, live_open}
 use Rattle.sf_schedules.proofs.Kept.{Same}
 use Rattle.sf_schedules.proofs.Quiet.{same_self, same_stage, same_word, same_next, same_cell, same_keyed, same_then}
 use Rattle.sf_schedules.proofs.DeliverSteps.{ticket_good}
-use Rattle.sf_schedules.proofs.RightAnswers.{run_append, schedule_parts, always}
 
 module _ {V : Type 0} where
   same_left : (w w' : World V) (b : ℕ) → Same w w' b → IsLeft w w' b
@@ -61,13 +58,15 @@ module _ {V : Type 0} where
   leads_unsettled (Asking k s step) x is = cc
   leads_unsettled (Settling k g own v settle.Peek) x is = tt
   leads_unsettled (Settling k g own v (settle.Close seen)) x is = tt
-  leads_unsettled (Settling k g own v (settle.Clear shared top)) x is = cc
-  leads_unsettled (Settling k g own v (settle.Follow shared m)) x is = cc
-  leads_unsettled (Settling k g own v (settle.PeekMember shared m next)) x is = cc
-  leads_unsettled (Settling k g own v (settle.Deliver shared m next)) x is = cc
-  leads_unsettled (Settling k g own v (settle.PeekOwn shared)) x is = cc
-  leads_unsettled (Settling k g own v (settle.DeliverOwn shared m)) x is = cc
-  leads_unsettled (Forgetting k step) x is = cc
+  leads_unsettled (Settling k g own v (settle.Clear top)) x is = cc
+  leads_unsettled (Settling k g own v (settle.Count n m top)) x is = cc
+  leads_unsettled (Settling k g own v (settle.Follow joiners m)) x is = cc
+  leads_unsettled (Settling k g own v (settle.PeekMember joiners m next)) x is = cc
+  leads_unsettled (Settling k g own v (settle.Deliver joiners m next)) x is = cc
+  leads_unsettled (Settling k g own v (settle.PeekOwn joiners)) x is = cc
+  leads_unsettled (Settling k g own v (settle.DeliverOwn joiners m)) x is = cc
+  leads_unsettled (Forgetting k target step) x is = cc
+  leads_unsettled (Naming k) x is = cc
   leads_unsettled (Questioning k c step) x is = cc
 
   holds_ticket : (p : Stage V) (x : ℕ × ℕ × CallId) → ticket p ≡ Some x → HoldsTicket p
@@ -78,7 +77,8 @@ module _ {V : Type 0} where
   holds_ticket (Seconding first) x is = cc
   holds_ticket (Asking k s step) x is = cc
   holds_ticket (Settling k g own v step) x is = cc
-  holds_ticket (Forgetting k step) x is = cc
+  holds_ticket (Forgetting k target step) x is = cc
+  holds_ticket (Naming k) x is = cc
   holds_ticket (Questioning k c step) x is = cc
 
   -- a joiner is the caller or its second
@@ -151,7 +151,7 @@ module _ {V : Type 0} where
   close_left : (w : World V) (a k g b : ℕ) (own : Option CallId) (v : V) (seen : LeaderState) → b ≢ a → (t : Bool) → IsLeft w (after_close w a k g own v seen t) b
   close_left w a k g b own v seen other false = staged w a b (Settling k g own v settle.Peek) other
   close_left w a k g b own v seen other true =
-      same_left w (after_close w a k g own v seen true) b (stored w a a b (at_members k g own v (is_some seen.top) seen.top) (with_call w a (word.Done seen)) (same_word w a (word.Done seen) b other) other)
+      same_left w (after_close w a k g own v seen true) b (stored w a a b (at_count k g own v seen.top) (with_call w a (word.Done seen)) (same_word w a (word.Done seen) b other) other)
 
   clear_left : (w : World V) (a k b : ℕ) (c : CallId) (s : Stage V) → b ≢ a → (t : Bool) → IsLeft w (with_stage (cleared w k c t) a s) b
   clear_left w a k b c s other false = staged w a b s other
@@ -184,27 +184,28 @@ module _ {V : Type 0} where
   settle_left : (first : ℕ) (h : List (Event ℕ V)) (w : World V) (a k g b : ℕ) (own : Option CallId) (v : V) (step : SettleStep) → w.stages a ≡ Settling k g own v step → Sound first h w → b ≢ a → IsLeft w (settle_stepped w a k g own v step) b
   settle_left first h w a k g b own v settle.Peek at sound other = staged w a b (Settling k g own v (after_own_peek (w.calls a))) other
   settle_left first h w a k g b own v (settle.Close seen) at sound other = close_left w a k g b own v seen other (is_open_with seen (w.calls a))
-  settle_left first h w a k g b own v (settle.Clear shared top) at sound other = clear_left w a k b (call_of a g) (at_members k g own v shared top) other (same_key (w.keys k) (Names a g false))
-  settle_left first h w a k g b own v (settle.Follow shared m) at sound other = staged w a b (Settling k g own v (settle.PeekMember shared m (w.nexts m))) other
-  settle_left first h w a k g b own v (settle.PeekMember shared m next) at sound other = staged w a b (Settling k g own v (settle.Deliver shared (call_of m (generation_in (w.calls m))) next)) other
-  settle_left first h w a k g b own v (settle.Deliver shared m next) at sound other =
-      let good : GoodSettle h w a k g own v (settle.Deliver shared m next) = subst (λ (q : Stage V). Good h w a q) at (sound.callers a).good in
-      letter_left first h w a k b (call_of a g) m (record { place = k; call = call_of a g; value = v; shared = shared }) (at_members k g own v shared next) sound (line_head (Waits w k (call_of a g)) own m good.0 good.1.waits) other
-  settle_left first h w a k g b own v (settle.PeekOwn shared) at sound other = staged w a b (Settling k g own v (own_peeked w shared own)) other
-  settle_left first h w a k g b own v (settle.DeliverOwn shared m) at sound other =
-      let good : GoodSettle h w a k g own v (settle.DeliverOwn shared m) = subst (λ (q : Stage V). Good h w a q) at (sound.callers a).good in
+  settle_left first h w a k g b own v (settle.Clear top) at sound other = clear_left w a k b (call_of a g) (at_count k g own v top) other (same_key (w.keys k) (Names a g false))
+  settle_left first h w a k g b own v (settle.Count n m top) at sound other = staged w a b (Settling k g own v (after_count (one_more w.callers n) top (w.nexts m))) other
+  settle_left first h w a k g b own v (settle.Follow joiners m) at sound other = staged w a b (Settling k g own v (settle.PeekMember joiners m (w.nexts m))) other
+  settle_left first h w a k g b own v (settle.PeekMember joiners m next) at sound other = staged w a b (Settling k g own v (settle.Deliver joiners (call_of m (generation_in (w.calls m))) next)) other
+  settle_left first h w a k g b own v (settle.Deliver joiners m next) at sound other =
+      let good : GoodSettle h w a k g own v (settle.Deliver joiners m next) = subst (λ (q : Stage V). Good h w a q) at (sound.callers a).good in
+      letter_left first h w a k b (call_of a g) m (record { place = k; call = call_of a g; value = v; joiners = joiners }) (at_members k g own v joiners next) sound (line_head (Waits w k (call_of a g)) own m good.0 good.1.waits) other
+  settle_left first h w a k g b own v (settle.PeekOwn joiners) at sound other = staged w a b (Settling k g own v (own_peeked w joiners own)) other
+  settle_left first h w a k g b own v (settle.DeliverOwn joiners m) at sound other =
+      let good : GoodSettle h w a k g own v (settle.DeliverOwn joiners m) = subst (λ (q : Stage V). Good h w a q) at (sound.callers a).good in
       let waits : Each (Waits w k (call_of a g)) (m ∷ []) = subst (λ (o : Option CallId). Each (Waits w k (call_of a g)) (line o [])) good.2 good.0.waits in
-      letter_left first h w a k b (call_of a g) m (record { place = k; call = call_of a g; value = v; shared = shared }) Free sound waits.0 other
+      letter_left first h w a k b (call_of a g) m (record { place = k; call = call_of a g; value = v; joiners = joiners }) Free sound waits.0 other
 
-  forgot_left : (first : ℕ) (h : List (Event ℕ V)) (w : World V) (a k b : ℕ) (c : CallId) (seen : LeaderState) → w.stages a ≡ Forgetting k (forget.Close c seen) → Sound first h w → b ≢ a → (t : Bool) → is_open_with seen (w.calls c.caller) ≡ t → IsLeft w (forgot w a k c seen t) b
-  forgot_left first h w a k b c seen at sound other false is = staged w a b (Forgetting k (forget.Look true)) other
-  forgot_left first h w a k b c seen at sound other true is =
+  forgot_left : (first : ℕ) (h : List (Event ℕ V)) (w : World V) (a k b : ℕ) (target : Option CallId) (c : CallId) (seen : LeaderState) → w.stages a ≡ Forgetting k target (forget.Close c seen) → Sound first h w → b ≢ a → (t : Bool) → is_open_with seen (w.calls c.caller) ≡ t → IsLeft w (forgot w a k target c seen t) b
+  forgot_left first h w a k b target c seen at sound other false is = staged w a b (Forgetting k target (forget.Look true)) other
+  forgot_left first h w a k b target c seen at sound other true is =
       let l : ℕ = c.caller in
       let good : GoodForget h k (forget.Close c seen) = subst (λ (q : Stage V). Good h w a q) at (sound.callers a).good in
       let open_word : w.calls l ≡ word.Open seen = open_with_is seen (w.calls l) is in
       let is_open : opened h k ≡ Some c = live_open first h w k c seen sound good.0 open_word good.1 in
       record {
-        stage = put_else w.stages a (Forgetting k (forget.LastClear c)) b other;
+        stage = put_else w.stages a (Forgetting k target (forget.LastClear c)) b other;
         generation = refl;
         next = refl;
         word = elim (cases_eq b l) [
@@ -219,16 +220,16 @@ module _ {V : Type 0} where
         ];
       }
 
-  first_left : (w : World V) (a k b : ℕ) (c : CallId) → b ≢ a → (t : Bool) → IsLeft w (forget_cleared w a k c t) b
-  first_left w a k b c other false = staged w a b (Forgetting k (forget.Look true)) other
-  first_left w a k b c other true = same_left w (forget_cleared w a k c true) b (stored w a a b Free (with_key w k (cleared_key_of c)) (same_keyed w k (cleared_key_of c) b) other)
+  first_left : (w : World V) (a k b : ℕ) (target : Option CallId) (c : CallId) → b ≢ a → (t : Bool) → IsLeft w (forget_cleared w a k target c t) b
+  first_left w a k b target c other false = staged w a b (Forgetting k target (forget.Look true)) other
+  first_left w a k b target c other true = same_left w (forget_cleared w a k target c true) b (stored w a a b Free (with_key w k (cleared_key_of c)) (same_keyed w k (cleared_key_of c) b) other)
 
-  forget_left : (first : ℕ) (h : List (Event ℕ V)) (w : World V) (a k b : ℕ) (step : ForgetStep) → w.stages a ≡ Forgetting k step → Sound first h w → b ≢ a → IsLeft w (forget_stepped w a k step) b
-  forget_left first h w a k b (forget.Look failed) at sound other = staged w a b (forget_looked k (w.keys k)) other
-  forget_left first h w a k b (forget.Peek c) at sound other = staged w a b (Forgetting k (forget_peeked c (open_in c.generation (w.calls c.caller)))) other
-  forget_left first h w a k b (forget.Close c seen) at sound other = forgot_left first h w a k b c seen at sound other (is_open_with seen (w.calls c.caller)) refl
-  forget_left first h w a k b (forget.FirstClear c) at sound other = first_left w a k b c other (same_key (w.keys k) (key_of c))
-  forget_left first h w a k b (forget.LastClear c) at sound other = clear_left w a k b c Free other (same_key (w.keys k) (key_of c))
+  forget_left : (first : ℕ) (h : List (Event ℕ V)) (w : World V) (a k b : ℕ) (target : Option CallId) (step : ForgetStep) → w.stages a ≡ Forgetting k target step → Sound first h w → b ≢ a → IsLeft w (forget_stepped w a k target step) b
+  forget_left first h w a k b target (forget.Look failed) at sound other = staged w a b (forget_looked k target (w.keys k)) other
+  forget_left first h w a k b target (forget.Peek c) at sound other = staged w a b (peek_missed k target c (open_in c.generation (w.calls c.caller)) (misses target (is_forgot_in c.generation (w.calls c.caller)))) other
+  forget_left first h w a k b target (forget.Close c seen) at sound other = forgot_left first h w a k b target c seen at sound other (is_open_with seen (w.calls c.caller)) refl
+  forget_left first h w a k b target (forget.FirstClear c) at sound other = first_left w a k b target c other (same_key (w.keys k) (key_of c))
+  forget_left first h w a k b target (forget.LastClear c) at sound other = clear_left w a k b c Free other (same_key (w.keys k) (key_of c))
 
   poll_left : (w : World V) (a k g b : ℕ) (c : CallId) → b ≢ a → (t : Bool) → IsLeft w (polled w a k g c t) b
   poll_left w a k g b c other false = staged w a b (Holding k g c) other
@@ -248,7 +249,8 @@ module _ {V : Type 0} where
       let good : Good h w a (Asking k s step) = subst (λ (q : Stage V). Good h w a q) at (sound.callers a).good in
       ask_left first h w a k b s step at sound other (joiner_apart w a b s other apart good.0)
   step_left first h w a b (Settling k g own v step) at sound other apart = settle_left first h w a k g b own v step at sound other
-  step_left first h w a b (Forgetting k step) at sound other apart = forget_left first h w a k b step at sound other
+  step_left first h w a b (Forgetting k target step) at sound other apart = forget_left first h w a k b target step at sound other
+  step_left first h w a b (Naming k) at sound other apart = staged w a b Free other
   step_left first h w a b (Questioning k c step) at sound other apart = current_left w a k b c step other
 
   either_left : (w u : World V) (b : ℕ) (t : Bool) → IsLeft w u b → IsLeft w (cond t w u) b
@@ -268,8 +270,12 @@ module _ {V : Type 0} where
   start_left w a b (op.Chan second k) _ free = same_left w w b (same_self w b)
   start_left w a b (op.Settle v) (Leading k g own) free = staged w a b (Settling k g own v settle.Peek) free
   start_left w a b (op.Settle v) _ free = same_left w w b (same_self w b)
-  start_left w a b (op.Forget k) Free free = staged w a b (Forgetting k (forget.Look false)) free
+  start_left w a b (op.Forget k) Free free = staged w a b (Forgetting k None (forget.Look false)) free
+  start_left w a b (op.ForgetCall k d) Free free = staged w a b (Forgetting k (Some d) (forget.Look false)) free
+  start_left w a b (op.Named k) Free free = staged w a b (Naming k) free
   start_left w a b (op.Forget k) _ free = same_left w w b (same_self w b)
+  start_left w a b (op.ForgetCall k d) _ free = same_left w w b (same_self w b)
+  start_left w a b (op.Named k) _ free = same_left w w b (same_self w b)
   start_left w a b op.Poll (Holding k g c) free = staged w a b (Polling k g c) free
   start_left w a b op.Poll _ free = same_left w w b (same_self w b)
   start_left w a b (op.Current k c) Free free = staged w a b (Questioning k c current.Peek) free
@@ -283,30 +289,10 @@ module _ {V : Type 0} where
 
   leave_left : (first : ℕ) (h : List (Event ℕ V)) (w : World V) (a b : ℕ) (p : Stage V) → w.stages a ≡ p → Sound first h w → b ≢ a → w.stages b ≢ Seconding a → IsLeft w (left w a p) b
   leave_left first h w a b (Asking k s (ask.Look true)) at sound other apart = freed_left first h w a k b s at sound other apart
-  leave_left first h w a b (Forgetting k (forget.Look true)) at sound other apart = staged w a b Free other
+  leave_left first h w a b (Forgetting k target (forget.Look true)) at sound other apart = staged w a b Free other
   leave_left first h w a b _ at sound other apart = same_left w w b (same_self w b)
 
   pub turn_left : (first : ℕ) (h : List (Event ℕ V)) (w : World V) (t : Turn V) (b : ℕ) → Sound first h w → (Concerns w t b → ⊥) → IsLeft w (turned w t) b
   turn_left first h w (turn.Start a o) b sound free = start_left w a b o (w.stages a) free
   turn_left first h w (turn.Step a) b sound free = step_left first h w a b (w.stages a) refl sound (λ e. free (inl e)) (λ e. free (inr e))
   turn_left first h w (turn.Leave a) b sound free = leave_left first h w a b (w.stages a) refl sound (λ e. free (inl e)) (λ e. free (inr e))
-
-  pub others_are_left : OthersAreLeft V
-  others_are_left z s t is b free =
-      let w : World V = world_after z.first s in
-      let there : world_after z.first (s ++ t ∷ []) ≡ turned w t = run_append (first_world z.first) s (t ∷ []) in
-      let sound = always z s (schedule_parts z s (t ∷ []) [] (first_world z.first) is).0 in
-      subst (λ (u : World V). IsLeft w u b) (sym there) (turn_left z.first (events_of z.first s) w t b sound free)
-
-  pub own_turns_decide : OwnTurnsDecide V
-  own_turns_decide z s [] is b others =
-      let same : world_after z.first (s ++ []) ≡ world_after z.first s = run_append (first_world z.first) s [] in
-      (ap (λ (u : World V). u.stages b) same, ap (λ (u : World V). u.generations b) same, ap (λ (u : World V). u.nexts b) same)
-  own_turns_decide z s (t ∷ ts) is b others =
-      let parts : IsSchedule z ((s ++ t ∷ []) ++ ts) = subst (λ (q : List (Turn V)). IsSchedule z q) (sym (append_assoc s (t ∷ []) ts)) is in
-      let one = (schedule_parts z (s ++ t ∷ []) ts [] (first_world z.first) parts).0 in
-      let there : world_after z.first (s ++ t ∷ []) ≡ turned (world_after z.first s) t = run_append (first_world z.first) s (t ∷ []) in
-      let here = others_are_left z s t one b others.0 in
-      let rest = own_turns_decide z (s ++ t ∷ []) ts parts b (subst (λ (u : World V). AreOthers u ts b) (sym there) others.1) in
-      let whole : world_after z.first ((s ++ t ∷ []) ++ ts) ≡ world_after z.first (s ++ t ∷ ts) = ap (λ (q : List (Turn V)). world_after z.first q) (append_assoc s (t ∷ []) ts) in
-      (ap (λ (u : World V). u.stages b) (sym whole) ∙ (rest.0 ∙ here.stage), ap (λ (u : World V). u.generations b) (sym whole) ∙ (rest.1 ∙ here.generation), ap (λ (u : World V). u.nexts b) (sym whole) ∙ (rest.2 ∙ here.next))

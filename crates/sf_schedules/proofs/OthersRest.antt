@@ -1,12 +1,12 @@
 -- a caller does not come to lead by another's turn
 use Rattle.std.proofs.Common.{◌≡◌, ◌≢◌, ℕ, Bool, true, false, ◌==◌, ◌||◌, List, inl, inr, Option, Some, None, refl, sym, ◌∙◌, ap}
-use Rattle.std.specs.Prelude.{cond, is_some}
+use Rattle.std.specs.Prelude.{cond}
 use Rattle.sf_history.specs.declared.call.CallId.{CallId}
 use Rattle.sf_history.specs.declared.event.Event.{Event}
 use Rattle.sf_words.specs.declared.call_word.LeaderState.{LeaderState}
 use Rattle.sf_schedules.specs.declared.operation.Op.TheVariants as op
 use Rattle.sf_schedules.specs.declared.operation.Stage.{Stage}
-use Rattle.sf_schedules.specs.declared.operation.Stage.TheVariants.{Free, Leading, Holding, Polling, Seconding, Asking, Settling, Forgetting, Questioning}
+use Rattle.sf_schedules.specs.declared.operation.Stage.TheVariants.{Free, Leading, Holding, Polling, Seconding, Asking, Settling, Forgetting, Naming, Questioning}
 use Rattle.sf_schedules.specs.declared.operation.SettleStep.TheVariants as settle
 use Rattle.sf_schedules.specs.declared.turn.Turn.{Turn}
 use Rattle.sf_schedules.specs.declared.turn.Turn.TheVariants as turn
@@ -17,10 +17,10 @@ use Rattle.sf_schedules.specs.declared.operation.AskStep.TheVariants as ask
 use Rattle.sf_schedules.specs.declared.operation.ForgetStep.{ForgetStep}
 use Rattle.sf_schedules.specs.declared.operation.ForgetStep.TheVariants as forget
 use Rattle.sf_schedules.specs.declared.operation.CurrentStep.TheVariants as current
-use Rattle.sf_schedules.specs.World.{World, with_stage, next_id, key_of, same_key, is_open_with, open_in, is_forgot_in, generation_in, is_full, is_spent}
+use Rattle.sf_schedules.specs.World.{World, with_stage, next_id, key_of, same_key, is_open_with, open_in, is_forgot_in, generation_in, is_full, is_spent, one_more}
 use Rattle.sf_lists.specs.Functions.{put}
 use Rattle.sf_schedules.specs.Askings.{looked, peeked, joiner, ready_own, after_lead, after_enter, ask_stepped}
-use Rattle.sf_schedules.specs.Turns.{after_own_peek, at_members, after_close, cleared, own_peeked, forget_looked, forget_peeked, forgot, forget_cleared, forget_stepped, polled, current_peeked, stepped, chan_started, started, left, turned}
+use Rattle.sf_schedules.specs.Turns.{after_own_peek, at_members, after_close, cleared, own_peeked, forget_looked, misses, peek_missed, forgot, forget_cleared, forget_stepped, polled, current_peeked, stepped, chan_started, started, left, turned, at_count, after_count}
 use Rattle.sf_schedules.specs.Schedules.{Setting, IsTurn}
 use Rattle.sf_schedules.specs.Left.{Concerns}
 use Rattle.sf_lists.proofs.Functions.{put_else, put_cases}
@@ -78,44 +78,46 @@ module _ {V : Type 0} where
     where
       closes : (t : Bool) → unsettled ((after_close w b i n own v seen t).stages a) ≡ Some x → ⊥
       closes false is = by (Settling i n own v settle.Peek) (after_close w b i n own v seen false) refl is
-      closes true is = by (at_members i n own v (is_some seen.top) seen.top) (after_close w b i n own v seen true) refl is
-  serves_asking w b a (Settling i n own v (settle.Clear shared top)) x at other rest by is = clears (same_key (w.keys i) (Names b n false)) is
+      closes true is = by (at_count i n own v seen.top) (after_close w b i n own v seen true) refl is
+  serves_asking w b a (Settling i n own v (settle.Clear top)) x at other rest by is = clears (same_key (w.keys i) (Names b n false)) is
     where
-      clears : (t : Bool) → unsettled ((with_stage (cleared w i (call_of b n) t) b (at_members i n own v shared top)).stages a) ≡ Some x → ⊥
-      clears false is = by (at_members i n own v shared top) (with_stage w b (at_members i n own v shared top)) refl is
-      clears true is = by (at_members i n own v shared top) (with_stage (cleared w i (call_of b n) true) b (at_members i n own v shared top)) refl is
-  serves_asking w b a (Settling i n own v (settle.Follow shared m)) x at other rest by is = rests w.stages b a (Settling i n own v (settle.PeekMember shared m (w.nexts m))) x other rest is
-  serves_asking w b a (Settling i n own v (settle.PeekMember shared m next)) x at other rest by is = rests w.stages b a (Settling i n own v (settle.Deliver shared (call_of m (generation_in (w.calls m))) next)) x other rest is
-  serves_asking w b a (Settling i n own v (settle.Deliver shared m next)) x at other rest by is = rests w.stages b a (at_members i n own v shared next) x other rest is
-  serves_asking w b a (Settling i n own v (settle.PeekOwn shared)) x at other rest by is = rests w.stages b a (Settling i n own v (own_peeked w shared own)) x other rest is
-  serves_asking w b a (Settling i n own v (settle.DeliverOwn shared m)) x at other rest by is = rests w.stages b a Free x other rest is
-  serves_asking w b a (Forgetting i step) x at other rest by is = forgetting step is
+      clears : (t : Bool) → unsettled ((with_stage (cleared w i (call_of b n) t) b (at_count i n own v top)).stages a) ≡ Some x → ⊥
+      clears false is = by (at_count i n own v top) (with_stage w b (at_count i n own v top)) refl is
+      clears true is = by (at_count i n own v top) (with_stage (cleared w i (call_of b n) true) b (at_count i n own v top)) refl is
+  serves_asking w b a (Settling i n own v (settle.Count j m top)) x at other rest by is = rests w.stages b a (Settling i n own v (after_count (one_more w.callers j) top (w.nexts m))) x other rest is
+  serves_asking w b a (Settling i n own v (settle.Follow joiners m)) x at other rest by is = rests w.stages b a (Settling i n own v (settle.PeekMember joiners m (w.nexts m))) x other rest is
+  serves_asking w b a (Settling i n own v (settle.PeekMember joiners m next)) x at other rest by is = rests w.stages b a (Settling i n own v (settle.Deliver joiners (call_of m (generation_in (w.calls m))) next)) x other rest is
+  serves_asking w b a (Settling i n own v (settle.Deliver joiners m next)) x at other rest by is = rests w.stages b a (at_members i n own v joiners next) x other rest is
+  serves_asking w b a (Settling i n own v (settle.PeekOwn joiners)) x at other rest by is = rests w.stages b a (Settling i n own v (own_peeked w joiners own)) x other rest is
+  serves_asking w b a (Settling i n own v (settle.DeliverOwn joiners m)) x at other rest by is = rests w.stages b a Free x other rest is
+  serves_asking w b a (Forgetting i target step) x at other rest by is = forgetting step is
     where
-      forgets_call : (c : CallId) (seen : LeaderState) (t : Bool) → unsettled ((forgot w b i c seen t).stages a) ≡ Some x → ⊥
-      forgets_call c seen false is = by (Forgetting i (forget.Look true)) (forgot w b i c seen false) refl is
-      forgets_call c seen true is = by (Forgetting i (forget.LastClear c)) (forgot w b i c seen true) refl is
+      forgets_call : (c : CallId) (seen : LeaderState) (t : Bool) → unsettled ((forgot w b i target c seen t).stages a) ≡ Some x → ⊥
+      forgets_call c seen false is = by (Forgetting i target (forget.Look true)) (forgot w b i target c seen false) refl is
+      forgets_call c seen true is = by (Forgetting i target (forget.LastClear c)) (forgot w b i target c seen true) refl is
 
-      clears_first : (c : CallId) (t : Bool) → unsettled ((forget_cleared w b i c t).stages a) ≡ Some x → ⊥
-      clears_first c false is = by (Forgetting i (forget.Look true)) (forget_cleared w b i c false) refl is
-      clears_first c true is = by Free (forget_cleared w b i c true) refl is
+      clears_first : (c : CallId) (t : Bool) → unsettled ((forget_cleared w b i target c t).stages a) ≡ Some x → ⊥
+      clears_first c false is = by (Forgetting i target (forget.Look true)) (forget_cleared w b i target c false) refl is
+      clears_first c true is = by Free (forget_cleared w b i target c true) refl is
 
       clears_last : (c : CallId) (t : Bool) → unsettled ((with_stage (cleared w i c t) b Free).stages a) ≡ Some x → ⊥
       clears_last c false is = by Free (with_stage w b Free) refl is
       clears_last c true is = by Free (with_stage (cleared w i c true) b Free) refl is
 
-      forgetting : (step : ForgetStep) → unsettled ((forget_stepped w b i step).stages a) ≡ Some x → ⊥
-      forgetting (forget.Look failed) is = by (forget_looked i (w.keys i)) (forget_stepped w b i (forget.Look failed)) refl is
-      forgetting (forget.Peek c) is = by (Forgetting i (forget_peeked c (open_in c.generation (w.calls c.caller)))) (forget_stepped w b i (forget.Peek c)) refl is
+      forgetting : (step : ForgetStep) → unsettled ((forget_stepped w b i target step).stages a) ≡ Some x → ⊥
+      forgetting (forget.Look failed) is = by (forget_looked i target (w.keys i)) (forget_stepped w b i target (forget.Look failed)) refl is
+      forgetting (forget.Peek c) is = by (peek_missed i target c (open_in c.generation (w.calls c.caller)) (misses target (is_forgot_in c.generation (w.calls c.caller)))) (forget_stepped w b i target (forget.Peek c)) refl is
       forgetting (forget.Close c seen) is = forgets_call c seen (is_open_with seen (w.calls c.caller)) is
       forgetting (forget.FirstClear c) is = clears_first c (same_key (w.keys i) (key_of c)) is
       forgetting (forget.LastClear c) is = clears_last c (same_key (w.keys i) (key_of c)) is
+  serves_asking w b a (Naming i) x at other rest by is = rests w.stages b a Free x other rest is
   serves_asking w b a (Questioning i c current.Peek) x at other rest by is = rests w.stages b a (current_peeked i c (is_forgot_in c.generation (w.calls c.caller))) x other rest is
   serves_asking w b a (Questioning i c current.Look) x at other rest by is = rests w.stages b a Free x other rest is
 
   leave_rests : (w : World V) (b a : ℕ) (p : Stage V) (x : ℕ × ℕ) → a ≢ b → (unsettled (w.stages a) ≡ Some x → ⊥) → unsettled ((left w b p).stages a) ≡ Some x → ⊥
   leave_rests w b a (Asking i None (ask.Look true)) x other rest is = rests w.stages b a Free x other rest is
   leave_rests w b a (Asking i (Some j) (ask.Look true)) x other rest is = rests (put w.stages j Free) b a Free x other (rests_none w.stages j a Free x refl rest) is
-  leave_rests w b a (Forgetting i (forget.Look true)) x other rest is = rests w.stages b a Free x other rest is
+  leave_rests w b a (Forgetting i target (forget.Look true)) x other rest is = rests w.stages b a Free x other rest is
   leave_rests w b a _ x other rest is = rest is
 
   chan_rests : (w : World V) (b j i a : ℕ) (q : Stage V) (x : ℕ × ℕ) → a ≢ b → (unsettled (w.stages a) ≡ Some x → ⊥) → unsettled ((chan_started w b j i q).stages a) ≡ Some x → ⊥
@@ -143,6 +145,8 @@ module _ {V : Type 0} where
       chan_second w b j k a (w.stages b) x (λ (e : a ≡ b). not_by (sym e)) (λ unsettled_is. let clash : None ≡ Some x = sym (ap unsettled (ap w.stages one ∙ free)) ∙ unsettled_is in cc) is
   others_turn z h w a (turn.Start b (op.Settle v)) x allowed not_by is one = not_by (sym one)
   others_turn z h w a (turn.Start b (op.Forget k)) x allowed not_by is one = not_by (sym one)
+  others_turn z h w a (turn.Start b (op.ForgetCall k d)) x allowed not_by is one = not_by (sym one)
+  others_turn z h w a (turn.Start b (op.Named k)) x allowed not_by is one = not_by (sym one)
   others_turn z h w a (turn.Start b op.Poll) x allowed not_by is one = not_by (sym one)
   others_turn z h w a (turn.Start b (op.Current k c)) x allowed not_by is one = not_by (sym one)
   others_turn z h w a (turn.Step b) x allowed not_by is (inl one) = not_by (sym one)

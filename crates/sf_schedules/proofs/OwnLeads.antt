@@ -2,7 +2,7 @@
 use Rattle.std.proofs.Common.{◌≡◌, ℕ, ◌+◌, ◌≤◌, Bool, true, false, ◌==◌, ◌&&◌, ◌||◌, not, ◌⊎◌, List, [], ◌∷◌, inl, inr, Option, Some, None, refl, sym, ◌∙◌, ap, subst, arith, eq-eqb}
 use Rattle.std.proofs.lemmas.Bool.{and_from}
 use Rattle.std.proofs.Math.Bool.{and-false}
-use Rattle.std.specs.Prelude.{cond, is_some}
+use Rattle.std.specs.Prelude.{cond}
 use Rattle.sf_history.specs.declared.call.CallId.{CallId}
 use Rattle.sf_words.specs.declared.call_word.LeaderState.{LeaderState}
 use Rattle.sf_words.specs.declared.call_word.CallState.{CallState}
@@ -10,7 +10,7 @@ use Rattle.sf_words.specs.declared.call_word.CallState.TheVariants as word
 use Rattle.sf_schedules.specs.declared.operation.Op.{Op}
 use Rattle.sf_schedules.specs.declared.operation.Op.TheVariants as op
 use Rattle.sf_schedules.specs.declared.operation.Stage.{Stage}
-use Rattle.sf_schedules.specs.declared.operation.Stage.TheVariants.{Free, Leading, Holding, Polling, Seconding, Asking, Settling, Forgetting, Questioning}
+use Rattle.sf_schedules.specs.declared.operation.Stage.TheVariants.{Free, Leading, Holding, Polling, Seconding, Asking, Settling, Forgetting, Naming, Questioning}
 use Rattle.sf_schedules.specs.declared.operation.SettleStep.TheVariants as settle
 use Rattle.sf_schedules.specs.declared.turn.Turn.{Turn}
 use Rattle.sf_schedules.specs.declared.turn.Turn.TheVariants as turn
@@ -23,13 +23,13 @@ use Rattle.sf_schedules.specs.declared.operation.ForgetStep.{ForgetStep}
 use Rattle.sf_schedules.specs.declared.operation.ForgetStep.TheVariants as forget
 use Rattle.sf_schedules.specs.declared.operation.CurrentStep.{CurrentStep}
 use Rattle.sf_schedules.specs.declared.operation.CurrentStep.TheVariants as current
-use Rattle.sf_schedules.specs.World.{World, with_stage, next_id, key_of, same_key, same_flag, same_top, is_open_with, open_in, is_forgot_in, generation_in, is_full, is_spent}
+use Rattle.sf_schedules.specs.World.{World, with_stage, next_id, key_of, same_key, same_flag, same_top, is_open_with, open_in, is_forgot_in, generation_in, is_full, is_spent, one_more}
 use Rattle.sf_lists.specs.Functions.{put}
 use Rattle.sf_schedules.specs.Askings.{looked, peeked, joiner, ready_own, after_lead, after_enter, ask_stepped}
-use Rattle.sf_schedules.specs.Turns.{after_own_peek, at_members, after_close, cleared, own_peeked, settle_stepped, forget_looked, forget_peeked, forgot, forget_cleared, forget_stepped, polled, current_peeked, current_stepped, stepped, chan_started, started, freed, left, turned}
+use Rattle.sf_schedules.specs.Turns.{after_own_peek, at_members, after_close, cleared, own_peeked, settle_stepped, key_looked, call_looked, forget_looked, misses, peek_missed, forgot, forget_cleared, forget_stepped, polled, current_peeked, current_stepped, stepped, chan_started, started, freed, left, turned, at_count, after_count}
 use Rattle.sf_schedules.specs.Closes.{fails_at, fails}
 use Rattle.sf_lists.proofs.Functions.{put_here, put_cases}
-use Rattle.sf_schedules.proofs.SettleSteps.{members_unsettled}
+use Rattle.sf_schedules.proofs.SettleSteps.{members_unsettled, count_unsettled}
 use Rattle.sf_schedules.proofs.Compared.{same_pair}
 use Rattle.sf_schedules.proofs.Members.{Chain}
 use Rattle.sf_schedules.proofs.Sound.{call_of, unsettled}
@@ -132,7 +132,7 @@ module _ {V : Type 0} where
       let stage : put w.stages a p a ≡ p = put_here w.stages a p in
       old_stage w (with_stage w a p) a k g (Settling i n own v settle.Peek) p (sym (ap unsettled stage) ∙ is) stage refl
       (ap (λ (x : CallState). fails_at g x p) word ∙ (ap (λ (b : Bool). cond {A = ℕ} ((n == g) && not b) 1 0) (open_self s) ∙ ap (λ (b : Bool). cond {A = ℕ} b 1 0) (and-false (n == g))))
-  peek_leads w a i n k g own v (word.Forgot s) word is = absurd (leads_none w.stages a (Settling i n own v (settle.Clear (is_some s.top) s.top)) (k, g) refl is)
+  peek_leads w a i n k g own v (word.Forgot s) word is = absurd (leads_none w.stages a (Settling i n own v (settle.Clear s.top)) (k, g) refl is)
   peek_leads w a i n k g own v (word.Done s) word is = peeks_on w a i n k g own v is
   peek_leads w a i n k g own v (word.Listed m) word is = peeks_on w a i n k g own v is
   peek_leads w a i n k g own v (word.Full m) word is = peeks_on w a i n k g own v is
@@ -142,49 +142,66 @@ module _ {V : Type 0} where
       let p : Stage V = Settling i n own v settle.Peek in
       let stage : put w.stages a p a ≡ p = put_here w.stages a p in
       old_stage w (with_stage w a p) a k g (Settling i n own v (settle.Close seen)) p (sym (ap unsettled stage) ∙ is) stage refl refl
-  close_leads w a i n k g own v seen true is = absurd (leads_none w.stages a (at_members i n own v (is_some seen.top) seen.top) (k, g) (members_unsettled i n own v (is_some seen.top) seen.top) is)
+  close_leads w a i n k g own v seen true is = absurd (leads_none w.stages a (at_count i n own v seen.top) (k, g) (count_unsettled i n own v seen.top) is)
 
-  peeked_unsettled : (w : World V) (i n : ℕ) (own : Option CallId) (v : V) (shared : Bool) → unsettled (Settling i n own v (own_peeked w shared own)) ≡ None
-  peeked_unsettled w i n None v shared = refl
-  peeked_unsettled w i n (Some m) v shared = refl
+  peeked_unsettled : (w : World V) (i n : ℕ) (own : Option CallId) (v : V) (joiners : ℕ) → unsettled (Settling i n own v (own_peeked w joiners own)) ≡ None
+  peeked_unsettled w i n None v joiners = refl
+  peeked_unsettled w i n (Some m) v joiners = refl
+
+  counted_unsettled : (i n : ℕ) (own : Option CallId) (v : V) (j top : ℕ) (next : Option ℕ) → unsettled (Settling i n own v (after_count j top next)) ≡ None
+  counted_unsettled i n own v j top None = refl
+  counted_unsettled i n own v j top (Some m) = refl
 
   settle_leads : (w : World V) (a i n k g : ℕ) (own : Option CallId) (v : V) (step : SettleStep) → unsettled ((settle_stepped w a i n own v step).stages a) ≡ Some (k, g) → Old w (settle_stepped w a i n own v step) a k g (Settling i n own v step)
   settle_leads w a i n k g own v settle.Peek is = peek_leads w a i n k g own v (w.calls a) refl is
   settle_leads w a i n k g own v (settle.Close seen) is = close_leads w a i n k g own v seen (is_open_with seen (w.calls a)) is
-  settle_leads w a i n k g own v (settle.Clear shared top) is = absurd (leads_none w.stages a (at_members i n own v shared top) (k, g) (members_unsettled i n own v shared top) (ap unsettled (clear_stage (same_key (w.keys i) (Names a n false))) ∙ is))
+  settle_leads w a i n k g own v (settle.Clear top) is = absurd (leads_none w.stages a (at_count i n own v top) (k, g) (count_unsettled i n own v top) (ap unsettled (clear_stage (same_key (w.keys i) (Names a n false))) ∙ is))
     where
-      clear_stage : (b : Bool) → put w.stages a (at_members i n own v shared top) a ≡ (with_stage (cleared w i (call_of a n) b) a (at_members i n own v shared top)).stages a
+      clear_stage : (b : Bool) → put w.stages a (at_count i n own v top) a ≡ (with_stage (cleared w i (call_of a n) b) a (at_count i n own v top)).stages a
       clear_stage true = refl
       clear_stage false = refl
-  settle_leads w a i n k g own v (settle.Follow shared m) is = absurd (leads_none w.stages a (Settling i n own v (settle.PeekMember shared m (w.nexts m))) (k, g) refl is)
-  settle_leads w a i n k g own v (settle.PeekMember shared m next) is = absurd (leads_none w.stages a (Settling i n own v (settle.Deliver shared (call_of m (generation_in (w.calls m))) next)) (k, g) refl is)
-  settle_leads w a i n k g own v (settle.Deliver shared m next) is = absurd (leads_none w.stages a (at_members i n own v shared next) (k, g) (members_unsettled i n own v shared next) is)
-  settle_leads w a i n k g own v (settle.PeekOwn shared) is = absurd (leads_none w.stages a (Settling i n own v (own_peeked w shared own)) (k, g) (peeked_unsettled w i n own v shared) is)
-  settle_leads w a i n k g own v (settle.DeliverOwn shared m) is = absurd (leads_none w.stages a Free (k, g) refl is)
+  settle_leads w a i n k g own v (settle.Count j m top) is = absurd (leads_none w.stages a (Settling i n own v (after_count (one_more w.callers j) top (w.nexts m))) (k, g) (counted_unsettled i n own v (one_more w.callers j) top (w.nexts m)) is)
+  settle_leads w a i n k g own v (settle.Follow joiners m) is = absurd (leads_none w.stages a (Settling i n own v (settle.PeekMember joiners m (w.nexts m))) (k, g) refl is)
+  settle_leads w a i n k g own v (settle.PeekMember joiners m next) is = absurd (leads_none w.stages a (Settling i n own v (settle.Deliver joiners (call_of m (generation_in (w.calls m))) next)) (k, g) refl is)
+  settle_leads w a i n k g own v (settle.Deliver joiners m next) is = absurd (leads_none w.stages a (at_members i n own v joiners next) (k, g) (members_unsettled i n own v joiners next) is)
+  settle_leads w a i n k g own v (settle.PeekOwn joiners) is = absurd (leads_none w.stages a (Settling i n own v (own_peeked w joiners own)) (k, g) (peeked_unsettled w i n own v joiners) is)
+  settle_leads w a i n k g own v (settle.DeliverOwn joiners m) is = absurd (leads_none w.stages a Free (k, g) refl is)
 
-  looked_unsettled : (w : World V) (k : ℕ) (v : KeyState) → unsettled {V = V} (forget_looked k v) ≡ None
-  looked_unsettled w k Never = refl
-  looked_unsettled w k (Names b g true) = refl
-  looked_unsettled w k (Names b g false) = refl
+  key_looked_unsettled : (w : World V) (k : ℕ) (v : KeyState) → unsettled {V = V} (key_looked k v) ≡ None
+  key_looked_unsettled w k Never = refl
+  key_looked_unsettled w k (Names b g true) = refl
+  key_looked_unsettled w k (Names b g false) = refl
 
-  forgot_leads : (w : World V) (a i k g : ℕ) (c : CallId) (seen : LeaderState) (b : Bool) → unsettled ((forgot w a i c seen b).stages a) ≡ Some (k, g) → ⊥
-  forgot_leads w a i k g c seen false is = leads_none w.stages a (Forgetting i (forget.Look true)) (k, g) refl is
-  forgot_leads w a i k g c seen true is = leads_none w.stages a (Forgetting i (forget.LastClear c)) (k, g) refl is
+  call_looked_unsettled : (w : World V) (k : ℕ) (c : CallId) (b : Bool) → unsettled {V = V} (call_looked k c b) ≡ None
+  call_looked_unsettled w k c false = refl
+  call_looked_unsettled w k c true = refl
 
-  first_leads : (w : World V) (a i k g : ℕ) (c : CallId) (b : Bool) → unsettled ((forget_cleared w a i c b).stages a) ≡ Some (k, g) → ⊥
-  first_leads w a i k g c false is = leads_none w.stages a (Forgetting i (forget.Look true)) (k, g) refl is
-  first_leads w a i k g c true is = leads_none w.stages a Free (k, g) refl is
+  looked_unsettled : (w : World V) (k : ℕ) (target : Option CallId) (v : KeyState) → unsettled {V = V} (forget_looked k target v) ≡ None
+  looked_unsettled w k None v = key_looked_unsettled w k v
+  looked_unsettled w k (Some c) v = call_looked_unsettled w k c (same_key v (key_of c))
+
+  missed_unsettled : (w : World V) (k : ℕ) (target : Option CallId) (c : CallId) (o : Option LeaderState) (b : Bool) → unsettled {V = V} (peek_missed k target c o b) ≡ None
+  missed_unsettled w k target c o false = refl
+  missed_unsettled w k target c o true = refl
+
+  forgot_leads : (w : World V) (a i k g : ℕ) (target : Option CallId) (c : CallId) (seen : LeaderState) (b : Bool) → unsettled ((forgot w a i target c seen b).stages a) ≡ Some (k, g) → ⊥
+  forgot_leads w a i k g target c seen false is = leads_none w.stages a (Forgetting i target (forget.Look true)) (k, g) refl is
+  forgot_leads w a i k g target c seen true is = leads_none w.stages a (Forgetting i target (forget.LastClear c)) (k, g) refl is
+
+  first_leads : (w : World V) (a i k g : ℕ) (target : Option CallId) (c : CallId) (b : Bool) → unsettled ((forget_cleared w a i target c b).stages a) ≡ Some (k, g) → ⊥
+  first_leads w a i k g target c false is = leads_none w.stages a (Forgetting i target (forget.Look true)) (k, g) refl is
+  first_leads w a i k g target c true is = leads_none w.stages a Free (k, g) refl is
 
   last_leads : (w : World V) (a i k g : ℕ) (c : CallId) (b : Bool) → unsettled ((with_stage (cleared w i c b) a Free).stages a) ≡ Some (k, g) → ⊥
   last_leads w a i k g c false is = leads_none w.stages a Free (k, g) refl is
   last_leads w a i k g c true is = leads_none w.stages a Free (k, g) refl is
 
-  forget_leads : (w : World V) (a i k g : ℕ) (step : ForgetStep) → unsettled ((forget_stepped w a i step).stages a) ≡ Some (k, g) → ⊥
-  forget_leads w a i k g (forget.Look failed) is = leads_none w.stages a (forget_looked i (w.keys i)) (k, g) (looked_unsettled w i (w.keys i)) is
-  forget_leads w a i k g (forget.Peek c) is = leads_none w.stages a (Forgetting i (forget_peeked c (open_in c.generation (w.calls c.caller)))) (k, g) refl is
-  forget_leads w a i k g (forget.Close c seen) is = forgot_leads w a i k g c seen (is_open_with seen (w.calls c.caller)) is
-  forget_leads w a i k g (forget.FirstClear c) is = first_leads w a i k g c (same_key (w.keys i) (key_of c)) is
-  forget_leads w a i k g (forget.LastClear c) is = last_leads w a i k g c (same_key (w.keys i) (key_of c)) is
+  forget_leads : (w : World V) (a i k g : ℕ) (target : Option CallId) (step : ForgetStep) → unsettled ((forget_stepped w a i target step).stages a) ≡ Some (k, g) → ⊥
+  forget_leads w a i k g target (forget.Look failed) is = leads_none w.stages a (forget_looked i target (w.keys i)) (k, g) (looked_unsettled w i target (w.keys i)) is
+  forget_leads w a i k g target (forget.Peek c) is = leads_none w.stages a (peek_missed i target c (open_in c.generation (w.calls c.caller)) (misses target (is_forgot_in c.generation (w.calls c.caller)))) (k, g) (missed_unsettled w i target c (open_in c.generation (w.calls c.caller)) (misses target (is_forgot_in c.generation (w.calls c.caller)))) is
+  forget_leads w a i k g target (forget.Close c seen) is = forgot_leads w a i k g target c seen (is_open_with seen (w.calls c.caller)) is
+  forget_leads w a i k g target (forget.FirstClear c) is = first_leads w a i k g target c (same_key (w.keys i) (key_of c)) is
+  forget_leads w a i k g target (forget.LastClear c) is = last_leads w a i k g c (same_key (w.keys i) (key_of c)) is
 
   poll_leads : (w : World V) (a i n k g : ℕ) (c : CallId) (b : Bool) → unsettled ((polled w a i n c b).stages a) ≡ Some (k, g) → ⊥
   poll_leads w a i n k g c false is = leads_none w.stages a (Holding i n c) (k, g) refl is
@@ -209,7 +226,8 @@ module _ {V : Type 0} where
   step_leads w a k g (Seconding one) at is = absurd (at_rest w a k g (Seconding one) at refl is)
   step_leads w a k g (Asking i s step) at is = inl (ask_leads w a i k g s step at is)
   step_leads w a k g (Settling i n own v step) at is = inr (settle_leads w a i n k g own v step is)
-  step_leads w a k g (Forgetting i step) at is = absurd (forget_leads w a i k g step is)
+  step_leads w a k g (Forgetting i target step) at is = absurd (forget_leads w a i k g target step is)
+  step_leads w a k g (Naming i) at is = absurd (leads_none w.stages a Free (k, g) refl is)
   step_leads w a k g (Questioning i c step) at is = absurd (current_leads w a i k g c step is)
 
   -- the turn is the caller's
@@ -272,8 +290,12 @@ module _ {V : Type 0} where
   own_start w a k g (op.Chan b i) _ at is = unchanged w w a k g refl refl is
   own_start w a k g (op.Settle v) (Leading i n own) at is = settle_starts w a i n k g own v at is
   own_start w a k g (op.Settle v) _ at is = unchanged w w a k g refl refl is
-  own_start w a k g (op.Forget i) Free at is = absurd (leads_none w.stages a (Forgetting i (forget.Look false)) (k, g) refl is)
+  own_start w a k g (op.Forget i) Free at is = absurd (leads_none w.stages a (Forgetting i None (forget.Look false)) (k, g) refl is)
+  own_start w a k g (op.ForgetCall i d) Free at is = absurd (leads_none w.stages a (Forgetting i (Some d) (forget.Look false)) (k, g) refl is)
+  own_start w a k g (op.Named i) Free at is = absurd (leads_none w.stages a (Naming i) (k, g) refl is)
   own_start w a k g (op.Forget i) _ at is = unchanged w w a k g refl refl is
+  own_start w a k g (op.ForgetCall i d) _ at is = unchanged w w a k g refl refl is
+  own_start w a k g (op.Named i) _ at is = unchanged w w a k g refl refl is
   own_start w a k g op.Poll (Holding i n c) at is = absurd (leads_none w.stages a (Polling i n c) (k, g) refl is)
   own_start w a k g op.Poll _ at is = unchanged w w a k g refl refl is
   own_start w a k g (op.Current i c) Free at is = absurd (leads_none w.stages a (Questioning i c current.Peek) (k, g) refl is)
@@ -285,7 +307,7 @@ module _ {V : Type 0} where
 
   own_leave : (w : World V) (a k g : ℕ) (p : Stage V) → w.stages a ≡ p → unsettled ((left w a p).stages a) ≡ Some (k, g) → Starts w (left w a p) a k g
   own_leave w a k g (Asking i s (ask.Look true)) at is = absurd (freed_leads w a k g s is)
-  own_leave w a k g (Forgetting i (forget.Look true)) at is = absurd (leads_none w.stages a Free (k, g) refl is)
+  own_leave w a k g (Forgetting i target (forget.Look true)) at is = absurd (leads_none w.stages a Free (k, g) refl is)
   own_leave w a k g _ at is = unchanged w w a k g refl refl is
 
   -- its own turn

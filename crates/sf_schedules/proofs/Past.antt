@@ -5,7 +5,7 @@ use Rattle.std.specs.Prelude.{nat_eq, cond}
 use Rattle.std.specs.List.{list_any}
 use Rattle.sf_history.specs.declared.call.CallId.{CallId}
 use Rattle.sf_history.specs.declared.event.Event.{Event}
-use Rattle.sf_history.specs.declared.event.Event.TheVariants.{Lead, Enter, Forget, Settle, Handed}
+use Rattle.sf_history.specs.declared.event.Event.TheVariants.{Lead, Enter, Forget, ForgetCall, Settle, Handed}
 use Rattle.sf_history.specs.Calls.{same_call}
 use Rattle.sf_history.specs.History.{names, is_settled, is_handed, uses, next_generation}
 use Rattle.sf_history.specs.Legal.{MayFollow, IsLegal}
@@ -78,21 +78,24 @@ module _ {V : Type 0} where
   NamesNothing (Lead by key call own) = ⊥
   NamesNothing (Enter by key call member) = ⊥
   NamesNothing (Forget by key closed) = Unit {0}
-  NamesNothing (Settle by call result shared) = Unit {0}
+  NamesNothing (ForgetCall by key call hit) = Unit {0}
+  NamesNothing (Settle by call result joiners) = Unit {0}
   NamesNothing (Handed by call) = Unit {0}
 
   names_none : (e : Event ℕ V) → NamesNothing e → (c : CallId) → names c e ≡ false
   names_none (Lead by key call own) none c = absurd none
   names_none (Enter by key call member) none c = absurd none
   names_none (Forget by key closed) none c = refl
-  names_none (Settle by call result shared) none c = refl
+  names_none (ForgetCall by key call hit) none c = refl
+  names_none (Settle by call result joiners) none c = refl
   names_none (Handed by call) none c = refl
 
   uses_none : (e : Event ℕ V) → NamesNothing e → (a : ℕ) → uses a e ≡ 0
   uses_none (Lead by key call own) none a = absurd none
   uses_none (Enter by key call member) none a = absurd none
   uses_none (Forget by key closed) none a = refl
-  uses_none (Settle by call result shared) none a = refl
+  uses_none (ForgetCall by key call hit) none a = refl
+  uses_none (Settle by call result joiners) none a = refl
   uses_none (Handed by call) none a = refl
 
   pub past_note : (first : ℕ) (h : List (Event ℕ V)) (g : ℕ → ℕ) (e : Event ℕ V) → Past first h g → MayFollow nat_eq h e → NamesNothing e → Past first (h ++ e ∷ []) g

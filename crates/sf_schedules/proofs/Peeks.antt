@@ -1,6 +1,6 @@
 -- each question that is at its look has made its peek
 use Rattle.std.proofs.Common.{◌≡◌, ◌≢◌, ℕ, Bool, true, false, ◌==◌, ◌||◌, List, [], ◌∷◌, ◌++◌, ◌⊎◌, inl, inr, Option, Some, None, sym, ◌∙◌, ap, subst}
-use Rattle.std.specs.Prelude.{cond, is_some}
+use Rattle.std.specs.Prelude.{cond}
 use Rattle.sf_history.specs.declared.call.CallId.{CallId}
 use Rattle.sf_words.specs.declared.key_word.KeyState.{KeyState}
 use Rattle.sf_words.specs.declared.key_word.KeyState.TheVariants.{Never, Names}
@@ -8,7 +8,7 @@ use Rattle.sf_words.specs.declared.call_word.LeaderState.{LeaderState}
 use Rattle.sf_schedules.specs.declared.operation.Op.{Op}
 use Rattle.sf_schedules.specs.declared.operation.Op.TheVariants as op
 use Rattle.sf_schedules.specs.declared.operation.Stage.{Stage}
-use Rattle.sf_schedules.specs.declared.operation.Stage.TheVariants.{Free, Leading, Holding, Polling, Seconding, Asking, Settling, Forgetting, Questioning}
+use Rattle.sf_schedules.specs.declared.operation.Stage.TheVariants.{Free, Leading, Holding, Polling, Seconding, Asking, Settling, Forgetting, Naming, Questioning}
 use Rattle.sf_schedules.specs.declared.operation.AskStep.{AskStep}
 use Rattle.sf_schedules.specs.declared.operation.AskStep.TheVariants as ask
 use Rattle.sf_schedules.specs.declared.operation.SettleStep.{SettleStep}
@@ -19,10 +19,10 @@ use Rattle.sf_schedules.specs.declared.operation.CurrentStep.{CurrentStep}
 use Rattle.sf_schedules.specs.declared.operation.CurrentStep.TheVariants as current
 use Rattle.sf_schedules.specs.declared.turn.Turn.{Turn}
 use Rattle.sf_schedules.specs.declared.turn.Turn.TheVariants as turn
-use Rattle.sf_schedules.specs.World.{World, first_world, with_stage, next_id, key_of, same_key, is_open_with, is_forgot_in, open_in, generation_in, is_full, is_spent}
+use Rattle.sf_schedules.specs.World.{World, first_world, with_stage, next_id, key_of, same_key, is_open_with, is_forgot_in, open_in, generation_in, is_full, is_spent, one_more}
 use Rattle.sf_lists.specs.Functions.{put}
 use Rattle.sf_schedules.specs.Askings.{looked, peeked, joiner, ready_own, after_lead, after_enter, ask_stepped}
-use Rattle.sf_schedules.specs.Turns.{after_own_peek, at_members, after_close, cleared, own_peeked, settle_stepped, forget_looked, forget_peeked, forgot, forget_cleared, forget_stepped, polled, current_peeked, current_stepped, stepped, chan_started, started, freed, left, turned, run}
+use Rattle.sf_schedules.specs.Turns.{after_own_peek, at_members, after_close, cleared, own_peeked, settle_stepped, key_looked, call_looked, forget_looked, misses, peek_missed, forget_peeked, forgot, forget_cleared, forget_stepped, polled, current_peeked, current_stepped, stepped, chan_started, started, freed, left, turned, run, at_count, after_count}
 use Rattle.sf_schedules.specs.Laws.{LooksHavePeeks}
 use Rattle.sf_schedules.proofs.Sound.{call_of}
 use Rattle.sf_lists.proofs.Functions.{put_cases}
@@ -41,8 +41,8 @@ module _ {V : Type 0} where
   settling_kept : (f : ℕ → Stage V) (b i g : ℕ) (own : Option CallId) (v : V) (step : SettleStep) (a k : ℕ) (c : CallId) → put f b (Settling i g own v step) a ≡ Questioning k c current.Look → f a ≡ Questioning k c current.Look
   settling_kept f b i g own v step a k c = kept f b (Settling i g own v step) a k c (λ x. cc)
 
-  forgetting_kept : (f : ℕ → Stage V) (b i : ℕ) (step : ForgetStep) (a k : ℕ) (c : CallId) → put f b (Forgetting i step) a ≡ Questioning k c current.Look → f a ≡ Questioning k c current.Look
-  forgetting_kept f b i step a k c = kept f b (Forgetting i step) a k c (λ x. cc)
+  forgetting_kept : (f : ℕ → Stage V) (b i : ℕ) (target : Option CallId) (step : ForgetStep) (a k : ℕ) (c : CallId) → put f b (Forgetting i target step) a ≡ Questioning k c current.Look → f a ≡ Questioning k c current.Look
+  forgetting_kept f b i target step a k c = kept f b (Forgetting i target step) a k c (λ x. cc)
 
   holding_kept : (f : ℕ → Stage V) (b i g : ℕ) (d : CallId) (a k : ℕ) (c : CallId) → put f b (Holding i g d) a ≡ Questioning k c current.Look → f a ≡ Questioning k c current.Look
   holding_kept f b i g d a k c = kept f b (Holding i g d) a k c (λ x. cc)
@@ -79,14 +79,19 @@ module _ {V : Type 0} where
   ask_kept w b i s (ask.Enter d seen) a k c is = enter_kept w b i s d seen (is_open_with seen (w.calls d.caller)) a k c is
 
   -- nor do those of a settle
-  members_kept : (f : ℕ → Stage V) (b i g : ℕ) (own : Option CallId) (v : V) (shared : Bool) (top : Option ℕ) (a k : ℕ) (c : CallId) → put f b (at_members i g own v shared top) a ≡ Questioning k c current.Look → f a ≡ Questioning k c current.Look
-  members_kept f b i g None v shared None a k c is = freed_kept f b a k c is
-  members_kept f b i g (Some m) v shared None a k c is = settling_kept f b i g (Some m) v (settle.PeekOwn shared) a k c is
-  members_kept f b i g own v shared (Some m) a k c is = settling_kept f b i g own v (settle.Follow shared m) a k c is
+  members_kept : (f : ℕ → Stage V) (b i g : ℕ) (own : Option CallId) (v : V) (joiners : ℕ) (top : Option ℕ) (a k : ℕ) (c : CallId) → put f b (at_members i g own v joiners top) a ≡ Questioning k c current.Look → f a ≡ Questioning k c current.Look
+  members_kept f b i g None v joiners None a k c is = freed_kept f b a k c is
+  members_kept f b i g (Some m) v joiners None a k c is = settling_kept f b i g (Some m) v (settle.PeekOwn joiners) a k c is
+  members_kept f b i g own v joiners (Some m) a k c is = settling_kept f b i g own v (settle.Follow joiners m) a k c is
+
+  count_kept : (f : ℕ → Stage V) (b i g : ℕ) (own : Option CallId) (v : V) (top : Option ℕ) (a k : ℕ) (c : CallId) → put f b (at_count i g own v top) a ≡ Questioning k c current.Look → f a ≡ Questioning k c current.Look
+  count_kept f b i g None v None a k c is = freed_kept f b a k c is
+  count_kept f b i g (Some m) v None a k c is = settling_kept f b i g (Some m) v (settle.PeekOwn 0) a k c is
+  count_kept f b i g own v (Some m) a k c is = settling_kept f b i g own v (settle.Count 0 m m) a k c is
 
   close_kept : (w : World V) (b i g : ℕ) (own : Option CallId) (v : V) (seen : LeaderState) (t : Bool) (a k : ℕ) (c : CallId) → (after_close w b i g own v seen t).stages a ≡ Questioning k c current.Look → w.stages a ≡ Questioning k c current.Look
   close_kept w b i g own v seen false a k c is = settling_kept w.stages b i g own v settle.Peek a k c is
-  close_kept w b i g own v seen true a k c is = members_kept w.stages b i g own v (is_some seen.top) seen.top a k c is
+  close_kept w b i g own v seen true a k c is = count_kept w.stages b i g own v seen.top a k c is
 
   cleared_kept : (w : World V) (i : ℕ) (d : CallId) (t : Bool) (a k : ℕ) (c : CallId) → (cleared w i d t).stages a ≡ Questioning k c current.Look → w.stages a ≡ Questioning k c current.Look
   cleared_kept w i d false a k c is = is
@@ -95,35 +100,48 @@ module _ {V : Type 0} where
   settle_kept : (w : World V) (b i g : ℕ) (own : Option CallId) (v : V) (step : SettleStep) (a k : ℕ) (c : CallId) → (settle_stepped w b i g own v step).stages a ≡ Questioning k c current.Look → w.stages a ≡ Questioning k c current.Look
   settle_kept w b i g own v settle.Peek a k c is = settling_kept w.stages b i g own v (after_own_peek (w.calls b)) a k c is
   settle_kept w b i g own v (settle.Close seen) a k c is = close_kept w b i g own v seen (is_open_with seen (w.calls b)) a k c is
-  settle_kept w b i g own v (settle.Clear shared top) a k c is =
+  settle_kept w b i g own v (settle.Clear top) a k c is =
       let t : Bool = same_key (w.keys i) (Names b g false) in
-      cleared_kept w i (call_of b g) t a k c (members_kept (cleared w i (call_of b g) t).stages b i g own v shared top a k c is)
-  settle_kept w b i g own v (settle.Follow shared m) a k c is = settling_kept w.stages b i g own v (settle.PeekMember shared m (w.nexts m)) a k c is
-  settle_kept w b i g own v (settle.PeekMember shared m next) a k c is = settling_kept w.stages b i g own v (settle.Deliver shared (call_of m (generation_in (w.calls m))) next) a k c is
-  settle_kept w b i g own v (settle.Deliver shared m next) a k c is = members_kept w.stages b i g own v shared next a k c is
-  settle_kept w b i g own v (settle.PeekOwn shared) a k c is = settling_kept w.stages b i g own v (own_peeked w shared own) a k c is
-  settle_kept w b i g own v (settle.DeliverOwn shared m) a k c is = freed_kept w.stages b a k c is
+      cleared_kept w i (call_of b g) t a k c (count_kept (cleared w i (call_of b g) t).stages b i g own v top a k c is)
+  settle_kept w b i g own v (settle.Count n m top) a k c is = settling_kept w.stages b i g own v (after_count (one_more w.callers n) top (w.nexts m)) a k c is
+  settle_kept w b i g own v (settle.Follow joiners m) a k c is = settling_kept w.stages b i g own v (settle.PeekMember joiners m (w.nexts m)) a k c is
+  settle_kept w b i g own v (settle.PeekMember joiners m next) a k c is = settling_kept w.stages b i g own v (settle.Deliver joiners (call_of m (generation_in (w.calls m))) next) a k c is
+  settle_kept w b i g own v (settle.Deliver joiners m next) a k c is = members_kept w.stages b i g own v joiners next a k c is
+  settle_kept w b i g own v (settle.PeekOwn joiners) a k c is = settling_kept w.stages b i g own v (own_peeked w joiners own) a k c is
+  settle_kept w b i g own v (settle.DeliverOwn joiners m) a k c is = freed_kept w.stages b a k c is
 
   -- nor those of a forget
-  looked_kept : (f : ℕ → Stage V) (b i : ℕ) (v : KeyState) (a k : ℕ) (c : CallId) → put f b (forget_looked i v) a ≡ Questioning k c current.Look → f a ≡ Questioning k c current.Look
-  looked_kept f b i Never a k c is = freed_kept f b a k c is
-  looked_kept f b i (Names n g true) a k c is = freed_kept f b a k c is
-  looked_kept f b i (Names n g false) a k c is = forgetting_kept f b i (forget.Peek (call_of n g)) a k c is
+  key_looked_kept : (f : ℕ → Stage V) (b i : ℕ) (v : KeyState) (a k : ℕ) (c : CallId) → put f b (key_looked i v) a ≡ Questioning k c current.Look → f a ≡ Questioning k c current.Look
+  key_looked_kept f b i Never a k c is = freed_kept f b a k c is
+  key_looked_kept f b i (Names n g true) a k c is = freed_kept f b a k c is
+  key_looked_kept f b i (Names n g false) a k c is = forgetting_kept f b i None (forget.Peek (call_of n g)) a k c is
 
-  forgot_kept : (w : World V) (b i : ℕ) (d : CallId) (seen : LeaderState) (t : Bool) (a k : ℕ) (c : CallId) → (forgot w b i d seen t).stages a ≡ Questioning k c current.Look → w.stages a ≡ Questioning k c current.Look
-  forgot_kept w b i d seen false a k c is = forgetting_kept w.stages b i (forget.Look true) a k c is
-  forgot_kept w b i d seen true a k c is = forgetting_kept w.stages b i (forget.LastClear d) a k c is
+  call_looked_kept : (f : ℕ → Stage V) (b i : ℕ) (d : CallId) (t : Bool) (a k : ℕ) (c : CallId) → put f b (call_looked i d t) a ≡ Questioning k c current.Look → f a ≡ Questioning k c current.Look
+  call_looked_kept f b i d false a k c is = freed_kept f b a k c is
+  call_looked_kept f b i d true a k c is = forgetting_kept f b i (Some d) (forget.Peek d) a k c is
 
-  first_kept : (w : World V) (b i : ℕ) (d : CallId) (t : Bool) (a k : ℕ) (c : CallId) → (forget_cleared w b i d t).stages a ≡ Questioning k c current.Look → w.stages a ≡ Questioning k c current.Look
-  first_kept w b i d false a k c is = forgetting_kept w.stages b i (forget.Look true) a k c is
-  first_kept w b i d true a k c is = freed_kept w.stages b a k c is
+  looked_kept : (f : ℕ → Stage V) (b i : ℕ) (target : Option CallId) (v : KeyState) (a k : ℕ) (c : CallId) → put f b (forget_looked i target v) a ≡ Questioning k c current.Look → f a ≡ Questioning k c current.Look
+  looked_kept f b i None v a k c is = key_looked_kept f b i v a k c is
+  looked_kept f b i (Some d) v a k c is = call_looked_kept f b i d (same_key v (key_of d)) a k c is
 
-  forget_kept : (w : World V) (b i : ℕ) (step : ForgetStep) (a k : ℕ) (c : CallId) → (forget_stepped w b i step).stages a ≡ Questioning k c current.Look → w.stages a ≡ Questioning k c current.Look
-  forget_kept w b i (forget.Look failed) a k c is = looked_kept w.stages b i (w.keys i) a k c is
-  forget_kept w b i (forget.Peek d) a k c is = forgetting_kept w.stages b i (forget_peeked d (open_in d.generation (w.calls d.caller))) a k c is
-  forget_kept w b i (forget.Close d seen) a k c is = forgot_kept w b i d seen (is_open_with seen (w.calls d.caller)) a k c is
-  forget_kept w b i (forget.FirstClear d) a k c is = first_kept w b i d (same_key (w.keys i) (key_of d)) a k c is
-  forget_kept w b i (forget.LastClear d) a k c is =
+  missed_kept : (f : ℕ → Stage V) (b i : ℕ) (target : Option CallId) (d : CallId) (o : Option LeaderState) (t : Bool) (a k : ℕ) (c : CallId) → put f b (peek_missed i target d o t) a ≡ Questioning k c current.Look → f a ≡ Questioning k c current.Look
+  missed_kept f b i target d o false a k c is = forgetting_kept f b i target (forget_peeked d o) a k c is
+  missed_kept f b i target d o true a k c is = freed_kept f b a k c is
+
+  forgot_kept : (w : World V) (b i : ℕ) (target : Option CallId) (d : CallId) (seen : LeaderState) (t : Bool) (a k : ℕ) (c : CallId) → (forgot w b i target d seen t).stages a ≡ Questioning k c current.Look → w.stages a ≡ Questioning k c current.Look
+  forgot_kept w b i target d seen false a k c is = forgetting_kept w.stages b i target (forget.Look true) a k c is
+  forgot_kept w b i target d seen true a k c is = forgetting_kept w.stages b i target (forget.LastClear d) a k c is
+
+  first_kept : (w : World V) (b i : ℕ) (target : Option CallId) (d : CallId) (t : Bool) (a k : ℕ) (c : CallId) → (forget_cleared w b i target d t).stages a ≡ Questioning k c current.Look → w.stages a ≡ Questioning k c current.Look
+  first_kept w b i target d false a k c is = forgetting_kept w.stages b i target (forget.Look true) a k c is
+  first_kept w b i target d true a k c is = freed_kept w.stages b a k c is
+
+  forget_kept : (w : World V) (b i : ℕ) (target : Option CallId) (step : ForgetStep) (a k : ℕ) (c : CallId) → (forget_stepped w b i target step).stages a ≡ Questioning k c current.Look → w.stages a ≡ Questioning k c current.Look
+  forget_kept w b i target (forget.Look failed) a k c is = looked_kept w.stages b i target (w.keys i) a k c is
+  forget_kept w b i target (forget.Peek d) a k c is = missed_kept w.stages b i target d (open_in d.generation (w.calls d.caller)) (misses target (is_forgot_in d.generation (w.calls d.caller))) a k c is
+  forget_kept w b i target (forget.Close d seen) a k c is = forgot_kept w b i target d seen (is_open_with seen (w.calls d.caller)) a k c is
+  forget_kept w b i target (forget.FirstClear d) a k c is = first_kept w b i target d (same_key (w.keys i) (key_of d)) a k c is
+  forget_kept w b i target (forget.LastClear d) a k c is =
       let t : Bool = same_key (w.keys i) (key_of d) in
       cleared_kept w i d t a k c (freed_kept (cleared w i d t).stages b a k c is)
 
@@ -159,7 +177,8 @@ module _ {V : Type 0} where
   step_look w b (Seconding one) a k c is = inl is
   step_look w b (Asking i s step) a k c is = inl (ask_kept w b i s step a k c is)
   step_look w b (Settling i g own v step) a k c is = inl (settle_kept w b i g own v step a k c is)
-  step_look w b (Forgetting i step) a k c is = inl (forget_kept w b i step a k c is)
+  step_look w b (Forgetting i target step) a k c is = inl (forget_kept w b i target step a k c is)
+  step_look w b (Naming i) a k c is = inl (freed_kept w.stages b a k c is)
   step_look w b (Questioning i d step) a k c is = question_look w b i d step a k c is
 
   -- starts and leaves put no look
@@ -179,7 +198,9 @@ module _ {V : Type 0} where
       either_kept w (with_stage w b (Asking i None (ask.Look false))) (is_spent w b) a k c (asking_kept w.stages b i None (ask.Look false) a k c) is
   start_kept w b (op.Chan e i) Free a k c is = chan_kept w b e i (w.stages e) (is_spent w b) a k c is
   start_kept w b (op.Settle v) (Leading i g own) a k c is = settling_kept w.stages b i g own v settle.Peek a k c is
-  start_kept w b (op.Forget i) Free a k c is = forgetting_kept w.stages b i (forget.Look false) a k c is
+  start_kept w b (op.Forget i) Free a k c is = forgetting_kept w.stages b i None (forget.Look false) a k c is
+  start_kept w b (op.ForgetCall i d) Free a k c is = forgetting_kept w.stages b i (Some d) (forget.Look false) a k c is
+  start_kept w b (op.Named i) Free a k c is = kept w.stages b (Naming i) a k c (λ x. cc) is
   start_kept w b op.Poll (Holding i g d) a k c is = kept w.stages b (Polling i g d) a k c (λ x. cc) is
   start_kept w b (op.Current i d) Free a k c is = kept w.stages b (Questioning i d current.Peek) a k c (λ x. cc) is
   start_kept w b _ _ a k c is = is
@@ -190,7 +211,7 @@ module _ {V : Type 0} where
 
   leave_kept : (w : World V) (b : ℕ) (q : Stage V) (a k : ℕ) (c : CallId) → (left w b q).stages a ≡ Questioning k c current.Look → w.stages a ≡ Questioning k c current.Look
   leave_kept w b (Asking i s (ask.Look true)) a k c is = both_kept w b s a k c is
-  leave_kept w b (Forgetting i (forget.Look true)) a k c is = freed_kept w.stages b a k c is
+  leave_kept w b (Forgetting i target (forget.Look true)) a k c is = freed_kept w.stages b a k c is
   leave_kept w b _ a k c is = is
 
   -- after a turn a question is at its look that was there before, or the turn was its peek
@@ -224,7 +245,7 @@ module _ {V : Type 0} where
 
   pub looks_have_peeks : LooksHavePeeks V
   looks_have_peeks z s is a k c looks =
-      elim (run_look s (first_world z.first) a k c looks) [
+      elim (run_look s (first_world z.callers z.first) a k c looks) [
         | inl free ↦ cc
         | inr has ↦ has
       ]

@@ -1,6 +1,5 @@
 -- a look's own peek, and what is right at either
-use Rattle.std.proofs.Common.{◌≡◌, ◌≢◌, ℕ, true, false, List, [], ◌∷◌, ◌++◌, ◌⊎◌, inl, inr, Option, Some, None, refl, sym, ◌∙◌, ap, subst, append_assoc}
-use Rattle.std.proofs.lemmas.List.{append-nil}
+use Rattle.std.proofs.Common.{◌≡◌, ◌≢◌, ℕ, true, false, List, [], ◌∷◌, ◌++◌, ◌⊎◌, inl, inr, Option, Some, None, sym, ◌∙◌, ap, subst}
 use Rattle.std.proofs.lemmas.Bool.{cases_Bool, true≢false}
 use Rattle.std.specs.Prelude.{nat_eq}
 use Rattle.std.specs.List.{list_any}
@@ -8,7 +7,6 @@ use Rattle.sf_history.specs.declared.call.CallId.{CallId}
 use Rattle.sf_history.specs.declared.event.Event.{Event}
 use Rattle.sf_history.specs.History.{holds_call, names}
 use Rattle.sf_history.specs.Legal.{IsLegal}
-use Rattle.sf_lists.proofs.Lists.{list_any_push_kept}
 use Rattle.sf_history.proofs.LegalHistories.{same_call_is, same_call_self}
 use Rattle.sf_schedules.specs.declared.operation.Stage.{Stage}
 use Rattle.sf_schedules.specs.declared.operation.Stage.TheVariants.{Free, Questioning}
@@ -20,7 +18,7 @@ use Rattle.sf_schedules.specs.Turns.{turned, run}
 use Rattle.sf_schedules.specs.Events.{adds, events_of, world_after, current_answer}
 use Rattle.sf_schedules.specs.Laws.{is_current_after}
 use Rattle.sf_schedules.specs.Questions.{IsLooking, LooksHaveOwnPeeks, YesAtThePeekNoAtTheLook}
-use Rattle.sf_schedules.proofs.Histories.{now, led_on_named, past_push}
+use Rattle.sf_schedules.proofs.Histories.{now, led_on_named, past_longer}
 use Rattle.sf_schedules.proofs.Sound.{Good, Sound}
 use Rattle.sf_schedules.proofs.RightAnswers.{adds_append, schedule_parts, always, schedules_are_legal, looks_are_right}
 use Rattle.sf_schedules.proofs.Peeks.{turn_look}
@@ -29,10 +27,10 @@ holds_some : (o : Option CallId) (c : CallId) → holds_call o c ≡ true → o 
 holds_some None c is = cc
 holds_some (Some d) c is = ap (λ (x : CallId). Some x) (same_call_is d c is)
 
-not_holding : (o : Option CallId) (c : CallId) → holds_call o c ≡ false → o ≢ Some c
+pub not_holding : (o : Option CallId) (c : CallId) → holds_call o c ≡ false → o ≢ Some c
 not_holding o c isnt is = true≢false (sym (ap (λ (x : Option CallId). holds_call x c) is ∙ same_call_self c) ∙ isnt)
 
-holds_no : (o : Option CallId) (c : CallId) → o ≢ Some c → holds_call o c ≡ false
+pub holds_no : (o : Option CallId) (c : CallId) → o ≢ Some c → holds_call o c ≡ false
 holds_no o c isnt = elim (cases_Bool (holds_call o c)) [
   | inl is ↦ absurd (isnt (holds_some o c is))
   | inr no_such ↦ no_such
@@ -64,18 +62,10 @@ module _ {V : Type 0} where
 
   pub looks_have_own_peeks : LooksHaveOwnPeeks V
   looks_have_own_peeks z s is a k c looks =
-      elim (own_look s (first_world z.first) a k c looks) [
-        | inl from ↦ let clash : Free ≡ Questioning k c current.Look = looks_now s (first_world z.first) a k c from in cc
+      elim (own_look s (first_world z.callers z.first) a k c looks) [
+        | inl from ↦ let clash : Free ≡ Questioning k c current.Look = looks_now s (first_world z.callers z.first) a k c from in cc
         | inr has ↦ has
       ]
-
-  -- a named call that is not current will not be current again
-  pub past_longer : (k : ℕ) (c : CallId) (es h : List (Event ℕ V)) → IsLegal nat_eq (h ++ es) → list_any (names c) h ≡ true → now h k ≢ Some c → now (h ++ es) k ≢ Some c
-  past_longer k c [] h legal named isnt = subst (λ (q : List (Event ℕ V)). now q k ≢ Some c) (sym (append-nil h)) isnt
-  past_longer k c (e ∷ es) h legal named isnt =
-      subst (λ (q : List (Event ℕ V)). now q k ≢ Some c) (append_assoc h (e ∷ []) es)
-      (past_longer k c es (h ++ e ∷ []) (subst (λ (q : List (Event ℕ V)). IsLegal nat_eq q) (sym (append_assoc h (e ∷ []) es)) legal) (list_any_push_kept (names c) h e named)
-      (past_push h e k c (legal h es e refl) named isnt))
 
   pub yes_at_the_peek_no_at_the_look : YesAtThePeekNoAtTheLook V
   yes_at_the_peek_no_at_the_look z p rest a k c is at looks = (yes, unlike)
@@ -84,35 +74,35 @@ module _ {V : Type 0} where
       s = p ++ turn.Step a ∷ rest
 
       h : List (Event ℕ V)
-      h = events_of z.first p
+      h = events_of z.callers z.first p
 
       more : List (Event ℕ V)
-      more = adds (world_after z.first p) (turn.Step a ∷ rest)
+      more = adds (world_after z.callers z.first p) (turn.Step a ∷ rest)
 
-      whole : events_of z.first s ≡ h ++ more
-      whole = adds_append (first_world z.first) p (turn.Step a ∷ rest)
+      whole : events_of z.callers z.first s ≡ h ++ more
+      whole = adds_append (first_world z.callers z.first) p (turn.Step a ∷ rest)
 
-      sound : Sound z.first h (world_after z.first p)
-      sound = always z p (schedule_parts z p (turn.Step a ∷ rest) [] (first_world z.first) is).0
+      sound : Sound z.first h (world_after z.callers z.first p)
+      sound = always z p (schedule_parts z p (turn.Step a ∷ rest) [] (first_world z.callers z.first) is).0
 
       named : list_any (names c) h ≡ true
-      named = led_on_named h k c (subst (λ (q : Stage V). Good h (world_after z.first p) a q) at (sound.callers a).good)
+      named = led_on_named h k c (subst (λ (q : Stage V). Good h (world_after z.callers z.first p) a q) at (sound.callers a).good)
 
       -- what is not current at the peek is not current at the look
-      stays : is_current_after z.first p k c ≡ false → is_current_after z.first s k c ≡ false
-      stays isnt = holds_no (now (events_of z.first s) k) c (subst (λ (q : List (Event ℕ V)). now q k ≢ Some c) (sym whole)
+      stays : is_current_after z.callers z.first p k c ≡ false → is_current_after z.callers z.first s k c ≡ false
+      stays isnt = holds_no (now (events_of z.callers z.first s) k) c (subst (λ (q : List (Event ℕ V)). now q k ≢ Some c) (sym whole)
           (past_longer k c more h (subst (λ (q : List (Event ℕ V)). IsLegal nat_eq q) whole (schedules_are_legal z s is)) named (not_holding (now h k) c isnt)))
 
-      yes : current_answer (world_after z.first s) k c current.Look ≡ Some true → is_current_after z.first p k c ≡ true
+      yes : current_answer (world_after z.callers z.first s) k c current.Look ≡ Some true → is_current_after z.callers z.first p k c ≡ true
       yes said = elim (looks_are_right z p rest a k c true is at looks said) [
         | inl then ↦ sym then
-        | inr later ↦ elim (cases_Bool (is_current_after z.first p k c)) [
+        | inr later ↦ elim (cases_Bool (is_current_after z.callers z.first p k c)) [
           | inl was ↦ was
           | inr wasnt ↦ absurd (true≢false (later ∙ stays wasnt))
         ]
       ]
 
-      unlike : current_answer (world_after z.first s) k c current.Look ≡ Some false → is_current_after z.first s k c ≡ false
+      unlike : current_answer (world_after z.callers z.first s) k c current.Look ≡ Some false → is_current_after z.callers z.first s k c ≡ false
       unlike said = elim (looks_are_right z p rest a k c false is at looks said) [
         | inl then ↦ stays (sym then)
         | inr later ↦ sym later

@@ -9,7 +9,7 @@ use Rattle.sf_words.specs.declared.key_word.KeyState.TheVariants.{Never, Names}
 use Rattle.sf_words.specs.declared.call_word.CallState.{CallState}
 use Rattle.sf_schedules.specs.declared.letter.Letter.{Letter}
 use Rattle.sf_schedules.specs.declared.operation.Stage.{Stage}
-use Rattle.sf_schedules.specs.declared.operation.Stage.TheVariants.{Free, Leading, Holding, Polling, Seconding, Asking, Settling, Forgetting, Questioning}
+use Rattle.sf_schedules.specs.declared.operation.Stage.TheVariants.{Free, Leading, Holding, Polling, Seconding, Asking, Settling, Forgetting, Naming, Questioning}
 use Rattle.sf_schedules.specs.declared.operation.AskStep.{AskStep}
 use Rattle.sf_schedules.specs.World.{World, with_stage, with_call, with_next, with_cell, with_key, with_used}
 use Rattle.sf_lists.specs.Functions.{put}
@@ -122,7 +122,8 @@ module _ {V : Type 0} where
       at (Seconding first) e is = cc
       at (Asking k s step) e is = cc
       at (Settling k g own v step) e is = own_spared w w' l (Settling k g own v step) e refl (λ b x. cc) b z here
-      at (Forgetting k step) e is = cc
+      at (Forgetting k target step) e is = cc
+      at (Naming k) e is = cc
       at (Questioning k c step) e is = cc
 
   -- one who asks, or serves as the second of a, has no call and no ticket
@@ -200,6 +201,7 @@ module _ {V : Type 0} where
   quiet first h w a p s at sound none not_second same owes good =
       let w' : World V = with_stage w a s in
       sound_after first a (λ z. z ≡ a) h w h w' sound (record {
+        bound = refl;
         past = sound.past;
         grows = grows_none a h;
         mine = refl;

@@ -26,7 +26,8 @@ use Rattle.sf_schedules.specs.Schedules.{Setting, IsCaller}
 use Rattle.sf_schedules.specs.Within.{TopIn, CallIn, OwnIn, KeyIn, LeaderIn, WordIn, AskerIn, StageIn, AreWithin}
 use Rattle.sf_lists.proofs.Functions.{put_cases}
 use Rattle.sf_schedules.proofs.Compared.{same_key_is}
-use Rattle.sf_schedules.proofs.Members.{Each, line, line_head}
+use Rattle.sf_history.proofs.Members.{Each}
+use Rattle.sf_schedules.proofs.Members.{line, line_head}
 use Rattle.sf_schedules.proofs.Sound.{call_of, Waits, GoodSettle, Good, Sound}
 
 pub open_in_within : (z : Setting) (g : ℕ) (u : CallState) (seen : LeaderState) → WordIn z u → open_in g u ≡ Some seen → LeaderIn z seen
@@ -107,27 +108,28 @@ module _ {V : Type 0} where
     pub settle_keys : (a k g : ℕ) (own : Option CallId) (v : V) (step : SettleStep) (x : ℕ) → KeyIn z ((settle_stepped w a k g own v step).keys x)
     settle_keys a k g own v settle.Peek x = within.keys x
     settle_keys a k g own v (settle.Close seen) x = close_keys a k g own v seen (is_open_with seen (w.calls a)) x
-    settle_keys a k g own v (settle.Clear shared top) x = cleared_keys k (call_of a g) (same_key (w.keys k) (Names a g false)) refl x
-    settle_keys a k g own v (settle.Follow shared m) x = within.keys x
-    settle_keys a k g own v (settle.PeekMember shared m next) x = within.keys x
-    settle_keys a k g own v (settle.Deliver shared m next) x = within.keys x
-    settle_keys a k g own v (settle.PeekOwn shared) x = within.keys x
-    settle_keys a k g own v (settle.DeliverOwn shared m) x = within.keys x
+    settle_keys a k g own v (settle.Clear top) x = cleared_keys k (call_of a g) (same_key (w.keys k) (Names a g false)) refl x
+    settle_keys a k g own v (settle.Count n m top) x = within.keys x
+    settle_keys a k g own v (settle.Follow joiners m) x = within.keys x
+    settle_keys a k g own v (settle.PeekMember joiners m next) x = within.keys x
+    settle_keys a k g own v (settle.Deliver joiners m next) x = within.keys x
+    settle_keys a k g own v (settle.PeekOwn joiners) x = within.keys x
+    settle_keys a k g own v (settle.DeliverOwn joiners m) x = within.keys x
 
-    forgot_keys : (a k : ℕ) (c : CallId) (seen : LeaderState) (b : Bool) (x : ℕ) → KeyIn z ((forgot w a k c seen b).keys x)
-    forgot_keys a k c seen false x = within.keys x
-    forgot_keys a k c seen true x = within.keys x
+    forgot_keys : (a k : ℕ) (target : Option CallId) (c : CallId) (seen : LeaderState) (b : Bool) (x : ℕ) → KeyIn z ((forgot w a k target c seen b).keys x)
+    forgot_keys a k target c seen false x = within.keys x
+    forgot_keys a k target c seen true x = within.keys x
 
-    first_keys : (a k : ℕ) (c : CallId) (b : Bool) → same_key (w.keys k) (key_of c) ≡ b → (x : ℕ) → KeyIn z ((forget_cleared w a k c b).keys x)
-    first_keys a k c false same x = within.keys x
-    first_keys a k c true same x = put_key k (cleared_key_of c) (key_call k c same) x
+    first_keys : (a k : ℕ) (target : Option CallId) (c : CallId) (b : Bool) → same_key (w.keys k) (key_of c) ≡ b → (x : ℕ) → KeyIn z ((forget_cleared w a k target c b).keys x)
+    first_keys a k target c false same x = within.keys x
+    first_keys a k target c true same x = put_key k (cleared_key_of c) (key_call k c same) x
 
-    pub forget_keys : (a k : ℕ) (step : ForgetStep) (x : ℕ) → KeyIn z ((forget_stepped w a k step).keys x)
-    forget_keys a k (forget.Look failed) x = within.keys x
-    forget_keys a k (forget.Peek c) x = within.keys x
-    forget_keys a k (forget.Close c seen) x = forgot_keys a k c seen (is_open_with seen (w.calls c.caller)) x
-    forget_keys a k (forget.FirstClear c) x = first_keys a k c (same_key (w.keys k) (key_of c)) refl x
-    forget_keys a k (forget.LastClear c) x = cleared_keys k c (same_key (w.keys k) (key_of c)) refl x
+    pub forget_keys : (a k : ℕ) (target : Option CallId) (step : ForgetStep) (x : ℕ) → KeyIn z ((forget_stepped w a k target step).keys x)
+    forget_keys a k target (forget.Look failed) x = within.keys x
+    forget_keys a k target (forget.Peek c) x = within.keys x
+    forget_keys a k target (forget.Close c seen) x = forgot_keys a k target c seen (is_open_with seen (w.calls c.caller)) x
+    forget_keys a k target (forget.FirstClear c) x = first_keys a k target c (same_key (w.keys k) (key_of c)) refl x
+    forget_keys a k target (forget.LastClear c) x = cleared_keys k c (same_key (w.keys k) (key_of c)) refl x
 
     -- call words
     put_word : (b : ℕ) (v : CallState) → WordIn z v → (x : ℕ) → WordIn z (put w.calls b v x)
@@ -171,32 +173,33 @@ module _ {V : Type 0} where
     pub settle_calls : (a k g : ℕ) (own : Option CallId) (v : V) (step : SettleStep) → w.stages a ≡ Settling k g own v step → (x : ℕ) → WordIn z ((settle_stepped w a k g own v step).calls x)
     settle_calls a k g own v settle.Peek at x = within.calls x
     settle_calls a k g own v (settle.Close seen) at x = close_calls a k g own v seen (is_open_with seen (w.calls a)) (stage_at a (Settling k g own v (settle.Close seen)) at).3 x
-    settle_calls a k g own v (settle.Clear shared top) at x = clear_calls k (call_of a g) (same_key (w.keys k) (Names a g false)) x
-    settle_calls a k g own v (settle.Follow shared m) at x = within.calls x
-    settle_calls a k g own v (settle.PeekMember shared m next) at x = within.calls x
-    settle_calls a k g own v (settle.Deliver shared m next) at x =
-        let good : GoodSettle h w a k g own v (settle.Deliver shared m next) = good_at a (Settling k g own v (settle.Deliver shared m next)) at in
+    settle_calls a k g own v (settle.Clear top) at x = clear_calls k (call_of a g) (same_key (w.keys k) (Names a g false)) x
+    settle_calls a k g own v (settle.Count n m top) at x = within.calls x
+    settle_calls a k g own v (settle.Follow joiners m) at x = within.calls x
+    settle_calls a k g own v (settle.PeekMember joiners m next) at x = within.calls x
+    settle_calls a k g own v (settle.Deliver joiners m next) at x =
+        let good : GoodSettle h w a k g own v (settle.Deliver joiners m next) = good_at a (Settling k g own v (settle.Deliver joiners m next)) at in
         put_word m.caller (word.Full m.generation) (waiting_in k (call_of a g) m (line_head (Waits w k (call_of a g)) own m good.0 good.1.waits)) x
-    settle_calls a k g own v (settle.PeekOwn shared) at x = within.calls x
-    settle_calls a k g own v (settle.DeliverOwn shared m) at x =
-        let good : GoodSettle h w a k g own v (settle.DeliverOwn shared m) = good_at a (Settling k g own v (settle.DeliverOwn shared m)) at in
+    settle_calls a k g own v (settle.PeekOwn joiners) at x = within.calls x
+    settle_calls a k g own v (settle.DeliverOwn joiners m) at x =
+        let good : GoodSettle h w a k g own v (settle.DeliverOwn joiners m) = good_at a (Settling k g own v (settle.DeliverOwn joiners m)) at in
         let waits : Each (Waits w k (call_of a g)) (m ∷ []) = subst (λ (o : Option CallId). Each (Waits w k (call_of a g)) (line o [])) good.2 good.0.waits in
         put_word m.caller (word.Full m.generation) (waiting_in k (call_of a g) m waits.0) x
 
-    forgot_calls : (a k : ℕ) (c : CallId) (seen : LeaderState) (b : Bool) → LeaderIn z seen → (x : ℕ) → WordIn z ((forgot w a k c seen b).calls x)
-    forgot_calls a k c seen false lawful x = within.calls x
-    forgot_calls a k c seen true lawful x = put_word c.caller (word.Forgot seen) lawful x
+    forgot_calls : (a k : ℕ) (target : Option CallId) (c : CallId) (seen : LeaderState) (b : Bool) → LeaderIn z seen → (x : ℕ) → WordIn z ((forgot w a k target c seen b).calls x)
+    forgot_calls a k target c seen false lawful x = within.calls x
+    forgot_calls a k target c seen true lawful x = put_word c.caller (word.Forgot seen) lawful x
 
-    first_calls : (a k : ℕ) (c : CallId) (b : Bool) (x : ℕ) → WordIn z ((forget_cleared w a k c b).calls x)
-    first_calls a k c false x = within.calls x
-    first_calls a k c true x = within.calls x
+    first_calls : (a k : ℕ) (target : Option CallId) (c : CallId) (b : Bool) (x : ℕ) → WordIn z ((forget_cleared w a k target c b).calls x)
+    first_calls a k target c false x = within.calls x
+    first_calls a k target c true x = within.calls x
 
-    pub forget_calls : (a k : ℕ) (step : ForgetStep) → w.stages a ≡ Forgetting k step → (x : ℕ) → WordIn z ((forget_stepped w a k step).calls x)
-    forget_calls a k (forget.Look failed) at x = within.calls x
-    forget_calls a k (forget.Peek c) at x = within.calls x
-    forget_calls a k (forget.Close c seen) at x = forgot_calls a k c seen (is_open_with seen (w.calls c.caller)) (stage_at a (Forgetting k (forget.Close c seen)) at).1 x
-    forget_calls a k (forget.FirstClear c) at x = first_calls a k c (same_key (w.keys k) (key_of c)) x
-    forget_calls a k (forget.LastClear c) at x = clear_calls k c (same_key (w.keys k) (key_of c)) x
+    pub forget_calls : (a k : ℕ) (target : Option CallId) (step : ForgetStep) → w.stages a ≡ Forgetting k target step → (x : ℕ) → WordIn z ((forget_stepped w a k target step).calls x)
+    forget_calls a k target (forget.Look failed) at x = within.calls x
+    forget_calls a k target (forget.Peek c) at x = within.calls x
+    forget_calls a k target (forget.Close c seen) at x = forgot_calls a k target c seen (is_open_with seen (w.calls c.caller)) (stage_at a (Forgetting k target (forget.Close c seen)) at).1 x
+    forget_calls a k target (forget.FirstClear c) at x = first_calls a k target c (same_key (w.keys k) (key_of c)) x
+    forget_calls a k target (forget.LastClear c) at x = clear_calls k c (same_key (w.keys k) (key_of c)) x
 
     -- next words
     pub ask_nexts : (a k : ℕ) (s : Option ℕ) (step : AskStep) → w.stages a ≡ Asking k s step → (x : ℕ) → TopIn z ((ask_stepped w a k s step).nexts x)
@@ -229,31 +232,32 @@ module _ {V : Type 0} where
         close : (b : Bool) → TopIn z ((after_close w a k g own v seen b).nexts x)
         close false = within.nexts x
         close true = within.nexts x
-    settle_nexts a k g own v (settle.Clear shared top) x = clear (same_key (w.keys k) (Names a g false))
+    settle_nexts a k g own v (settle.Clear top) x = clear (same_key (w.keys k) (Names a g false))
       where
         clear : (b : Bool) → TopIn z ((cleared w k (call_of a g) b).nexts x)
         clear false = within.nexts x
         clear true = within.nexts x
-    settle_nexts a k g own v (settle.Follow shared m) x = within.nexts x
-    settle_nexts a k g own v (settle.PeekMember shared m next) x = within.nexts x
-    settle_nexts a k g own v (settle.Deliver shared m next) x = within.nexts x
-    settle_nexts a k g own v (settle.PeekOwn shared) x = within.nexts x
-    settle_nexts a k g own v (settle.DeliverOwn shared m) x = within.nexts x
+    settle_nexts a k g own v (settle.Count n m top) x = within.nexts x
+    settle_nexts a k g own v (settle.Follow joiners m) x = within.nexts x
+    settle_nexts a k g own v (settle.PeekMember joiners m next) x = within.nexts x
+    settle_nexts a k g own v (settle.Deliver joiners m next) x = within.nexts x
+    settle_nexts a k g own v (settle.PeekOwn joiners) x = within.nexts x
+    settle_nexts a k g own v (settle.DeliverOwn joiners m) x = within.nexts x
 
-    pub forget_nexts : (a k : ℕ) (step : ForgetStep) (x : ℕ) → TopIn z ((forget_stepped w a k step).nexts x)
-    forget_nexts a k (forget.Look failed) x = within.nexts x
-    forget_nexts a k (forget.Peek c) x = within.nexts x
-    forget_nexts a k (forget.Close c seen) x = close (is_open_with seen (w.calls c.caller))
+    pub forget_nexts : (a k : ℕ) (target : Option CallId) (step : ForgetStep) (x : ℕ) → TopIn z ((forget_stepped w a k target step).nexts x)
+    forget_nexts a k target (forget.Look failed) x = within.nexts x
+    forget_nexts a k target (forget.Peek c) x = within.nexts x
+    forget_nexts a k target (forget.Close c seen) x = close (is_open_with seen (w.calls c.caller))
       where
-        close : (b : Bool) → TopIn z ((forgot w a k c seen b).nexts x)
+        close : (b : Bool) → TopIn z ((forgot w a k target c seen b).nexts x)
         close false = within.nexts x
         close true = within.nexts x
-    forget_nexts a k (forget.FirstClear c) x = first (same_key (w.keys k) (key_of c))
+    forget_nexts a k target (forget.FirstClear c) x = first (same_key (w.keys k) (key_of c))
       where
-        first : (b : Bool) → TopIn z ((forget_cleared w a k c b).nexts x)
+        first : (b : Bool) → TopIn z ((forget_cleared w a k target c b).nexts x)
         first false = within.nexts x
         first true = within.nexts x
-    forget_nexts a k (forget.LastClear c) x = clear (same_key (w.keys k) (key_of c))
+    forget_nexts a k target (forget.LastClear c) x = clear (same_key (w.keys k) (key_of c))
       where
         clear : (b : Bool) → TopIn z ((cleared w k c b).nexts x)
         clear false = within.nexts x

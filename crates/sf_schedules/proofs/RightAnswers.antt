@@ -1,9 +1,9 @@
 -- the answers to questions: right at the peek or at the look
-use Rattle.std.proofs.Common.{◌≡◌, ◌≢◌, ℕ, ◌<◌, Bool, true, false, ◌==◌, ◌||◌, List, [], ◌∷◌, ◌++◌, ◌⊎◌, inl, inr, Option, Some, None, refl, sym, ◌∙◌, ap, subst, append_assoc, arith, eq-eqb}
+use Rattle.std.proofs.Common.{◌≡◌, ◌≢◌, ℕ, ◌<◌, Bool, true, false, ◌==◌, ◌||◌, List, [], ◌∷◌, ◌++◌, ◌⊎◌, inl, inr, Option, Some, None, refl, sym, ◌∙◌, ap, subst, append_assoc, arith}
 use Rattle.std.proofs.lemmas.List.{append-nil}
 use Rattle.std.proofs.lemmas.List.Folds.{list_any-append}
 use Rattle.std.specs.List.{list_any}
-use Rattle.std.proofs.lemmas.Bool.{eqb-true, or_left, false_from_ne_true, true≢false}
+use Rattle.std.proofs.lemmas.Bool.{or_left, false_from_ne_true, true≢false}
 use Rattle.std.specs.Prelude.{cond}
 use Rattle.sf_history.specs.declared.call.CallId.{CallId}
 use Rattle.sf_history.specs.declared.event.Event.{Event}
@@ -13,12 +13,10 @@ use Rattle.sf_history.proofs.LegalHistories.{same_call_is, same_call_self}
 use Rattle.sf_words.specs.declared.key_word.KeyState.{KeyState}
 use Rattle.sf_words.specs.declared.key_word.KeyState.TheVariants.{Names}
 use Rattle.sf_words.specs.declared.call_word.LeaderState.{LeaderState}
-use Rattle.sf_words.specs.declared.call_word.CallState.{CallState}
-use Rattle.sf_words.specs.declared.call_word.CallState.TheVariants as word
 use Rattle.sf_schedules.specs.declared.operation.Op.{Op}
 use Rattle.sf_schedules.specs.declared.operation.Op.TheVariants as op
 use Rattle.sf_schedules.specs.declared.operation.Stage.{Stage}
-use Rattle.sf_schedules.specs.declared.operation.Stage.TheVariants.{Free, Leading, Holding, Polling, Seconding, Asking, Settling, Forgetting, Questioning}
+use Rattle.sf_schedules.specs.declared.operation.Stage.TheVariants.{Free, Leading, Holding, Polling, Seconding, Asking, Settling, Forgetting, Naming, Questioning}
 use Rattle.sf_schedules.specs.declared.operation.AskStep.{AskStep}
 use Rattle.sf_schedules.specs.declared.operation.AskStep.TheVariants as ask
 use Rattle.sf_schedules.specs.declared.operation.SettleStep.{SettleStep}
@@ -38,10 +36,11 @@ use Rattle.sf_schedules.specs.Laws.{is_current_after, SchedulesAreLegal, PeeksAr
 use Rattle.sf_schedules.specs.Schedules.{Setting, leads_on, was_led_on, IsScheduleFrom, IsSchedule}
 use Rattle.sf_schedules.proofs.Histories.{now, led_on_named}
 use Rattle.sf_lists.proofs.Functions.{put_here, put_cases}
-use Rattle.sf_schedules.proofs.Sound.{call_of, IsForgotWord, Good, GoodKey, Sound, sound_begins}
-use Rattle.sf_schedules.proofs.Compared.{same_key_is, same_key_self}
+use Rattle.sf_schedules.proofs.Sound.{call_of, Good, GoodKey, Sound}
+use Rattle.sf_schedules.proofs.Compared.{same_key_is, same_key_self, forgot_in_is, forgot_is_in}
 use Rattle.sf_schedules.proofs.Leaders.{forgotten_not_now, current_key}
-use Rattle.sf_schedules.proofs.AllTurns.{turn_sound, run_sound}
+use Rattle.sf_schedules.proofs.Flags.{run_fair, turn_fair}
+use Rattle.sf_schedules.proofs.Callers.{Fair, fair_begins}
 
 -- two key words that name the same call
 named_alike : (c d : CallId) → key_of c ≡ key_of d → c ≡ d
@@ -57,22 +56,6 @@ held_not (Some d) c isnt = false_from_ne_true (same_call d c) (λ is. isnt (ap (
 
 held_is : (o : Option CallId) (c : CallId) → o ≡ Some c → holds_call o c ≡ true
 held_is o c is = ap (λ (x : Option CallId). holds_call x c) is ∙ same_call_self c
-
-pub forgot_in_is : (g : ℕ) (v : CallState) → is_forgot_in g v ≡ true → IsForgotWord g v
-forgot_in_is g word.Free is = cc
-forgot_in_is g (word.Open s) is = cc
-forgot_in_is g (word.Forgot s) is = eqb-true s.generation g is
-forgot_in_is g (word.Done s) is = cc
-forgot_in_is g (word.Listed i) is = cc
-forgot_in_is g (word.Full i) is = cc
-
-pub forgot_is_in : (g : ℕ) (v : CallState) → IsForgotWord g v → is_forgot_in g v ≡ true
-forgot_is_in g word.Free is = absurd is
-forgot_is_in g (word.Open s) is = absurd is
-forgot_is_in g (word.Forgot s) is = eq-eqb s.generation g is
-forgot_is_in g (word.Done s) is = absurd is
-forgot_is_in g (word.Listed i) is = absurd is
-forgot_is_in g (word.Full i) is = absurd is
 
 module _ {V : Type 0} where
   -- a key word that names a call after a step named it before, or the stepping caller leads the call just now
@@ -116,27 +99,28 @@ module _ {V : Type 0} where
   settle_named : (w : World V) (a i g k : ℕ) (own : Option CallId) (v : V) (c : CallId) (step : SettleStep) → (settle_stepped w a i g own v step).keys k ≡ key_of c → Named w a k c
   settle_named w a i g k own v c settle.Peek is = inl is
   settle_named w a i g k own v c (settle.Close seen) is = close_named w a i g k own v seen c (is_open_with seen (w.calls a)) is
-  settle_named w a i g k own v c (settle.Clear shared top) is = cleared_named w a i k c (call_of a g) (same_key (w.keys i) (Names a g false)) is
-  settle_named w a i g k own v c (settle.Follow shared m) is = inl is
-  settle_named w a i g k own v c (settle.PeekMember shared m next) is = inl is
-  settle_named w a i g k own v c (settle.Deliver shared m next) is = inl is
-  settle_named w a i g k own v c (settle.PeekOwn shared) is = inl is
-  settle_named w a i g k own v c (settle.DeliverOwn shared m) is = inl is
+  settle_named w a i g k own v c (settle.Clear top) is = cleared_named w a i k c (call_of a g) (same_key (w.keys i) (Names a g false)) is
+  settle_named w a i g k own v c (settle.Count n m top) is = inl is
+  settle_named w a i g k own v c (settle.Follow joiners m) is = inl is
+  settle_named w a i g k own v c (settle.PeekMember joiners m next) is = inl is
+  settle_named w a i g k own v c (settle.Deliver joiners m next) is = inl is
+  settle_named w a i g k own v c (settle.PeekOwn joiners) is = inl is
+  settle_named w a i g k own v c (settle.DeliverOwn joiners m) is = inl is
 
-  forgot_named : (w : World V) (a i k : ℕ) (c d : CallId) (seen : LeaderState) (b : Bool) → (forgot w a i d seen b).keys k ≡ key_of c → Named w a k c
-  forgot_named w a i k c d seen false is = inl is
-  forgot_named w a i k c d seen true is = inl is
+  forgot_named : (w : World V) (a i k : ℕ) (target : Option CallId) (c d : CallId) (seen : LeaderState) (b : Bool) → (forgot w a i target d seen b).keys k ≡ key_of c → Named w a k c
+  forgot_named w a i k target c d seen false is = inl is
+  forgot_named w a i k target c d seen true is = inl is
 
-  first_named : (w : World V) (a i k : ℕ) (c d : CallId) (b : Bool) → (forget_cleared w a i d b).keys k ≡ key_of c → Named w a k c
-  first_named w a i k c d false is = inl is
-  first_named w a i k c d true is = clears_none w a i k c d is
+  first_named : (w : World V) (a i k : ℕ) (target : Option CallId) (c d : CallId) (b : Bool) → (forget_cleared w a i target d b).keys k ≡ key_of c → Named w a k c
+  first_named w a i k target c d false is = inl is
+  first_named w a i k target c d true is = clears_none w a i k c d is
 
-  forget_named : (w : World V) (a i k : ℕ) (c : CallId) (step : ForgetStep) → (forget_stepped w a i step).keys k ≡ key_of c → Named w a k c
-  forget_named w a i k c (forget.Look failed) is = inl is
-  forget_named w a i k c (forget.Peek d) is = inl is
-  forget_named w a i k c (forget.Close d seen) is = forgot_named w a i k c d seen (is_open_with seen (w.calls d.caller)) is
-  forget_named w a i k c (forget.FirstClear d) is = first_named w a i k c d (same_key (w.keys i) (key_of d)) is
-  forget_named w a i k c (forget.LastClear d) is = cleared_named w a i k c d (same_key (w.keys i) (key_of d)) is
+  forget_named : (w : World V) (a i k : ℕ) (target : Option CallId) (c : CallId) (step : ForgetStep) → (forget_stepped w a i target step).keys k ≡ key_of c → Named w a k c
+  forget_named w a i k target c (forget.Look failed) is = inl is
+  forget_named w a i k target c (forget.Peek d) is = inl is
+  forget_named w a i k target c (forget.Close d seen) is = forgot_named w a i k target c d seen (is_open_with seen (w.calls d.caller)) is
+  forget_named w a i k target c (forget.FirstClear d) is = first_named w a i k target c d (same_key (w.keys i) (key_of d)) is
+  forget_named w a i k target c (forget.LastClear d) is = cleared_named w a i k c d (same_key (w.keys i) (key_of d)) is
 
   poll_named : (w : World V) (a i g k : ℕ) (c d : CallId) (b : Bool) → (polled w a i g d b).keys k ≡ key_of c → Named w a k c
   poll_named w a i g k c d false is = inl is
@@ -154,7 +138,8 @@ module _ {V : Type 0} where
   step_named w a k c (Seconding one) is = inl is
   step_named w a k c (Asking i s step) is = ask_named w a i k s c step is
   step_named w a k c (Settling i g own v step) is = settle_named w a i g k own v c step is
-  step_named w a k c (Forgetting i step) is = forget_named w a i k c step is
+  step_named w a k c (Forgetting i target step) is = forget_named w a i k target c step is
+  step_named w a k c (Naming i) is = inl is
   step_named w a k c (Questioning i d step) is = current_named w a i k c d step is
 
   -- starts and leaves change no key word
@@ -167,11 +152,13 @@ module _ {V : Type 0} where
   chan_keys w a b i k Free false = kept_either w (with_stage (with_stage w b (Seconding a)) a (Asking i (Some b) (ask.Look false))) k ((b == a) || is_spent w b) refl
   chan_keys w a b i k _ false = refl
 
-  start_keys : (w : World V) (a k : ℕ) (o : Op V) (p : Stage V) → (started w a o p).keys k ≡ w.keys k
+  pub start_keys : (w : World V) (a k : ℕ) (o : Op V) (p : Stage V) → (started w a o p).keys k ≡ w.keys k
   start_keys w a k (op.Ask i) Free = kept_either w (with_stage w a (Asking i None (ask.Look false))) k (is_spent w a) refl
   start_keys w a k (op.Chan b i) Free = chan_keys w a b i k (w.stages b) (is_spent w a)
   start_keys w a k (op.Settle v) (Leading i g own) = refl
   start_keys w a k (op.Forget i) Free = refl
+  start_keys w a k (op.ForgetCall i d) Free = refl
+  start_keys w a k (op.Named i) Free = refl
   start_keys w a k op.Poll (Holding i g c) = refl
   start_keys w a k (op.Current i c) Free = refl
   start_keys w a k _ _ = refl
@@ -180,9 +167,9 @@ module _ {V : Type 0} where
   freed_keys w a k None = refl
   freed_keys w a k (Some b) = refl
 
-  leave_keys : (w : World V) (a k : ℕ) (p : Stage V) → (left w a p).keys k ≡ w.keys k
+  pub leave_keys : (w : World V) (a k : ℕ) (p : Stage V) → (left w a p).keys k ≡ w.keys k
   leave_keys w a k (Asking i s (ask.Look true)) = freed_keys w a k s
-  leave_keys w a k (Forgetting i (forget.Look true)) = refl
+  leave_keys w a k (Forgetting i target (forget.Look true)) = refl
   leave_keys w a k _ = refl
 
   -- a key word that does not name a call that was led will not name it again
@@ -215,13 +202,16 @@ module _ {V : Type 0} where
       let parts = schedule_parts z p q (h ++ turn_events w t) (turned w t) is.1 in
       ((is.0, parts.0), subst (λ (es : List (Event ℕ V)). IsScheduleFrom z es (run (turned w t) p) q) (append_assoc h (turn_events w t) (adds (turned w t) p)) parts.1)
 
-  pub always : (z : Setting) (s : List (Turn V)) → IsSchedule z s → Sound z.first (events_of z.first s) (world_after z.first s)
-  always z s is = run_sound z s [] (first_world z.first) (sound_begins z.first) is
+  pub always_fair : (z : Setting) (s : List (Turn V)) → IsSchedule z s → Fair z (events_of z.callers z.first s) (world_after z.callers z.first s)
+  always_fair z s is = run_fair z s [] (first_world z.callers z.first) (fair_begins z) is
 
-  unnamed_run : (z : Setting) (k : ℕ) (c : CallId) (ts : List (Turn V)) (h : List (Event ℕ V)) (w : World V) → Sound z.first h w → was_led_on h k c ≡ true → IsScheduleFrom z h w ts → w.keys k ≢ key_of c → (run w ts).keys k ≢ key_of c
+  pub always : (z : Setting) (s : List (Turn V)) → IsSchedule z s → Sound z.first (events_of z.callers z.first s) (world_after z.callers z.first s)
+  always z s is = (always_fair z s is).sound
+
+  unnamed_run : (z : Setting) (k : ℕ) (c : CallId) (ts : List (Turn V)) (h : List (Event ℕ V)) (w : World V) → Fair z h w → was_led_on h k c ≡ true → IsScheduleFrom z h w ts → w.keys k ≢ key_of c → (run w ts).keys k ≢ key_of c
   unnamed_run z k c [] h w sound led is isnt = isnt
   unnamed_run z k c (t ∷ ts) h w sound led is isnt =
-      unnamed_run z k c ts (h ++ turn_events w t) (turned w t) (turn_sound z h w t sound is.0) (led_longer h (turn_events w t) led) is.1 (unnamed_turn z.first h w k c sound led t isnt)
+      unnamed_run z k c ts (h ++ turn_events w t) (turned w t) (turn_fair z h w t sound is.0) (led_longer h (turn_events w t) led) is.1 (unnamed_turn z.first h w k c sound.sound led t isnt)
     where
       led_longer : (h es : List (Event ℕ V)) → was_led_on h k c ≡ true → was_led_on (h ++ es) k c ≡ true
       led_longer h es led = list_any-append (leads_on k c) h es ∙ or_left (list_any (leads_on k c) h) (list_any (leads_on k c) es) led
@@ -236,13 +226,13 @@ module _ {V : Type 0} where
   peeks_are_right z s is a k c answer at said = either (is_forgot_in c.generation (w.calls c.caller)) refl said
     where
       w : World V
-      w = world_after z.first s
+      w = world_after z.callers z.first s
 
-      either : (b : Bool) → is_forgot_in c.generation (w.calls c.caller) ≡ b → cond b (Some false) None ≡ Some answer → answer ≡ is_current_after z.first s k c
+      either : (b : Bool) → is_forgot_in c.generation (w.calls c.caller) ≡ b → cond b (Some false) None ≡ Some answer → answer ≡ is_current_after z.callers z.first s k c
       either false found said = cc
       either true found said =
-          let isnt : holds_call (now (events_of z.first s) k) c ≡ false = held_not (now (events_of z.first s) k) c (forgotten_not_now z.first (events_of z.first s) w c.caller k c.generation (always z s is) (forgot_in_is c.generation (w.calls c.caller) found)) in
-          answered (events_of z.first s) k c false answer said (sym isnt)
+          let isnt : holds_call (now (events_of z.callers z.first s) k) c ≡ false = held_not (now (events_of z.callers z.first s) k) c (forgotten_not_now z.first (events_of z.callers z.first s) w c.caller k c.generation (always z s is) (forgot_in_is c.generation (w.calls c.caller) found)) in
+          answered (events_of z.callers z.first s) k c false answer said (sym isnt)
 
   -- a key word that names a call which its word does not call forgotten names the current call
   unforgotten_current : (h : List (Event ℕ V)) (w : World V) (k : ℕ) (c : CallId) → GoodKey h w k (key_of c) → is_forgot_in c.generation (w.calls c.caller) ≡ false → now h k ≡ Some c
@@ -258,16 +248,16 @@ module _ {V : Type 0} where
       s = p ++ turn.Step a ∷ rest
 
       w : World V
-      w = world_after z.first p
+      w = world_after z.callers z.first p
 
       u : World V
-      u = world_after z.first s
+      u = world_after z.callers z.first s
 
       h : List (Event ℕ V)
-      h = events_of z.first p
+      h = events_of z.callers z.first p
 
-      parts : IsScheduleFrom z [] (first_world z.first) p × IsScheduleFrom z h w (turn.Step a ∷ rest)
-      parts = schedule_parts z p (turn.Step a ∷ rest) [] (first_world z.first) is
+      parts : IsScheduleFrom z [] (first_world z.callers z.first) p × IsScheduleFrom z h w (turn.Step a ∷ rest)
+      parts = schedule_parts z p (turn.Step a ∷ rest) [] (first_world z.callers z.first) is
 
       sound : Sound z.first h w
       sound = always z p parts.0
@@ -281,15 +271,15 @@ module _ {V : Type 0} where
       not_forgot : (b : Bool) → is_forgot_in c.generation (w.calls c.caller) ≡ b → is_forgot_in c.generation (w.calls c.caller) ≡ false
       not_forgot false found = found
       not_forgot true found =
-          let stage : (world_after z.first (p ++ turn.Step a ∷ [])).stages a ≡ current_peeked k c (is_forgot_in c.generation (w.calls c.caller)) =
-          ap (λ (x : World V). x.stages a) (run_append (first_world z.first) p (turn.Step a ∷ []) ∙ peeked_is) ∙ put_here w.stages a (current_peeked k c (is_forgot_in c.generation (w.calls c.caller))) in
+          let stage : (world_after z.callers z.first (p ++ turn.Step a ∷ [])).stages a ≡ current_peeked k c (is_forgot_in c.generation (w.calls c.caller)) =
+          ap (λ (x : World V). x.stages a) (run_append (first_world z.callers z.first) p (turn.Step a ∷ []) ∙ peeked_is) ∙ put_here w.stages a (current_peeked k c (is_forgot_in c.generation (w.calls c.caller))) in
           let freed_now : current_peeked k c (is_forgot_in c.generation (w.calls c.caller)) ≡ Free = ap (λ (t : Bool). current_peeked k c t) found in
           let clash : Questioning k c current.Look ≡ Free = sym looks ∙ (stage ∙ freed_now) in
           cc
 
-      either : (b : Bool) → same_key (u.keys k) (key_of c) ≡ b → Some b ≡ Some answer → (answer ≡ is_current_after z.first p k c) ⊎ (answer ≡ is_current_after z.first s k c)
-      either false found said = inr (answered (events_of z.first s) k c false answer said (sym (held_not (now (events_of z.first s) k) c (λ current_is.
-          let named : u.keys k ≡ key_of c = current_key (events_of z.first s) u k c (u.keys k) ((always z s is).keys k) current_is in
+      either : (b : Bool) → same_key (u.keys k) (key_of c) ≡ b → Some b ≡ Some answer → (answer ≡ is_current_after z.callers z.first p k c) ⊎ (answer ≡ is_current_after z.callers z.first s k c)
+      either false found said = inr (answered (events_of z.callers z.first s) k c false answer said (sym (held_not (now (events_of z.callers z.first s) k) c (λ current_is.
+          let named : u.keys k ≡ key_of c = current_key (events_of z.callers z.first s) u k c (u.keys k) ((always z s is).keys k) current_is in
           true≢false (sym (subst (λ (v : KeyState). same_key v (key_of c) ≡ true) (sym named) (same_key_self (key_of c))) ∙ found)))))
       either true found said = inl (answered h k c true answer said (sym (held_is (now h k) c (unforgotten_current h w k c (subst (λ (v : KeyState). GoodKey h w k v) (before (same_key (w.keys k) (key_of c)) refl) (sound.keys k)) (not_forgot (is_forgot_in c.generation (w.calls c.caller)) refl)))))
         where
@@ -298,5 +288,5 @@ module _ {V : Type 0} where
           before false other =
               let led : was_led_on h k c ≡ true = subst (λ (q : Stage V). Good h w a q) at (sound.callers a).good in
               let isnt : w.keys k ≢ key_of c = λ same. true≢false (sym (subst (λ (v : KeyState). same_key v (key_of c) ≡ true) (sym same) (same_key_self (key_of c))) ∙ other) in
-              let after : (run w (turn.Step a ∷ rest)).keys k ≢ key_of c = unnamed_run z k c (turn.Step a ∷ rest) h w sound led parts.1 isnt in
-              absurd (after (ap (λ (x : World V). x.keys k) (sym (run_append (first_world z.first) p (turn.Step a ∷ rest))) ∙ same_key_is (u.keys k) (key_of c) found))
+              let after : (run w (turn.Step a ∷ rest)).keys k ≢ key_of c = unnamed_run z k c (turn.Step a ∷ rest) h w (always_fair z p parts.0) led parts.1 isnt in
+              absurd (after (ap (λ (x : World V). x.keys k) (sym (run_append (first_world z.callers z.first) p (turn.Step a ∷ rest))) ∙ same_key_is (u.keys k) (key_of c) found))

@@ -4,7 +4,7 @@ use Rattle.std.proofs.lemmas.Bool.{cases_eq}
 use Rattle.sf_history.specs.declared.call.CallId.{CallId}
 use Rattle.sf_words.specs.declared.call_word.CallState.{CallState}
 use Rattle.sf_schedules.specs.declared.operation.Stage.{Stage}
-use Rattle.sf_schedules.specs.declared.operation.Stage.TheVariants.{Free, Leading, Holding, Polling, Seconding, Asking, Settling, Forgetting, Questioning}
+use Rattle.sf_schedules.specs.declared.operation.Stage.TheVariants.{Free, Leading, Holding, Polling, Seconding, Asking, Settling, Forgetting, Naming, Questioning}
 use Rattle.sf_schedules.specs.declared.operation.AskStep.{AskStep}
 use Rattle.sf_schedules.specs.declared.operation.SettleStep.{SettleStep}
 use Rattle.sf_schedules.specs.declared.operation.SettleStep.TheVariants as settle
@@ -59,12 +59,13 @@ module _ {V : Type 0} where
   abbrev pub ServesAt : World V → ℕ → Option CallId → SettleStep → CallId → Type 0
   ServesAt w a own settle.Peek m = InLine w.nexts own (top_in (w.calls a)) m
   ServesAt w a own (settle.Close seen) m = InLine w.nexts own (top_in (w.calls a)) m
-  ServesAt w a own (settle.Clear shared top) m = InLine w.nexts own top m
-  ServesAt w a own (settle.Follow shared x) m = InLine w.nexts own (Some x) m
-  ServesAt w a own (settle.PeekMember shared x next) m = InLine w.nexts own (Some x) m
-  ServesAt w a own (settle.Deliver shared x next) m = InLine w.nexts own (Some x.caller) m
-  ServesAt w a own (settle.PeekOwn shared) m = own ≡ Some m
-  ServesAt w a own (settle.DeliverOwn shared x) m = own ≡ Some m
+  ServesAt w a own (settle.Clear top) m = InLine w.nexts own top m
+  ServesAt w a own (settle.Count n x top) m = InLine w.nexts own (Some top) m
+  ServesAt w a own (settle.Follow joiners x) m = InLine w.nexts own (Some x) m
+  ServesAt w a own (settle.PeekMember joiners x next) m = InLine w.nexts own (Some x) m
+  ServesAt w a own (settle.Deliver joiners x next) m = InLine w.nexts own (Some x.caller) m
+  ServesAt w a own (settle.PeekOwn joiners) m = own ≡ Some m
+  ServesAt w a own (settle.DeliverOwn joiners x) m = own ≡ Some m
 
   -- the caller at this stage leads the call of the generation on the place, and still owes the member its letter
   abbrev pub Serves : World V → ℕ → Stage V → ℕ → ℕ → CallId → Type 0
@@ -75,7 +76,8 @@ module _ {V : Type 0} where
   Serves w a (Seconding first) k g m = ⊥
   Serves w a (Asking i s step) k g m = ⊥
   Serves w a (Settling i n own v step) k g m = (i ≡ k) × (n ≡ g) × ServesAt w a own step m
-  Serves w a (Forgetting i step) k g m = ⊥
+  Serves w a (Forgetting i target step) k g m = ⊥
+  Serves w a (Naming i) k g m = ⊥
   Serves w a (Questioning i c step) k g m = ⊥
 
   -- each member that waits is served
@@ -92,13 +94,15 @@ module _ {V : Type 0} where
   serves_same w u a (Asking i s step) k g m nexts tops is = absurd is
   serves_same w u a (Settling i n own v settle.Peek) k g m nexts tops is = (is.0, is.1, subst (λ (f : ℕ → Option ℕ). InLine f own (top_in (u.calls a)) m) (sym nexts) (subst (λ (t : Option ℕ). InLine w.nexts own t m) (sym tops) is.2))
   serves_same w u a (Settling i n own v (settle.Close seen)) k g m nexts tops is = (is.0, is.1, subst (λ (f : ℕ → Option ℕ). InLine f own (top_in (u.calls a)) m) (sym nexts) (subst (λ (t : Option ℕ). InLine w.nexts own t m) (sym tops) is.2))
-  serves_same w u a (Settling i n own v (settle.Clear shared top)) k g m nexts tops is = (is.0, is.1, subst (λ (f : ℕ → Option ℕ). InLine f own top m) (sym nexts) is.2)
-  serves_same w u a (Settling i n own v (settle.Follow shared x)) k g m nexts tops is = (is.0, is.1, subst (λ (f : ℕ → Option ℕ). InLine f own (Some x) m) (sym nexts) is.2)
-  serves_same w u a (Settling i n own v (settle.PeekMember shared x next)) k g m nexts tops is = (is.0, is.1, subst (λ (f : ℕ → Option ℕ). InLine f own (Some x) m) (sym nexts) is.2)
-  serves_same w u a (Settling i n own v (settle.Deliver shared x next)) k g m nexts tops is = (is.0, is.1, subst (λ (f : ℕ → Option ℕ). InLine f own (Some x.caller) m) (sym nexts) is.2)
-  serves_same w u a (Settling i n own v (settle.PeekOwn shared)) k g m nexts tops is = is
-  serves_same w u a (Settling i n own v (settle.DeliverOwn shared x)) k g m nexts tops is = is
-  serves_same w u a (Forgetting i step) k g m nexts tops is = absurd is
+  serves_same w u a (Settling i n own v (settle.Clear top)) k g m nexts tops is = (is.0, is.1, subst (λ (f : ℕ → Option ℕ). InLine f own top m) (sym nexts) is.2)
+  serves_same w u a (Settling i n own v (settle.Count j x top)) k g m nexts tops is = (is.0, is.1, subst (λ (f : ℕ → Option ℕ). InLine f own (Some top) m) (sym nexts) is.2)
+  serves_same w u a (Settling i n own v (settle.Follow joiners x)) k g m nexts tops is = (is.0, is.1, subst (λ (f : ℕ → Option ℕ). InLine f own (Some x) m) (sym nexts) is.2)
+  serves_same w u a (Settling i n own v (settle.PeekMember joiners x next)) k g m nexts tops is = (is.0, is.1, subst (λ (f : ℕ → Option ℕ). InLine f own (Some x) m) (sym nexts) is.2)
+  serves_same w u a (Settling i n own v (settle.Deliver joiners x next)) k g m nexts tops is = (is.0, is.1, subst (λ (f : ℕ → Option ℕ). InLine f own (Some x.caller) m) (sym nexts) is.2)
+  serves_same w u a (Settling i n own v (settle.PeekOwn joiners)) k g m nexts tops is = is
+  serves_same w u a (Settling i n own v (settle.DeliverOwn joiners x)) k g m nexts tops is = is
+  serves_same w u a (Forgetting i target step) k g m nexts tops is = absurd is
+  serves_same w u a (Naming i) k g m nexts tops is = absurd is
   serves_same w u a (Questioning i c step) k g m nexts tops is = absurd is
 
   -- a turn: whom it touches waits no more or as before, and whom it serves, it still serves

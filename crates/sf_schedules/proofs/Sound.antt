@@ -1,5 +1,5 @@
 -- the invariant: what each word and each stage of the world promises of the events that have been added
-use Rattle.std.proofs.Common.{◌≡◌, ◌≢◌, ℕ, Bool, true, false, List, [], ◌∷◌, ◌⊎◌, Option, Some, None, refl, sym, ap, subst}
+use Rattle.std.proofs.Common.{◌≡◌, ◌≢◌, ◌≤◌, ◌+◌, ℕ, Bool, true, false, List, [], ◌∷◌, ◌++◌, length, ◌⊎◌, Option, Some, None, refl, sym, ap, subst}
 use Rattle.std.specs.Prelude.{is_some}
 use Rattle.sf_history.specs.declared.call.CallId.{CallId}
 use Rattle.sf_history.specs.declared.event.Event.{Event}
@@ -11,7 +11,7 @@ use Rattle.sf_words.specs.declared.call_word.CallState.{CallState}
 use Rattle.sf_words.specs.declared.call_word.CallState.TheVariants as word
 use Rattle.sf_schedules.specs.declared.letter.Letter.{Letter}
 use Rattle.sf_schedules.specs.declared.operation.Stage.{Stage}
-use Rattle.sf_schedules.specs.declared.operation.Stage.TheVariants.{Free, Leading, Holding, Polling, Seconding, Asking, Settling, Forgetting, Questioning}
+use Rattle.sf_schedules.specs.declared.operation.Stage.TheVariants.{Free, Leading, Holding, Polling, Seconding, Asking, Settling, Forgetting, Naming, Questioning}
 use Rattle.sf_schedules.specs.declared.operation.AskStep.{AskStep}
 use Rattle.sf_schedules.specs.declared.operation.AskStep.TheVariants as ask
 use Rattle.sf_schedules.specs.declared.operation.SettleStep.{SettleStep}
@@ -23,7 +23,8 @@ use Rattle.sf_schedules.specs.Askings.{joiner}
 use Rattle.sf_schedules.specs.Schedules.{was_led_on}
 use Rattle.sf_schedules.proofs.Histories.{opened, now}
 use Rattle.sf_schedules.proofs.Growing.{Answered}
-use Rattle.sf_schedules.proofs.Members.{Each, Apart, Chain, line, members}
+use Rattle.sf_history.proofs.Members.{Each, Apart, members}
+use Rattle.sf_schedules.proofs.Members.{Chain, line}
 use Rattle.sf_schedules.proofs.Past.{Past, past_begins}
 
 -- the call of this caller and generation
@@ -65,7 +66,7 @@ module _ {V : Type 0} where
   uncleared (Leading k g own) = Some (k, g)
   uncleared (Settling k g own v settle.Peek) = Some (k, g)
   uncleared (Settling k g own v (settle.Close seen)) = Some (k, g)
-  uncleared (Settling k g own v (settle.Clear shared top)) = Some (k, g)
+  uncleared (Settling k g own v (settle.Clear top)) = Some (k, g)
   uncleared _ = None
 
   pub unsettled_uncleared : (s : Stage V) (x : ℕ × ℕ) → unsettled s ≡ Some x → uncleared s ≡ Some x
@@ -95,10 +96,10 @@ module _ {V : Type 0} where
     pub apart : Apart (line own (members h (call_of a g)))
 
   -- a leader after its settle, which still owes letters to these members from the top on, and to its own channel
-  pub record Owes (h : List (Event ℕ V)) (w : World V) (a k g : ℕ) (own : Option CallId) (v : V) (shared : Bool) (top : Option ℕ) (rest : List CallId) : Type 0 where
+  pub record Owes (h : List (Event ℕ V)) (w : World V) (a k g : ℕ) (own : Option CallId) (v : V) (joiners : ℕ) (top : Option ℕ) (rest : List CallId) : Type 0 where
     pub led : was_led_on h k (call_of a g) ≡ true
     pub mine : was_led h a (call_of a g) ≡ true
-    pub answered : Answered h (call_of a g) v shared
+    pub answered : Answered h (call_of a g) v joiners
     pub chain : Chain w.nexts top rest
     pub waits : Each (Waits w k (call_of a g)) (line own rest)
     pub apart : Apart (line own rest)
@@ -110,7 +111,7 @@ module _ {V : Type 0} where
   -- the word and the cell of a caller that holds a ticket: nothing there yet, or the letter with the call's answer
   abbrev pub IsTicket : List (Event ℕ V) → ℕ → ℕ → CallId → CallState → Option (Letter V) → Type 0
   IsTicket h k g c (word.Listed i) cell = (i ≡ g) × (cell ≡ None)
-  IsTicket h k g c (word.Full i) cell = (i ≡ g) × ((v : V) × (shared : Bool) × (cell ≡ Some (record { place = k; call = c; value = v; shared = shared })) × Answered h c v shared)
+  IsTicket h k g c (word.Full i) cell = (i ≡ g) × ((v : V) × (joiners : ℕ) × (cell ≡ Some (record { place = k; call = c; value = v; joiners = joiners })) × Answered h c v joiners)
   IsTicket h k g c _ cell = ⊥
 
   abbrev pub Holds : List (Event ℕ V) → World V → ℕ → ℕ → ℕ → CallId → Type 0
@@ -156,12 +157,15 @@ module _ {V : Type 0} where
   abbrev pub GoodSettle : List (Event ℕ V) → World V → ℕ → ℕ → ℕ → Option CallId → V → SettleStep → Type 0
   GoodSettle h w a k g own v settle.Peek = Leads h w a k g own
   GoodSettle h w a k g own v (settle.Close seen) = Leads h w a k g own × (seen.generation ≡ g)
-  GoodSettle h w a k g own v (settle.Clear shared top) = (rest : List CallId) × Owes h w a k g own v shared top rest × IsForgotWord g (w.calls a) × (owes own top ≡ true → Unhanded h a g)
-  GoodSettle h w a k g own v (settle.Follow shared m) = (rest : List CallId) × Owes h w a k g own v shared (Some m) rest × Unhanded h a g
-  GoodSettle h w a k g own v (settle.PeekMember shared m next) = (rest : List CallId) × Owes h w a k g own v shared (Some m) rest × Unhanded h a g × (next ≡ w.nexts m)
-  GoodSettle h w a k g own v (settle.Deliver shared m next) = (rest : List CallId) × Owes h w a k g own v shared (Some m.caller) (m ∷ rest) × Unhanded h a g × (next ≡ w.nexts m.caller)
-  GoodSettle h w a k g own v (settle.PeekOwn shared) = Owes h w a k g own v shared None [] × Unhanded h a g
-  GoodSettle h w a k g own v (settle.DeliverOwn shared m) = Owes h w a k g own v shared None [] × Unhanded h a g × (own ≡ Some m)
+  GoodSettle h w a k g own v (settle.Clear top) = (rest : List CallId) × (joiners : ℕ) × Owes h w a k g own v joiners top rest × IsForgotWord g (w.calls a) × (owes own top ≡ true → Unhanded h a g)
+      × (length rest ≡ joiners) × (joiners ≤ w.callers)
+  GoodSettle h w a k g own v (settle.Count n m top) = (seen left : List CallId) × (joiners : ℕ) × Owes h w a k g own v joiners (Some top) (seen ++ left) × Unhanded h a g
+      × Chain w.nexts (Some m) left × (n + length left ≡ joiners) × (joiners ≤ w.callers)
+  GoodSettle h w a k g own v (settle.Follow joiners m) = (rest : List CallId) × Owes h w a k g own v joiners (Some m) rest × Unhanded h a g
+  GoodSettle h w a k g own v (settle.PeekMember joiners m next) = (rest : List CallId) × Owes h w a k g own v joiners (Some m) rest × Unhanded h a g × (next ≡ w.nexts m)
+  GoodSettle h w a k g own v (settle.Deliver joiners m next) = (rest : List CallId) × Owes h w a k g own v joiners (Some m.caller) (m ∷ rest) × Unhanded h a g × (next ≡ w.nexts m.caller)
+  GoodSettle h w a k g own v (settle.PeekOwn joiners) = Owes h w a k g own v joiners None [] × Unhanded h a g
+  GoodSettle h w a k g own v (settle.DeliverOwn joiners m) = Owes h w a k g own v joiners None [] × Unhanded h a g × (own ≡ Some m)
 
   abbrev pub GoodForget : List (Event ℕ V) → ℕ → ForgetStep → Type 0
   GoodForget h k (forget.Look failed) = Unit {0}
@@ -178,8 +182,33 @@ module _ {V : Type 0} where
   Good h w a (Seconding first) = Unit {0}
   Good h w a (Asking k s step) = GoodSecond w a s × GoodAsk h w a k s step
   Good h w a (Settling k g own v step) = GoodSettle h w a k g own v step
-  Good h w a (Forgetting k step) = GoodForget h k step
+  Good h w a (Forgetting k target step) = GoodForget h k step
+  Good h w a (Naming k) = Unit {0}
   Good h w a (Questioning k c step) = was_led_on h k c ≡ true
+
+  -- what the flag of an asking that is to lead promises of the call that its key word named
+  abbrev pub FlagAt : List (Event ℕ V) → World V → ℕ → KeyState → Bool → Type 0
+  FlagAt h w k Never f = Unit {0}
+  FlagAt h w k (Names b g true) f = Unit {0}
+  FlagAt h w k (Names b g false) true = now h k ≢ Some (call_of b g)
+  FlagAt h w k (Names b g false) false = IsForgotWord g (w.calls b) → ⊥
+
+  -- a forget of one call that is to clear it saw that call not forgotten
+  abbrev pub ForgetFlag : List (Event ℕ V) → World V → ℕ → ForgetStep → Option CallId → Type 0
+  ForgetFlag h w k (forget.Look failed) target = Unit {0}
+  ForgetFlag h w k (forget.Peek c) target = Unit {0}
+  ForgetFlag h w k (forget.Close c seen) target = Unit {0}
+  ForgetFlag h w k (forget.FirstClear c) None = Unit {0}
+  ForgetFlag h w k (forget.FirstClear c) (Some d) = FlagAt h w k (Names c.caller c.generation false) false
+  ForgetFlag h w k (forget.LastClear c) target = Unit {0}
+
+  -- what a caller knows of a word of another that it saw
+  abbrev pub GoodFlag : List (Event ℕ V) → World V → Stage V → Type 0
+  GoodFlag h w (Asking k s (ask.ReadyOwn seen f)) = FlagAt h w k seen f
+  GoodFlag h w (Asking k s (ask.ReadyLead seen f)) = FlagAt h w k seen f
+  GoodFlag h w (Asking k s (ask.Lead seen f)) = FlagAt h w k seen f
+  GoodFlag h w (Forgetting k target step) = ForgetFlag h w k step target
+  GoodFlag h w _ = Unit {0}
 
   -- what a key word promises: one that names a call uncleared names the current call, unless a Forget closed the call,
   -- whose leader has not passed its own clear
@@ -209,8 +238,8 @@ module _ {V : Type 0} where
     pub held : (k : ℕ) (c : CallId) → opened h k ≡ Some c → Held w k c
     pub callers : (a : ℕ) → Caller h w a
 
-  pub sound_begins : (first : ℕ) → Sound first [] (first_world first)
-  sound_begins first = record {
+  pub sound_begins : (callers first : ℕ) → Sound first [] (first_world callers first)
+  sound_begins callers first = record {
     past = past_begins first;
     keys = λ k. refl;
     held = λ k c is. cc;

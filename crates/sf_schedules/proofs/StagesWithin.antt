@@ -1,7 +1,7 @@
 -- stages name callers of the setting, and so do the worlds of schedules
-use Rattle.std.proofs.Common.{◌≡◌, ◌≤◌, ℕ, ◌+◌, Bool, true, false, ◌==◌, ◌||◌, List, [], ◌∷◌, ◌++◌, inl, inr, Option, Some, None, refl, sym, ◌∙◌, ap, subst, arith}
-use Rattle.std.proofs.lemmas.Bool.{cases_eq}
-use Rattle.std.specs.Prelude.{cond, is_some}
+use Rattle.std.proofs.Common.{◌≡◌, ◌<◌, ◌≤◌, ℕ, ◌+◌, Bool, true, false, ◌==◌, ◌||◌, List, [], ◌∷◌, ◌++◌, inl, inr, Option, Some, None, refl, sym, ◌∙◌, ap, subst, arith}
+use Rattle.std.proofs.lemmas.Bool.{cases_eq, ltb-true}
+use Rattle.std.specs.Prelude.{cond, nat_lt}
 use Rattle.sf_history.specs.declared.call.CallId.{CallId}
 use Rattle.sf_history.specs.declared.event.Event.{Event}
 use Rattle.sf_words.specs.CallWord.{IsGeneration, IsCallState}
@@ -15,7 +15,7 @@ use Rattle.sf_words.specs.declared.call_word.CallState.TheVariants as word
 use Rattle.sf_schedules.specs.declared.operation.Op.{Op}
 use Rattle.sf_schedules.specs.declared.operation.Op.TheVariants as op
 use Rattle.sf_schedules.specs.declared.operation.Stage.{Stage}
-use Rattle.sf_schedules.specs.declared.operation.Stage.TheVariants.{Free, Leading, Holding, Polling, Seconding, Asking, Settling, Forgetting, Questioning}
+use Rattle.sf_schedules.specs.declared.operation.Stage.TheVariants.{Free, Leading, Holding, Polling, Seconding, Asking, Settling, Forgetting, Naming, Questioning}
 use Rattle.sf_schedules.specs.declared.operation.AskStep.{AskStep}
 use Rattle.sf_schedules.specs.declared.operation.AskStep.TheVariants as ask
 use Rattle.sf_schedules.specs.declared.operation.SettleStep.{SettleStep}
@@ -26,20 +26,22 @@ use Rattle.sf_schedules.specs.declared.operation.CurrentStep.{CurrentStep}
 use Rattle.sf_schedules.specs.declared.operation.CurrentStep.TheVariants as current
 use Rattle.sf_schedules.specs.declared.turn.Turn.{Turn}
 use Rattle.sf_schedules.specs.declared.turn.Turn.TheVariants as turn
-use Rattle.sf_schedules.specs.World.{World, first_world, with_stage, next_id, key_of, same_key, is_open_with, open_in, is_forgot_in, generation_in, is_full, is_spent}
+use Rattle.sf_schedules.specs.World.{World, first_world, with_stage, next_id, key_of, same_key, is_open_with, open_in, is_forgot_in, generation_in, is_full, is_spent, one_more}
 use Rattle.sf_lists.specs.Functions.{put}
 use Rattle.sf_schedules.specs.Askings.{prepares, looked, peeked, joiner, ready_own, after_lead, after_enter, ask_stepped}
-use Rattle.sf_schedules.specs.Turns.{after_own_peek, at_members, after_close, cleared, own_peeked, settle_stepped, forget_looked, forget_peeked, forgot, forget_cleared, forget_stepped, polled, current_peeked, current_stepped, stepped, chan_started, started, freed, left, turned, run}
+use Rattle.sf_schedules.specs.Turns.{after_own_peek, at_members, after_close, cleared, own_peeked, settle_stepped, key_looked, call_looked, forget_looked, misses, peek_missed, forget_peeked, forgot, forget_cleared, forget_stepped, polled, current_peeked, current_stepped, stepped, chan_started, started, freed, left, turned, run, at_count, after_count}
 use Rattle.sf_schedules.specs.Events.{turn_events, world_after}
 use Rattle.sf_schedules.specs.Schedules.{Setting, IsCaller, IsTurn, IsScheduleFrom}
 use Rattle.sf_schedules.specs.Within.{TopIn, CallIn, OwnIn, KeyIn, WordIn, SettleIn, ForgetIn, AskerIn, StageIn, AreWithin, WorldsAreWithin, WordsAreLawful}
 use Rattle.sf_lists.proofs.Functions.{put_here, put_else, put_cases}
-use Rattle.sf_schedules.proofs.Sound.{call_of, Sound, sound_begins}
-use Rattle.sf_schedules.proofs.AllTurns.{turn_sound}
+use Rattle.sf_schedules.proofs.Sound.{call_of, Sound}
+use Rattle.sf_schedules.proofs.Compared.{same_key_is}
+use Rattle.sf_schedules.proofs.Flags.{turn_fair}
+use Rattle.sf_schedules.proofs.Callers.{Fair, fair_begins}
 use Rattle.sf_schedules.proofs.Ranges.{ask_calls, ask_keys, ask_nexts, forget_calls, forget_keys, forget_nexts, fresh, own_in, settle_calls, settle_keys, settle_nexts, stage_at, open_in_within}
 
 module _ {V : Type 0} where
-  module _ (z : Setting) (h : List (Event ℕ V)) (w : World V) (least : 1 ≤ z.first) (sound : Sound z.first h w) (within : AreWithin z w) where
+  module _ (z : Setting) (h : List (Event ℕ V)) (w : World V) (least : 1 ≤ z.first) (sound : Sound z.first h w) (size : w.callers ≡ z.callers) (within : AreWithin z w) where
     -- stages
     put_in : (f : ℕ → Stage V) (b : ℕ) (v : Stage V) → StageIn z b (w.generations b) v → ((x : ℕ) → StageIn z x (w.generations x) (f x)) → (x : ℕ) → StageIn z x (w.generations x) (put f b v x)
     put_in f b v new were x = put_cases (λ (q : Stage V). StageIn z x (w.generations x) q) f b v x
@@ -126,10 +128,24 @@ module _ {V : Type 0} where
     ask_in a k s (ask.Link c seen) at x = one_in a (Asking k s (ask.Enter c seen)) (stage_at z h w least sound within a (Asking k s (ask.Link c seen)) at) x
     ask_in a k s (ask.Enter c seen) at x = enter_in a k s c seen (ask.Enter c seen) (is_open_with seen (w.calls c.caller)) at x
 
-    members_in : (a k g : ℕ) (own : Option CallId) (v : V) (shared : Bool) (top : Option ℕ) → IsCaller z a → IsGeneration g → OwnIn z own → TopIn z top → StageIn z a (w.generations a) (at_members k g own v shared top)
-    members_in a k g None v shared None who gen owned lawful = tt
-    members_in a k g (Some m) v shared None who gen owned lawful = (who, gen, owned, tt)
-    members_in a k g own v shared (Some m) who gen owned lawful = (who, gen, owned, lawful)
+    members_in : (a k g : ℕ) (own : Option CallId) (v : V) (joiners : ℕ) (top : Option ℕ) → IsCaller z a → IsGeneration g → OwnIn z own → TopIn z top → StageIn z a (w.generations a) (at_members k g own v joiners top)
+    members_in a k g None v joiners None who gen owned lawful = tt
+    members_in a k g (Some m) v joiners None who gen owned lawful = (who, gen, owned, tt)
+    members_in a k g own v joiners (Some m) who gen owned lawful = (who, gen, owned, lawful)
+
+    count_in : (a k g : ℕ) (own : Option CallId) (v : V) (top : Option ℕ) → IsCaller z a → IsGeneration g → OwnIn z own → TopIn z top → StageIn z a (w.generations a) (at_count k g own v top)
+    count_in a k g None v None who gen owned lawful = tt
+    count_in a k g (Some m) v None who gen owned lawful = (who, gen, owned, tt)
+    count_in a k g own v (Some m) who gen owned lawful = (who, gen, owned, (lawful, lawful, omega arith))
+
+    -- no more are counted than there are callers
+    one_more_in : (n : ℕ) (b : Bool) → nat_lt n w.callers ≡ b → n ≤ z.callers → cond b (n + 1) n ≤ z.callers
+    one_more_in n true is few = let below : n < w.callers = ltb-true n w.callers is in let alike : w.callers ≡ z.callers = size in omega arith
+    one_more_in n false is few = few
+
+    counted_in : (n top : ℕ) (next : Option ℕ) → IsCaller z top → n ≤ z.callers → TopIn z next → SettleIn z (after_count (one_more w.callers n) top next)
+    counted_in n top None is few lawful = is
+    counted_in n top (Some m) is few lawful = (lawful, is, one_more_in n (nat_lt n w.callers) refl few)
 
     own_peek_in : (u : CallState) → WordIn z u → SettleIn z (after_own_peek u)
     own_peek_in word.Free lawful = tt
@@ -139,9 +155,9 @@ module _ {V : Type 0} where
     own_peek_in (word.Listed i) lawful = tt
     own_peek_in (word.Full i) lawful = tt
 
-    own_peeked_in : (shared : Bool) (own : Option CallId) → OwnIn z own → SettleIn z (own_peeked w shared own)
-    own_peeked_in shared None owned = tt
-    own_peeked_in shared (Some m) owned = owned.0
+    own_peeked_in : (joiners : ℕ) (own : Option CallId) → OwnIn z own → SettleIn z (own_peeked w joiners own)
+    own_peeked_in joiners None owned = tt
+    own_peeked_in joiners (Some m) owned = owned.0
 
     settle_in : (a k g : ℕ) (own : Option CallId) (v : V) (step : SettleStep) → w.stages a ≡ Settling k g own v step → (x : ℕ) → StageIn z x ((settle_stepped w a k g own v step).generations x) ((settle_stepped w a k g own v step).stages x)
     settle_in a k g own v settle.Peek at x =
@@ -151,49 +167,66 @@ module _ {V : Type 0} where
       where
         close : (b : Bool) → StageIn z x ((after_close w a k g own v seen b).generations x) ((after_close w a k g own v seen b).stages x)
         close false = let here = stage_at z h w least sound within a (Settling k g own v (settle.Close seen)) at in one_in a (Settling k g own v settle.Peek) (here.0, here.1, here.2, tt) x
-        close true = let here = stage_at z h w least sound within a (Settling k g own v (settle.Close seen)) at in one_in a (at_members k g own v (is_some seen.top) seen.top) (members_in a k g own v (is_some seen.top) seen.top here.0 here.1 here.2 here.3.1) x
-    settle_in a k g own v (settle.Clear shared top) at x = clear (same_key (w.keys k) (Names a g false))
+        close true = let here = stage_at z h w least sound within a (Settling k g own v (settle.Close seen)) at in one_in a (at_count k g own v seen.top) (count_in a k g own v seen.top here.0 here.1 here.2 here.3.1) x
+    settle_in a k g own v (settle.Clear top) at x = clear (same_key (w.keys k) (Names a g false))
       where
-        clear : (b : Bool) → StageIn z x ((with_stage (cleared w k (call_of a g) b) a (at_members k g own v shared top)).generations x) ((with_stage (cleared w k (call_of a g) b) a (at_members k g own v shared top)).stages x)
-        clear false = let here = stage_at z h w least sound within a (Settling k g own v (settle.Clear shared top)) at in one_in a (at_members k g own v shared top) (members_in a k g own v shared top here.0 here.1 here.2 here.3) x
-        clear true = let here = stage_at z h w least sound within a (Settling k g own v (settle.Clear shared top)) at in one_in a (at_members k g own v shared top) (members_in a k g own v shared top here.0 here.1 here.2 here.3) x
-    settle_in a k g own v (settle.Follow shared m) at x =
-        let here = stage_at z h w least sound within a (Settling k g own v (settle.Follow shared m)) at in
-        one_in a (Settling k g own v (settle.PeekMember shared m (w.nexts m))) (here.0, here.1, here.2, (here.3, within.nexts m)) x
-    settle_in a k g own v (settle.PeekMember shared m next) at x =
-        let here = stage_at z h w least sound within a (Settling k g own v (settle.PeekMember shared m next)) at in
-        one_in a (Settling k g own v (settle.Deliver shared (call_of m (generation_in (w.calls m))) next)) here x
-    settle_in a k g own v (settle.Deliver shared m next) at x =
-        let here = stage_at z h w least sound within a (Settling k g own v (settle.Deliver shared m next)) at in
-        one_in a (at_members k g own v shared next) (members_in a k g own v shared next here.0 here.1 here.2 here.3.1) x
-    settle_in a k g own v (settle.PeekOwn shared) at x =
-        let here = stage_at z h w least sound within a (Settling k g own v (settle.PeekOwn shared)) at in
-        one_in a (Settling k g own v (own_peeked w shared own)) (here.0, here.1, here.2, own_peeked_in shared own here.2) x
-    settle_in a k g own v (settle.DeliverOwn shared m) at x = one_in a Free tt x
+        clear : (b : Bool) → StageIn z x ((with_stage (cleared w k (call_of a g) b) a (at_count k g own v top)).generations x) ((with_stage (cleared w k (call_of a g) b) a (at_count k g own v top)).stages x)
+        clear false = let here = stage_at z h w least sound within a (Settling k g own v (settle.Clear top)) at in one_in a (at_count k g own v top) (count_in a k g own v top here.0 here.1 here.2 here.3) x
+        clear true = let here = stage_at z h w least sound within a (Settling k g own v (settle.Clear top)) at in one_in a (at_count k g own v top) (count_in a k g own v top here.0 here.1 here.2 here.3) x
+    settle_in a k g own v (settle.Count n m top) at x =
+        let here = stage_at z h w least sound within a (Settling k g own v (settle.Count n m top)) at in
+        one_in a (Settling k g own v (after_count (one_more w.callers n) top (w.nexts m))) (here.0, here.1, here.2, counted_in n top (w.nexts m) here.3.1 here.3.2 (within.nexts m)) x
+    settle_in a k g own v (settle.Follow joiners m) at x =
+        let here = stage_at z h w least sound within a (Settling k g own v (settle.Follow joiners m)) at in
+        one_in a (Settling k g own v (settle.PeekMember joiners m (w.nexts m))) (here.0, here.1, here.2, (here.3, within.nexts m)) x
+    settle_in a k g own v (settle.PeekMember joiners m next) at x =
+        let here = stage_at z h w least sound within a (Settling k g own v (settle.PeekMember joiners m next)) at in
+        one_in a (Settling k g own v (settle.Deliver joiners (call_of m (generation_in (w.calls m))) next)) here x
+    settle_in a k g own v (settle.Deliver joiners m next) at x =
+        let here = stage_at z h w least sound within a (Settling k g own v (settle.Deliver joiners m next)) at in
+        one_in a (at_members k g own v joiners next) (members_in a k g own v joiners next here.0 here.1 here.2 here.3.1) x
+    settle_in a k g own v (settle.PeekOwn joiners) at x =
+        let here = stage_at z h w least sound within a (Settling k g own v (settle.PeekOwn joiners)) at in
+        one_in a (Settling k g own v (own_peeked w joiners own)) (here.0, here.1, here.2, own_peeked_in joiners own here.2) x
+    settle_in a k g own v (settle.DeliverOwn joiners m) at x = one_in a Free tt x
 
-    forget_looked_in : (a k : ℕ) (v : KeyState) → KeyIn z v → StageIn {V = V} z a (w.generations a) (forget_looked k v)
-    forget_looked_in a k Never lawful = tt
-    forget_looked_in a k (Names b g true) lawful = tt
-    forget_looked_in a k (Names b g false) lawful = lawful
+    key_looked_in : (a k : ℕ) (v : KeyState) → KeyIn z v → StageIn {V = V} z a (w.generations a) (key_looked k v)
+    key_looked_in a k Never lawful = tt
+    key_looked_in a k (Names b g true) lawful = tt
+    key_looked_in a k (Names b g false) lawful = lawful
+
+    call_looked_in : (a k : ℕ) (c : CallId) (v : KeyState) → KeyIn z v → (b : Bool) → same_key v (key_of c) ≡ b → StageIn {V = V} z a (w.generations a) (call_looked k c b)
+    call_looked_in a k c v lawful false same = tt
+    call_looked_in a k c v lawful true same = subst (KeyIn z) (same_key_is v (key_of c) same) lawful
+
+    forget_looked_in : (a k : ℕ) (target : Option CallId) (v : KeyState) → KeyIn z v → StageIn {V = V} z a (w.generations a) (forget_looked k target v)
+    forget_looked_in a k None v lawful = key_looked_in a k v lawful
+    forget_looked_in a k (Some c) v lawful = call_looked_in a k c v lawful (same_key v (key_of c)) refl
 
     forget_peeked_in : (c : CallId) → CallIn z c → (o : Option LeaderState) → open_in c.generation (w.calls c.caller) ≡ o → ForgetIn z (forget_peeked c o)
     forget_peeked_in c lawful None is = lawful
     forget_peeked_in c lawful (Some seen) is = (lawful, open_in_within z c.generation (w.calls c.caller) seen (within.calls c.caller) is)
 
-    forget_in : (a k : ℕ) (step : ForgetStep) → w.stages a ≡ Forgetting k step → (x : ℕ) → StageIn z x ((forget_stepped w a k step).generations x) ((forget_stepped w a k step).stages x)
-    forget_in a k (forget.Look failed) at x = one_in a (forget_looked k (w.keys k)) (forget_looked_in a k (w.keys k) (within.keys k)) x
-    forget_in a k (forget.Peek c) at x = one_in a (Forgetting k (forget_peeked c (open_in c.generation (w.calls c.caller)))) (forget_peeked_in c (stage_at z h w least sound within a (Forgetting k (forget.Peek c)) at) (open_in c.generation (w.calls c.caller)) refl) x
-    forget_in a k (forget.Close c seen) at x = close (is_open_with seen (w.calls c.caller))
+    missed_in : (a k : ℕ) (target : Option CallId) (c : CallId) → CallIn z c → (o : Option LeaderState) → open_in c.generation (w.calls c.caller) ≡ o → (b : Bool) → StageIn {V = V} z a (w.generations a) (peek_missed k target c o b)
+    missed_in a k target c lawful o is false = forget_peeked_in c lawful o is
+    missed_in a k target c lawful o is true = tt
+
+    forget_in : (a k : ℕ) (target : Option CallId) (step : ForgetStep) → w.stages a ≡ Forgetting k target step → (x : ℕ) → StageIn z x ((forget_stepped w a k target step).generations x) ((forget_stepped w a k target step).stages x)
+    forget_in a k target (forget.Look failed) at x = one_in a (forget_looked k target (w.keys k)) (forget_looked_in a k target (w.keys k) (within.keys k)) x
+    forget_in a k target (forget.Peek c) at x =
+        let missed : Bool = misses target (is_forgot_in c.generation (w.calls c.caller)) in
+        one_in a (peek_missed k target c (open_in c.generation (w.calls c.caller)) missed) (missed_in a k target c (stage_at z h w least sound within a (Forgetting k target (forget.Peek c)) at) (open_in c.generation (w.calls c.caller)) refl missed) x
+    forget_in a k target (forget.Close c seen) at x = close (is_open_with seen (w.calls c.caller))
       where
-        close : (b : Bool) → StageIn z x ((forgot w a k c seen b).generations x) ((forgot w a k c seen b).stages x)
-        close false = one_in a (Forgetting k (forget.Look true)) tt x
-        close true = one_in a (Forgetting k (forget.LastClear c)) (stage_at z h w least sound within a (Forgetting k (forget.Close c seen)) at).0 x
-    forget_in a k (forget.FirstClear c) at x = first (same_key (w.keys k) (key_of c))
+        close : (b : Bool) → StageIn z x ((forgot w a k target c seen b).generations x) ((forgot w a k target c seen b).stages x)
+        close false = one_in a (Forgetting k target (forget.Look true)) tt x
+        close true = one_in a (Forgetting k target (forget.LastClear c)) (stage_at z h w least sound within a (Forgetting k target (forget.Close c seen)) at).0 x
+    forget_in a k target (forget.FirstClear c) at x = first (same_key (w.keys k) (key_of c))
       where
-        first : (b : Bool) → StageIn z x ((forget_cleared w a k c b).generations x) ((forget_cleared w a k c b).stages x)
-        first false = one_in a (Forgetting k (forget.Look true)) tt x
+        first : (b : Bool) → StageIn z x ((forget_cleared w a k target c b).generations x) ((forget_cleared w a k target c b).stages x)
+        first false = one_in a (Forgetting k target (forget.Look true)) tt x
         first true = one_in a Free tt x
-    forget_in a k (forget.LastClear c) at x = clear (same_key (w.keys k) (key_of c))
+    forget_in a k target (forget.LastClear c) at x = clear (same_key (w.keys k) (key_of c))
       where
         clear : (b : Bool) → StageIn z x ((with_stage (cleared w k c b) a Free).generations x) ((with_stage (cleared w k c b) a Free).stages x)
         clear false = one_in a Free tt x
@@ -212,7 +245,8 @@ module _ {V : Type 0} where
     step_within a (Seconding one) at = within
     step_within a (Asking k s step) at = record { keys = ask_keys z h w least sound within a k s step at; calls = ask_calls z h w least sound within a k s step at; nexts = ask_nexts z h w least sound within a k s step at; stages = ask_in a k s step at }
     step_within a (Settling k g own v step) at = record { keys = settle_keys z h w least sound within a k g own v step; calls = settle_calls z h w least sound within a k g own v step at; nexts = settle_nexts z h w least sound within a k g own v step; stages = settle_in a k g own v step at }
-    step_within a (Forgetting k step) at = record { keys = forget_keys z h w least sound within a k step; calls = forget_calls z h w least sound within a k step at; nexts = forget_nexts z h w least sound within a k step; stages = forget_in a k step at }
+    step_within a (Forgetting k target step) at = record { keys = forget_keys z h w least sound within a k target step; calls = forget_calls z h w least sound within a k target step at; nexts = forget_nexts z h w least sound within a k target step; stages = forget_in a k target step at }
+    step_within a (Naming k) at = record { keys = within.keys; calls = within.calls; nexts = within.nexts; stages = one_in a Free tt }
     step_within a (Questioning k c step) at = asks step
       where
         asks : (step : CurrentStep) → AreWithin z (current_stepped w a k c step)
@@ -241,7 +275,9 @@ module _ {V : Type 0} where
     start_within a (op.Settle v) (Leading k g own) at allowed =
         let here = stage_at z h w least sound within a (Leading k g own) at in
         staged_within a (Settling k g own v settle.Peek) (here.0, here.1, here.2, tt)
-    start_within a (op.Forget k) Free at allowed = staged_within a (Forgetting k (forget.Look false)) tt
+    start_within a (op.Forget k) Free at allowed = staged_within a (Forgetting k None (forget.Look false)) tt
+    start_within a (op.ForgetCall k d) Free at allowed = staged_within a (Forgetting k (Some d) (forget.Look false)) tt
+    start_within a (op.Named k) Free at allowed = staged_within a (Naming k) tt
     start_within a op.Poll (Holding k g c) at allowed = staged_within a (Polling k g c) tt
     start_within a (op.Current k c) Free at allowed = staged_within a (Questioning k c current.Peek) tt
     start_within a _ _ at allowed = within
@@ -252,20 +288,20 @@ module _ {V : Type 0} where
 
     leave_within : (a : ℕ) (p : Stage V) → AreWithin z (left w a p)
     leave_within a (Asking k s (ask.Look true)) = freed_within a s
-    leave_within a (Forgetting k (forget.Look true)) = staged_within a Free tt
+    leave_within a (Forgetting k target (forget.Look true)) = staged_within a Free tt
     leave_within a _ = within
 
-  turn_within : (z : Setting) (h : List (Event ℕ V)) (w : World V) (t : Turn V) → 1 ≤ z.first → Sound z.first h w → AreWithin z w → IsTurn z h w t → AreWithin z (turned w t)
-  turn_within z h w (turn.Start a o) least sound within allowed = start_within z h w least sound within a o (w.stages a) refl allowed
-  turn_within z h w (turn.Step a) least sound within allowed = step_within z h w least sound within a (w.stages a) refl
-  turn_within z h w (turn.Leave a) least sound within allowed = leave_within z h w least sound within a (w.stages a)
+  turn_within : (z : Setting) (h : List (Event ℕ V)) (w : World V) (t : Turn V) → 1 ≤ z.first → Sound z.first h w → w.callers ≡ z.callers → AreWithin z w → IsTurn z h w t → AreWithin z (turned w t)
+  turn_within z h w (turn.Start a o) least sound size within allowed = start_within z h w least sound size within a o (w.stages a) refl allowed
+  turn_within z h w (turn.Step a) least sound size within allowed = step_within z h w least sound size within a (w.stages a) refl
+  turn_within z h w (turn.Leave a) least sound size within allowed = leave_within z h w least sound size within a (w.stages a)
 
-  run_within : (z : Setting) (ts : List (Turn V)) (h : List (Event ℕ V)) (w : World V) → 1 ≤ z.first → Sound z.first h w → AreWithin z w → IsScheduleFrom z h w ts → AreWithin z (run w ts)
+  run_within : (z : Setting) (ts : List (Turn V)) (h : List (Event ℕ V)) (w : World V) → 1 ≤ z.first → Fair z h w → AreWithin z w → IsScheduleFrom z h w ts → AreWithin z (run w ts)
   run_within z [] h w least sound within is = within
-  run_within z (t ∷ ts) h w least sound within is = run_within z ts (h ++ turn_events w t) (turned w t) least (turn_sound z h w t sound is.0) (turn_within z h w t least sound within is.0) is.1
+  run_within z (t ∷ ts) h w least sound within is = run_within z ts (h ++ turn_events w t) (turned w t) least (turn_fair z h w t sound is.0) (turn_within z h w t least sound.sound sound.size within is.0) is.1
 
   pub worlds_are_within : WorldsAreWithin V
-  worlds_are_within z s least is = run_within z s [] (first_world z.first) least (sound_begins z.first) (record { keys = λ k. tt; calls = λ a. tt; nexts = λ a. tt; stages = λ a. tt }) is
+  worlds_are_within z s least is = run_within z s [] (first_world z.callers z.first) least (fair_begins z) (record { keys = λ k. tt; calls = λ a. tt; nexts = λ a. tt; stages = λ a. tt }) is
 
 caller_number : (z : Setting) (n : ℕ) → z.callers ≤ 65535 → IsCaller z n → IsCallerNumber n
 caller_number z n few who = let high : n ≤ z.callers = who.1 in (who.0, omega (arith, high, few))
@@ -291,7 +327,7 @@ module _ {V : Type 0} where
   words_are_lawful z s least few is =
       let within = worlds_are_within z s least is in
       record {
-        keys = λ k. key_lawful z ((world_after z.first s).keys k) few (within.keys k);
-        calls = λ a. word_lawful z ((world_after z.first s).calls a) few (within.calls a);
-        nexts = λ a. top_lawful z ((world_after z.first s).nexts a) few (within.nexts a);
+        keys = λ k. key_lawful z ((world_after z.callers z.first s).keys k) few (within.keys k);
+        calls = λ a. word_lawful z ((world_after z.callers z.first s).calls a) few (within.calls a);
+        nexts = λ a. top_lawful z ((world_after z.callers z.first s).nexts a) few (within.nexts a);
       }

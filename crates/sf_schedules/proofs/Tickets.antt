@@ -31,10 +31,10 @@ module _ {V : Type 0} where
   tickets_are_served z s is a k g c held = served h w a k g c (awaited_unhanded z s is k c (call_of a g)) (at held) (w.calls a) refl (holds held).1
     where
       h : List (Event ℕ V)
-      h = events_of z.first s
+      h = events_of z.callers z.first s
 
       w : World V
-      w = world_after z.first s
+      w = world_after z.callers z.first s
 
       at : (w.stages a ≡ Holding k g c) ⊎ (w.stages a ≡ Polling k g c) → ticket (w.stages a) ≡ Some (k, g, c)
       at (inl stage) = ap ticket stage

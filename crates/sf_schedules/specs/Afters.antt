@@ -21,5 +21,5 @@ after_of (Names b g false) false = Some (record { caller = b; generation = g })
 -- an asking whose exchange of the key word is to win knows which call is current
 abbrev pub LeadsKnowCurrent : Type 0 → Type 0
 LeadsKnowCurrent V = (z : Setting) (s : List (Turn V)) → IsSchedule z s → (a k : ℕ) (x : Option ℕ) (seen : KeyState) (forgot : Bool)
-    → (world_after z.first s).stages a ≡ Asking k x (Lead seen forgot) → same_key ((world_after z.first s).keys k) seen ≡ true
-    → current_call nat_eq (events_of z.first s) k ≡ after_of seen forgot
+    → (world_after z.callers z.first s).stages a ≡ Asking k x (Lead seen forgot) → same_key ((world_after z.callers z.first s).keys k) seen ≡ true
+    → current_call nat_eq (events_of z.callers z.first s) k ≡ after_of seen forgot

@@ -1,5 +1,5 @@
 -- letters: what a step puts into a member's cell, and what takes it out
-use Rattle.std.specs.Prelude.{◌≡◌, ℕ, ◌⊎◌, Bool, true, false, List, Option, Some, None}
+use Rattle.std.specs.Prelude.{◌≡◌, ℕ, ◌⊎◌, true, false, List, Option, Some, None}
 use Rattle.sf_history.specs.declared.call.CallId.{CallId}
 use Rattle.sf_history.specs.declared.event.Event.{Event}
 use Rattle.sf_history.specs.History.{is_handed, answer_of}
@@ -13,8 +13,8 @@ use Rattle.sf_schedules.specs.World.{World, is_full}
 
 module _ {V : Type 0} where
   abbrev pub settle_delivers : ℕ → CallId → V → SettleStep → Option (CallId × Letter V)
-  settle_delivers k c v (settle.Deliver shared m next) = Some (m, record { place = k; call = c; value = v; shared = shared })
-  settle_delivers k c v (settle.DeliverOwn shared m) = Some (m, record { place = k; call = c; value = v; shared = shared })
+  settle_delivers k c v (settle.Deliver joiners m next) = Some (m, record { place = k; call = c; value = v; joiners = joiners })
+  settle_delivers k c v (settle.DeliverOwn joiners m) = Some (m, record { place = k; call = c; value = v; joiners = joiners })
   settle_delivers k c v _ = None
 
   -- the letter that the next step of the caller, which is at this stage, delivers, and the member that it is for
@@ -26,7 +26,7 @@ module _ {V : Type 0} where
   pub record IsRightDeliver (h : List (Event ℕ V)) (w : World V) (m : CallId) (l : Letter V) : Type 0 where
     pub ticket : (w.stages m.caller ≡ Holding l.place m.generation l.call) ⊎ (w.stages m.caller ≡ Polling l.place m.generation l.call)
     pub waits : w.calls m.caller ≡ word.Listed m.generation
-    pub answered : answer_of h l.call ≡ Some (l.value, l.shared)
+    pub answered : answer_of h l.call ≡ Some (l.value, l.joiners)
     pub empty : w.cells m.caller ≡ None
 
   -- the next step of the caller takes a letter out of its cell
@@ -40,4 +40,4 @@ module _ {V : Type 0} where
   -- one who holds a ticket of the call waits for it, which is not handed out, or has the letter with its answer
   abbrev pub IsServed : List (Event ℕ V) → World V → ℕ → ℕ → ℕ → CallId → Type 0
   IsServed h w a k g c = ((w.calls a ≡ word.Listed g) × (w.cells a ≡ None) × (is_handed h c ≡ false))
-      ⊎ ((v : V) × (shared : Bool) × (w.calls a ≡ word.Full g) × (w.cells a ≡ Some (record { place = k; call = c; value = v; shared = shared })) × (answer_of h c ≡ Some (v, shared)))
+      ⊎ ((v : V) × (joiners : ℕ) × (w.calls a ≡ word.Full g) × (w.cells a ≡ Some (record { place = k; call = c; value = v; joiners = joiners })) × (answer_of h c ≡ Some (v, joiners)))

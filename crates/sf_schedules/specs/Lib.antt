@@ -14,3 +14,5 @@ pub mod Within
 pub mod Waiting
 pub mod Changed
 pub mod Afters
+pub mod Naming
+pub mod Counts

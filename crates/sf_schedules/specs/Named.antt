@@ -17,6 +17,8 @@ module _ {V : Type 0} where
   Names (turn.Start a (op.Chan second k)) b = (a ≡ b) ⊎ (second ≡ b)
   Names (turn.Start a (op.Settle v)) b = a ≡ b
   Names (turn.Start a (op.Forget k)) b = a ≡ b
+  Names (turn.Start a (op.ForgetCall k c)) b = a ≡ b
+  Names (turn.Start a (op.Named k)) b = a ≡ b
   Names (turn.Start a op.Poll) b = a ≡ b
   Names (turn.Start a (op.Current k c)) b = a ≡ b
   Names (turn.Step a) b = a ≡ b
@@ -30,13 +32,13 @@ module _ {V : Type 0} where
 -- turns that name neither a caller nor the first of the chan that it serves do not concern it
 abbrev pub SparedAreLeft : Type 0 → Type 0
 SparedAreLeft V = (z : Setting) (s ts : List (Turn V)) → IsSchedule z (s ++ ts) → (b : ℕ) → Spares ts b
-    → ((d : ℕ) → (world_after z.first s).stages b ≡ Seconding d → Spares ts d) → AreOthers (world_after z.first s) ts b
+    → ((d : ℕ) → (world_after z.callers z.first s).stages b ≡ Seconding d → Spares ts d) → AreOthers (world_after z.callers z.first s) ts b
 
 -- turns that do not concern a caller add no event of it
 abbrev pub OthersAddNothing : Type 0 → Type 0
-OthersAddNothing V = (z : Setting) (s ts : List (Turn V)) → IsSchedule z (s ++ ts) → (b : ℕ) → AreOthers (world_after z.first s) ts b
-    → own_events b (events_of z.first (s ++ ts)) ≡ own_events b (events_of z.first s)
+OthersAddNothing V = (z : Setting) (s ts : List (Turn V)) → IsSchedule z (s ++ ts) → (b : ℕ) → AreOthers (world_after z.callers z.first s) ts b
+    → own_events b (events_of z.callers z.first (s ++ ts)) ≡ own_events b (events_of z.callers z.first s)
 
 -- each event is made by a caller of the setting
 abbrev pub MakersAreCallers : Type 0 → Type 0
-MakersAreCallers V = (z : Setting) (s : List (Turn V)) → IsSchedule z s → All (λ e. IsCaller z (maker e)) (events_of z.first s)
+MakersAreCallers V = (z : Setting) (s : List (Turn V)) → IsSchedule z s → All (λ e. IsCaller z (maker e)) (events_of z.callers z.first s)

@@ -3,12 +3,12 @@ use Rattle.std.specs.Prelude.{◌≡◌, ◌≢◌, ◌≤◌, ℕ, ◌==◌, Bo
 use Rattle.std.specs.List.{list_any}
 use Rattle.sf_history.specs.declared.call.CallId.{CallId}
 use Rattle.sf_history.specs.declared.event.Event.{Event}
-use Rattle.sf_history.specs.declared.event.Event.TheVariants.{Lead, Enter, Forget, Settle, Handed}
+use Rattle.sf_history.specs.declared.event.Event.TheVariants.{Lead, Enter, Forget, ForgetCall, Settle, Handed}
 use Rattle.sf_history.specs.Calls.{same_call}
 use Rattle.sf_schedules.specs.declared.operation.Op.{Op}
 use Rattle.sf_schedules.specs.declared.operation.Op.TheVariants as op
 use Rattle.sf_schedules.specs.declared.operation.Stage.{Stage}
-use Rattle.sf_schedules.specs.declared.operation.Stage.TheVariants.{Free, Leading, Holding, Polling, Seconding, Asking, Settling, Forgetting, Questioning}
+use Rattle.sf_schedules.specs.declared.operation.Stage.TheVariants.{Free, Leading, Holding, Polling, Seconding, Asking, Settling, Forgetting, Naming, Questioning}
 use Rattle.sf_schedules.specs.declared.operation.AskStep.TheVariants as ask
 use Rattle.sf_schedules.specs.declared.operation.ForgetStep.TheVariants as forget
 use Rattle.sf_schedules.specs.declared.turn.Turn.{Turn}
@@ -35,7 +35,8 @@ module _ {V : Type 0} where
   leads_on k c (Lead by key call own) = (key == k) && same_call call c
   leads_on k c (Enter by key call member) = false
   leads_on k c (Forget by key closed) = false
-  leads_on k c (Settle by call result shared) = false
+  leads_on k c (ForgetCall by key call hit) = false
+  leads_on k c (Settle by call result joiners) = false
   leads_on k c (Handed by call) = false
 
   -- the call was led on the place
@@ -52,6 +53,8 @@ module _ {V : Type 0} where
   MayStart z w a (op.Chan b k) = IsPlace z k × IsCaller z b × (b ≢ a) × MayAsk w a × MayAsk w b
   MayStart z w a (op.Settle v) = (k g : ℕ) × (own : Option CallId) × (w.stages a ≡ Leading k g own)
   MayStart z w a (op.Forget k) = IsPlace z k × (w.stages a ≡ Free)
+  MayStart z w a (op.ForgetCall k c) = IsPlace z k × (w.stages a ≡ Free)
+  MayStart z w a (op.Named k) = IsPlace z k × (w.stages a ≡ Free)
   MayStart z w a op.Poll = (k g : ℕ) × (c : CallId) × (w.stages a ≡ Holding k g c)
   MayStart z w a (op.Current k c) = IsPlace z k × (w.stages a ≡ Free)
 
@@ -69,13 +72,14 @@ module _ {V : Type 0} where
   HasOperation (Seconding first) = ⊥
   HasOperation (Asking k s step) = Unit {0}
   HasOperation (Settling k g own v step) = Unit {0}
-  HasOperation (Forgetting k step) = Unit {0}
+  HasOperation (Forgetting k target step) = Unit {0}
+  HasOperation (Naming k) = Unit {0}
   HasOperation (Questioning k c step) = Unit {0}
 
   -- a caller at this stage has just made a failed exchange, and looks again
   abbrev pub MayLeave : Stage V → Type 0
   MayLeave (Asking k s (ask.Look true)) = Unit {0}
-  MayLeave (Forgetting k (forget.Look true)) = Unit {0}
+  MayLeave (Forgetting k target (forget.Look true)) = Unit {0}
   MayLeave _ = ⊥
 
   abbrev pub IsTurn : Setting → List (Event ℕ V) → World V → Turn V → Type 0
@@ -90,4 +94,4 @@ module _ {V : Type 0} where
 
   -- schedule: each turn is allowed where it stands
   abbrev pub IsSchedule : Setting → List (Turn V) → Type 0
-  IsSchedule z s = IsScheduleFrom z [] (first_world z.first) s
+  IsSchedule z s = IsScheduleFrom z [] (first_world z.callers z.first) s

@@ -4,7 +4,7 @@ use Rattle.sf_history.specs.declared.call.CallId.{CallId}
 use Rattle.sf_words.specs.declared.call_word.CallState.{CallState}
 use Rattle.sf_words.specs.declared.call_word.CallState.TheVariants as word
 use Rattle.sf_schedules.specs.declared.operation.Stage.{Stage}
-use Rattle.sf_schedules.specs.declared.operation.Stage.TheVariants.{Free, Leading, Holding, Polling, Seconding, Asking, Settling, Forgetting, Questioning}
+use Rattle.sf_schedules.specs.declared.operation.Stage.TheVariants.{Free, Leading, Holding, Polling, Seconding, Asking, Settling, Forgetting, Naming, Questioning}
 use Rattle.sf_schedules.specs.declared.operation.AskStep.{AskStep}
 use Rattle.sf_schedules.specs.declared.operation.AskStep.TheVariants as ask
 use Rattle.sf_schedules.specs.declared.operation.ForgetStep.{ForgetStep}
@@ -52,23 +52,30 @@ forget_top (forget.LastClear c) = 0
 abbrev pub settle_top : SettleStep → ℕ
 settle_top settle.Peek = 0
 settle_top (settle.Close seen) = field_of seen.top
-settle_top (settle.Clear shared top) = field_of top
-settle_top (settle.Follow shared m) = 0
-settle_top (settle.PeekMember shared m next) = field_of next
-settle_top (settle.Deliver shared m next) = field_of next
-settle_top (settle.PeekOwn shared) = 0
-settle_top (settle.DeliverOwn shared m) = 0
+settle_top (settle.Clear top) = field_of top
+settle_top (settle.Count joiners m top) = top
+settle_top (settle.Follow joiners m) = 0
+settle_top (settle.PeekMember joiners m next) = field_of next
+settle_top (settle.Deliver joiners m next) = field_of next
+settle_top (settle.PeekOwn joiners) = 0
+settle_top (settle.DeliverOwn joiners m) = 0
 
 -- the member that the step is about, 0 for none
 abbrev pub settle_member : SettleStep → ℕ
 settle_member settle.Peek = 0
 settle_member (settle.Close seen) = 0
-settle_member (settle.Clear shared top) = 0
-settle_member (settle.Follow shared m) = m
-settle_member (settle.PeekMember shared m next) = m
-settle_member (settle.Deliver shared m next) = m.caller
-settle_member (settle.PeekOwn shared) = 0
-settle_member (settle.DeliverOwn shared m) = m.caller
+settle_member (settle.Clear top) = 0
+settle_member (settle.Count joiners m top) = m
+settle_member (settle.Follow joiners m) = m
+settle_member (settle.PeekMember joiners m next) = m
+settle_member (settle.Deliver joiners m next) = m.caller
+settle_member (settle.PeekOwn joiners) = 0
+settle_member (settle.DeliverOwn joiners m) = m.caller
+
+-- how many members the step has counted
+abbrev pub settle_count : SettleStep → ℕ
+settle_count (settle.Count joiners m top) = joiners
+settle_count _ = 0
 
 module _ {V : Type 0} where
   -- the place of the caller's operation or call; 1 where it has none
@@ -80,7 +87,8 @@ module _ {V : Type 0} where
   place_in (Seconding first) = 1
   place_in (Asking k s step) = k
   place_in (Settling k g own v step) = k
-  place_in (Forgetting k step) = k
+  place_in (Forgetting k target step) = k
+  place_in (Naming k) = k
   place_in (Questioning k c step) = k
 
   -- the caller makes an ask or a chan, or is the second of one
@@ -112,12 +120,17 @@ module _ {V : Type 0} where
   abbrev pub list_in : Stage V → ℕ
   list_in (Asking k s step) = ask_top step
   list_in (Settling k g own v step) = settle_top step
-  list_in (Forgetting k step) = forget_top step
+  list_in (Forgetting k target step) = forget_top step
   list_in _ = 0
 
-  -- all of them are among so many callers
+  -- how many members of its list the caller has counted
+  abbrev pub count_in : Stage V → ℕ
+  count_in (Settling k g own v step) = settle_count step
+  count_in _ = 0
+
+  -- all of them are among so many callers, and no more than those are counted
   abbrev pub AreWithin : ℕ → Stage V → Type 0
-  AreWithin callers s = (own_in s ≤ callers) × (member_in s ≤ callers) × (list_in s ≤ callers)
+  AreWithin callers s = (own_in s ≤ callers) × (member_in s ≤ callers) × (list_in s ≤ callers) × (count_in s ≤ callers)
 
   -- the caller settles
   abbrev pub is_settling : Stage V → Bool

@@ -17,7 +17,7 @@ use Rattle.sf_schedules.specs.Left.{AreOthers}
 -- two callers that are to deliver to one caller are one caller, and whom they deliver to is at no stage but a ticket's
 abbrev pub DeliversAreApart : Type 0 → Type 0
 DeliversAreApart V = (z : Setting) (s : List (Turn V)) → IsSchedule z s → (a b : ℕ) (m n : CallId) (l k : Letter V)
-    → delivers a ((world_after z.first s).stages a) ≡ Some (m, l) → delivers b ((world_after z.first s).stages b) ≡ Some (n, k) → m.caller ≡ n.caller → a ≡ b
+    → delivers a ((world_after z.callers z.first s).stages a) ≡ Some (m, l) → delivers b ((world_after z.callers z.first s).stages b) ≡ Some (n, k) → m.caller ≡ n.caller → a ≡ b
 
 module _ {V : Type 0} where
   -- the member waits for its letter of the call on the place: its word is listed
@@ -33,8 +33,8 @@ module _ {V : Type 0} where
 
 -- turns that do not concern a leader leave its list, and whoever waits on it
 abbrev pub ListsStay : Type 0 → Type 0
-ListsStay V = (z : Setting) (s ts : List (Turn V)) → IsSchedule z (s ++ ts) → (k : ℕ) (c : CallId) (top : Option ℕ) (l : List CallId) → AreOthers (world_after z.first s) ts c.caller
-    → IsListed (world_after z.first s) k c top l → IsListed (world_after z.first (s ++ ts)) k c top l
+ListsStay V = (z : Setting) (s ts : List (Turn V)) → IsSchedule z (s ++ ts) → (k : ℕ) (c : CallId) (top : Option ℕ) (l : List CallId) → AreOthers (world_after z.callers z.first s) ts c.caller
+    → IsListed (world_after z.callers z.first s) k c top l → IsListed (world_after z.callers z.first (s ++ ts)) k c top l
 
 -- the top of a leader's list
 abbrev pub list_top : CallState → Option ℕ
@@ -59,6 +59,6 @@ module _ {V : Type 0} where
 
 -- before its settle a leader's words hold a list of fewer members than callers, who all wait, as its own channel does
 abbrev pub LeadersHaveLists : Type 0 → Type 0
-LeadersHaveLists V = (z : Setting) (s : List (Turn V)) → IsSchedule z s → (a k g : ℕ) (own : Option CallId) → leads_of ((world_after z.first s).stages a) ≡ Some (k, g, own)
-    → (l : List CallId) × IsListed (world_after z.first s) k (record { caller = a; generation = g }) (list_top ((world_after z.first s).calls a)) l
-    × OwnWaits (world_after z.first s) k (record { caller = a; generation = g }) own × (length l + 1 ≤ z.callers)
+LeadersHaveLists V = (z : Setting) (s : List (Turn V)) → IsSchedule z s → (a k g : ℕ) (own : Option CallId) → leads_of ((world_after z.callers z.first s).stages a) ≡ Some (k, g, own)
+    → (l : List CallId) × IsListed (world_after z.callers z.first s) k (record { caller = a; generation = g }) (list_top ((world_after z.callers z.first s).calls a)) l
+    × OwnWaits (world_after z.callers z.first s) k (record { caller = a; generation = g }) own × (length l + 1 ≤ z.callers)

@@ -11,7 +11,7 @@ use Rattle.sf_words.specs.KeyWord.{IsKeyState}
 use Rattle.sf_words.specs.CallWord.{IsCallState}
 use Rattle.sf_words.specs.NextWord.{IsCallerOrNone}
 use Rattle.sf_schedules.specs.declared.operation.Stage.{Stage}
-use Rattle.sf_schedules.specs.declared.operation.Stage.TheVariants.{Free, Leading, Holding, Polling, Seconding, Asking, Settling, Forgetting, Questioning}
+use Rattle.sf_schedules.specs.declared.operation.Stage.TheVariants.{Free, Leading, Holding, Polling, Seconding, Asking, Settling, Forgetting, Naming, Questioning}
 use Rattle.sf_schedules.specs.declared.operation.AskStep.{AskStep}
 use Rattle.sf_schedules.specs.declared.operation.AskStep.TheVariants as ask
 use Rattle.sf_schedules.specs.declared.operation.SettleStep.{SettleStep}
@@ -62,12 +62,13 @@ AskIn z (ask.Enter c seen) = CallIn z c × LeaderIn z seen
 abbrev pub SettleIn : Setting → SettleStep → Type 0
 SettleIn z settle.Peek = Unit {0}
 SettleIn z (settle.Close seen) = LeaderIn z seen
-SettleIn z (settle.Clear shared top) = TopIn z top
-SettleIn z (settle.Follow shared m) = IsCaller z m
-SettleIn z (settle.PeekMember shared m next) = IsCaller z m × TopIn z next
-SettleIn z (settle.Deliver shared m next) = IsCaller z m.caller × TopIn z next
-SettleIn z (settle.PeekOwn shared) = Unit {0}
-SettleIn z (settle.DeliverOwn shared m) = IsCaller z m.caller
+SettleIn z (settle.Clear top) = TopIn z top
+SettleIn z (settle.Count joiners m top) = IsCaller z m × IsCaller z top × (joiners ≤ z.callers)
+SettleIn z (settle.Follow joiners m) = IsCaller z m
+SettleIn z (settle.PeekMember joiners m next) = IsCaller z m × TopIn z next
+SettleIn z (settle.Deliver joiners m next) = IsCaller z m.caller × TopIn z next
+SettleIn z (settle.PeekOwn joiners) = Unit {0}
+SettleIn z (settle.DeliverOwn joiners m) = IsCaller z m.caller
 
 abbrev pub ForgetIn : Setting → ForgetStep → Type 0
 ForgetIn z (forget.Look failed) = Unit {0}
@@ -90,7 +91,8 @@ module _ {V : Type 0} where
   StageIn z x n (Seconding first) = AskerIn z x n
   StageIn z x n (Asking k s step) = AskerIn z x n × AskIn z step
   StageIn z x n (Settling k g own v step) = IsCaller z x × IsGeneration g × OwnIn z own × SettleIn z step
-  StageIn z x n (Forgetting k step) = ForgetIn z step
+  StageIn z x n (Forgetting k target step) = ForgetIn z step
+  StageIn z x n (Naming k) = Unit {0}
   StageIn z x n (Questioning k c step) = Unit {0}
 
   pub record AreWithin (z : Setting) (w : World V) : Type 0 where
@@ -106,8 +108,8 @@ module _ {V : Type 0} where
 
 -- words and stages are within the setting
 abbrev pub WorldsAreWithin : Type 0 → Type 0
-WorldsAreWithin V = (z : Setting) (s : List (Turn V)) → 1 ≤ z.first → IsSchedule z s → AreWithin z (world_after z.first s)
+WorldsAreWithin V = (z : Setting) (s : List (Turn V)) → 1 ≤ z.first → IsSchedule z s → AreWithin z (world_after z.callers z.first s)
 
 -- words are lawful
 abbrev pub WordsAreLawful : Type 0 → Type 0
-WordsAreLawful V = (z : Setting) (s : List (Turn V)) → 1 ≤ z.first → z.callers ≤ 65535 → IsSchedule z s → AreLawful (world_after z.first s)
+WordsAreLawful V = (z : Setting) (s : List (Turn V)) → 1 ≤ z.first → z.callers ≤ 65535 → IsSchedule z s → AreLawful (world_after z.callers z.first s)

@@ -1,6 +1,6 @@
--- the world of the step core: words, cells, next generations, and each caller's stage in its operation.
+-- the world of the step core: how many callers there are, words, cells, next generations, and each caller's stage in its operation.
 -- Callers and places are known by their numbers.
-use Rattle.std.specs.Prelude.{ℕ, ◌+◌, ◌==◌, Bool, true, false, ◌&&◌, not, nat_lt, if◌then◌else◌, Option, Some, None}
+use Rattle.std.specs.Prelude.{ℕ, zero, suc, ◌+◌, ◌==◌, Bool, true, false, ◌&&◌, not, nat_lt, if◌then◌else◌, Option, Some, None}
 use Rattle.sf_history.specs.declared.call.CallId.{CallId}
 use Rattle.sf_words.specs.declared.key_word.KeyState.{KeyState}
 use Rattle.sf_words.specs.declared.key_word.KeyState.TheVariants.{Never, Names}
@@ -13,6 +13,7 @@ use Rattle.sf_schedules.specs.declared.operation.Stage.TheVariants as stage
 use Rattle.sf_lists.specs.Functions.{put}
 
 pub record World (V : Type 0) : Type 0 where
+  pub callers : ℕ
   pub keys : ℕ → KeyState
   pub calls : ℕ → CallState
   pub nexts : ℕ → Option ℕ
@@ -22,8 +23,9 @@ pub record World (V : Type 0) : Type 0 where
 
 module _ {V : Type 0} where
   -- the world in which nothing has happened: all words 0, all cells empty, all callers free
-  abbrev pub first_world : ℕ → World V
-  first_world first = record {
+  abbrev pub first_world : ℕ → ℕ → World V
+  first_world callers first = record {
+    callers = callers;
     keys = λ _. Never;
     calls = λ _. word.Free;
     nexts = λ _. None;
@@ -131,3 +133,13 @@ is_full (word.Forgot s) = false
 is_full (word.Done s) = false
 is_full (word.Listed g) = false
 is_full (word.Full g) = true
+
+-- how many callers stand on the list that begins with this top, as next words hold it: at most this many
+abbrev pub count : Option ℕ → ℕ → (ℕ → Option ℕ) → ℕ
+count None most nexts = 0
+count (Some m) zero nexts = 0
+count (Some m) (suc most) nexts = count (nexts m) most nexts + 1
+
+-- one more is counted; there are no more members than callers
+abbrev pub one_more : ℕ → ℕ → ℕ
+one_more callers n = if nat_lt n callers then n + 1 else n

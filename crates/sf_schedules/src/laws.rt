@@ -6,7 +6,9 @@ ghost use Rattle.sf_schedules.specs.Questions.{LooksHaveOwnPeeks, YesAtThePeekNo
 ghost use Rattle.sf_schedules.specs.Afters.{LeadsKnowCurrent};
 ghost use Rattle.sf_schedules.specs.Within.{WorldsAreWithin, WordsAreLawful};
 ghost use Rattle.sf_schedules.specs.Waiting.{DeliversAreApart, ListsStay, LeadersHaveLists};
+ghost use Rattle.sf_schedules.specs.Naming.{NamesAreRight, HitsAreRight, PastStaysPast};
 ghost use Rattle.sf_schedules.specs.Changed.{KeysChange, WordsChange};
+ghost use Rattle.sf_schedules.specs.Counts.{CountsAreRight, SettlesAreCounted, CountsHaveLists};
 
 /// The events of a schedule are a legal history.
 pub fn schedules_are_legal<V>()
@@ -91,4 +93,29 @@ pub fn words_are_in_range<V>()
 pub fn words_change_by_turns<V>()
     ensures keys { KeysChange V }
     ensures words { WordsChange V }
+{}
+
+/// A call that a look finds named by the key word is the one that was led last on the place; where it finds none, the
+/// place has no current call.
+pub fn key_words_name_the_last_lead<V>()
+    ensures { NamesAreRight V }
+{}
+
+/// A forget of one call that closed it found it open, one that cleared it found it current and not open, and one that
+/// missed it found it not current.
+pub fn hits_are_right<V>()
+    ensures { HitsAreRight V }
+{}
+
+/// A call that was led on a place, and is not current there, is never current there again.
+pub fn past_calls_stay_past<V>()
+    ensures { PastStaysPast V }
+{}
+
+/// A leader that has counted knows how many joined its call: the number of its Settle, and of its answer. What it is still
+/// to count is one list of waiting callers.
+pub fn leaders_count_rightly<V>()
+    ensures answers { CountsAreRight V }
+    ensures settles { SettlesAreCounted V }
+    ensures lists { CountsHaveLists V }
 {}

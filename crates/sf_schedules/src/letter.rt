@@ -11,6 +11,6 @@ pub struct Letter<V> {
     pub call: CallId,
     /// What the call was settled with.
     pub value: V,
-    /// Whether somebody joined the call.
-    pub shared: bool,
+    /// How many joined the call.
+    pub joiners: u32,
 }

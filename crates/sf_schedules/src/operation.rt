@@ -17,6 +17,10 @@ pub enum Op<V> {
     Settle { result: V },
     /// Forget a place's key.
     Forget { place: u32 },
+    /// Forget one call of a place's key, whichever call it is.
+    ForgetCall { place: u32, call: CallId },
+    /// Which call the place's key word names.
+    Named { place: u32 },
     /// See whether the letter that the caller waits for is in its cell, and take it.
     Poll,
     /// Whether a call that was led on the place is the current one of its key.
@@ -55,38 +59,43 @@ pub enum SettleStep {
     },
     /// Clear the key word, if it still names the call; `top` begins the list of a call that was forgotten.
     Clear {
-        shared: bool,
         top: Option<u32>,
+    },
+    /// Load the next word of a member, to count it: so many were counted before it, and `top` begins the list.
+    Count {
+        joiners: u32,
+        member: u32,
+        top: u32,
     },
     /// Load the next word of a member.
     Follow {
-        shared: bool,
+        joiners: u32,
         member: u32,
     },
     /// Load the call word of a member; `next` comes after it in the list.
     PeekMember {
-        shared: bool,
+        joiners: u32,
         member: u32,
         next: Option<u32>,
     },
     /// Put the letter in the member's cell, and store its call word as full.
     Deliver {
-        shared: bool,
+        joiners: u32,
         member: CallId,
         next: Option<u32>,
     },
     /// Load the call word of the own channel.
     PeekOwn {
-        shared: bool,
+        joiners: u32,
     },
     /// Put the letter in the own channel's cell, and store its call word as full.
     DeliverOwn {
-        shared: bool,
+        joiners: u32,
         member: CallId,
     },
 }
 
-/// The next step of a forget.
+/// The next step of a forget, of a key or of one call.
 #[derive(Clone, Copy)]
 pub enum ForgetStep {
     /// Load the key word; `failed` where the step before was a failed exchange.
@@ -151,10 +160,15 @@ pub enum Stage<V> {
         result: V,
         step: SettleStep,
     },
-    /// It makes a forget.
+    /// It makes a forget: of the place's key, or of the call `target` alone.
     Forgetting {
         place: u32,
+        target: Option<CallId>,
         step: ForgetStep,
+    },
+    /// It asks which call the key word names.
+    Naming {
+        place: u32,
     },
     /// It asks whether the call is current.
     Questioning {

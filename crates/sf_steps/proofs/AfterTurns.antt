@@ -24,21 +24,21 @@ use Rattle.sf_steps.proofs.Playing.{IsAt, played_on, refused_at, steps_led, show
 at_of : (p : Player) (ts : List (Turn Outcome)) → IsAfter p ts → IsAt text_setting (world_of p.world) (map shown p.steps.items) ts
 at_of p ts is = record { allowed = is.allowed; world = is.world; steps = is.steps }
 
-turn_at : (p : Player) (ts : List (Turn Outcome)) (t : Turn Outcome) → IsAfter p ts → IsTurn (setting_of p.world) (events_of 1 ts) (world_of p.world) t → IsTurn text_setting (events_of 1 ts) (world_of p.world) t
-turn_at p ts t is allowed = subst (λ (z : Setting). IsTurn z (events_of 1 ts) (world_of p.world) t) is.setting allowed
+turn_at : (p : Player) (ts : List (Turn Outcome)) (t : Turn Outcome) → IsAfter p ts → IsTurn (setting_of p.world) (events_of 64 1 ts) (world_of p.world) t → IsTurn text_setting (events_of 64 1 ts) (world_of p.world) t
+turn_at p ts t is allowed = subst (λ (z : Setting). IsTurn z (events_of 64 1 ts) (world_of p.world) t) is.setting allowed
 
-pub refuse : (p : Player) (ts : List (Turn Outcome)) (t : Turn Outcome) → IsAfter p ts → (IsTurn (setting_of p.world) (events_of 1 ts) (world_of p.world) t → ⊥) → IsSchedule text_setting (ts ++ t ∷ []) → ⊥
+pub refuse : (p : Player) (ts : List (Turn Outcome)) (t : Turn Outcome) → IsAfter p ts → (IsTurn (setting_of p.world) (events_of 64 1 ts) (world_of p.world) t → ⊥) → IsSchedule text_setting (ts ++ t ∷ []) → ⊥
 refuse p ts t is isnt = refused_at text_setting (world_of p.world) (map shown p.steps.items) ts t (at_of p ts is)
-    (λ allowed. isnt (subst (λ (z : Setting). IsTurn z (events_of 1 ts) (world_of p.world) t) (sym is.setting) allowed))
+    (λ allowed. isnt (subst (λ (z : Setting). IsTurn z (events_of 64 1 ts) (world_of p.world) t) (sym is.setting) allowed))
 
-pub go_on : (p q : Player) (ts : List (Turn Outcome)) (t : Turn Outcome) → IsAfter p ts → IsTurn (setting_of p.world) (events_of 1 ts) (world_of p.world) t
+pub go_on : (p q : Player) (ts : List (Turn Outcome)) (t : Turn Outcome) → IsAfter p ts → IsTurn (setting_of p.world) (events_of 64 1 ts) (world_of p.world) t
     → world_of q.world ≡ turned (world_of p.world) t → setting_of q.world ≡ setting_of p.world → map shown q.steps.items ≡ map shown p.steps.items ++ turn_steps (world_of p.world) t → IsAfter q (ts ++ t ∷ [])
 go_on p q ts t is allowed made same showed =
     let longer = played_on text_setting (world_of p.world) (world_of q.world) (map shown p.steps.items) (map shown q.steps.items) ts t (at_of p ts is) (turn_at p ts t is allowed) made showed in
     record { allowed = longer.allowed; world = longer.world; setting = same ∙ is.setting; steps = longer.steps }
 
-pub led_after : (p : Player) (ts : List (Turn Outcome)) (k : ℕ) (c : CallId) → IsAfter p ts → list_any (λ s. was_led_on s.events.items k c) p.steps.items ≡ was_led_on (events_of 1 ts) k c
-led_after p ts k c is = shown_led p.steps.items k c ∙ (ap (λ (ss : List (ShownStep Outcome)). list_any (λ s. was_led_on s.events k c) ss) is.steps ∙ steps_led (first_world 1) ts k c)
+pub led_after : (p : Player) (ts : List (Turn Outcome)) (k : ℕ) (c : CallId) → IsAfter p ts → list_any (λ s. was_led_on s.events.items k c) p.steps.items ≡ was_led_on (events_of 64 1 ts) k c
+led_after p ts k c is = shown_led p.steps.items k c ∙ (ap (λ (ss : List (ShownStep Outcome)). list_any (λ s. was_led_on s.events k c) ss) is.steps ∙ steps_led (first_world 64 1) ts k c)
 
 pub same_setting : (callers callers' places places' : ℕ) → callers' ≡ callers → places' ≡ places → ◌≡◌ {A = Setting} (record { callers = callers'; places = places'; first = 1 }) (record { callers = callers; places = places; first = 1 })
 same_setting callers callers' places places' c p = ap (λ (n : ℕ). record { callers = n; places = places'; first = 1 }) c ∙ ap (λ (n : ℕ). record { callers = callers; places = n; first = 1 }) p
@@ -68,5 +68,5 @@ shown_events_of w (turn.Leave a ∷ ts) = shown_events_of (turned w (turn.Leave 
 
 pub trace_legal : (p : Player) (ts : List (Turn Outcome)) → IsAfter p ts → IsLegal nat_eq (events_in p.steps.items)
 trace_legal p ts is =
-    subst (λ (es : List (Event ℕ Outcome)). IsLegal nat_eq es) (sym (events_shown p.steps.items ∙ (ap shown_events is.steps ∙ shown_events_of (first_world 1) ts)))
+    subst (λ (es : List (Event ℕ Outcome)). IsLegal nat_eq es) (sym (events_shown p.steps.items ∙ (ap shown_events is.steps ∙ shown_events_of (first_world 64 1) ts)))
     (schedules_are_legal text_setting ts is.allowed)

@@ -31,32 +31,32 @@ module _ {V : Type 0} where
   steps_append w (t ∷ p) q = ap (λ (ss : List (ShownStep V)). turn_steps w t ++ ss) (steps_append (turned w t) p q) ∙ sym (append_assoc (turn_steps w t) (steps_of (turned w t) p) (steps_of (run (turned w t) p) q))
 
   -- a turn that is allowed after a schedule makes it a longer one
-  pub schedule_push : (z : Setting) (ts : List (Turn V)) (t : Turn V) → IsSchedule z ts → IsTurn z (events_of z.first ts) (world_after z.first ts) t → IsSchedule z (ts ++ t ∷ [])
-  schedule_push z ts t is allowed = schedule_join z ts (t ∷ []) [] (first_world z.first) is (allowed, tt)
+  pub schedule_push : (z : Setting) (ts : List (Turn V)) (t : Turn V) → IsSchedule z ts → IsTurn z (events_of z.callers z.first ts) (world_after z.callers z.first ts) t → IsSchedule z (ts ++ t ∷ [])
+  schedule_push z ts t is allowed = schedule_join z ts (t ∷ []) [] (first_world z.callers z.first) is (allowed, tt)
 
-  pub schedule_last : (z : Setting) (ts : List (Turn V)) (t : Turn V) → IsSchedule z (ts ++ t ∷ []) → IsTurn z (events_of z.first ts) (world_after z.first ts) t
-  schedule_last z ts t is = (schedule_parts z ts (t ∷ []) [] (first_world z.first) is).1.0
+  pub schedule_last : (z : Setting) (ts : List (Turn V)) (t : Turn V) → IsSchedule z (ts ++ t ∷ []) → IsTurn z (events_of z.callers z.first ts) (world_after z.callers z.first ts) t
+  schedule_last z ts t is = (schedule_parts z ts (t ∷ []) [] (first_world z.callers z.first) is).1.0
 
   pub schedule_front : (z : Setting) (ts us : List (Turn V)) → IsSchedule z (ts ++ us) → IsSchedule z ts
-  schedule_front z ts us is = (schedule_parts z ts us [] (first_world z.first) is).0
+  schedule_front z ts us is = (schedule_parts z ts us [] (first_world z.callers z.first) is).0
 
   -- what is known after a schedule, in a world that is the one after it
   pub record IsAt (z : Setting) (w : World V) (shows : List (ShownStep V)) (ts : List (Turn V)) : Type 0 where
     pub allowed : IsSchedule z ts
-    pub world : w ≡ world_after z.first ts
-    pub steps : shows ≡ steps_of (first_world z.first) ts
+    pub world : w ≡ world_after z.callers z.first ts
+    pub steps : shows ≡ steps_of (first_world z.callers z.first) ts
 
-  pub played_on : (z : Setting) (w w' : World V) (steps steps' : List (ShownStep V)) (ts : List (Turn V)) (t : Turn V) → IsAt z w steps ts → IsTurn z (events_of z.first ts) w t
+  pub played_on : (z : Setting) (w w' : World V) (steps steps' : List (ShownStep V)) (ts : List (Turn V)) (t : Turn V) → IsAt z w steps ts → IsTurn z (events_of z.callers z.first ts) w t
       → w' ≡ turned w t → steps' ≡ steps ++ turn_steps w t → IsAt z w' steps' (ts ++ t ∷ [])
   played_on z w w' steps steps' ts t is allowed made showed = record {
-    allowed = schedule_push z ts t is.allowed (subst (λ (u : World V). IsTurn z (events_of z.first ts) u t) is.world allowed);
-    world = made ∙ (ap (λ (u : World V). turned u t) is.world ∙ sym (run_append (first_world z.first) ts (t ∷ [])));
-    steps = showed ∙ (ap (λ (u : World V). steps ++ turn_steps u t) is.world ∙ (ap (λ (ss : List (ShownStep V)). ss ++ turn_steps (world_after z.first ts) t) is.steps
-        ∙ (ap (λ (ss : List (ShownStep V)). steps_of (first_world z.first) ts ++ ss) (sym (append-nil (turn_steps (world_after z.first ts) t))) ∙ sym (steps_append (first_world z.first) ts (t ∷ [])))));
+    allowed = schedule_push z ts t is.allowed (subst (λ (u : World V). IsTurn z (events_of z.callers z.first ts) u t) is.world allowed);
+    world = made ∙ (ap (λ (u : World V). turned u t) is.world ∙ sym (run_append (first_world z.callers z.first) ts (t ∷ [])));
+    steps = showed ∙ (ap (λ (u : World V). steps ++ turn_steps u t) is.world ∙ (ap (λ (ss : List (ShownStep V)). ss ++ turn_steps (world_after z.callers z.first ts) t) is.steps
+        ∙ (ap (λ (ss : List (ShownStep V)). steps_of (first_world z.callers z.first) ts ++ ss) (sym (append-nil (turn_steps (world_after z.callers z.first ts) t))) ∙ sym (steps_append (first_world z.callers z.first) ts (t ∷ [])))));
   }
 
-  pub refused_at : (z : Setting) (w : World V) (steps : List (ShownStep V)) (ts : List (Turn V)) (t : Turn V) → IsAt z w steps ts → (IsTurn z (events_of z.first ts) w t → ⊥) → IsSchedule z (ts ++ t ∷ []) → ⊥
-  refused_at z w steps ts t is isnt longer = isnt (subst (λ (u : World V). IsTurn z (events_of z.first ts) u t) (sym is.world) (schedule_last z ts t longer))
+  pub refused_at : (z : Setting) (w : World V) (steps : List (ShownStep V)) (ts : List (Turn V)) (t : Turn V) → IsAt z w steps ts → (IsTurn z (events_of z.callers z.first ts) w t → ⊥) → IsSchedule z (ts ++ t ∷ []) → ⊥
+  refused_at z w steps ts t is isnt longer = isnt (subst (λ (u : World V). IsTurn z (events_of z.callers z.first ts) u t) (sym is.world) (schedule_last z ts t longer))
 
   -- a call was led exactly where a step shows it
   step_led : (w : World V) (t : Turn V) (k : ℕ) (c : CallId) → list_any (λ (s : ShownStep V). was_led_on s.events k c) (turn_steps w t) ≡ was_led_on (turn_events w t) k c

@@ -133,21 +133,21 @@ pub all_replicate : {A : Type 0} (P : A → Type 0) (xs : List A) (n : ℕ) (v :
 all_replicate {A} P xs n v is holds k = subst P (sym (ap (λ (row : ℕ → A). row k) (read_replicate xs n v is))) holds
 
 -- a world by its parts
-pub world_by_parts : {V : Type 0} {keys keys' : ℕ → KeyState} {calls calls' : ℕ → CallState} {nexts nexts' : ℕ → Option ℕ} {cells cells' : ℕ → Option (Letter V)} {generations generations' : ℕ → ℕ} {stages stages' : ℕ → Stage V}
+pub world_by_parts : {V : Type 0} {callers : ℕ} {keys keys' : ℕ → KeyState} {calls calls' : ℕ → CallState} {nexts nexts' : ℕ → Option ℕ} {cells cells' : ℕ → Option (Letter V)} {generations generations' : ℕ → ℕ} {stages stages' : ℕ → Stage V}
     → keys ≡ keys' → calls ≡ calls' → nexts ≡ nexts' → cells ≡ cells' → generations ≡ generations' → stages ≡ stages'
-    → ◌≡◌ {A = World V} (record { keys = keys; calls = calls; nexts = nexts; cells = cells; generations = generations; stages = stages })
-    (record { keys = keys'; calls = calls'; nexts = nexts'; cells = cells'; generations = generations'; stages = stages' })
-world_by_parts ks cs ns es gs ss = λ i. record { keys = ks i; calls = cs i; nexts = ns i; cells = es i; generations = gs i; stages = ss i }
+    → ◌≡◌ {A = World V} (record { callers = callers; keys = keys; calls = calls; nexts = nexts; cells = cells; generations = generations; stages = stages })
+    (record { callers = callers; keys = keys'; calls = calls'; nexts = nexts'; cells = cells'; generations = generations'; stages = stages' })
+world_by_parts {callers = callers} ks cs ns es gs ss = λ i. record { callers = callers; keys = ks i; calls = cs i; nexts = ns i; cells = es i; generations = gs i; stages = ss i }
 
 -- two writes to the row
 pub still_below : {A : Type 0} (xs : List A) (i : ℕ) (u : A) (j : ℕ) → j < length xs → j < length (slice_set xs i u)
 still_below xs i u j below = subst (λ (n : ℕ). j < n) (sym (length-set xs i u)) below
 
 -- the world of first rows
-pub world_at_first : {V : Type 0} {keys keys' : ℕ → KeyState} {rows rows' : ℕ → CallerRow V} → keys ≡ keys' → rows ≡ rows'
-    → ◌≡◌ {A = World V} (record { keys = keys; calls = λ a. (rows a).call; nexts = λ a. (rows a).next; cells = λ a. (rows a).cell; generations = λ a. (rows a).generation; stages = λ a. (rows a).stage })
-    (record { keys = keys'; calls = λ a. (rows' a).call; nexts = λ a. (rows' a).next; cells = λ a. (rows' a).cell; generations = λ a. (rows' a).generation; stages = λ a. (rows' a).stage })
-world_at_first ks rs = λ i. record { keys = ks i; calls = λ a. (rs i a).call; nexts = λ a. (rs i a).next; cells = λ a. (rs i a).cell; generations = λ a. (rs i a).generation; stages = λ a. (rs i a).stage }
+pub world_at_first : {V : Type 0} {callers : ℕ} {keys keys' : ℕ → KeyState} {rows rows' : ℕ → CallerRow V} → keys ≡ keys' → rows ≡ rows'
+    → ◌≡◌ {A = World V} (record { callers = callers; keys = keys; calls = λ a. (rows a).call; nexts = λ a. (rows a).next; cells = λ a. (rows a).cell; generations = λ a. (rows a).generation; stages = λ a. (rows a).stage })
+    (record { callers = callers; keys = keys'; calls = λ a. (rows' a).call; nexts = λ a. (rows' a).next; cells = λ a. (rows' a).cell; generations = λ a. (rows' a).generation; stages = λ a. (rows' a).stage })
+world_at_first {callers = callers} ks rs = λ i. record { callers = callers; keys = ks i; calls = λ a. (rs i a).call; nexts = λ a. (rs i a).next; cells = λ a. (rs i a).cell; generations = λ a. (rs i a).generation; stages = λ a. (rs i a).stage }
 
 module _ {V : Type 0} where
   -- past the callers there are the rows of nobody
@@ -158,7 +158,7 @@ module _ {V : Type 0} where
   pub lent_row : (rows : List (CallerRow V)) (a : ℕ) (d : CallerRow V) → a < length rows → d ≡ slice_index_or rows a d → d ≡ row_at rows a
   lent_row rows a d within is = is ∙ get_or_default rows a d first_row within
 
-  module _ (keys : ℕ → KeyState) (rows : List (CallerRow V)) (a : ℕ) (d : CallerRow V) (within : a < length rows) (is : d ≡ row_at rows a) where
+  module _ (size : ℕ) (keys : ℕ → KeyState) (rows : List (CallerRow V)) (a : ℕ) (d : CallerRow V) (within : a < length rows) (is : d ≡ row_at rows a) where
     call_kept : (r : CallerRow V) → r.call ≡ d.call → ◌≡◌ {A = ℕ → CallState} (λ j. (row_at (slice_set rows a r) j).call) (λ j. (row_at rows j).call)
     call_kept r same = part_kept (λ (x : CallerRow V). x.call) rows a r first_row within (same ∙ ap (λ (x : CallerRow V). x.call) is)
 
@@ -175,23 +175,23 @@ module _ {V : Type 0} where
     stage_kept r same = part_kept (λ (x : CallerRow V). x.stage) rows a r first_row within (same ∙ ap (λ (x : CallerRow V). x.stage) is)
 
     -- the world after a write of one part of a row
-    pub call_set : (word : CallState) → of_rows keys (slice_set rows a (record d { call = word })) ≡ with_call (of_rows keys rows) a word
+    pub call_set : (word : CallState) → of_rows size keys (slice_set rows a (record d { call = word })) ≡ with_call (of_rows size keys rows) a word
     call_set word = let r = record d { call = word } in
         world_by_parts refl (part_set (λ (x : CallerRow V). x.call) rows a r first_row word within refl) (next_kept r refl) (cell_kept r refl) (generation_kept r refl) (stage_kept r refl)
 
-    pub next_set : (next : Option ℕ) → of_rows keys (slice_set rows a (record d { next = next })) ≡ with_next (of_rows keys rows) a next
+    pub next_set : (next : Option ℕ) → of_rows size keys (slice_set rows a (record d { next = next })) ≡ with_next (of_rows size keys rows) a next
     next_set next = let r = record d { next = next } in
         world_by_parts refl (call_kept r refl) (part_set (λ (x : CallerRow V). x.next) rows a r first_row next within refl) (cell_kept r refl) (generation_kept r refl) (stage_kept r refl)
 
-    pub cell_set : (cell : Option (Letter V)) → of_rows keys (slice_set rows a (record d { cell = cell })) ≡ with_cell (of_rows keys rows) a cell
+    pub cell_set : (cell : Option (Letter V)) → of_rows size keys (slice_set rows a (record d { cell = cell })) ≡ with_cell (of_rows size keys rows) a cell
     cell_set cell = let r = record d { cell = cell } in
         world_by_parts refl (call_kept r refl) (next_kept r refl) (part_set (λ (x : CallerRow V). x.cell) rows a r first_row cell within refl) (generation_kept r refl) (stage_kept r refl)
 
-    pub generation_used : of_rows keys (slice_set rows a (record d { generation = d.generation + 1 })) ≡ with_used (of_rows keys rows) a
+    pub generation_used : of_rows size keys (slice_set rows a (record d { generation = d.generation + 1 })) ≡ with_used (of_rows size keys rows) a
     generation_used = let r = record d { generation = d.generation + 1 } in
         world_by_parts refl (call_kept r refl) (next_kept r refl) (cell_kept r refl) (part_set (λ (x : CallerRow V). x.generation) rows a r first_row ((row_at rows a).generation + 1) within (ap (λ (x : CallerRow V). x.generation + 1) is)) (stage_kept r refl)
 
-    pub stage_set : (stage : Stage V) → of_rows keys (slice_set rows a (record d { stage = stage })) ≡ with_stage (of_rows keys rows) a stage
+    pub stage_set : (stage : Stage V) → of_rows size keys (slice_set rows a (record d { stage = stage })) ≡ with_stage (of_rows size keys rows) a stage
     stage_set stage = let r = record d { stage = stage } in
         world_by_parts refl (call_kept r refl) (next_kept r refl) (cell_kept r refl) (generation_kept r refl) (part_set (λ (x : CallerRow V). x.stage) rows a r first_row stage within refl)
 

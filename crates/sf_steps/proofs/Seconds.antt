@@ -1,8 +1,8 @@
 -- the seconds of chans: who they are, and that they have a generation left
-use Rattle.std.proofs.Common.{◌≡◌, ◌≢◌, ℕ, ◌<◌, ◌≤◌, true, List, Option, Some, None, inl, inr, refl, ◌∙◌, ap}
+use Rattle.std.proofs.Common.{◌≡◌, ◌≢◌, ℕ, ◌<◌, ◌≤◌, true, Option, Some, None, inl, inr, refl, ◌∙◌, ap}
 use Rattle.std.proofs.lemmas.Bool.{cases_lt}
 use Rattle.sf_schedules.specs.declared.operation.Stage.{Stage}
-use Rattle.sf_schedules.specs.declared.operation.Stage.TheVariants.{Free, Leading, Holding, Polling, Seconding, Asking, Settling, Forgetting, Questioning}
+use Rattle.sf_schedules.specs.declared.operation.Stage.TheVariants.{Free, Leading, Holding, Polling, Seconding, Asking, Settling, Forgetting, Naming, Questioning}
 use Rattle.sf_schedules.specs.declared.operation.AskStep.{AskStep}
 use Rattle.sf_schedules.specs.Stages.{is_asking, second_in, first_in}
 use Rattle.sf_schedules.specs.Askings.{joiner}
@@ -18,7 +18,8 @@ module _ {V : Type 0} where
   second_asks (Seconding first) a is = refl
   second_asks (Asking k s step) a is = refl
   second_asks (Settling k g own v step) a is = cc
-  second_asks (Forgetting k step) a is = cc
+  second_asks (Forgetting k target step) a is = cc
+  second_asks (Naming k) a is = cc
   second_asks (Questioning k c step) a is = cc
 
   second_within : (f : ℕ → Stage V) (callers b a : ℕ) → ((j : ℕ) → callers < j → f j ≡ Free) → first_in (f b) ≡ Some a → b ≤ callers

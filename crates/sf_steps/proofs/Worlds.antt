@@ -1,5 +1,5 @@
 -- the worlds that several writes make, one after the other
-use Rattle.std.proofs.Common.{◌≡◌, ◌≢◌, ℕ, Bool, true, false, List, [], ◌∷◌, Option, Some, None, refl, sym, ◌∙◌, ap}
+use Rattle.std.proofs.Common.{◌≡◌, ◌≢◌, ℕ, zero, suc, ◌+◌, ◌<◌, arith, Bool, true, false, List, [], ◌∷◌, Option, Some, None, refl, sym, ◌∙◌, ap}
 use Rattle.std.specs.Prelude.{cond}
 use Rattle.sf_history.specs.declared.call.CallId.{CallId}
 use Rattle.sf_history.specs.declared.event.Event.{Event}
@@ -14,11 +14,11 @@ use Rattle.sf_schedules.specs.declared.operation.Stage.{Stage}
 use Rattle.sf_schedules.specs.declared.operation.Stage.TheVariants.{Free, Leading, Holding, Settling}
 use Rattle.sf_schedules.specs.declared.operation.SettleStep.{SettleStep}
 use Rattle.sf_schedules.specs.declared.operation.SettleStep.TheVariants as settle
-use Rattle.sf_schedules.specs.World.{World, with_key, with_call, with_stage, with_used, next_id, key_of, same_key, is_open_with}
+use Rattle.sf_schedules.specs.World.{World, with_key, with_call, with_stage, with_used, next_id, key_of, same_key, is_open_with, count}
 use Rattle.sf_schedules.specs.Askings.{joiner, with_top, own_of, holds_own, after_lead, after_enter}
-use Rattle.sf_schedules.specs.Turns.{after_own_peek, at_members, cleared, delivered, stepped}
+use Rattle.sf_schedules.specs.Turns.{after_own_peek, at_members, at_count, cleared, delivered, stepped}
 use Rattle.sf_schedules.specs.Events.{lead_events}
-use Rattle.sf_steps.specs.Settling.{result_in, settling_at, members_at}
+use Rattle.sf_steps.specs.Settling.{result_in, settling_at, members_at, count_at}
 use Rattle.sf_steps.proofs.Rows.{put_apart, staged_again}
 
 module _ {V : Type 0} where
@@ -52,33 +52,33 @@ module _ {V : Type 0} where
   pub staged_apart : (w : World V) (a b : ℕ) (s t : Stage V) → a ≢ b → with_stage (with_stage w a s) b t ≡ with_stage (with_stage w b t) a s
   staged_apart w a b s t apart = ap (λ (row : ℕ → Stage V). record w { stages = row }) (put_apart w.stages a b s t apart)
 
-  -- a settle that goes on to the members, after the clear of its key word
-  members_cleared : (w : World V) (a k g : ℕ) (own : Option CallId) (v : V) (shared : Bool) (top : Option ℕ) (b : Bool) (x : World V) → x ≡ cond b (with_key w k (Names a g true)) w → w.stages a ≡ Settling k g own v (settle.Clear shared top)
-      → with_stage x a (members_at shared top (x.stages a)) ≡ with_stage (cleared w k (record { caller = a; generation = g }) b) a (at_members k g own v shared top)
-  members_cleared w a k g own v shared top false x is at = ap (λ (y : World V). with_stage y a (members_at shared top (y.stages a))) is ∙ ap (λ (s : Stage V). with_stage w a (members_at shared top s)) at
-  members_cleared w a k g own v shared top true x is at =
-      ap (λ (y : World V). with_stage y a (members_at shared top (y.stages a))) is ∙ ap (λ (s : Stage V). with_stage (with_key w k (Names a g true)) a (members_at shared top s)) at
+  -- a settle that goes on to the count of its members, after the clear of its key word
+  count_cleared : (w : World V) (a k g : ℕ) (own : Option CallId) (v : V) (top : Option ℕ) (b : Bool) (x : World V) → x ≡ cond b (with_key w k (Names a g true)) w → w.stages a ≡ Settling k g own v (settle.Clear top)
+      → with_stage x a (count_at top (x.stages a)) ≡ with_stage (cleared w k (record { caller = a; generation = g }) b) a (at_count k g own v top)
+  count_cleared w a k g own v top false x is at = ap (λ (y : World V). with_stage y a (count_at top (y.stages a))) is ∙ ap (λ (s : Stage V). with_stage w a (count_at top s)) at
+  count_cleared w a k g own v top true x is at =
+      ap (λ (y : World V). with_stage y a (count_at top (y.stages a))) is ∙ ap (λ (s : Stage V). with_stage (with_key w k (Names a g true)) a (count_at top s)) at
 
-  pub clear_done : (w x u : World V) (a k g : ℕ) (own : Option CallId) (v : V) (shared : Bool) (top : Option ℕ) (done : Bool) → w.stages a ≡ Settling k g own v (settle.Clear shared top) → done ≡ same_key (w.keys k) (Names a g false)
-      → x ≡ cond done (with_key w k (Names a g true)) w → u ≡ with_stage x a (members_at shared top (x.stages a)) → u ≡ stepped w a (w.stages a)
-  clear_done w x u a k g own v shared top done at tested was is =
-      is ∙ (members_cleared w a k g own v shared top done x was at ∙ (ap (λ (b : Bool). with_stage (cleared w k (record { caller = a; generation = g }) b) a (at_members k g own v shared top)) tested ∙ ap (λ (s : Stage V). stepped w a s) (sym at)))
+  pub clear_done : (w x u : World V) (a k g : ℕ) (own : Option CallId) (v : V) (top : Option ℕ) (done : Bool) → w.stages a ≡ Settling k g own v (settle.Clear top) → done ≡ same_key (w.keys k) (Names a g false)
+      → x ≡ cond done (with_key w k (Names a g true)) w → u ≡ with_stage x a (count_at top (x.stages a)) → u ≡ stepped w a (w.stages a)
+  clear_done w x u a k g own v top done at tested was is =
+      is ∙ (count_cleared w a k g own v top done x was at ∙ (ap (λ (b : Bool). with_stage (cleared w k (record { caller = a; generation = g }) b) a (at_count k g own v top)) tested ∙ ap (λ (s : Stage V). stepped w a s) (sym at)))
 
   the_same : (v x : V) → Some v ≡ Some x → x ≡ v
   the_same v x is = cc
 
   -- a letter that is put into its cell while the settle goes on
-  pub deliver_done : (w x u : World V) (a k g : ℕ) (own : Option CallId) (v y : V) (shared : Bool) (m : CallId) (next : Option ℕ) → w.stages a ≡ Settling k g own v (settle.Deliver shared m next) → result_in (w.stages a) ≡ Some y
-      → x ≡ with_stage w a (members_at shared next (w.stages a)) → u ≡ delivered x m (record { place = k; call = record { caller = a; generation = g }; value = y; shared = shared }) → u ≡ stepped w a (w.stages a)
-  deliver_done w x u a k g own v y shared m next at value was is =
-      let letter : V → Letter V = λ z. record { place = k; call = record { caller = a; generation = g }; value = z; shared = shared } in
-      is ∙ (ap (λ (o : World V). delivered o m (letter y)) (was ∙ ap (λ (s : Stage V). with_stage w a (members_at shared next s)) at)
-      ∙ (ap (λ (z : V). with_stage (delivered w m (letter z)) a (at_members k g own v shared next)) (the_same v y (sym (ap result_in at) ∙ value)) ∙ ap (λ (s : Stage V). stepped w a s) (sym at)))
+  pub deliver_done : (w x u : World V) (a k g : ℕ) (own : Option CallId) (v y : V) (joiners : ℕ) (m : CallId) (next : Option ℕ) → w.stages a ≡ Settling k g own v (settle.Deliver joiners m next) → result_in (w.stages a) ≡ Some y
+      → x ≡ with_stage w a (members_at joiners next (w.stages a)) → u ≡ delivered x m (record { place = k; call = record { caller = a; generation = g }; value = y; joiners = joiners }) → u ≡ stepped w a (w.stages a)
+  deliver_done w x u a k g own v y joiners m next at value was is =
+      let letter : V → Letter V = λ z. record { place = k; call = record { caller = a; generation = g }; value = z; joiners = joiners } in
+      is ∙ (ap (λ (o : World V). delivered o m (letter y)) (was ∙ ap (λ (s : Stage V). with_stage w a (members_at joiners next s)) at)
+      ∙ (ap (λ (z : V). with_stage (delivered w m (letter z)) a (at_members k g own v joiners next)) (the_same v y (sym (ap result_in at) ∙ value)) ∙ ap (λ (s : Stage V). stepped w a s) (sym at)))
 
-  pub deliver_own_done : (w x u : World V) (a k g : ℕ) (own : Option CallId) (v y : V) (shared : Bool) (m : CallId) → w.stages a ≡ Settling k g own v (settle.DeliverOwn shared m) → result_in (w.stages a) ≡ Some y
-      → x ≡ with_stage w a Free → u ≡ delivered x m (record { place = k; call = record { caller = a; generation = g }; value = y; shared = shared }) → u ≡ stepped w a (w.stages a)
-  deliver_own_done w x u a k g own v y shared m at value was is =
-      let letter : V → Letter V = λ z. record { place = k; call = record { caller = a; generation = g }; value = z; shared = shared } in
+  pub deliver_own_done : (w x u : World V) (a k g : ℕ) (own : Option CallId) (v y : V) (joiners : ℕ) (m : CallId) → w.stages a ≡ Settling k g own v (settle.DeliverOwn joiners m) → result_in (w.stages a) ≡ Some y
+      → x ≡ with_stage w a Free → u ≡ delivered x m (record { place = k; call = record { caller = a; generation = g }; value = y; joiners = joiners }) → u ≡ stepped w a (w.stages a)
+  deliver_own_done w x u a k g own v y joiners m at value was is =
+      let letter : V → Letter V = λ z. record { place = k; call = record { caller = a; generation = g }; value = z; joiners = joiners } in
       is ∙ (ap (λ (o : World V). delivered o m (letter y)) was ∙ (ap (λ (z : V). with_stage (delivered w m (letter z)) a Free) (the_same v y (sym (ap result_in at) ∙ value)) ∙ ap (λ (s : Stage V). stepped w a s) (sym at)))
 
   -- what a successful lead adds
@@ -132,3 +132,17 @@ module _ {V : Type 0} where
   peek_done w x u a k g own v found step at loaded goes same is =
       is ∙ (ap (λ (y : World V). with_stage y a (settling_at step (y.stages a))) same ∙ (ap (λ (q : Stage V). with_stage w a (settling_at step q)) at
       ∙ (ap (λ (t : SettleStep). with_stage w a (Settling k g own v t)) (goes ∙ ap after_own_peek loaded) ∙ ap (λ (q : Stage V). stepped w a q) (sym at))))
+
+-- a walk of no steps counts nobody
+pub count_none : (top : Option ℕ) (nexts : ℕ → Option ℕ) → count top 0 nexts ≡ 0
+count_none None nexts = refl
+count_none (Some m) nexts = refl
+
+-- a walk goes on by one caller
+pub walk_goes : (nexts : ℕ → Option ℕ) (callers seen joiners total m : ℕ) (next got : Option ℕ) → seen < callers → next ≡ Some m → got ≡ nexts m → (left : ℕ) → seen + left ≡ callers → joiners + count next left nexts ≡ total
+    → (more : ℕ) × ((seen + 1) + more ≡ callers) × ((joiners + 1) + count got more nexts ≡ total)
+walk_goes nexts callers seen joiners total m next got below some after zero parts number = absurd (omega (arith, below, parts))
+walk_goes nexts callers seen joiners total m next got below some after (suc left) parts number =
+    let there : count next (suc left) nexts ≡ count (Some m) (suc left) nexts = ap (λ (t : Option ℕ). count t (suc left) nexts) some in
+    let here : count got left nexts ≡ count (nexts m) left nexts = ap (λ (t : Option ℕ). count t left nexts) after in
+    (left, omega (arith, parts), omega (arith, number, there, here))

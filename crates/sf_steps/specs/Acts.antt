@@ -2,7 +2,7 @@
 use Rattle.std.specs.Prelude.{ℕ, true, false, Option, Some, None}
 use Rattle.sf_history.specs.declared.call.CallId.{CallId}
 use Rattle.sf_schedules.specs.declared.operation.Stage.{Stage}
-use Rattle.sf_schedules.specs.declared.operation.Stage.TheVariants.{Polling, Asking, Settling, Forgetting, Questioning}
+use Rattle.sf_schedules.specs.declared.operation.Stage.TheVariants.{Polling, Asking, Settling, Forgetting, Naming, Questioning}
 use Rattle.sf_schedules.specs.declared.operation.AskStep.{AskStep}
 use Rattle.sf_schedules.specs.declared.operation.AskStep.TheVariants as ask
 use Rattle.sf_schedules.specs.declared.operation.SettleStep.{SettleStep}
@@ -46,12 +46,13 @@ module _ {V : Type 0} where
   abbrev pub settle_act : World V → ℕ → ℕ → CallId → Option CallId → SettleStep → Act
   settle_act w a k c own settle.Peek = Peek a (w.calls a)
   settle_act w a k c own (settle.Close seen) = Close c false (is_open_with seen (w.calls a))
-  settle_act w a k c own (settle.Clear shared top) = Clear k c (same_key (w.keys k) (key_of c))
-  settle_act w a k c own (settle.Follow shared m) = Follow m (w.nexts m)
-  settle_act w a k c own (settle.PeekMember shared m next) = Peek m (w.calls m)
-  settle_act w a k c own (settle.Deliver shared m next) = Deliver m
-  settle_act w a k c own (settle.PeekOwn shared) = peek_own_act w a own
-  settle_act w a k c own (settle.DeliverOwn shared m) = Deliver m
+  settle_act w a k c own (settle.Clear top) = Clear k c (same_key (w.keys k) (key_of c))
+  settle_act w a k c own (settle.Count joiners m top) = Follow m (w.nexts m)
+  settle_act w a k c own (settle.Follow joiners m) = Follow m (w.nexts m)
+  settle_act w a k c own (settle.PeekMember joiners m next) = Peek m (w.calls m)
+  settle_act w a k c own (settle.Deliver joiners m next) = Deliver m
+  settle_act w a k c own (settle.PeekOwn joiners) = peek_own_act w a own
+  settle_act w a k c own (settle.DeliverOwn joiners m) = Deliver m
 
   abbrev pub forget_act : World V → ℕ → ForgetStep → Act
   forget_act w k (forget.Look failed) = Look k (w.keys k)
@@ -73,6 +74,7 @@ module _ {V : Type 0} where
   act_at w a (Polling k g c) = Collect (record { caller = a; generation = g }) (is_full (w.calls a))
   act_at w a (Asking k s step) = ask_act w a k s step
   act_at w a (Settling k g own v step) = settle_act w a k (record { caller = a; generation = g }) own step
-  act_at w a (Forgetting k step) = forget_act w k step
+  act_at w a (Forgetting k target step) = forget_act w k step
+  act_at w a (Naming k) = Look k (w.keys k)
   act_at w a (Questioning k c step) = current_act w k c step
   act_at w a _ = Link None

@@ -62,7 +62,7 @@ pub record IsScheduleText (ls : List (List ℕ)) (ts : List (Turn Outcome)) : Ty
 
 -- the trace of the lines
 abbrev pub IsTraceOf : List (List ℕ) → List (Step Outcome) → Type 0
-IsTraceOf ls steps = (ts : List (Turn Outcome)) × IsScheduleText ls ts × (map shown steps ≡ steps_of (first_world 1) ts)
+IsTraceOf ls steps = (ts : List (Turn Outcome)) × IsScheduleText ls ts × (map shown steps ≡ steps_of (first_world 64 1) ts)
 
 -- after a schedule the words say no turns, or turns that are not allowed there
 abbrev pub IsBadLine : List (Turn Outcome) → List (List ℕ) → Type 0

@@ -12,6 +12,6 @@ use Rattle.sf_steps.specs.TraceText.{Outcome}
 -- the player has played these turns, which are a schedule
 pub record IsAfter (p : Player) (ts : List (Turn Outcome)) : Type 0 where
   pub allowed : IsSchedule text_setting ts
-  pub world : world_of p.world ≡ world_after 1 ts
+  pub world : world_of p.world ≡ world_after 64 1 ts
   pub setting : setting_of p.world ≡ text_setting
-  pub steps : map shown p.steps.items ≡ steps_of (first_world 1) ts
+  pub steps : map shown p.steps.items ≡ steps_of (first_world 64 1) ts

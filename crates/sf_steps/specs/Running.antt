@@ -8,9 +8,10 @@ use Rattle.sf_schedules.specs.Schedules.{Setting}
 use Rattle.sf_steps.specs.declared.machine.caller_row.CallerRow.{CallerRow}
 use Rattle.sf_steps.specs.Rows.{row_at}
 
--- words, cells, generations and stages, each at the number of its place or caller
-abbrev pub of_rows : {V : Type 0} → (ℕ → KeyState) → List (CallerRow V) → World V
-of_rows keys rows = record {
+-- so many callers, and words, cells, generations and stages, each at the number of its place or caller
+abbrev pub of_rows : {V : Type 0} → ℕ → (ℕ → KeyState) → List (CallerRow V) → World V
+of_rows callers keys rows = record {
+  callers = callers;
   keys = keys;
   calls = λ a. (row_at rows a).call;
   nexts = λ a. (row_at rows a).next;
@@ -20,7 +21,7 @@ of_rows keys rows = record {
 }
 
 abbrev pub world_of : {V : Type 0} → Running V → World V
-world_of w = of_rows (λ k. slice_index_or w.keys.items k Never) w.rows.items
+world_of w = of_rows w.callers (λ k. slice_index_or w.keys.items k Never) w.rows.items
 
 -- where it is played: its callers and places, and generation 1 as each caller's first
 abbrev pub setting_of : {V : Type 0} → Running V → Setting

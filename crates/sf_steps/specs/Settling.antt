@@ -1,9 +1,9 @@
 -- a settle's stage: the value that it holds, and where it goes on
-use Rattle.std.specs.Prelude.{ℕ, Bool, Option, Some, None}
+use Rattle.std.specs.Prelude.{ℕ, Option, Some, None}
 use Rattle.sf_schedules.specs.declared.operation.Stage.{Stage}
 use Rattle.sf_schedules.specs.declared.operation.Stage.TheVariants.{Settling}
 use Rattle.sf_schedules.specs.declared.operation.SettleStep.{SettleStep}
-use Rattle.sf_schedules.specs.Turns.{at_members}
+use Rattle.sf_schedules.specs.Turns.{at_members, at_count}
 
 module _ {V : Type 0} where
   -- the value with which the caller settles
@@ -17,6 +17,11 @@ module _ {V : Type 0} where
   settling_at step s = s
 
   -- the settle at the members from this top on
-  abbrev pub members_at : Bool → Option ℕ → Stage V → Stage V
-  members_at shared top (Settling k g own v before) = at_members k g own v shared top
-  members_at shared top s = s
+  abbrev pub members_at : ℕ → Option ℕ → Stage V → Stage V
+  members_at joiners top (Settling k g own v before) = at_members k g own v joiners top
+  members_at joiners top s = s
+
+  -- the settle at the count of the members from this top on
+  abbrev pub count_at : Option ℕ → Stage V → Stage V
+  count_at top (Settling k g own v before) = at_count k g own v top
+  count_at top s = s

@@ -3,6 +3,8 @@ use Rattle.std.specs.Prelude.{ℕ, Bool, true, false, List, [], ◌∷◌, ◌++
 use Rattle.sf_history.specs.declared.call.CallId.{CallId}
 use Rattle.sf_history.specs.declared.event.Event.{Event}
 use Rattle.sf_history.specs.declared.event.Event.TheVariants as event
+use Rattle.sf_history.specs.declared.event.Hit.{Hit}
+use Rattle.sf_history.specs.declared.event.Hit.TheVariants.{Closed, Cleared, Missed}
 use Rattle.sf_history.specs.Calls.{call_text}
 use Rattle.sf_words.specs.declared.key_word.KeyState.{KeyState}
 use Rattle.sf_words.specs.declared.key_word.KeyState.TheVariants.{Never, Names}
@@ -84,9 +86,8 @@ act_text (Follow m next) = codes "follow " ++ (decimal m ++ (codes " " ++ top_te
 act_text (Deliver m) = codes "deliver " ++ call_text m
 act_text (Collect m full) = codes "collect " ++ (call_text m ++ (codes " " ++ full_text full))
 
-abbrev pub shared_text : Bool → List ℕ
-shared_text true = codes " shared=yes"
-shared_text false = codes " shared=no"
+abbrev pub joiners_text : ℕ → List ℕ
+joiners_text n = codes " joiners=" ++ decimal n
 
 abbrev pub outcome_text : Outcome → List ℕ
 outcome_text (Ok t) = t
@@ -100,11 +101,17 @@ abbrev pub closed_text : Option CallId → List ℕ
 closed_text None = codes "idle"
 closed_text (Some c) = codes "closed " ++ call_text c
 
+abbrev pub hit_text : Hit → List ℕ
+hit_text Closed = codes "closed"
+hit_text Cleared = codes "cleared"
+hit_text Missed = codes "missed"
+
 abbrev pub event_text : Event ℕ Outcome → List ℕ
 event_text (event.Lead a k c own) = codes "= lead " ++ (decimal k ++ (codes " " ++ (call_text c ++ (own_member_text own ++ codes "\n"))))
 event_text (event.Enter a k c m) = codes "= enter " ++ (decimal k ++ (codes " " ++ (call_text c ++ (codes " " ++ (call_text m ++ codes "\n")))))
 event_text (event.Forget a k closed) = codes "= forget " ++ (decimal k ++ (codes " " ++ (closed_text closed ++ codes "\n")))
-event_text (event.Settle a c v shared) = codes "= settle " ++ (call_text c ++ (codes " " ++ (outcome_text v ++ (shared_text shared ++ codes "\n"))))
+event_text (event.ForgetCall a k c hit) = codes "= forgetcall " ++ (decimal k ++ (codes " " ++ (call_text c ++ (codes " " ++ (hit_text hit ++ codes "\n")))))
+event_text (event.Settle a c v joiners) = codes "= settle " ++ (call_text c ++ (codes " " ++ (outcome_text v ++ (joiners_text joiners ++ codes "\n"))))
 event_text (event.Handed a c) = codes "= handed " ++ (call_text c ++ codes "\n")
 
 abbrev pub events_text : List (Event ℕ Outcome) → List ℕ

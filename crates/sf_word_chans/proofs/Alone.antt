@@ -15,8 +15,8 @@ use Rattle.sf_schedules.specs.Schedules.{IsSchedule}
 use Rattle.sf_schedules.specs.Left.{AreOthers}
 use Rattle.sf_schedules.specs.Named.{Spares}
 use Rattle.sf_schedules.proofs.Named.{IsAlone, spared_others, spared_are_left, others_none, makers_are_callers}
-use Rattle.sf_schedules.proofs.Others.{own_turns_decide}
-use Rattle.sf_schedules.proofs.RightAnswers.{run_append, adds_append, schedule_parts, always, schedules_are_legal}
+use Rattle.sf_schedules.proofs.LeftAlone.{own_turns_decide}
+use Rattle.sf_schedules.proofs.RightAnswers.{run_append, adds_append, schedule_parts, always, always_fair, schedules_are_legal}
 use Rattle.sf_calls.specs.declared.sizes.Sizes.{Sizes}
 use Rattle.sf_calls.specs.Seen.{Adds}
 use Rattle.sf_word_steps.specs.declared.view.View.{View}
@@ -91,12 +91,12 @@ module _ {V : Type 0} where
   goes_from z a v w p q ts u es x given sits m others ran at own more =
       let s : List (Turn V) = m.before in
       let between : List (Turn V) = m.comes.later.between in
-      let first = first_world z.first in
+      let first = first_world z.callers z.first in
       let turns_is : w.known.turns ≡ s ++ ts = ap (λ (y : View V). y.known.turns) m.view in
       let world_is : world_of z (s ++ ts) ≡ u = run_append first s ts ∙ ran.world in
       let front : IsSchedule (setting_of z) (v.known.turns ++ between) = subst (λ q. IsSchedule (setting_of z) q) m.comes.later.turns m.comes.schedule in
       let parts = schedule_parts (setting_of z) v.known.turns between [] first front in
-      let none = others_none (setting_of z) between (history_of z v.known.turns) (world_of z v.known.turns) a (always (setting_of z) v.known.turns parts.0) parts.1 others in
+      let none = others_none (setting_of z) between (history_of z v.known.turns) (world_of z v.known.turns) a (always_fair (setting_of z) v.known.turns parts.0) parts.1 others in
       let old : List (Event ℕ V) = history_of z v.known.turns in
       let mid : List (Event ℕ V) = adds (world_of z v.known.turns) between in
       let grown : history_of z s ≡ old ++ mid = ap (history_of z) m.comes.later.turns ∙ adds_append first v.known.turns between in

@@ -70,7 +70,7 @@ module _ {V : Type 0} where
 
   -- the world before a step, after others
   pub before_is : (z : Sizes) (v w : View V) (ts : List (Turn V)) → (o : Made z v w ts) → world_of z o.before ≡ run (world_of z v.known.turns) o.comes.later.between
-  before_is z v w ts o = ap (world_of z) o.comes.later.turns ∙ run_append (first_world z.first) v.known.turns o.comes.later.between
+  before_is z v w ts o = ap (world_of z) o.comes.later.turns ∙ run_append (first_world z.callers z.first) v.known.turns o.comes.later.between
 
   -- a step that leaves the others' words alone
   pub stay_both : (c : Askers) (v w : View V) (p q p' q' : Stage V) (ts : List (Turn V)) (u : World V) → Ask c v p q → IsAlone p → Serves q c.number → (o : Made c.sizes v w ts)
@@ -82,7 +82,7 @@ module _ {V : Type 0} where
       let w₀ : World V = world_of z v.known.turns in
       let mid : World V = run w₀ between in
       let turns_is : w.known.turns ≡ o.before ++ ts = ap (λ (y : View V). y.known.turns) o.view in
-      let world_is : world_of z w.known.turns ≡ u = ap (world_of z) turns_is ∙ (run_append (first_world z.first) o.before ts ∙ ran.world) in
+      let world_is : world_of z w.known.turns ≡ u = ap (world_of z) turns_is ∙ (run_append (first_world z.callers z.first) o.before ts ∙ ran.world) in
       let goes = go_both c v w p q p' q' ts u [] [] [] 0 0 ask.sit free serves o ran refl refl ends in
       record {
         goes = goes;

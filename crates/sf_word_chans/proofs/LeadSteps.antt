@@ -195,7 +195,7 @@ module _ {V : Type 0} where
             (Lead c.number c.place (call_of c) (Some (member_of c)) ∷ []) [] 1 1 asks.sit (asking_alone c.place (Some c.second) (ask.Lead seen f)) (second_serves c.number) o ran own second_own (led_ends c w₀ apart given second_given),
         record {
           before = history_of c.sizes m.before;
-          last = ap (history_of c.sizes) knows ∙ (adds_append (first_world c.sizes.first) m.before (turn.Step c.number ∷ []) ∙ ap (λ l. history_of c.sizes m.before ++ l) (ran.events ∙ named));
+          last = ap (history_of c.sizes) knows ∙ (adds_append (first_world c.sizes.callers c.sizes.first) m.before (turn.Step c.number ∷ []) ∙ ap (λ l. history_of c.sizes m.before ++ l) (ran.events ∙ named));
           current = leads_know_current (setting_of c.sizes) m.before m.comes.schedule c.number c.place (Some c.second) seen f at.first same;
         },
       )

@@ -153,7 +153,7 @@ module _ {V : Type 0} where
       q y = stage.Asking c.place (Some c.second) (looked (Some c.second) y)
 
       known : (ts : List (Turn V)) (u : World V) → (o : Made c.sizes v w ts) → (o.before ≡ m.before) → run (world_of c.sizes o.before) ts ≡ u → u.keys ≡ w₀.keys → (world_of c.sizes w.known.turns).keys c.place ≡ x
-      known ts u o same to keys = ap (λ (y : View V). (world_of c.sizes y.known.turns).keys c.place) o.view ∙ (ap (λ (y : World V). y.keys c.place) (run_append (first_world c.sizes.first) o.before ts ∙ to) ∙ (ap (λ f. f c.place) keys ∙ sym is))
+      known ts u o same to keys = ap (λ (y : View V). (world_of c.sizes y.known.turns).keys c.place) o.view ∙ (ap (λ (y : World V). y.keys c.place) (run_append (first_world c.sizes.callers c.sizes.first) o.before ts ∙ to) ∙ (ap (λ f. f c.place) keys ∙ sym is))
 
       again_made : (ts us : List (Turn V)) → ts ≡ us → Made c.sizes v w ts → Made c.sizes v w us
       again_made ts us e o = subst (λ l. Made c.sizes v w l) e o

@@ -96,7 +96,7 @@ module _ {V : Type 0} where
       let m = found.0 in
       let at = standing c v w (ask.Peek d) (turn.Step c.number ∷ []) asks m in
       let ran = stepped_ran c v (ask.Peek d) m.before asks at in
-      ap (λ (y : View V). (world_of c.sizes y.known.turns).calls d.caller) m.view ∙ (ap (λ (y : World V). y.calls d.caller) (run_append (first_world c.sizes.first) m.before (turn.Step c.number ∷ []) ∙ ran.world) ∙ sym is)
+      ap (λ (y : View V). (world_of c.sizes y.known.turns).calls d.caller) m.view ∙ (ap (λ (y : World V). y.calls d.caller) (run_append (first_world c.sizes.callers c.sizes.first) m.before (turn.Step c.number ∷ []) ∙ ran.world) ∙ sym is)
 
   -- a call word that a peek finds open is of neither of the two
   opened_by : (c : Askers) (d : CallId) (v w : View V) (x : CallState) (seen : LeaderState) (i : ℕ) → AskAt c v (ask.Peek d) → (m : Made c.sizes v w (turn.Step c.number ∷ [])) → x ≡ (world_of c.sizes m.before).calls d.caller

@@ -38,7 +38,7 @@ module _ {V : Type 0} where
   }
 
   world_after : (c : Askers) (v w : View V) (p q : Stage V) → (g : GoBoth c v w p q [] [] 0 0) → world_of c.sizes w.known.turns ≡ run (world_of c.sizes v.known.turns) g.first.turns
-  world_after c v w p q g = ap (world_of c.sizes) g.first.knows ∙ run_append (first_world c.sizes.first) v.known.turns g.first.turns
+  world_after c v w p q g = ap (world_of c.sizes) g.first.knows ∙ run_append (first_world c.sizes.callers c.sizes.first) v.known.turns g.first.turns
 
   -- the counts of a later part, from the world that the first came to
   later_counts : (c : Askers) (xs : List Word) (v w : View V) (p q : Stage V) (us : List (Turn V)) → (g : GoBoth c v w p q [] [] 0 0)

@@ -9,10 +9,11 @@ use Rattle.sf_history.specs.declared.call.CallId.{CallId}
 use Rattle.sf_history.specs.declared.event.Event.{Event}
 use Rattle.sf_history.specs.declared.event.Event.TheVariants.{Lead, Enter, Forget, Settle, Handed}
 use Rattle.sf_history.specs.Calls.{same_call}
-use Rattle.sf_history.specs.History.{holds_call, names, opens, open_call, enters, has_joined, leads, was_led, settles, is_settled, result_in, result_of, answer_of}
+use Rattle.sf_history.specs.History.{holds_call, names, opens, open_call, enters, joined, leads, was_led, settles, is_settled, result_in, result_of, answer_of, maker, own_events}
 use Rattle.sf_history.specs.Legal.{IsLegal, MayFollow}
 use Rattle.sf_lists.proofs.Lists.{by_push, list_any_push, list_any_push_cases, list_any_push_none}
 use Rattle.sf_history.proofs.LegalHistories.{same_call_is, other_call, legal_front, legal_last, fold_push, settled_named}
+use Rattle.sf_history.proofs.Members.{joined_kept}
 use Rattle.sf_calls.specs.Seen.{Stands}
 use Rattle.std.proofs.lemmas.List.Folds.{find-append}
 
@@ -51,7 +52,7 @@ module _ {V : Type 0} where
           sym (eqb-true by a parts.0) ∙ (follows.0 ∙ ap (λ (x : CallId). x.caller) (same_call_is call c parts.1))
       last h (Enter by key call member) follows is = absurd (let no : false ≡ true = is in cc)
       last h (Forget by key closed) follows is = absurd (let no : false ≡ true = is in cc)
-      last h (Settle by call result shared) follows is = absurd (let no : false ≡ true = is in cc)
+      last h (Settle by call result joiners) follows is = absurd (let no : false ≡ true = is in cc)
       last h (Handed by call) follows is = absurd (let no : false ≡ true = is in cc)
 
       step : (h : List (Event ℕ V)) (e : Event ℕ V) → (IsLegal nat_eq h → was_led h a c ≡ true → a ≡ c.caller) → IsLegal nat_eq (h ++ e ∷ []) → was_led (h ++ e ∷ []) a c ≡ true → a ≡ c.caller
@@ -88,9 +89,9 @@ module _ {V : Type 0} where
           list_any_push_none (settles c) h (Lead by key call own) (at_lead h call front follows.1 (before front) (nat_eq key k) (sym (fold_push (opens nat_eq k) None h (Lead by key call own)) ∙ is)) refl
       step h (Enter by key call member) before legal is = list_any_push_none (settles c) h (Enter by key call member) (before (legal_front nat_eq h (Enter by key call member) legal) (sym (fold_push (opens nat_eq k) None h (Enter by key call member)) ∙ is)) refl
       step h (Forget by key closed) before legal is = list_any_push_none (settles c) h (Forget by key closed) (at_forget h (before (legal_front nat_eq h (Forget by key closed) legal)) (nat_eq key k) (sym (fold_push (opens nat_eq k) None h (Forget by key closed)) ∙ is)) refl
-      step h (Settle by call result shared) before legal is =
-          let parts = at_settle h call (before (legal_front nat_eq h (Settle by call result shared) legal)) (holds_call (open_call nat_eq h k) call) refl (sym (fold_push (opens nat_eq k) None h (Settle by call result shared)) ∙ is) in
-          list_any_push_none (settles c) h (Settle by call result shared) parts.0 parts.1
+      step h (Settle by call result joiners) before legal is =
+          let parts = at_settle h call (before (legal_front nat_eq h (Settle by call result joiners) legal)) (holds_call (open_call nat_eq h k) call) refl (sym (fold_push (opens nat_eq k) None h (Settle by call result joiners)) ∙ is) in
+          list_any_push_none (settles c) h (Settle by call result joiners) parts.0 parts.1
       step h (Handed by call) before legal is = list_any_push_none (settles c) h (Handed by call) (before (legal_front nat_eq h (Handed by call) legal) (sym (fold_push (opens nat_eq k) None h (Handed by call)) ∙ is)) refl
 
   -- nobody enters a settled call
@@ -102,12 +103,12 @@ module _ {V : Type 0} where
       let un = open_unsettled h key c legal opened in
       cc
   not_entered h c (Forget by key closed) legal follows settled is = let no : false ≡ true = is in cc
-  not_entered h c (Settle by call result shared) legal follows settled is = let no : false ≡ true = is in cc
+  not_entered h c (Settle by call result joiners) legal follows settled is = let no : false ≡ true = is in cc
   not_entered h c (Handed by call) legal follows settled is = let no : false ≡ true = is in cc
 
-  -- the Settle of a call is by its caller, with its joined mark
+  -- the Settle of a call is by its caller, with the number of those who joined
   abbrev pub IsOneSettle : List (Event ℕ V) → CallId → Event ℕ V → Type 0
-  IsOneSettle h c e = (x : V) × (e ≡ Settle c.caller c x (has_joined h c))
+  IsOneSettle h c e = (x : V) × (e ≡ Settle c.caller c x (joined h c))
 
   one_settle : (h : List (Event ℕ V)) (c : CallId) → IsLegal nat_eq h → (e : Event ℕ V) → find (settles c) h ≡ Some e → IsOneSettle h c e
   one_settle h c = by_push (λ (h : List (Event ℕ V)). IsLegal nat_eq h → (e : Event ℕ V) → find (settles c) h ≡ Some e → IsOneSettle h c e) (λ legal e is. absurd (let no : None ≡ Some e = is in cc)) step h
@@ -116,11 +117,11 @@ module _ {V : Type 0} where
       newly h (Lead by key call own) legal follows is = absurd (let no : false ≡ true = is in cc)
       newly h (Enter by key call member) legal follows is = absurd (let no : false ≡ true = is in cc)
       newly h (Forget by key closed) legal follows is = absurd (let no : false ≡ true = is in cc)
-      newly h (Settle by call result shared) legal follows is =
+      newly h (Settle by call result joiners) legal follows is =
           let same : call ≡ c = same_call_is call c is in
           let maker_is : by ≡ c.caller = led_by h by call legal follows.0 ∙ ap (λ (x : CallId). x.caller) same in
-          let mark : shared ≡ has_joined (h ++ Settle by call result shared ∷ []) c = follows.2 ∙ (ap (has_joined h) same ∙ (sym (or-false (has_joined h c)) ∙ sym (list_any_push (enters c) h (Settle by call result shared)))) in
-          (result, ap (λ a. Settle a call result shared) maker_is ∙ (ap (λ d. Settle c.caller d result shared) same ∙ ap (Settle c.caller c result) mark))
+          let mark : joiners ≡ joined (h ++ Settle by call result joiners ∷ []) c = follows.2 ∙ (ap (joined h) same ∙ sym (joined_kept h (Settle by call result joiners) c refl)) in
+          (result, ap (λ a. Settle a call result joiners) maker_is ∙ (ap (λ d. Settle c.caller d result joiners) same ∙ ap (Settle c.caller c result) mark))
       newly h (Handed by call) legal follows is = absurd (let no : false ≡ true = is in cc)
 
       step : (h : List (Event ℕ V)) (last : Event ℕ V) → (IsLegal nat_eq h → (e : Event ℕ V) → find (settles c) h ≡ Some e → IsOneSettle h c e) → IsLegal nat_eq (h ++ last ∷ []) → (e : Event ℕ V) → find (settles c) (h ++ last ∷ []) ≡ Some e → IsOneSettle (h ++ last ∷ []) c e
@@ -140,29 +141,40 @@ module _ {V : Type 0} where
                 let was = before front (some_it.0) some_it.1 in
                 let settled = found_any (settles c) h (some_it.0) some_it.1 in
                 let unjoined : enters c last ≡ false = false_from_ne_true (enters c last) (not_entered h c last front follows settled) in
-                let mark : has_joined h c ≡ has_joined (h ++ last ∷ []) c = sym (list_any_push (enters c) h last ∙ (ap (λ b. has_joined h c || b) unjoined ∙ or-false (has_joined h c))) in
+                let mark : joined h c ≡ joined (h ++ last ∷ []) c = sym (joined_kept h last c unjoined) in
                 (was.0, sym same ∙ (was.1 ∙ ap (Settle c.caller c (was.0)) mark))
           ]
 
   -- what an answer is made of
-  answer_parts : (h : List (Event ℕ V)) (c : CallId) (o : Option V) (x : V) (shared : Bool) → option_map {U = V × Bool} (λ v. (v, has_joined h c)) o ≡ Some (x, shared) → (o ≡ Some x) × (has_joined h c ≡ shared)
-  answer_parts h c None x shared is = absurd (let no : None ≡ Some (x, shared) = is in cc)
-  answer_parts h c (Some v) x shared is = let same : ◌≡◌ {A = V × Bool} (v, has_joined h c) (x, shared) = cc in (ap (λ (p : V × Bool). Some p.0) same, ap (λ (p : V × Bool). p.1) same)
+  answer_parts : (h : List (Event ℕ V)) (c : CallId) (o : Option V) (x : V) (joiners : ℕ) → option_map {U = V × ℕ} (λ v. (v, joined h c)) o ≡ Some (x, joiners) → (o ≡ Some x) × (joined h c ≡ joiners)
+  answer_parts h c None x joiners is = absurd (let no : None ≡ Some (x, joiners) = is in cc)
+  answer_parts h c (Some v) x joiners is = let same : ◌≡◌ {A = V × ℕ} (v, joined h c) (x, joiners) = cc in (ap (λ (p : V × ℕ). Some p.0) same, ap (λ (p : V × ℕ). p.1) same)
 
   result_found : (o : Option (Event ℕ V)) (x : V) → option_and_then result_in o ≡ Some x → (e : Event ℕ V) × (o ≡ Some e) × (result_in e ≡ Some x)
   result_found None x is = absurd (let no : None ≡ Some x = is in cc)
   result_found (Some e) x is = (e, refl, is)
 
   -- the Settle that a call's answer says stands in the history
-  pub answer_stands : (h : List (Event ℕ V)) (c : CallId) (x : V) (shared : Bool) → IsLegal nat_eq h → answer_of h c ≡ Some (x, shared) → Stands (Settle c.caller c x shared) h
-  answer_stands h c x shared legal is =
-      let parts = answer_parts h c (result_of h c) x shared is in
+  pub answer_stands : (h : List (Event ℕ V)) (c : CallId) (x : V) (joiners : ℕ) → IsLegal nat_eq h → answer_of h c ≡ Some (x, joiners) → Stands (Settle c.caller c x joiners) h
+  answer_stands h c x joiners legal is =
+      let parts = answer_parts h c (result_of h c) x joiners is in
       let found = result_found (find (settles c) h) x parts.0 in
       let one = one_settle h c legal (found.0) found.1 in
       let value : Some (one.0) ≡ Some x = sym (ap result_in one.1) ∙ found.2 in
       let same : one.0 ≡ x = cc in
-      found_stands (settles c) h (Settle c.caller c x shared) (found.1 ∙ ap (λ e. Some e) (one.1 ∙ (ap (λ v. Settle c.caller c v (has_joined h c)) same ∙ ap (Settle c.caller c x) parts.1)))
+      found_stands (settles c) h (Settle c.caller c x joiners) (found.1 ∙ ap (λ e. Some e) (one.1 ∙ (ap (λ v. Settle c.caller c v (joined h c)) same ∙ ap (Settle c.caller c x) parts.1)))
 
   -- what stands in a history goes on to stand
   pub stands_longer : (e : Event ℕ V) (h more : List (Event ℕ V)) → Stands e h → Stands e (h ++ more)
   stands_longer e h more is = (is.0, is.1 ++ more, ap (λ q. q ++ more) is.2 ∙ append_assoc is.0 (e ∷ is.1) more)
+
+  -- an event that a caller made stands in the history
+  pub stands_own : (a : ℕ) (h p q : List (Event ℕ V)) (e : Event ℕ V) → own_events a h ≡ p ++ e ∷ q → Stands e h
+  stands_own a [] [] q e is = cc
+  stands_own a [] (d ∷ p) q e is = cc
+  stands_own a (d ∷ h) p q e is = at (maker d == a) p is (stands_own a h p q e) (λ r. stands_own a h r q e)
+    where
+      at : (b : Bool) (p : List (Event ℕ V)) → cond b (d ∷ own_events a h) (own_events a h) ≡ p ++ e ∷ q → (own_events a h ≡ p ++ e ∷ q → Stands e h) → ((r : List (Event ℕ V)) → own_events a h ≡ r ++ e ∷ q → Stands e h) → Stands e (d ∷ h)
+      at true [] is same later = ([], h, let head : d ≡ e = cc in ap (λ (y : Event ℕ V). y ∷ h) head)
+      at true (y ∷ r) is same later = let rest = later r (let tail : own_events a h ≡ r ++ e ∷ q = cc in tail) in (d ∷ rest.0, rest.1, ap (λ (ys : List (Event ℕ V)). d ∷ ys) rest.2)
+      at false p is same later = let rest = same is in (d ∷ rest.0, rest.1, ap (λ (ys : List (Event ℕ V)). d ∷ ys) rest.2)

@@ -54,21 +54,22 @@ module _ {V : Type 0} where
   serves_waits : (z : Sizes) (s : List (Turn V)) (a k place g : ℕ) (own : Option CallId) (v : V) (step : SettleStep) → IsSchedule (setting_of z) s → (world_of z s).stages a ≡ stage.Settling place g own v step → Serves step k → WaitsFor (world_of z s) a k
   serves_waits z s a k place g own v step is at serves = go step at serves
     where
-      right : (q : SettleStep) (m : CallId) (shared : Bool) → (world_of z s).stages a ≡ stage.Settling place g own v q
-          → delivers a (stage.Settling place g own v q) ≡ Some (m, record { place = place; call = record { caller = a; generation = g }; value = v; shared = shared }) → m.caller ≡ k → WaitsFor (world_of z s) a k
-      right q m shared here said one =
-          let r = deliver_right z.first (history_of z s) (world_of z s) a (stage.Settling place g own v q) (m, record { place = place; call = record { caller = a; generation = g }; value = v; shared = shared }) here (always (setting_of z) s is) said in
+      right : (q : SettleStep) (m : CallId) (joiners : ℕ) → (world_of z s).stages a ≡ stage.Settling place g own v q
+          → delivers a (stage.Settling place g own v q) ≡ Some (m, record { place = place; call = record { caller = a; generation = g }; value = v; joiners = joiners }) → m.caller ≡ k → WaitsFor (world_of z s) a k
+      right q m joiners here said one =
+          let r = deliver_right z.first (history_of z s) (world_of z s) a (stage.Settling place g own v q) (m, record { place = place; call = record { caller = a; generation = g }; value = v; joiners = joiners }) here (always (setting_of z) s is) said in
           subst (λ j. WaitsFor (world_of z s) a j) one (place, m.generation, g, r.0.ticket)
 
       go : (q : SettleStep) → (world_of z s).stages a ≡ stage.Settling place g own v q → Serves q k → WaitsFor (world_of z s) a k
-      go (settle.Deliver shared m next) here one = right (settle.Deliver shared m next) m shared here refl one
-      go (settle.DeliverOwn shared m) here one = right (settle.DeliverOwn shared m) m shared here refl one
+      go (settle.Deliver joiners m next) here one = right (settle.Deliver joiners m next) m joiners here refl one
+      go (settle.DeliverOwn joiners m) here one = right (settle.DeliverOwn joiners m) m joiners here refl one
       go settle.Peek here one = absurd one
       go (settle.Close seen) here one = absurd one
-      go (settle.Clear shared top) here one = absurd one
-      go (settle.Follow shared m) here one = absurd one
-      go (settle.PeekMember shared m next) here one = absurd one
-      go (settle.PeekOwn shared) here one = absurd one
+      go (settle.Clear top) here one = absurd one
+      go (settle.Count n m top) here one = absurd one
+      go (settle.Follow joiners m) here one = absurd one
+      go (settle.PeekMember joiners m next) here one = absurd one
+      go (settle.PeekOwn joiners) here one = absurd one
 
   -- who leads the call of which a caller holds a ticket
   abbrev leader_of : Stage V → ℕ

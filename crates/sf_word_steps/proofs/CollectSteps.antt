@@ -106,7 +106,7 @@ module _ {V : Type 0} where
 
   -- what a seat knows after such turns, which add nothing
   same_history : (z : Sizes) (v w : View V) (ts : List (Turn V)) (out : List ℕ) (u : World V) (m : MadeWith z v w ts out) → Ran (setting_of z) (history_of z m.before) (world_of z m.before) ts u [] → history_of z w.known.turns ≡ history_of z m.before
-  same_history z v w ts out u m ran = ap (λ (y : View V). history_of z y.known.turns) m.view ∙ (adds_append (first_world z.first) m.before ts ∙ (ap (λ es. history_of z m.before ++ es) ran.events ∙ append-nil (history_of z m.before)))
+  same_history z v w ts out u m ran = ap (λ (y : View V). history_of z y.known.turns) m.view ∙ (adds_append (first_world z.callers z.first) m.before ts ∙ (ap (λ es. history_of z m.before ++ es) ran.events ∙ append-nil (history_of z m.before)))
 
   -- how a poll's load ends, by what its word says
   abbrev pub Collected : FitOf V → Sizes → ℕ → ℕ → ℕ → CallId → Me (Option (Letter V)) (View V) → Me (Option (Letter V)) (View V) → CallState → Type 0
@@ -125,7 +125,7 @@ module _ {V : Type 0} where
         | inr got ↦
             let test : (n == call_code (word.Full g)) ≡ true = eq-eqb n (call_code (word.Full g)) (told.found ∙ ap call_code got.2) in
             let handle : collects a g n ≡ take_one a = ap (λ b. cond b (take_one a) none_of) test in
-            let l : Letter V = record { place = k; call = c; value = got.0; shared = got.1 } in
+            let l : Letter V = record { place = k; call = c; value = got.0; joiners = got.1 } in
             let carries = subst (λ h. Carries fits me.1 (world_of z s) (history_of z s) h new.1) handle told.carries in
             let ran = poll_ran (setting_of z) (history_of z s) (world_of z s) a k g c true sits.caller at (ap is_full got.2) in
             let later : history_of z new.0.known.turns ≡ history_of z s = same_history z me.0 new.0 ts (cells_after (collects a g n)) (poll_world (world_of z s) a k g c true) told.made ran in
@@ -205,10 +205,10 @@ module _ {V : Type 0} where
   pub answer_later : (fits : FitOf V) → Lasts fits → (z : Sizes) (a k n : ℕ) (c : CallId) (l : Letter V) (v w : View V) (p : Stage V) (es : List (Event ℕ V)) (out : List ℕ) → IsAnswer fits k c (history_of z v.known.turns) l → GoesWith z a v w p es n out → IsAnswer fits k c (history_of z w.known.turns) l
   answer_later fits lasts z a k n c l v w p es out is goes =
       let more : List (Event ℕ V) = adds (world_of z v.known.turns) goes.turns in
-      subst (λ h. IsAnswer fits k c h l) (sym (ap (history_of z) goes.knows ∙ adds_append (first_world z.first) v.known.turns goes.turns)) (record {
+      subst (λ h. IsAnswer fits k c h l) (sym (ap (history_of z) goes.knows ∙ adds_append (first_world z.callers z.first) v.known.turns goes.turns)) (record {
         place = is.place;
         call = is.call;
-        settled = stands_longer (event.Settle c.caller c l.value l.shared) (history_of z v.known.turns) more is.settled;
+        settled = stands_longer (event.Settle c.caller c l.value l.joiners) (history_of z v.known.turns) more is.settled;
         fitting = lasts k c l.value (history_of z v.known.turns) more is.fitting;
       })
 

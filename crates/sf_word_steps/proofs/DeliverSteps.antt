@@ -47,7 +47,7 @@ module _ {V : Type 0} where
   handles_by fits z a me p out x f turns handle sits alone does s c n found small =
       let d = does s c (stands z a me.0 p s sits alone c) n found in
       let w : World V = world_of z s in
-      let grown : history_of z (s ++ turns n) ≡ history_of z s ++ d.1.events = adds_append (first_world z.first) s (turns n) ∙ ap (λ es. history_of z s ++ es) d.1.ran.events in (
+      let grown : history_of z (s ++ turns n) ≡ history_of z s ++ d.1.events = adds_append (first_world z.callers z.first) s (turns n) ∙ ap (λ es. history_of z s ++ es) d.1.ran.events in (
         subst (λ who. AreBy who (turns n)) (sym (all_alone z a me.0 p sits)) d.0,
         d.1.ran.allowed,
         subst (λ (u : World V). Writes z.callers w u x (f n)) (sym d.1.ran.world) d.1.writes,
@@ -112,24 +112,24 @@ module _ {V : Type 0} where
       (ap (λ (q : World V). q.stages a) steps ∙ put_here w₀.stages a to) (ap (own_events a) silent) (ap (λ (q : World V). q.generations a) steps ∙ omega arith)
 
   -- the letter that the leader delivers
-  abbrev pub letter_of : ℕ → ℕ → ℕ → V → Bool → Letter V
-  letter_of a k g x shared = record { place = k; call = call_of a g; value = x; shared = shared }
+  abbrev pub letter_of : ℕ → ℕ → ℕ → V → ℕ → Letter V
+  letter_of a k g x joiners = record { place = k; call = call_of a g; value = x; joiners = joiners }
 
   -- the store that fills the member's word
-  pub fill_move : (fits : FitOf V) → Lasts fits → (z : Sizes) (a k g new : ℕ) (own : Option CallId) (x : V) (shared : Bool) (step : SettleStep) (to : Stage V) (m : CallId) (me : Me (Option (Letter V)) (View V)) → SitsWith z a me.0 (stage.Settling k g own x step) (m.caller ∷ [])
-      → me.1 ≡ (m.caller, Some (letter_of a k g x shared)) ∷ [] → IsGeneration m.generation → new ≡ call_code (word.Full m.generation) → fits k (call_of a g) x (history_of z me.0.known.turns)
-      → ((w : World V) → settle_stepped w a k g own x step ≡ with_stage (delivered w m (letter_of a k g x shared)) a to)
+  pub fill_move : (fits : FitOf V) → Lasts fits → (z : Sizes) (a k g new : ℕ) (own : Option CallId) (x : V) (joiners : ℕ) (step : SettleStep) (to : Stage V) (m : CallId) (me : Me (Option (Letter V)) (View V)) → SitsWith z a me.0 (stage.Settling k g own x step) (m.caller ∷ [])
+      → me.1 ≡ (m.caller, Some (letter_of a k g x joiners)) ∷ [] → IsGeneration m.generation → new ≡ call_code (word.Full m.generation) → fits k (call_of a g) x (history_of z me.0.known.turns)
+      → ((w : World V) → settle_stepped w a k g own x step ≡ with_stage (delivered w m (letter_of a k g x joiners)) a to)
       → MovesCell fits z me (call m.caller) (λ _. new) (λ _. turn.Step a ∷ []) (λ _. give_one m.caller)
-  fill_move fits lasts z a k g new own x shared step to m me sits carried generation code fit steps = handles_by fits z a me (stage.Settling k g own x step) (m.caller ∷ []) (call m.caller) (λ _. new) (λ _. turn.Step a ∷ []) (λ _. give_one m.caller) sits (settling_alone k g own x step)
+  fill_move fits lasts z a k g new own x joiners step to m me sits carried generation code fit steps = handles_by fits z a me (stage.Settling k g own x step) (m.caller ∷ []) (call m.caller) (λ _. new) (λ _. turn.Step a ∷ []) (λ _. give_one m.caller) sits (settling_alone k g own x step)
       (λ s c at n found.
       let w : World V = world_of z s in
       let u : World V = settle_stepped w a k g own x step in
-      let l : Letter V = letter_of a k g x shared in
+      let l : Letter V = letter_of a k g x joiners in
       let is : u ≡ with_stage (delivered w m l) a to = steps w in
       let cell : u.cells m.caller ≡ Some l = ap (λ (q : World V). q.cells m.caller) is ∙ put_here w.cells m.caller (Some l) in
       let es : List (Event ℕ V) = settle_events w a (call_of a g) own x step in
       let since : List (Event ℕ V) = adds (world_of z me.0.known.turns) c.later.between in
-      let grown : history_of z s ≡ history_of z me.0.known.turns ++ since = ap (history_of z) c.later.turns ∙ adds_append (first_world z.first) me.0.known.turns c.later.between in (
+      let grown : history_of z s ≡ history_of z me.0.known.turns ++ since = ap (history_of z) c.later.turns ∙ adds_append (first_world z.callers z.first) me.0.known.turns c.later.between in (
         ((λ b e. inl e), tt),
         record {
           world = u;
@@ -146,9 +146,9 @@ module _ {V : Type 0} where
         },
       ))
 
-  pub fill_told : (z : Sizes) (a k g : ℕ) (own : Option CallId) (x : V) (shared : Bool) (step : SettleStep) (to : Stage V) (es : List (Event ℕ V)) (m : CallId) (v w : View V) (out : List ℕ) → SitsWith z a v (stage.Settling k g own x step) out → (o : Made z v w (turn.Step a ∷ []))
-      → settle_stepped (world_of z o.before) a k g own x step ≡ with_stage (delivered (world_of z o.before) m (letter_of a k g x shared)) a to → settle_events (world_of z o.before) a (call_of a g) own x step ≡ es → own_events a es ≡ es → Goes z a v w to es 0
-  fill_told z a k g own x shared step to es m v w out sits o steps said mine =
+  pub fill_told : (z : Sizes) (a k g : ℕ) (own : Option CallId) (x : V) (joiners : ℕ) (step : SettleStep) (to : Stage V) (es : List (Event ℕ V)) (m : CallId) (v w : View V) (out : List ℕ) → SitsWith z a v (stage.Settling k g own x step) out → (o : Made z v w (turn.Step a ∷ []))
+      → settle_stepped (world_of z o.before) a k g own x step ≡ with_stage (delivered (world_of z o.before) m (letter_of a k g x joiners)) a to → settle_events (world_of z o.before) a (call_of a g) own x step ≡ es → own_events a es ≡ es → Goes z a v w to es 0
+  fill_told z a k g own x joiners step to es m v w out sits o steps said mine =
       let p : Stage V = stage.Settling k g own x step in
       let w₀ : World V = world_of z o.before in
       let u : World V = settle_stepped w₀ a k g own x step in

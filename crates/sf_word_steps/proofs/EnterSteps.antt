@@ -208,7 +208,7 @@ module _ {V : Type 0} where
       let alone = asking_alone k None (ask.Enter c seen) in
       let ran = lost_enter_ran z a k c seen m.before sits.caller (stands z a v p m.before sits alone m.comes) differs last in
       let between : List (Turn V) = m.comes.later.between in
-      let before_is : world_of z m.before ≡ run (world_of z v.known.turns) between = ap (world_of z) m.comes.later.turns ∙ run_append (first_world z.first) v.known.turns between in
+      let before_is : world_of z m.before ≡ run (world_of z v.known.turns) between = ap (world_of z) m.comes.later.turns ∙ run_append (first_world z.callers z.first) v.known.turns between in
       let spared = m.comes.later.others a (subst (λ q. Has q a) (sym sits.callers) (inl refl)) in
       record {
         goes = goes_by z a v w p (lost_stage k last) us (lost_world w₀ a k last) [] [] 0 sits alone o ran (lost_at w₀ a k last) refl (lost_used w₀ a k last);

@@ -1,6 +1,6 @@
 -- the kinds of step of a settle up to its clear, and that its closes fail seldom
 use Rattle.std.proofs.Common.{◌≡◌, ℕ, ◌+◌, ◌≤◌, Bool, true, false, ◌==◌, ◌&&◌, not, eqb, eq-eqb, List, [], ◌∷◌, ◌++◌, inl, Option, None, refl, sym, ◌∙◌, ap, subst, arith}
-use Rattle.std.specs.Prelude.{cond, if◌then◌else◌, is_some}
+use Rattle.std.specs.Prelude.{cond, if◌then◌else◌}
 use Rattle.std.proofs.lemmas.Bool.{cond-true}
 use prog.Atomic.{either}
 use Rattle.sf_history.specs.declared.call.CallId.{CallId}
@@ -13,7 +13,7 @@ use Rattle.sf_schedules.specs.declared.operation.Stage.TheVariants as stage
 use Rattle.sf_schedules.specs.declared.operation.SettleStep.TheVariants as settle
 use Rattle.sf_schedules.specs.declared.turn.Turn.{Turn}
 use Rattle.sf_schedules.specs.declared.turn.Turn.TheVariants as turn
-use Rattle.sf_schedules.specs.World.{World, first_world, is_open_with}
+use Rattle.sf_schedules.specs.World.{World, first_world, is_open_with, count}
 use Rattle.sf_schedules.specs.Turns.{at_members, after_close, turned, run}
 use Rattle.sf_schedules.specs.Events.{settled, close_events}
 use Rattle.sf_schedules.specs.Closes.{fails_at, fails, failed_closes}
@@ -50,7 +50,7 @@ module _ {V : Type 0} where
   closes_end z a g n v w p more sits knows counted =
       let whole : IsSchedule (setting_of z) (v.known.turns ++ more) = subst (λ s. IsSchedule (setting_of z) s) knows sits.schedule in
       let most = closes_fail_seldom (setting_of z) (v.known.turns ++ more) a g whole in
-      let parts = closes_append a g (first_world z.first) v.known.turns more in
+      let parts = closes_append a g (first_world z.callers z.first) v.known.turns more in
       omega (arith, counted, most, parts)
 
   -- the close: exchange the own call word that was seen, which was open
@@ -58,8 +58,8 @@ module _ {V : Type 0} where
   close_alone k g own x seen c is = cc
 
   pub close_ran : (z : Sizes) (a k g : ℕ) (own : Option CallId) (x : V) (seen : LeaderState) (s : List (Turn V)) → IsCaller (setting_of z) a → (world_of z s).stages a ≡ stage.Settling k g own x (settle.Close seen) → (b : Bool) → is_open_with seen ((world_of z s).calls a) ≡ b
-      → Ran (setting_of z) (history_of z s) (world_of z s) (turn.Step a ∷ []) (after_close (world_of z s) a k g own x seen b) (close_events a (call_of a g) own x seen b)
-  close_ran z a k g own x seen s caller at b is = subst (λ t. Ran (setting_of z) (history_of z s) (world_of z s) (turn.Step a ∷ []) (after_close (world_of z s) a k g own x seen t) (close_events a (call_of a g) own x seen t)) is
+      → Ran (setting_of z) (history_of z s) (world_of z s) (turn.Step a ∷ []) (after_close (world_of z s) a k g own x seen b) (close_events (world_of z s) a (call_of a g) own x seen b)
+  close_ran z a k g own x seen s caller at b is = subst (λ t. Ran (setting_of z) (history_of z s) (world_of z s) (turn.Step a ∷ []) (after_close (world_of z s) a k g own x seen t) (close_events (world_of z s) a (call_of a g) own x seen t)) is
       (step_ran (setting_of z) (history_of z s) (world_of z s) a (stage.Settling k g own x (settle.Close seen)) caller tt at)
 
   pub close_move : (z : Sizes) (a k g old new : ℕ) (own : Option CallId) (x : V) (seen : LeaderState) (v : View V) → Sits z a v (stage.Settling k g own x (settle.Close seen)) → IsCallFor z.callers (word.Open seen) → old ≡ call_code (word.Open seen) → new ≡ call_code (word.Done seen)
@@ -78,24 +78,10 @@ module _ {V : Type 0} where
           (let w : World V = world_of z s in
           record {
             world = after_close w a k g own x seen true;
-            events = settled a (call_of a g) own x seen.top;
+            events = settled a (call_of a g) own x (count seen.top w.callers w.nexts) seen.top;
             ran = close_ran z a k g own x seen s sits.caller at true is;
             writes = subst (λ m. Writes z.callers w (after_close w a k g own x seen true) (call a) m) (sym new_code) (writes_call z.callers w (after_close w a k g own x seen true) a (word.Done seen) lawful refl refl refl);
             cells = refl;
           })
       does s n found at false is test = subst (λ t. Does z s (call a) (either t new n) (turn.Step a ∷ [])) (sym test)
           (record { world = after_close (world_of z s) a k g own x seen false; events = []; ran = close_ran z a k g own x seen s sits.caller at false is; writes = writes_none z.callers (world_of z s) (after_close (world_of z s) a k g own x seen false) (call a) n found refl refl refl; cells = refl })
-
-  -- a close that nobody joined settles the call and hands it out: the caller is free
-  pub close_won : (z : Sizes) (a k g n old : ℕ) (x : V) (seen : LeaderState) (v w : View V) → Sits z a v (stage.Settling k g None x (settle.Close seen)) → IsCallState (word.Open seen) → old ≡ call_code (word.Open seen) → Found (call a) (λ _. turn.Step a ∷ []) z v n w → n ≡ old → seen.top ≡ None
-      → Goes z a v w stage.Free (settled a (call_of a g) None x None) 0
-  close_won z a k g n old x seen v w sits lawful old_code found won bare =
-      let p : Stage V = stage.Settling k g None x (settle.Close seen) in
-      let m = found.0 in
-      let w₀ : World V = world_of z m.before in
-      let same : is_open_with seen (w₀.calls a) ≡ true = sym (call_test (w₀.calls a) seen (m.comes.lawful.calls a).0 lawful) ∙ eq-eqb (call_code (w₀.calls a)) (call_code (word.Open seen)) (sym found.1 ∙ (won ∙ old_code)) in
-      let ran = close_ran z a k g None x seen m.before sits.caller (stands z a v p m.before sits (close_alone k g None x seen) m.comes) true same in
-      let own : own_events {V = V} a (settled a (call_of a g) None x seen.top) ≡ settled a (call_of a g) None x None =
-      ap (λ t. own_events {V = V} a (settled a (call_of a g) None x t)) bare ∙ (cond-true _ _ _ (eq-eqb a a refl) ∙ ap (λ q. event.Settle a (call_of a g) x false ∷ q) (cond-true _ _ _ (eq-eqb a a refl))) in
-      goes_by z a v w p stage.Free (turn.Step a ∷ []) (after_close w₀ a k g None x seen true) (settled a (call_of a g) None x seen.top) (settled a (call_of a g) None x None) 0 sits (close_alone k g None x seen) m ran
-      (put_here w₀.stages a (at_members k g None x (is_some seen.top) seen.top) ∙ ap (λ t. at_members k g None x (is_some t) t) bare) own (omega arith)

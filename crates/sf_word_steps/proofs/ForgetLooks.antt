@@ -54,9 +54,9 @@ module _ {V : Type 0} where
       let more : u.generations a ≡ (world_of z m.before).generations a + 0 = omega (arith, used) in
       let w₀ : World V = world_of z v.known.turns in
       let mid : World V = run w₀ between in
-      let before_is : world_of z m.before ≡ mid = ap (world_of z) m.comes.later.turns ∙ run_append (first_world z.first) v.known.turns between in
+      let before_is : world_of z m.before ≡ mid = ap (world_of z) m.comes.later.turns ∙ run_append (first_world z.callers z.first) v.known.turns between in
       let turns_is : w.known.turns ≡ m.before ++ ts = ap (λ (y : View V). y.known.turns) m.view in
-      let world_is : world_of z w.known.turns ≡ u = ap (world_of z) turns_is ∙ (run_append (first_world z.first) m.before ts ∙ ran.world) in
+      let world_is : world_of z w.known.turns ≡ u = ap (world_of z) turns_is ∙ (run_append (first_world z.callers z.first) m.before ts ∙ ran.world) in
       let spared = m.comes.later.others a (subst (λ c. Has c a) (sym sits.callers) (inl refl)) in
       record {
         goes = goes_by z a v w p q ts u es es 0 sits alone m ran at own more;
@@ -121,7 +121,7 @@ module _ {V : Type 0} where
       is = says (w₀.keys k) (m.comes.lawful.keys k) (sym found.1)
 
       known : (ts : List (Turn V)) (u : World V) → (o : Made z v w ts) → run (world_of z o.before) ts ≡ u → u.keys ≡ w₀.keys → (world_of z w.known.turns).keys k ≡ x
-      known ts u o to keys = ap (λ (y : View V). (world_of z y.known.turns).keys k) o.view ∙ (ap (λ (y : World V). y.keys k) (run_append (first_world z.first) o.before ts ∙ to) ∙ (ap (λ f. f k) keys ∙ sym is))
+      known ts u o to keys = ap (λ (y : View V). (world_of z y.known.turns).keys k) o.view ∙ (ap (λ (y : World V). y.keys k) (run_append (first_world z.callers z.first) o.before ts ∙ to) ∙ (ap (λ f. f k) keys ∙ sym is))
 
       at : MayForget z a k v → Went z a v w (forget_looked k x) (look_events a k x) × ((world_of z w.known.turns).keys k ≡ x)
       at (inl free) =
@@ -170,7 +170,7 @@ module _ {V : Type 0} where
       let at = stands z a v p m.before sits (forgetting_alone k (forget.Peek c)) m.comes in
       let ran = step_ran (setting_of z) h w₀ a p sits.caller tt at in (
         stays_went z a v w (q x) (went_by z a v w p (q x) (turn.Step a ∷ []) u [] sits (forgetting_alone k (forget.Peek c)) m ran (put_here w₀.stages a (q (w₀.calls c.caller)) ∙ ap q (sym is)) refl refl (alike_none w₀ u a refl refl refl)),
-        ap (λ (y : View V). (world_of z y.known.turns).calls c.caller) m.view ∙ (ap (λ (y : World V). y.calls c.caller) (run_append (first_world z.first) m.before (turn.Step a ∷ []) ∙ ran.world) ∙ sym is),
+        ap (λ (y : View V). (world_of z y.known.turns).calls c.caller) m.view ∙ (ap (λ (y : World V). y.calls c.caller) (run_append (first_world z.callers z.first) m.before (turn.Step a ∷ []) ∙ ran.world) ∙ sym is),
         λ seen opened same.
             let sound : Sound z.first h w₀ = always (setting_of z) m.before m.comes.schedule in
             let good : Good h w₀ a p = subst (λ (r : Stage V). Good h w₀ a r) at (sound.callers a).good in

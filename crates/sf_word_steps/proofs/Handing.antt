@@ -26,22 +26,22 @@ use Rattle.sf_word_steps.proofs.Trying.{adds_again}
 
 module _ {V : Type 0} where
   -- who is to be served next is a caller
-  pub follow_caller : (z : Sizes) (a k g m : ℕ) (own : Option CallId) (x : V) (shared : Bool) (v : View V) → Sits z a v (stage.Settling k g own x (settle.Follow shared m)) → IsCaller (setting_of z) m
-  follow_caller z a k g m own x shared v sits =
-      let list = follow_list (setting_of z) v.known.turns a k g m own x shared sits.schedule sits.stage in
+  pub follow_caller : (z : Sizes) (a k g m : ℕ) (own : Option CallId) (x : V) (joiners : ℕ) (v : View V) → Sits z a v (stage.Settling k g own x (settle.Follow joiners m)) → IsCaller (setting_of z) m
+  follow_caller z a k g m own x joiners v sits =
+      let list = follow_list (setting_of z) v.known.turns a k g m own x joiners sits.schedule sits.stage in
       head list.0 list.1
     where
       head : (l : List CallId) → IsListed (world_of z v.known.turns) k (call_of a g) (Some m) l → IsCaller (setting_of z) m
       head [] listed = absurd listed
       head (n ∷ l) listed = subst (IsCaller (setting_of z)) (sym listed.0) (waiting_caller (setting_of z) v.known.turns k (call_of a g) n sits.schedule listed.1)
 
-  pub own_caller : (z : Sizes) (a k g : ℕ) (m : CallId) (x : V) (shared : Bool) (v : View V) → Sits z a v (stage.Settling k g (Some m) x (settle.PeekOwn shared)) → IsCaller (setting_of z) m.caller
-  own_caller z a k g m x shared v sits = waiting_caller (setting_of z) v.known.turns k (call_of a g) m sits.schedule (own_waits (setting_of z) v.known.turns a k g m x shared sits.schedule sits.stage)
+  pub own_caller : (z : Sizes) (a k g : ℕ) (m : CallId) (x : V) (joiners : ℕ) (v : View V) → Sits z a v (stage.Settling k g (Some m) x (settle.PeekOwn joiners)) → IsCaller (setting_of z) m.caller
+  own_caller z a k g m x joiners v sits = waiting_caller (setting_of z) v.known.turns k (call_of a g) m sits.schedule (own_waits (setting_of z) v.known.turns a k g m x joiners sits.schedule sits.stage)
 
   -- what fits by what a leader knew fits by what it knows since
   pub fits_goes : (fits : FitOf V) → Lasts fits → (z : Sizes) (a k n : ℕ) (c : CallId) (x : V) (v w : View V) (p : Stage V) (es : List (Event ℕ V)) (out : List ℕ) → fits k c x (history_of z v.known.turns) → GoesWith z a v w p es n out → fits k c x (history_of z w.known.turns)
   fits_goes fits lasts z a k n c x v w p es out fit goes =
-      subst (λ h. fits k c x h) (sym (ap (history_of z) goes.knows ∙ adds_append (first_world z.first) v.known.turns goes.turns)) (lasts k c x (history_of z v.known.turns) (adds (world_of z v.known.turns) goes.turns) fit)
+      subst (λ h. fits k c x h) (sym (ap (history_of z) goes.knows ∙ adds_append (first_world z.callers z.first) v.known.turns goes.turns)) (lasts k c x (history_of z v.known.turns) (adds (world_of z v.known.turns) goes.turns) fit)
 
   -- steps one after another, of which the first added nothing
   abbrev pub goes_on : (z : Sizes) (a : ℕ) (v w u : View V) (p q : Stage V) (es fs : List (Event ℕ V)) (m n : ℕ) (mid out : List ℕ) → GoesWith z a v w p es m mid → GoesWith z a w u q fs n out → GoesWith z a v u q (es ++ fs) (m + n) out
@@ -70,9 +70,9 @@ module _ {V : Type 0} where
   goes_some z a v w u p q c own m es one two = goes_on z a v w u p q [] es 0 0 [] [] (subst (λ fs. Goes z a v w p fs 0) (handed_none a c own m) one) two
 
   -- what is left of the list
-  pub first_remains : (r : Actor) (d : Delivery) (m : ℕ) (x : V) (v : View V) → Sits r.sizes r.number v (at_step r d x (settle.Follow d.shared m)) → Remains r d v (Some m) 0
+  pub first_remains : (r : Actor) (d : Delivery) (m : ℕ) (x : V) (v : View V) → Sits r.sizes r.number v (at_step r d x (settle.Follow d.joiners m)) → Remains r d v (Some m) 0
   first_remains r d m x v sits =
-      let list = follow_list (setting_of r.sizes) v.known.turns r.number r.place d.generation m d.own x d.shared sits.schedule sits.stage in
+      let list = follow_list (setting_of r.sizes) v.known.turns r.number r.place d.generation m d.own x d.joiners sits.schedule sits.stage in
       let few = list.2 in
       (list.0, list.1, omega (arith, few))
 

@@ -153,10 +153,10 @@ module _ {V : Type 0} (fits : FitOf V) (lasts : Lasts fits) (z : Sizes) (t : Sta
   w₁ = run (world_of z s) ts
 
   there : world_of z (s ++ ts) ≡ w₁
-  there = run_append (first_world z.first) s ts
+  there = run_append (first_world z.callers z.first) s ts
 
   whole : IsSchedule (setting_of z) (s ++ ts)
-  whole = schedule_append (setting_of z) s ts [] (first_world z.first) sh.schedule allowed
+  whole = schedule_append (setting_of z) s ts [] (first_world z.callers z.first) sh.schedule allowed
 
   abbrev Cell : List (Home V) → List ℕ → ℕ → Type 0
   Cell homes out k = IsCell fits (history_of z (s ++ ts)) (world_of z (s ++ ts)) homes (set t.views id (view_with v (s ++ ts) out)) k
@@ -169,7 +169,7 @@ module _ {V : Type 0} (fits : FitOf V) (lasts : Lasts fits) (z : Sizes) (t : Sta
       inl (
         same ∙ (p.0 ∙ ap (λ (y : Option (Letter V)). some (some y)) (sym is)),
         subst (λ (y : Option (Letter V)). FitsCell fits (history_of z (s ++ ts)) y) (sym is)
-            (subst (λ g. FitsCell fits g (w₀.cells k)) (sym (adds_append (first_world z.first) s ts)) (fits_on fits lasts (history_of z s) (adds w₀ ts) (w₀.cells k) p.1)),
+            (subst (λ g. FitsCell fits g (w₀.cells k)) (sym (adds_append (first_world z.callers z.first) s ts)) (fits_on fits lasts (history_of z s) (adds w₀ ts) (w₀.cells k) p.1)),
       ))
       (λ (p : (get_elem? t.homes k ≡ some none) × ((seat : ℕ) × (u : View V) × (get_elem? t.views seat ≡ some u) × Has u.cells k)). dite (ℕ_discrete p.1.0 id)
       (λ e. let one : p.1.1 ≡ v = some-injective p.1.1 v (sym p.1.2 ∙ (ap (get_elem? t.views) e ∙ at)) in absurd (mine (subst (λ (u : View V). Has u.cells k) one p.1.3)))

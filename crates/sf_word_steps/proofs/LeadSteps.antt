@@ -132,7 +132,7 @@ module _ {V : Type 0} where
       let ran = lead_ran z a k seen f m.before sits.caller at true same in
       record {
         before = history_of z m.before;
-        last = ap (history_of z) knows ∙ (adds_append (first_world z.first) m.before ts ∙ ap (λ es. history_of z m.before ++ es) (ran.events ∙ ap (λ i. Lead a k (record { caller = a; generation = i }) None ∷ []) used));
+        last = ap (history_of z) knows ∙ (adds_append (first_world z.callers z.first) m.before ts ∙ ap (λ es. history_of z m.before ++ es) (ran.events ∙ ap (λ i. Lead a k (record { caller = a; generation = i }) None ∷ []) used));
         current = leads_know_current (setting_of z) m.before m.comes.schedule a k None seen f at same;
       }
 
@@ -157,7 +157,7 @@ module _ {V : Type 0} where
       let alone = asking_alone k None (ask.Lead seen f) in
       let ran = lost_ran z a k seen f m.before sits.caller (stands z a v p m.before sits alone m.comes) differs last in
       let between : List (Turn V) = m.comes.later.between in
-      let before_is : world_of z m.before ≡ run (world_of z v.known.turns) between = ap (world_of z) m.comes.later.turns ∙ run_append (first_world z.first) v.known.turns between in
+      let before_is : world_of z m.before ≡ run (world_of z v.known.turns) between = ap (world_of z) m.comes.later.turns ∙ run_append (first_world z.callers z.first) v.known.turns between in
       let spared = m.comes.later.others a (subst (λ c. Has c a) (sym sits.callers) (inl refl)) in
       record {
         goes = goes_by z a v w p (lost_stage k last) us (lost_world w₀ a k last) [] [] 0 sits alone o ran (lost_at w₀ a k last) refl (lost_used w₀ a k last);

@@ -19,5 +19,6 @@ pub mod ListSteps
 pub mod HandSteps
 pub mod Handing
 pub mod Answered
+pub mod CountSteps
 pub mod CollectSteps
 pub mod QuestionSteps

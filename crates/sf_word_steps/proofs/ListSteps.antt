@@ -90,4 +90,4 @@ module _ {V : Type 0} where
       let others = spared_others (setting_of z) v.known.turns between a front (m.comes.later.others a (sits_has z a v p sits)) (subst IsAlone (sym sits.stage) alone) in
       let before : IsListed (world_of z m.before) k (call_of a g) top l = subst (λ q. IsListed (world_of z q) k (call_of a g) top l) (sym m.comes.later.turns) (lists_stay (setting_of z) v.known.turns between front k (call_of a g) top l others is) in
       subst (λ q. IsListed (world_of z q) k (call_of a g) to rest) (sym (ap (λ (y : View V). y.known.turns) m.view))
-      (subst (λ (u : World V). IsListed u k (call_of a g) to rest) (sym (run_append (first_world z.first) m.before ts)) (step before))
+      (subst (λ (u : World V). IsListed u k (call_of a g) to rest) (sym (run_append (first_world z.callers z.first) m.before ts)) (step before))

@@ -78,9 +78,9 @@ module _ {V : Type 0} where
       let more : u.generations a ≡ (world_of z m.before).generations a + 0 = omega (arith, used) in
       let w₀ : World V = world_of z v.known.turns in
       let mid : World V = run w₀ between in
-      let before_is : world_of z m.before ≡ mid = ap (world_of z) m.comes.later.turns ∙ run_append (first_world z.first) v.known.turns between in
+      let before_is : world_of z m.before ≡ mid = ap (world_of z) m.comes.later.turns ∙ run_append (first_world z.callers z.first) v.known.turns between in
       let turns_is : w.known.turns ≡ m.before ++ ts = ap (λ (y : View V). y.known.turns) m.view in
-      let world_is : world_of z w.known.turns ≡ u = ap (world_of z) turns_is ∙ (run_append (first_world z.first) m.before ts ∙ ran.world) in
+      let world_is : world_of z w.known.turns ≡ u = ap (world_of z) turns_is ∙ (run_append (first_world z.callers z.first) m.before ts ∙ ran.world) in
       let spared = m.comes.later.others a (subst (λ c. Has c a) (sym sits.callers) (inl refl)) in
       record {
         goes = goes_by z a v w p q ts u [] [] 0 sits alone m ran at refl more;
@@ -154,7 +154,7 @@ module _ {V : Type 0} where
       is = says (w₀.keys k) (m.comes.lawful.keys k) (sym found.1)
 
       known : (ts : List (Turn V)) (u : World V) → (o : Made z v w ts) → (o.before ≡ m.before) → run (world_of z o.before) ts ≡ u → u.keys ≡ w₀.keys → (world_of z w.known.turns).keys k ≡ x
-      known ts u o same to keys = ap (λ (y : View V). (world_of z y.known.turns).keys k) o.view ∙ (ap (λ (y : World V). y.keys k) (run_append (first_world z.first) o.before ts ∙ to) ∙ (ap (λ f. f k) keys ∙ sym is))
+      known ts u o same to keys = ap (λ (y : View V). (world_of z y.known.turns).keys k) o.view ∙ (ap (λ (y : World V). y.keys k) (run_append (first_world z.callers z.first) o.before ts ∙ to) ∙ (ap (λ f. f k) keys ∙ sym is))
 
       at : MayLook z a k v → Stays z a v w (stage.Asking k None (looked None x)) × ((world_of z w.known.turns).keys k ≡ x)
       at (inl free) =
@@ -239,4 +239,4 @@ module _ {V : Type 0} where
       let w₀ : World V = world_of z m.before in
       let is : x ≡ w₀.calls c.caller = says (w₀.calls c.caller) (m.comes.lawful.calls c.caller) (sym found.1) in
       let ran = step_ran (setting_of z) (history_of z m.before) w₀ a p sits.caller tt (stands z a v p m.before sits (asking_alone k None (ask.Peek c)) m.comes) in
-      (ap (λ (y : View V). (world_of z y.known.turns).calls c.caller) m.view ∙ (ap (λ (y : World V). y.calls c.caller) (run_append (first_world z.first) m.before (turn.Step a ∷ []) ∙ ran.world) ∙ sym is), is)
+      (ap (λ (y : View V). (world_of z y.known.turns).calls c.caller) m.view ∙ (ap (λ (y : World V). y.calls c.caller) (run_append (first_world z.callers z.first) m.before (turn.Step a ∷ []) ∙ ran.world) ∙ sym is), is)

@@ -66,7 +66,7 @@ module _ {V : Type 0} where
           subst (IsCaller z) by_is by_caller
       here p q (Enter by at d member) legal by_caller is = absurd (true≢false (sym is))
       here p q (Forget by at closed) legal by_caller is = absurd (true≢false (sym is))
-      here p q (Settle by d result shared) legal by_caller is = absurd (true≢false (sym is))
+      here p q (Settle by d result joiners) legal by_caller is = absurd (true≢false (sym is))
       here p q (Handed by d) legal by_caller is = absurd (true≢false (sym is))
 
       find_in : (q p : List (Event ℕ V)) → IsLegal nat_eq (p ++ q) → All (λ e. IsCaller z (maker e)) q → list_any (leads_on k c) q ≡ true → IsCaller z c.caller
@@ -102,7 +102,7 @@ module _ {V : Type 0} where
 
   led_comes : (z : Sizes) (v : View V) (s : List (Turn V)) (k : ℕ) (c : CallId) → was_led_on (history_of z v.known.turns) k c ≡ true → Comes z v s → was_led_on (history_of z s) k c ≡ true
   led_comes z v s k c led comes =
-      let grown : history_of z s ≡ history_of z v.known.turns ++ adds (world_of z v.known.turns) comes.later.between = ap (history_of z) comes.later.turns ∙ adds_append (first_world z.first) v.known.turns comes.later.between in
+      let grown : history_of z s ≡ history_of z v.known.turns ++ adds (world_of z v.known.turns) comes.later.between = ap (history_of z) comes.later.turns ∙ adds_append (first_world z.callers z.first) v.known.turns comes.later.between in
       subst (λ (h : List (Event ℕ V)). was_led_on h k c ≡ true) (sym grown) (led_longer (history_of z v.known.turns) (adds (world_of z v.known.turns) comes.later.between) k c led)
 
   pub question_peek_move : (z : Sizes) (a k : ℕ) (c : CallId) (v : View V) → IsPlace (setting_of z) k → was_led_on (history_of z v.known.turns) k c ≡ true → Sits z a v stage.Free
@@ -129,7 +129,7 @@ module _ {V : Type 0} where
       let ran = started_peek z a k c m.before free.caller place led_then at in
       let start = current_ran (setting_of z) (history_of z m.before) w₀ a k c free.caller place led_then at in
       let before : List (Turn V) = m.before ++ turn.Start a (op.Current k c) ∷ [] in
-      let there : world_of z before ≡ mid = run_append (first_world z.first) m.before (turn.Start a (op.Current k c) ∷ []) ∙ start.world in
+      let there : world_of z before ≡ mid = run_append (first_world z.callers z.first) m.before (turn.Start a (op.Current k c) ∷ []) ∙ start.world in
       record {
         goes = goes_by z a v w stage.Free (q x) (question_turns a k c) u [] [] 0 free free_alone m ran (put_here mid.stages a (q (w₀.calls c.caller)) ∙ ap q (sym is)) refl (omega arith);
         before = before;
@@ -142,7 +142,7 @@ module _ {V : Type 0} where
   -- the step that peeks, or looks, adds nothing
   same_history : (z : Sizes) (a k : ℕ) (c : CallId) (step : CurrentStep) (before : List (Turn V)) → (world_of z before).stages a ≡ stage.Questioning k c step → history_of z (before ++ turn.Step a ∷ []) ≡ history_of z before
   same_history z a k c step before at =
-      adds_append (first_world z.first) before (turn.Step a ∷ []) ∙ (ap (λ es. history_of z before ++ es) nothing ∙ append-nil (history_of z before))
+      adds_append (first_world z.callers z.first) before (turn.Step a ∷ []) ∙ (ap (λ es. history_of z before ++ es) nothing ∙ append-nil (history_of z before))
     where
       nothing : adds (world_of z before) (turn.Step a ∷ []) ≡ []
       nothing = append-nil (step_events (world_of z before) a ((world_of z before).stages a)) ∙ ap (λ (q : Stage V). step_events (world_of z before) a q) at
@@ -152,9 +152,9 @@ module _ {V : Type 0} where
   peeked_forgot z a k c v w forgot peek is =
       let before : List (Turn V) = peek.before in
       let whole : IsSchedule (setting_of z) (before ++ turn.Step a ∷ []) = subst (λ s. IsSchedule (setting_of z) s) peek.peeked peek.goes.sits.schedule in
-      let front = (schedule_parts (setting_of z) before (turn.Step a ∷ []) [] (first_world z.first) whole).0 in
+      let front = (schedule_parts (setting_of z) before (turn.Step a ∷ []) [] (first_world z.callers z.first) whole).0 in
       let answer : current_answer (world_of z before) k c current.Peek ≡ Some false = ap (λ (b : Bool). if b then Some false else None) (peek.found ∙ is) in
-      let outdated : is_current_after z.first before k c ≡ false = sym (peeks_are_right (setting_of z) before front a k c false peek.asks answer) in
+      let outdated : is_current_after z.callers z.first before k c ≡ false = sym (peeks_are_right (setting_of z) before front a k c false peek.asks answer) in
       let same : history_of z w.known.turns ≡ history_of z before = ap (history_of z) peek.peeked ∙ same_history z a k c current.Peek before peek.asks in
       subst (λ (h : List (Event ℕ V)). current_call nat_eq h k ≢ Some c) (sym same) (not_held (current_call nat_eq (history_of z before) k) c outdated)
 
@@ -217,7 +217,7 @@ module _ {V : Type 0} where
 
       whole : IsSchedule (setting_of z) (p ++ turn.Step a ∷ rest)
       whole = subst (λ s. IsSchedule (setting_of z) s) split
-          (schedule_parts (setting_of z) look.before (turn.Step a ∷ []) [] (first_world z.first) (subst (λ s. IsSchedule (setting_of z) s) look.looked look.goes.sits.schedule)).0
+          (schedule_parts (setting_of z) look.before (turn.Step a ∷ []) [] (first_world z.callers z.first) (subst (λ s. IsSchedule (setting_of z) s) look.looked look.goes.sits.schedule)).0
 
       looks : (world_of z (p ++ turn.Step a ∷ [])).stages a ≡ stage.Questioning k c current.Look
       looks = ap (λ ts. (world_of z ts).stages a) (sym peek.peeked) ∙ (peek.goes.sits.stage ∙ ap (current_peeked k c) unforgot)
@@ -225,8 +225,8 @@ module _ {V : Type 0} where
       answered : current_answer (world_of z (p ++ turn.Step a ∷ rest)) k c current.Look ≡ Some answer
       answered = ap (λ ts. current_answer (world_of z ts) k c current.Look) (sym split) ∙ look.answered
 
-      both : (current_answer (world_of z (p ++ turn.Step a ∷ rest)) k c current.Look ≡ Some true → is_current_after z.first p k c ≡ true)
-          × (current_answer (world_of z (p ++ turn.Step a ∷ rest)) k c current.Look ≡ Some false → is_current_after z.first (p ++ turn.Step a ∷ rest) k c ≡ false)
+      both : (current_answer (world_of z (p ++ turn.Step a ∷ rest)) k c current.Look ≡ Some true → is_current_after z.callers z.first p k c ≡ true)
+          × (current_answer (world_of z (p ++ turn.Step a ∷ rest)) k c current.Look ≡ Some false → is_current_after z.callers z.first (p ++ turn.Step a ∷ rest) k c ≡ false)
       both = yes_at_the_peek_no_at_the_look (setting_of z) p rest a k c whole peek.asks looks
 
       same : history_of z w.known.turns ≡ history_of z (p ++ turn.Step a ∷ rest)

@@ -48,7 +48,7 @@ range_apart a zero = tt
 range_apart a (suc n) = ((λ g. let r = range_has (a + 1) n a g in let low = r.0 in omega arith), range_apart (a + 1) n)
 
 -- the number in each word of the world in which nothing has happened
-nothing : (V : Type 0) (z : Sizes) (x : Word) → ◌≡◌ {A = ℕ} 0 (code_at (first_world {V = V} z.first) x)
+nothing : (V : Type 0) (z : Sizes) (x : Word) → ◌≡◌ {A = ℕ} 0 (code_at (first_world {V = V} z.callers z.first) x)
 nothing V z (key k) = refl
 nothing V z (call a) = refl
 nothing V z (next a) = refl

@@ -73,7 +73,7 @@ module _ {V : Type 0} where
   }
 
   world_after_goes : (z : Sizes) (a : ℕ) (v w : View V) (p : Stage V) (es : List (Event ℕ V)) (n : ℕ) → (g : Goes z a v w p es n) → world_of z w.known.turns ≡ run (world_of z v.known.turns) g.turns
-  world_after_goes z a v w p es n g = ap (world_of z) g.knows ∙ run_append (first_world z.first) v.known.turns g.turns
+  world_after_goes z a v w p es n g = ap (world_of z) g.knows ∙ run_append (first_world z.callers z.first) v.known.turns g.turns
 
   pub stays_again : (z : Sizes) (a : ℕ) (v w x : View V) (p q : Stage V) → Stays z a v w p → Stays z a w x q → Stays z a v x q
   stays_again z a v w x p q one two =

@@ -26,7 +26,7 @@ use Rattle.sf_schedules.specs.Turns.{stepped, started, left, run}
 use Rattle.sf_schedules.specs.Events.{step_events, adds}
 use Rattle.sf_schedules.specs.Schedules.{Setting, IsCaller, IsPlace, HasOperation, MayLeave, IsScheduleFrom, IsSchedule}
 use Rattle.sf_lists.proofs.Functions.{put_cases}
-use Rattle.sf_schedules.proofs.RightAnswers.{run_append, adds_append, schedule_parts, always, schedules_are_legal}
+use Rattle.sf_schedules.proofs.RightAnswers.{run_append, adds_append, schedule_parts, always, schedules_are_legal, always_fair}
 use Rattle.sf_calls.specs.declared.sizes.Sizes.{Sizes}
 use Rattle.sf_word_steps.specs.declared.view.View.{View}
 use Rattle.sf_word_steps.specs.Words.{Word, key, call, next, same_word, code_at, IsKeyFor, IsCallFor, IsNextFor, Writes}
@@ -218,14 +218,14 @@ module _ {V : Type 0} where
   goes_with z a v w p q ts u es x given had out sits alone m ran at own more =
       let s : List (Turn V) = m.before in
       let between : List (Turn V) = m.comes.later.between in
-      let first = first_world z.first in
+      let first = first_world z.callers z.first in
       let turns_is : w.known.turns ≡ s ++ ts = ap (λ (y : View V). y.known.turns) m.view in
       let world_is : world_of z (s ++ ts) ≡ u = run_append first s ts ∙ ran.world in
       let front : IsSchedule (setting_of z) (v.known.turns ++ between) = subst (λ q. IsSchedule (setting_of z) q) m.comes.later.turns m.comes.schedule in
       let parts = schedule_parts (setting_of z) v.known.turns between [] first front in
       let free = subst IsAlone (sym sits.stage) alone in
       let others = spared_others (setting_of z) v.known.turns between a front (m.comes.later.others a (sits_has z a v p sits)) free in
-      let none = others_none (setting_of z) between (history_of z v.known.turns) (world_of z v.known.turns) a (always (setting_of z) v.known.turns parts.0) parts.1 others in
+      let none = others_none (setting_of z) between (history_of z v.known.turns) (world_of z v.known.turns) a (always_fair (setting_of z) v.known.turns parts.0) parts.1 others in
       let old : List (Event ℕ V) = history_of z v.known.turns in
       let mid : List (Event ℕ V) = adds (world_of z v.known.turns) between in
       let grown : history_of z s ≡ old ++ mid = ap (history_of z) m.comes.later.turns ∙ adds_append first v.known.turns between in

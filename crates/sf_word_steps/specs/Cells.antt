@@ -29,8 +29,8 @@ cells_after (give_one k) = []
 
 -- at such a step of a settle its maker has the cell for itself: the member's, to which it delivers
 abbrev pub Serves : SettleStep → ℕ → Type 0
-Serves (settle.Deliver shared m next) k = m.caller ≡ k
-Serves (settle.DeliverOwn shared m) k = m.caller ≡ k
+Serves (settle.Deliver joiners m next) k = m.caller ≡ k
+Serves (settle.DeliverOwn joiners m) k = m.caller ≡ k
 Serves _ k = ⊥
 
 -- a place of the table for a cell

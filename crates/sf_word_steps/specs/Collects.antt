@@ -19,7 +19,7 @@ module _ {V : Type 0} where
   pub record IsAnswer (fits : FitOf V) (k : ℕ) (c : CallId) (h : List (Event ℕ V)) (l : Letter V) : Type 0 where
     pub place : l.place ≡ k
     pub call : l.call ≡ c
-    pub settled : Stands (event.Settle c.caller c l.value l.shared) h
+    pub settled : Stands (event.Settle c.caller c l.value l.joiners) h
     pub fitting : fits k c l.value h
 
   -- the seat carries the letter that it found in its cell

@@ -41,7 +41,7 @@ module _ {V : Type 0} where
 
   -- the letter that a member gets
   abbrev pub letter_for : Actor → Delivery → V → Letter V
-  letter_for r d x = record { place = r.place; call = call_of r.number d.generation; value = x; shared = d.shared }
+  letter_for r d x = record { place = r.place; call = call_of r.number d.generation; value = x; joiners = d.joiners }
 
   -- what is left of the list, after so many members
   abbrev pub Remains : Actor → Delivery → View V → Option ℕ → ℕ → Type 0

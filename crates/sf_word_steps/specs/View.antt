@@ -75,7 +75,7 @@ module _ {V : Type 0} where
 
   -- the world that a list of turns comes to, and its events
   abbrev pub world_of : Sizes → List (Turn V) → World V
-  world_of z s = world_after z.first s
+  world_of z s = world_after z.callers z.first s
 
   abbrev pub history_of : Sizes → List (Turn V) → List (Event ℕ V)
-  history_of z s = events_of z.first s
+  history_of z s = events_of z.callers z.first s

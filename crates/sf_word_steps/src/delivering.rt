@@ -25,15 +25,15 @@ use sf_schedules::Letter;
 use sf_words::{CallState, CallWord, pack_call, unpack_call, unpack_next};
 use std::marker::Brand;
 
-/// The call that a leader hands out: its generation, its own channel, and whether somebody joined it.
+/// The call that a leader hands out: its generation, its own channel, and how many joined it.
 #[derive(Clone, Copy)]
 pub struct Delivery {
     /// The generation of the leader that the call has.
     pub generation: u32,
     /// The member that holds the call's own channel.
     pub own: Option<CallId>,
-    /// Whether somebody joined the call.
-    pub shared: bool,
+    /// How many joined the call.
+    pub joiners: u32,
 }
 
 /// Loads the next word of a member: who comes after it on the list.
@@ -48,9 +48,9 @@ pub(crate) fn follow<V: Fit>(
     requires own { IsSeatOf seat.old.table_id words.now.table_id words.now.key }
     requires sizes { actor.sizes ≡ words.now.key }
     requires member { IsCaller (setting_of actor.sizes) member }
-    requires settles { Sits actor.sizes actor.number seat.old.me.0 (at_step actor delivery value.now (settle.Follow delivery.shared member)) }
+    requires settles { Sits actor.sizes actor.number seat.old.me.0 (at_step actor delivery value.now (settle.Follow delivery.joiners member)) }
     ensures own { (seat.new.table_id ≡ seat.old.table_id) × (seat.new.me.1 ≡ seat.old.me.1) }
-    ensures told { Goes actor.sizes actor.number seat.old.me.0 seat.new.me.0 (at_step actor delivery value.now (settle.PeekMember delivery.shared member result)) [] 0 }
+    ensures told { Goes actor.sizes actor.number seat.old.me.0 seat.new.me.0 (at_step actor delivery value.now (settle.PeekMember delivery.joiners member result)) [] 0 }
     ensures lists { (l : List CallId) → Lists actor delivery seat.old.me.0 (Some member) l → Lists actor delivery seat.new.me.0 (Some member) l }
 {
     let _ = delivery;
@@ -81,10 +81,10 @@ pub(crate) fn peek_member<V: Fit>(
     requires own { IsSeatOf seat.old.table_id words.now.table_id words.now.key }
     requires sizes { actor.sizes ≡ words.now.key }
     requires member { IsCaller (setting_of actor.sizes) member }
-    requires settles { Sits actor.sizes actor.number seat.old.me.0 (at_step actor delivery value.now (settle.PeekMember delivery.shared member next)) }
+    requires settles { Sits actor.sizes actor.number seat.old.me.0 (at_step actor delivery value.now (settle.PeekMember delivery.joiners member next)) }
     requires none { seat.old.me.1 ≡ [] }
     ensures own { (seat.new.table_id ≡ seat.old.table_id) × IsOut seat.new.me.1 member }
-    ensures told { GoesWith actor.sizes actor.number seat.old.me.0 seat.new.me.0 (at_step actor delivery value.now (settle.Deliver delivery.shared (call_of member result) next)) [] 0 (member ∷ []) }
+    ensures told { GoesWith actor.sizes actor.number seat.old.me.0 seat.new.me.0 (at_step actor delivery value.now (settle.Deliver delivery.joiners (call_of member result) next)) [] 0 (member ∷ []) }
     ensures lists { (l : List CallId) → Lists actor delivery seat.old.me.0 (Some member) l → Lists actor delivery seat.new.me.0 (Some member) l }
     ensures generation { IsGeneration result }
 {
@@ -120,10 +120,10 @@ pub(crate) fn peek_own<V: Fit>(
     requires sizes { actor.sizes ≡ words.now.key }
     requires channel { delivery.own ≡ Some channel }
     requires member { IsCaller (setting_of actor.sizes) channel.caller }
-    requires settles { Sits actor.sizes actor.number seat.old.me.0 (at_step actor delivery value.now (settle.PeekOwn delivery.shared)) }
+    requires settles { Sits actor.sizes actor.number seat.old.me.0 (at_step actor delivery value.now (settle.PeekOwn delivery.joiners)) }
     requires none { seat.old.me.1 ≡ [] }
     ensures own { (seat.new.table_id ≡ seat.old.table_id) × IsOut seat.new.me.1 channel.caller }
-    ensures told { GoesWith actor.sizes actor.number seat.old.me.0 seat.new.me.0 (at_step actor delivery value.now (settle.DeliverOwn delivery.shared (call_of channel.caller result))) [] 0 (channel.caller ∷ []) }
+    ensures told { GoesWith actor.sizes actor.number seat.old.me.0 seat.new.me.0 (at_step actor delivery value.now (settle.DeliverOwn delivery.joiners (call_of channel.caller result))) [] 0 (channel.caller ∷ []) }
     ensures generation { IsGeneration result }
 {
     let _ = delivery;
@@ -157,12 +157,12 @@ pub(crate) fn deliver<V: Fit>(
     requires own { IsSeatOf seat.old.table_id words.now.table_id words.now.key }
     requires sizes { actor.sizes ≡ words.now.key }
     requires member { IsCaller (setting_of actor.sizes) member.caller × IsGeneration member.generation }
-    requires settles { SitsWith actor.sizes actor.number seat.old.me.0 (at_step actor delivery letter.value (settle.Deliver delivery.shared member next)) (member.caller ∷ []) }
+    requires settles { SitsWith actor.sizes actor.number seat.old.me.0 (at_step actor delivery letter.value (settle.Deliver delivery.joiners member next)) (member.caller ∷ []) }
     requires out { IsOut seat.old.me.1 member.caller }
     requires letter { letter ≡ letter_for actor delivery letter.value }
     requires fits { V.fits actor.place (call_of actor.number delivery.generation) letter.value (history_of actor.sizes seat.old.me.0.known.turns) }
     ensures own { (seat.new.table_id ≡ seat.old.table_id) × (seat.new.me.1 ≡ []) }
-    ensures told { Goes actor.sizes actor.number seat.old.me.0 seat.new.me.0 (at_members actor.place delivery.generation delivery.own letter.value delivery.shared next) (handed actor.number (call_of actor.number delivery.generation) delivery.own next) 0 }
+    ensures told { Goes actor.sizes actor.number seat.old.me.0 seat.new.me.0 (at_members actor.place delivery.generation delivery.own letter.value delivery.joiners next) (handed actor.number (call_of actor.number delivery.generation) delivery.own next) 0 }
     ensures lists { (n : CallId) (l : List CallId) → Lists actor delivery seat.old.me.0 (Some member.caller) (n ∷ l) → Lists actor delivery seat.new.me.0 next l }
 {
     let _ = delivery;
@@ -195,7 +195,7 @@ pub(crate) fn deliver_own<V: Fit>(
     requires own { IsSeatOf seat.old.table_id words.now.table_id words.now.key }
     requires sizes { actor.sizes ≡ words.now.key }
     requires member { IsCaller (setting_of actor.sizes) channel.caller × IsGeneration channel.generation }
-    requires settles { SitsWith actor.sizes actor.number seat.old.me.0 (at_step actor delivery letter.value (settle.DeliverOwn delivery.shared channel)) (channel.caller ∷ []) }
+    requires settles { SitsWith actor.sizes actor.number seat.old.me.0 (at_step actor delivery letter.value (settle.DeliverOwn delivery.joiners channel)) (channel.caller ∷ []) }
     requires out { IsOut seat.old.me.1 channel.caller }
     requires letter { letter ≡ letter_for actor delivery letter.value }
     requires fits { V.fits actor.place (call_of actor.number delivery.generation) letter.value (history_of actor.sizes seat.old.me.0.known.turns) }

@@ -4,7 +4,7 @@
 //! words, and that each seat knows a beginning of that schedule which has all turns of its own callers (`specs/Shows`).
 //! So what a step finds, and what it may do, follows from the laws of schedules.
 //!
-//! The kinds of step are the functions of `leading`, `entering`, `forgetting`, `settling`, `delivering`, `collecting` and
+//! The kinds of step are the functions of `leading`, `entering`, `forgetting`, `settling`, `counting`, `delivering`, `collecting` and
 //! `questioning`, and what they make up is public, as are the loads of `hearing`, by which a seat knows what another knows:
 //! they serve the crate of the group alone, whose tokens carry the seats. The plain steps are public for askings with a
 //! second caller.
@@ -13,6 +13,7 @@
 mod actor;
 mod attempting;
 mod collecting;
+mod counting;
 mod delivering;
 mod entering;
 mod forgetting;
@@ -31,6 +32,7 @@ mod view;
 pub use actor::Actor;
 pub use attempting::{Attempt, current_before, is_forgot, opened, try_often};
 pub use collecting::collect;
+pub use counting::{Tally, settle_and_count};
 pub use delivering::Delivery;
 pub use forgetting::{ForgetAttempt, forget_often};
 pub use hands::hand_out;
@@ -40,6 +42,5 @@ pub use plays::Plan;
 pub use questioning::ask_current;
 pub use resting::{Resting, Unrested, Wakes};
 pub use rule::{Deals, Law, Tells, WordSeat, Words};
-pub use settling::settle_often;
 pub use steps::{exchange_turns, load_turns, store_turns};
 pub use view::{Claim, View};

@@ -1,16 +1,15 @@
 //! The kinds of step of a settle up to its members, and its attempts.
-ghost use Rattle.std.specs.Prelude.{◌≡◌, ℕ, ◌≤◌, [], IsTrue, IsFalse, IfSome, IfNone, is_some};
+ghost use Rattle.std.specs.Prelude.{◌≡◌, ℕ, ◌≤◌, [], IsTrue, IsFalse, IfSome, IfNone};
 ghost use Rattle.sf_words.specs.declared.key_word.KeyState.TheVariants.{Names};
 ghost use Rattle.sf_words.specs.declared.call_word.CallState.TheVariants.{Open};
 ghost use Rattle.sf_schedules.specs.Schedules.{IsPlace};
-ghost use Rattle.sf_schedules.specs.Turns.{after_own_peek, at_members};
-ghost use Rattle.sf_schedules.specs.Events.{settled, peek_events};
+ghost use Rattle.sf_schedules.specs.Turns.{at_count};
 ghost use Rattle.sf_schedules.specs.declared.operation.Stage.TheVariants.{Leading, Settling};
 ghost use Rattle.sf_schedules.specs.declared.operation.SettleStep.TheVariants as settle;
 ghost use Rattle.sf_word_steps.specs.Words.{IsKeyFor, IsCallFor};
 ghost use Rattle.sf_word_steps.specs.View.{setting_of};
 ghost use Rattle.sf_word_steps.specs.Stands.{IsSeatOf, Sits, Goes};
-ghost use Rattle.sf_word_steps.specs.Settles.{MaySettle, IsLeadersWord, Fails, call_of};
+ghost use Rattle.sf_word_steps.specs.Settles.{MaySettle, IsLeadersWord, Fails, HasPeeked, HasSettled};
 
 use crate::actor::Actor;
 use crate::numbering::{call_index, key_index};
@@ -38,7 +37,7 @@ fn own_peek<V: Fit>(
     requires by { (1 ≤ actor.number) × (actor.number ≤ actor.sizes.callers) }
     requires may { MaySettle actor.sizes actor.number actor.place generation own value.now seat.old.me.0 }
     ensures own { (seat.new.table_id ≡ seat.old.table_id) × (seat.new.me.1 ≡ seat.old.me.1) }
-    ensures told { Goes actor.sizes actor.number seat.old.me.0 seat.new.me.0 (Settling actor.place generation own value.now (after_own_peek result)) (peek_events actor.number (call_of actor.number generation) own value.now result) 0 }
+    ensures told { HasPeeked actor.sizes actor.number actor.place generation own value.now seat.old.me.0 seat.new.me.0 result }
     ensures leads { IsLeadersWord generation result }
     ensures range { IsCallFor actor.sizes.callers result }
 {
@@ -74,7 +73,7 @@ fn close_own<V: Fit>(
     requires seen { IsCallFor actor.sizes.callers (Open seen) }
     requires asks { Sits actor.sizes actor.number seat.old.me.0 (Settling actor.place generation own value.now (settle.Close seen)) }
     ensures own { (seat.new.table_id ≡ seat.old.table_id) × (seat.new.me.1 ≡ seat.old.me.1) }
-    ensures won { IsTrue result → Goes actor.sizes actor.number seat.old.me.0 seat.new.me.0 (at_members actor.place generation own value.now (is_some seen.top) seen.top) (settled actor.number (call_of actor.number generation) own value.now seen.top) 0 }
+    ensures won { IsTrue result → HasSettled actor.sizes actor.number actor.place generation own value.now seat.old.me.0 seat.new.me.0 seen.top }
     ensures lost { IsFalse result → Fails actor.sizes actor.number actor.place generation 1 own value.now seat.old.me.0 seat.new.me.0 }
 {
     let _ = generation;
@@ -107,7 +106,6 @@ fn clear_own<V: Fit>(
     generation: u32,
     own: Option<CallId>,
     value: &V,
-    shared: bool,
     top: Option<u32>,
 )
     requires own { IsSeatOf seat.old.table_id words.now.table_id words.now.key }
@@ -116,13 +114,12 @@ fn clear_own<V: Fit>(
     requires place { IsPlace (setting_of actor.sizes) actor.place }
     requires generation { 1 ≤ generation }
     requires number { actor.number ≤ 65535 }
-    requires asks { Sits actor.sizes actor.number seat.old.me.0 (Settling actor.place generation own value.now (settle.Clear shared top)) }
+    requires asks { Sits actor.sizes actor.number seat.old.me.0 (Settling actor.place generation own value.now (settle.Clear top)) }
     ensures own { (seat.new.table_id ≡ seat.old.table_id) × (seat.new.me.1 ≡ seat.old.me.1) }
-    ensures told { Goes actor.sizes actor.number seat.old.me.0 seat.new.me.0 (at_members actor.place generation own value.now shared top) [] 0 }
+    ensures told { Goes actor.sizes actor.number seat.old.me.0 seat.new.me.0 (at_count actor.place generation own value.now top) [] 0 }
 {
     let _ = own;
     let _ = value;
-    let _ = shared;
     let _ = top;
     let Some(old) = KeyWord::new(KeyState::Names {
         caller: actor.number,
@@ -167,7 +164,7 @@ fn settle_once<V: Fit>(
     requires number { actor.number ≤ 65535 }
     requires may { MaySettle actor.sizes actor.number actor.place generation own value.now seat.old.me.0 }
     ensures own { (seat.new.table_id ≡ seat.old.table_id) × (seat.new.me.1 ≡ seat.old.me.1) }
-    ensures settled { IfSome result (λ top. Goes actor.sizes actor.number seat.old.me.0 seat.new.me.0 (at_members actor.place generation own value.now (is_some top) top) (settled actor.number (call_of actor.number generation) own value.now top) 0) }
+    ensures settled { IfSome result (λ top. HasSettled actor.sizes actor.number actor.place generation own value.now seat.old.me.0 seat.new.me.0 top) }
     ensures failed { IfNone result (Fails actor.sizes actor.number actor.place generation 1 own value.now seat.old.me.0 seat.new.me.0) }
 {
     let word = own_peek(words, seat, actor, generation, own, value);
@@ -179,16 +176,7 @@ fn settle_once<V: Fit>(
             None
         }
         CallState::Forgot(seen) => {
-            clear_own(
-                words,
-                seat,
-                actor,
-                generation,
-                own,
-                value,
-                seen.top.is_some(),
-                seen.top,
-            );
+            clear_own(words, seat, actor, generation, own, value, seen.top);
             Some(seen.top)
         }
         _ => unreachable!(),
@@ -197,7 +185,7 @@ fn settle_once<V: Fit>(
 
 /// Settles the call, in callers plus one tries at most, and answers the top of the list that is owed letters. Each try
 /// that fails is another caller's enter, or the one Forget of the call.
-pub fn settle_often<V: Fit>(
+pub(crate) fn settle_often<V: Fit>(
     words: &Words<V>,
     seat: &mut WordSeat<V>,
     actor: Actor,
@@ -213,7 +201,7 @@ pub fn settle_often<V: Fit>(
     requires number { actor.sizes.callers ≤ 65535 }
     requires leads { Sits actor.sizes actor.number seat.old.me.0 (Leading actor.place generation own) }
     ensures own { (seat.new.table_id ≡ seat.old.table_id) × (seat.new.me.1 ≡ seat.old.me.1) }
-    ensures settled { Goes actor.sizes actor.number seat.old.me.0 seat.new.me.0 (at_members actor.place generation own value.now (is_some result) result) (settled actor.number (call_of actor.number generation) own value.now result) 0 }
+    ensures settled { HasSettled actor.sizes actor.number actor.place generation own value.now seat.old.me.0 seat.new.me.0 result }
 {
     for failed in 0..actor.sizes.callers + 1 {
         match settle_once(words, seat, actor, generation, own, value) {

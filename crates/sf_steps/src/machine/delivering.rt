@@ -68,9 +68,9 @@ impl<V: Share> World<V> {
     }
 
     /// The leader loads the next word of a member.
-    pub(crate) fn follow(&mut self, led: LedCall, shared: bool, member: u32) -> Step<V>
+    pub(crate) fn follow(&mut self, led: LedCall, joiners: u32, member: u32) -> Step<V>
         requires caller { led.call.caller ≤ self.old.callers }
-        requires settles { (v : V) × ((world_of self.old).stages led.call.caller ≡ Settling led.place led.call.generation led.own v (step_of.Follow shared member)) }
+        requires settles { (v : V) × ((world_of self.old).stages led.call.caller ≡ Settling led.place led.call.generation led.own v (step_of.Follow joiners member)) }
         ensures world { world_of self.new ≡ stepped (world_of self.old) led.call.caller ((world_of self.old).stages led.call.caller) }
         ensures act { (result.caller ≡ led.call.caller) × (result.act ≡ act_at (world_of self.old) led.call.caller ((world_of self.old).stages led.call.caller)) }
         ensures quiet { (result.events.items ≡ []) × (result.answer ≡ None) }
@@ -81,7 +81,7 @@ impl<V: Share> World<V> {
         self.settles_on(
             caller,
             SettleStep::PeekMember {
-                shared,
+                joiners,
                 member,
                 next,
             },
@@ -93,12 +93,12 @@ impl<V: Share> World<V> {
     pub(crate) fn peek_member(
         &mut self,
         led: LedCall,
-        shared: bool,
+        joiners: u32,
         member: u32,
         next: Option<u32>,
     ) -> Step<V>
         requires caller { led.call.caller ≤ self.old.callers }
-        requires settles { (v : V) × ((world_of self.old).stages led.call.caller ≡ Settling led.place led.call.generation led.own v (step_of.PeekMember shared member next)) }
+        requires settles { (v : V) × ((world_of self.old).stages led.call.caller ≡ Settling led.place led.call.generation led.own v (step_of.PeekMember joiners member next)) }
         ensures world { world_of self.new ≡ stepped (world_of self.old) led.call.caller ((world_of self.old).stages led.call.caller) }
         ensures act { (result.caller ≡ led.call.caller) × (result.act ≡ act_at (world_of self.old) led.call.caller ((world_of self.old).stages led.call.caller)) }
         ensures quiet { (result.events.items ≡ []) × (result.answer ≡ None) }
@@ -112,7 +112,7 @@ impl<V: Share> World<V> {
         self.settles_on(
             led.call.caller,
             SettleStep::Deliver {
-                shared,
+                joiners,
                 member: joined,
                 next,
             },
@@ -128,12 +128,12 @@ impl<V: Share> World<V> {
     pub(crate) fn deliver(
         &mut self,
         led: LedCall,
-        shared: bool,
+        joiners: u32,
         member: CallId,
         next: Option<u32>,
     ) -> Result<Step<V>, Memory>
         requires caller { led.call.caller ≤ self.old.callers }
-        requires settles { (v : V) × ((world_of self.old).stages led.call.caller ≡ Settling led.place led.call.generation led.own v (step_of.Deliver shared member next)) }
+        requires settles { (v : V) × ((world_of self.old).stages led.call.caller ≡ Settling led.place led.call.generation led.own v (step_of.Deliver joiners member next)) }
         ensures world { OnOk result (world_of self.new ≡ stepped (world_of self.old) led.call.caller ((world_of self.old).stages led.call.caller)) }
         ensures caller { IfOk result (λ step. (step.caller ≡ led.call.caller) × (step.answer ≡ None)) }
         ensures act { IfOk result (λ step. step.act ≡ act_at (world_of self.old) led.call.caller ((world_of self.old).stages led.call.caller)) }
@@ -143,12 +143,12 @@ impl<V: Share> World<V> {
     {
         let LedCall { place, call, .. } = led;
         let events = handed(self.alloc(), led, next)?;
-        let value = self.pass_on(led, shared, next)?;
+        let value = self.pass_on(led, joiners, next)?;
         let letter = Letter {
             place,
             call,
             value,
-            shared,
+            joiners,
         };
         self.put_letter(member, letter);
         Ok(Step {
@@ -160,9 +160,9 @@ impl<V: Share> World<V> {
     }
 
     /// The leader loads the call word of its own channel.
-    pub(crate) fn peek_channel(&mut self, led: LedCall, shared: bool) -> Step<V>
+    pub(crate) fn peek_channel(&mut self, led: LedCall, joiners: u32) -> Step<V>
         requires caller { led.call.caller ≤ self.old.callers }
-        requires settles { (v : V) × ((world_of self.old).stages led.call.caller ≡ Settling led.place led.call.generation led.own v (step_of.PeekOwn shared)) }
+        requires settles { (v : V) × ((world_of self.old).stages led.call.caller ≡ Settling led.place led.call.generation led.own v (step_of.PeekOwn joiners)) }
         ensures world { world_of self.new ≡ stepped (world_of self.old) led.call.caller ((world_of self.old).stages led.call.caller) }
         ensures act { (result.caller ≡ led.call.caller) × (result.act ≡ act_at (world_of self.old) led.call.caller ((world_of self.old).stages led.call.caller)) }
         ensures quiet { (result.events.items ≡ []) × (result.answer ≡ None) }
@@ -175,13 +175,13 @@ impl<V: Share> World<V> {
         };
         let found = self.call(channel);
         let step = match led.own {
-            None => SettleStep::PeekOwn { shared },
+            None => SettleStep::PeekOwn { joiners },
             Some(_) => {
                 let member = CallId {
                     caller: channel,
                     generation: generation_of(found),
                 };
-                SettleStep::DeliverOwn { shared, member }
+                SettleStep::DeliverOwn { joiners, member }
             }
         };
         self.settles_on(caller, step);
@@ -196,11 +196,11 @@ impl<V: Share> World<V> {
     pub(crate) fn deliver_own(
         &mut self,
         led: LedCall,
-        shared: bool,
+        joiners: u32,
         member: CallId,
     ) -> Result<Step<V>, Memory>
         requires caller { led.call.caller ≤ self.old.callers }
-        requires settles { (v : V) × ((world_of self.old).stages led.call.caller ≡ Settling led.place led.call.generation led.own v (step_of.DeliverOwn shared member)) }
+        requires settles { (v : V) × ((world_of self.old).stages led.call.caller ≡ Settling led.place led.call.generation led.own v (step_of.DeliverOwn joiners member)) }
         ensures world { OnOk result (world_of self.new ≡ stepped (world_of self.old) led.call.caller ((world_of self.old).stages led.call.caller)) }
         ensures caller { IfOk result (λ step. (step.caller ≡ led.call.caller) × (step.answer ≡ None)) }
         ensures act { IfOk result (λ step. step.act ≡ act_at (world_of self.old) led.call.caller ((world_of self.old).stages led.call.caller)) }
@@ -215,7 +215,7 @@ impl<V: Share> World<V> {
             place,
             call,
             value,
-            shared,
+            joiners,
         };
         self.put_letter(member, letter);
         Ok(Step {

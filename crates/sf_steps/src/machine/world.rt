@@ -70,7 +70,7 @@ impl<V: Drop> World<V> {
     pub fn new(alloc: Global, callers: u32, places: u32) -> Result<World<V>, Memory>
         requires callers { (1 ≤ callers) × (callers ≤ 64) }
         requires places { (1 ≤ places) × (places ≤ 64) }
-        ensures world { IfOk result (λ w. world_of w ≡ first_world 1) }
+        ensures world { IfOk result (λ w. world_of w ≡ first_world callers 1) }
         ensures sizes { IfOk result (λ w. (w.callers ≡ callers) × (w.places ≡ places)) }
     {
         Ok(World {

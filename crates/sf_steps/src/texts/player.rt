@@ -48,7 +48,7 @@ impl Player {
 
     /// Whether a question is of a call that was led.
     fn asks_of_led(&self, op: &Op<Outcome>) -> bool
-        ensures { (ts : List (Turn Outcome)) → IsAfter self.now ts → IsTrue result ↔ AsksOfLed (events_of 1 ts) op.now }
+        ensures { (ts : List (Turn Outcome)) → IsAfter self.now ts → IsTrue result ↔ AsksOfLed (events_of 64 1 ts) op.now }
     {
         match op {
             Op::Current { place, call } => self.was_led(*place, *call),

@@ -1,4 +1,4 @@
-use Rattle.sf_schedules.proofs.Others.{others_are_left, own_turns_decide}
+use Rattle.sf_schedules.proofs.LeftAlone.{others_are_left, own_turns_decide}
 use Rattle.sf_schedules.proofs.Named.{spared_are_left}
 use Rattle.sf_schedules.proofs.laws.others_are_left.Goals as goal
 

@@ -17,7 +17,7 @@ load_cell-found-requires-clause-moves g c =
     let d = c.args.delivery in
     let settles = c.requires.settles in
     subst (λ (z : Sizes). MovesCell g.V.Fit.fits z c.args.seat.now.me (call c.args.member) (λ n. n) (λ _. Step r.number ∷ []) (λ _. take_one c.args.member)) c.requires.sizes
-    (member_move g.V.Fit.fits r.sizes r.number r.place d.generation c.args.member d.own c.args.value.now d.shared c.args.next c.args.seat.now.me c.requires.settles c.requires.member)
+    (member_move g.V.Fit.fits r.sizes r.number r.place d.generation c.args.member d.own c.args.value.now d.joiners c.args.next c.args.seat.now.me c.requires.settles c.requires.member)
 
 pub unreachable-requires : goal.unreachable-requires
 unreachable-requires g c =
@@ -32,7 +32,7 @@ unreachable-requires-in_default-state g c =
     let d = c.args.delivery in
     let settles = c.requires.settles in
     let found = c.load_cell-found.ensures.told r.sizes c.requires.settles.sizes in
-    let both = member_told g.V.Fit.fits r.sizes r.number r.place d.generation c.args.member c.load_cell-found.result d.own c.args.value.now d.shared c.args.next c.state.result c.args.seat.now.me c.load_cell-found.new.seat.me settles found
+    let both = member_told g.V.Fit.fits r.sizes r.number r.place d.generation c.args.member c.load_cell-found.result d.own c.args.value.now d.joiners c.args.next c.state.result c.args.seat.now.me c.load_cell-found.new.seat.me settles found
     (λ (y : CallState) lawful code. let one = c.unpack_call.ensures.inverse y lawful.0 code in let is = c.in-Some.is in let same = c.state.ensures.same in cc) in
     c.in_default-state.not-Listed both.1.0 both.1.1
 
@@ -47,9 +47,9 @@ returns-clause-told g c =
     let d = c.args.delivery in
     let settles = c.requires.settles in
     let found = c.load_cell-found.ensures.told r.sizes c.requires.settles.sizes in
-    let both = member_told g.V.Fit.fits r.sizes r.number r.place d.generation c.args.member c.load_cell-found.result d.own c.args.value.now d.shared c.args.next c.state.result c.args.seat.now.me c.load_cell-found.new.seat.me settles found
+    let both = member_told g.V.Fit.fits r.sizes r.number r.place d.generation c.args.member c.load_cell-found.result d.own c.args.value.now d.joiners c.args.next c.state.result c.args.seat.now.me c.load_cell-found.new.seat.me settles found
     (λ (y : CallState) lawful code. let one = c.unpack_call.ensures.inverse y lawful.0 code in let is = c.in-Some.is in let same = c.state.ensures.same in cc) in
-    subst (λ (q : CallState). GoesWith r.sizes r.number c.args.seat.now.me.0 c.load_cell-found.new.seat.me.0 (Settling r.place d.generation d.own c.args.value.now (member_step d.shared c.args.member c.args.next q)) [] 0 (c.args.member ∷ [])) c.in-Listed.is both.0
+    subst (λ (q : CallState). GoesWith r.sizes r.number c.args.seat.now.me.0 c.load_cell-found.new.seat.me.0 (Settling r.place d.generation d.own c.args.value.now (member_step d.joiners c.args.member c.args.next q)) [] 0 (c.args.member ∷ [])) c.in-Listed.is both.0
 
 pub returns-clause-lists : goal.returns-clause-lists
 returns-clause-lists g c =
@@ -57,7 +57,7 @@ returns-clause-lists g c =
     let d = c.args.delivery in
     let settles = c.requires.settles in
     let found = c.load_cell-found.ensures.told r.sizes c.requires.settles.sizes in
-    member_lists g.V.Fit.fits r.sizes r.number r.place d.generation c.args.member c.load_cell-found.result d.own c.args.value.now d.shared c.args.next c.args.seat.now.me c.load_cell-found.new.seat.me settles found
+    member_lists g.V.Fit.fits r.sizes r.number r.place d.generation c.args.member c.load_cell-found.result d.own c.args.value.now d.joiners c.args.next c.args.seat.now.me c.load_cell-found.new.seat.me settles found
 
 pub returns-clause-generation : goal.returns-clause-generation
 returns-clause-generation g c = let is = c.in-Listed.is in let range = c.state.ensures.range in let same = c.state.ensures.same in subst IsCallState (sym same ∙ is) range

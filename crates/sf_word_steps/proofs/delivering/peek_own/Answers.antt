@@ -18,9 +18,9 @@ pub load_cell-found-requires-clause-moves : goal.load_cell-found-requires-clause
 load_cell-found-requires-clause-moves g c =
     let r = c.args.actor in
     let d = c.args.delivery in
-    let settles = subst (λ (o : Option CallId). Sits r.sizes r.number c.args.seat.now.me.0 (Settling r.place d.generation o c.args.value.now (settle.PeekOwn d.shared))) c.requires.channel c.requires.settles in
+    let settles = subst (λ (o : Option CallId). Sits r.sizes r.number c.args.seat.now.me.0 (Settling r.place d.generation o c.args.value.now (settle.PeekOwn d.joiners))) c.requires.channel c.requires.settles in
     subst (λ (z : Sizes). MovesCell g.V.Fit.fits z c.args.seat.now.me (call c.args.channel.caller) (λ n. n) (λ _. Step r.number ∷ []) (λ _. take_one c.args.channel.caller)) c.requires.sizes
-    (own_move g.V.Fit.fits r.sizes r.number r.place d.generation c.args.channel c.args.value.now d.shared c.args.seat.now.me settles c.requires.member)
+    (own_move g.V.Fit.fits r.sizes r.number r.place d.generation c.args.channel c.args.value.now d.joiners c.args.seat.now.me settles c.requires.member)
 
 pub unreachable-requires : goal.unreachable-requires
 unreachable-requires g c =
@@ -33,9 +33,9 @@ pub unreachable-requires-in_default-state : goal.unreachable-requires-in_default
 unreachable-requires-in_default-state g c =
     let r = c.args.actor in
     let d = c.args.delivery in
-    let settles = subst (λ (o : Option CallId). Sits r.sizes r.number c.args.seat.now.me.0 (Settling r.place d.generation o c.args.value.now (settle.PeekOwn d.shared))) c.requires.channel c.requires.settles in
+    let settles = subst (λ (o : Option CallId). Sits r.sizes r.number c.args.seat.now.me.0 (Settling r.place d.generation o c.args.value.now (settle.PeekOwn d.joiners))) c.requires.channel c.requires.settles in
     let found = c.load_cell-found.ensures.told r.sizes c.requires.settles.sizes in
-    let both = own_told g.V.Fit.fits r.sizes r.number r.place d.generation c.load_cell-found.result c.args.channel c.args.value.now d.shared c.state.result c.args.seat.now.me c.load_cell-found.new.seat.me settles found
+    let both = own_told g.V.Fit.fits r.sizes r.number r.place d.generation c.load_cell-found.result c.args.channel c.args.value.now d.joiners c.state.result c.args.seat.now.me c.load_cell-found.new.seat.me settles found
     (λ (y : CallState) lawful code. let one = c.unpack_call.ensures.inverse y lawful.0 code in let is = c.in-Some.is in let same = c.state.ensures.same in cc) in
     c.in_default-state.not-Listed both.1.0 both.1.1
 
@@ -48,12 +48,12 @@ pub returns-clause-told : goal.returns-clause-told
 returns-clause-told g c =
     let r = c.args.actor in
     let d = c.args.delivery in
-    let settles = subst (λ (o : Option CallId). Sits r.sizes r.number c.args.seat.now.me.0 (Settling r.place d.generation o c.args.value.now (settle.PeekOwn d.shared))) c.requires.channel c.requires.settles in
+    let settles = subst (λ (o : Option CallId). Sits r.sizes r.number c.args.seat.now.me.0 (Settling r.place d.generation o c.args.value.now (settle.PeekOwn d.joiners))) c.requires.channel c.requires.settles in
     let found = c.load_cell-found.ensures.told r.sizes c.requires.settles.sizes in
-    let both = own_told g.V.Fit.fits r.sizes r.number r.place d.generation c.load_cell-found.result c.args.channel c.args.value.now d.shared c.state.result c.args.seat.now.me c.load_cell-found.new.seat.me settles found
+    let both = own_told g.V.Fit.fits r.sizes r.number r.place d.generation c.load_cell-found.result c.args.channel c.args.value.now d.joiners c.state.result c.args.seat.now.me c.load_cell-found.new.seat.me settles found
     (λ (y : CallState) lawful code. let one = c.unpack_call.ensures.inverse y lawful.0 code in let is = c.in-Some.is in let same = c.state.ensures.same in cc) in
-    subst (λ (o : Option CallId). GoesWith r.sizes r.number c.args.seat.now.me.0 c.load_cell-found.new.seat.me.0 (Settling r.place d.generation o c.args.value.now (settle.DeliverOwn d.shared (call_of c.args.channel.caller c.in-Listed.generation))) [] 0 (c.args.channel.caller ∷ [])) (sym c.requires.channel)
-    (subst (λ (q : CallState). GoesWith r.sizes r.number c.args.seat.now.me.0 c.load_cell-found.new.seat.me.0 (Settling r.place d.generation (Some c.args.channel) c.args.value.now (own_step d.shared c.args.channel.caller q)) [] 0 (c.args.channel.caller ∷ [])) c.in-Listed.is both.0)
+    subst (λ (o : Option CallId). GoesWith r.sizes r.number c.args.seat.now.me.0 c.load_cell-found.new.seat.me.0 (Settling r.place d.generation o c.args.value.now (settle.DeliverOwn d.joiners (call_of c.args.channel.caller c.in-Listed.generation))) [] 0 (c.args.channel.caller ∷ [])) (sym c.requires.channel)
+    (subst (λ (q : CallState). GoesWith r.sizes r.number c.args.seat.now.me.0 c.load_cell-found.new.seat.me.0 (Settling r.place d.generation (Some c.args.channel) c.args.value.now (own_step d.joiners c.args.channel.caller q)) [] 0 (c.args.channel.caller ∷ [])) c.in-Listed.is both.0)
 
 pub returns-clause-generation : goal.returns-clause-generation
 returns-clause-generation g c = let is = c.in-Listed.is in let range = c.state.ensures.range in let same = c.state.ensures.same in subst IsCallState (sym same ∙ is) range

@@ -12,6 +12,6 @@ returns-in_default-clause-handed g c =
     let d = c.args.delivery in
     let x = c.args.value.now in
     let v = c.args.seat.now.me.0 in
-    let p = at_own r.place d.generation x d.shared d.own in
+    let p = at_own r.place d.generation x d.joiners d.own in
     subst (λ (o : Option ℕ). Goes r.sizes r.number v v p (handed_list r.number (call_of r.number d.generation) d.own o) 0) (sym c.in_default.is)
-    (goes_none r.sizes r.number v p (subst (λ (o : Option ℕ). Sits r.sizes r.number v (at_members r.place d.generation d.own x d.shared o)) c.in_default.is c.requires.settles))
+    (goes_none r.sizes r.number v p (subst (λ (o : Option ℕ). Sits r.sizes r.number v (at_members r.place d.generation d.own x d.joiners o)) c.in_default.is c.requires.settles))

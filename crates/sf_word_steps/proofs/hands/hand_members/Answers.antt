@@ -17,7 +17,7 @@ loop-served-init g c =
     let d = c.args.delivery in
     let x = c.args.value.now in
     let v = c.args.seat.now.me.0 in
-    let p = at_step r d x (settle.Follow d.shared c.args.first) in
+    let p = at_step r d x (settle.Follow d.joiners c.args.first) in
     record {
       own = refl;
       none = c.requires.none;
@@ -33,7 +33,7 @@ hand_one-requires-clause-fits g c =
     let was = c.loop-served.invariant in
     let k = call_of r.number d.generation in
     subst (λ y. g.V.Fit.fits r.place k y (history_of r.sizes c.loop-served.seat.me.0.known.turns)) (sym was.value)
-    (fits_goes g.V.Fit.fits g.V.Fit.lasts r.sizes r.number r.place 0 k c.args.value.now c.args.seat.now.me.0 c.loop-served.seat.me.0 (at_members r.place d.generation d.own c.args.value.now d.shared c.loop-served.top)
+    (fits_goes g.V.Fit.fits g.V.Fit.lasts r.sizes r.number r.place 0 k c.args.value.now c.args.seat.now.me.0 c.loop-served.seat.me.0 (at_members r.place d.generation d.own c.args.value.now d.joiners c.loop-served.top)
     (handed r.number k d.own c.loop-served.top) [] c.requires.fits was.goes)
 
 pub loop-served-preserved : goal.loop-served-preserved
@@ -47,12 +47,12 @@ loop-served-preserved g c =
     let v = c.args.seat.now.me.0 in
     let w = c.loop-served.seat.me.0 in
     let u = c.hand_one.new.seat.me.0 in
-    let goes = subst (λ (o : Option _). Goes r.sizes r.number v w (at_members r.place d.generation d.own x d.shared o) (handed r.number k d.own o) 0) c.in-Some.is was.goes in
-    let next = subst (λ y. Goes r.sizes r.number w u (at_members r.place d.generation d.own y d.shared c.in-Ok.next) (handed r.number k d.own c.in-Ok.next) 0) was.value c.in-Ok.ensures.handed in
+    let goes = subst (λ (o : Option _). Goes r.sizes r.number v w (at_members r.place d.generation d.own x d.joiners o) (handed r.number k d.own o) 0) c.in-Some.is was.goes in
+    let next = subst (λ y. Goes r.sizes r.number w u (at_members r.place d.generation d.own y d.joiners c.in-Ok.next) (handed r.number k d.own c.in-Ok.next) 0) was.value c.in-Ok.ensures.handed in
     record {
       own = c.hand_one.ensures.own.0 ∙ was.own;
       none = c.hand_one.ensures.own.1;
       value = c.hand_one.ensures.value ∙ was.value;
-      goes = goes_some r.sizes r.number v w u (at_step r d x (settle.Follow d.shared member)) (at_members r.place d.generation d.own x d.shared c.in-Ok.next) k d.own member (handed r.number k d.own c.in-Ok.next) goes next;
+      goes = goes_some r.sizes r.number v w u (at_step r d x (settle.Follow d.joiners member)) (at_members r.place d.generation d.own x d.joiners c.in-Ok.next) k d.own member (handed r.number k d.own c.in-Ok.next) goes next;
       left = later_remains r d member c.loop-served.served w u c.in-Ok.next (subst (λ (o : Option _). Remains r d w o c.loop-served.served) c.in-Some.is was.left) c.in-Ok.ensures.lists;
     }

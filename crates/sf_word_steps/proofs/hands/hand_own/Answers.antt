@@ -14,16 +14,16 @@ peek_own-generation-requires-clause-member g c =
     let r = c.args.actor in
     let d = c.args.delivery in
     let x = c.args.value.now in
-    own_caller r.sizes r.number r.place d.generation c.args.channel x d.shared c.args.seat.now.me.0
-    (subst (λ (o : Option CallId). Sits r.sizes r.number c.args.seat.now.me.0 (Settling r.place d.generation o x (settle.PeekOwn d.shared))) c.requires.channel c.requires.settles)
+    own_caller r.sizes r.number r.place d.generation c.args.channel x d.joiners c.args.seat.now.me.0
+    (subst (λ (o : Option CallId). Sits r.sizes r.number c.args.seat.now.me.0 (Settling r.place d.generation o x (settle.PeekOwn d.joiners))) c.requires.channel c.requires.settles)
 
 pub deliver_own-requires-clause-member : goal.deliver_own-requires-clause-member
 deliver_own-requires-clause-member g c =
     let r = c.args.actor in
     let d = c.args.delivery in
     let x = c.args.value.now in (
-      own_caller r.sizes r.number r.place d.generation c.args.channel x d.shared c.args.seat.now.me.0
-          (subst (λ (o : Option CallId). Sits r.sizes r.number c.args.seat.now.me.0 (Settling r.place d.generation o x (settle.PeekOwn d.shared))) c.requires.channel c.requires.settles),
+      own_caller r.sizes r.number r.place d.generation c.args.channel x d.joiners c.args.seat.now.me.0
+          (subst (λ (o : Option CallId). Sits r.sizes r.number c.args.seat.now.me.0 (Settling r.place d.generation o x (settle.PeekOwn d.joiners))) c.requires.channel c.requires.settles),
       c.peek_own-generation.ensures.generation,
     )
 
@@ -48,5 +48,5 @@ wake-requires-clause-caller g c =
     let r = c.args.actor in
     let d = c.args.delivery in
     let x = c.args.value.now in
-    own_caller r.sizes r.number r.place d.generation c.args.channel x d.shared c.args.seat.now.me.0
-    (subst (λ (o : Option CallId). Sits r.sizes r.number c.args.seat.now.me.0 (Settling r.place d.generation o x (settle.PeekOwn d.shared))) c.requires.channel c.requires.settles)
+    own_caller r.sizes r.number r.place d.generation c.args.channel x d.joiners c.args.seat.now.me.0
+    (subst (λ (o : Option CallId). Sits r.sizes r.number c.args.seat.now.me.0 (Settling r.place d.generation o x (settle.PeekOwn d.joiners))) c.requires.channel c.requires.settles)

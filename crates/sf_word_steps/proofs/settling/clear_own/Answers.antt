@@ -17,10 +17,10 @@ exchange_turns-requires-clause-moves g c =
     let high : c.args.generation ≤ 4294967295 = let fits = c.ranges.generation.fits in omega arith in
     let named : IsKeyState (Names c.args.actor.number c.args.generation false) = ((c.requires.by.0, c.requires.number), (c.requires.generation, high)) in
     subst (λ (z : Sizes). Moves z v (key c.args.actor.place) (λ n. either (n == c.pack_key.result) c.pack_key-2.result n) (λ _. Step c.args.actor.number ∷ [])) c.requires.sizes
-    (settle_clear_move c.args.actor.sizes c.args.actor.number c.args.actor.place c.args.generation c.pack_key.result c.pack_key-2.result c.args.own c.args.value.now c.args.shared c.args.top v c.requires.asks (named, c.requires.by.1)
+    (settle_clear_move c.args.actor.sizes c.args.actor.number c.args.actor.place c.args.generation c.pack_key.result c.pack_key-2.result c.args.own c.args.value.now c.args.top v c.requires.asks (named, c.requires.by.1)
     (c.pack_key.ensures.code ∙ ap key_code old_is) (c.pack_key-2.ensures.code ∙ ap key_code new_is))
 
 pub returns-clause-told : goal.returns-clause-told
 returns-clause-told g c =
     let v = c.args.seat.now.me.0 in
-    settle_clear_told c.args.actor.sizes c.args.actor.number c.args.actor.place c.args.generation c.exchange_turns.result c.args.own c.args.value.now c.args.shared c.args.top v c.exchange_turns.new.seat.me.0 c.requires.asks (c.exchange_turns.ensures.told.0 c.args.actor.sizes c.requires.asks.sizes)
+    settle_clear_told c.args.actor.sizes c.args.actor.number c.args.actor.place c.args.generation c.exchange_turns.result c.args.own c.args.value.now c.args.top v c.exchange_turns.new.seat.me.0 c.requires.asks (c.exchange_turns.ensures.told.0 c.args.actor.sizes c.requires.asks.sizes)

@@ -1,6 +1,5 @@
 use Rattle.std.proofs.Common.{◌∙◌, refl, arith}
-use Rattle.std.specs.Prelude.{is_some}
-use Rattle.sf_schedules.specs.Turns.{at_members}
+use Rattle.sf_schedules.specs.Turns.{at_count}
 use Rattle.sf_schedules.specs.Events.{settled}
 use Rattle.sf_word_steps.specs.Settles.{call_of}
 use Rattle.sf_word_steps.proofs.Trying.{goes_after}
@@ -16,8 +15,13 @@ returns-in-Some-clause-settled g c =
     let was = c.loop-failed.invariant.2 in
     let top = c.in-Some.top in
     let x = c.args.value.now in
-    goes_after c.args.actor.sizes c.args.actor.number c.args.seat.now.me.0 c.loop-failed.seat.me.0 c.settle_once.new.seat.me.0 was.at (at_members c.args.actor.place c.args.generation c.args.own x (is_some top) top)
-    (settled c.args.actor.number (call_of c.args.actor.number c.args.generation) c.args.own x top) 0 was.goes c.in-Some.ensures.settled
+    let done = c.in-Some.ensures.settled in
+    record {
+      joiners = done.joiners;
+      number = done.number;
+      goes = goes_after c.args.actor.sizes c.args.actor.number c.args.seat.now.me.0 c.loop-failed.seat.me.0 c.settle_once.new.seat.me.0 was.at (at_count c.args.actor.place c.args.generation c.args.own x top)
+          (settled c.args.actor.number (call_of c.args.actor.number c.args.generation) c.args.own x done.joiners top) 0 was.goes done.goes;
+    }
 
 pub loop-failed-preserved : goal.loop-failed-preserved
 loop-failed-preserved g c =

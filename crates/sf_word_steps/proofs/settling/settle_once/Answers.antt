@@ -1,7 +1,4 @@
-use Rattle.std.proofs.Common.{Bool, [], subst}
-use Rattle.sf_word_steps.specs.Stands.{Goes}
-use Rattle.std.specs.Prelude.{is_some}
-use Rattle.sf_schedules.specs.Turns.{at_members}
+use Rattle.sf_schedules.specs.Turns.{at_count}
 use Rattle.sf_schedules.specs.Events.{settled}
 use Rattle.sf_schedules.specs.declared.operation.Stage.TheVariants.{Settling}
 use Rattle.sf_schedules.specs.declared.operation.SettleStep.TheVariants as settle
@@ -16,10 +13,15 @@ returns-then-close_own-clause-settled g c =
     let v = c.args.seat.now.me.0 in
     let seen = c.in-Open.seen in
     let x = c.args.value.now in
-    goes_after c.args.actor.sizes c.args.actor.number v c.own_peek-word.new.seat.me.0 c.close_own.new.seat.me.0 (Settling c.args.actor.place c.args.generation c.args.own x (settle.Close seen)) (at_members c.args.actor.place c.args.generation c.args.own x (is_some seen.top) seen.top)
-    (settled c.args.actor.number (call_of c.args.actor.number c.args.generation) c.args.own x seen.top) 0
-    (peeked_open c.args.actor.sizes c.args.actor.number c.args.actor.place c.args.generation c.args.own x v c.own_peek-word.new.seat.me.0 c.own_peek-word.result seen c.in-Open.is c.own_peek-word.ensures.told)
-    (c.close_own.ensures.won c.if-close_own.true)
+    let won = c.close_own.ensures.won c.if-close_own.true in
+    record {
+      joiners = won.joiners;
+      number = won.number;
+      goes = goes_after c.args.actor.sizes c.args.actor.number v c.own_peek-word.new.seat.me.0 c.close_own.new.seat.me.0 (Settling c.args.actor.place c.args.generation c.args.own x (settle.Close seen)) (at_count c.args.actor.place c.args.generation c.args.own x seen.top)
+          (settled c.args.actor.number (call_of c.args.actor.number c.args.generation) c.args.own x won.joiners seen.top) 0
+          (peeked_open c.args.actor.sizes c.args.actor.number c.args.actor.place c.args.generation c.args.own x v c.own_peek-word.new.seat.me.0 c.own_peek-word.result seen c.in-Open.is c.own_peek-word.ensures.told)
+          won.goes;
+    }
 
 pub returns-else-close_own-clause-failed : goal.returns-else-close_own-clause-failed
 returns-else-close_own-clause-failed g c =
@@ -35,7 +37,11 @@ returns-in-Forgot-clause-settled g c =
     let v = c.args.seat.now.me.0 in
     let seen = c.in-Forgot.seen in
     let x = c.args.value.now in
-    goes_still c.args.actor.sizes c.args.actor.number 0 v c.own_peek-word.new.seat.me.0 c.clear_own.new.seat.me.0 (Settling c.args.actor.place c.args.generation c.args.own x (settle.Clear (is_some seen.top) seen.top)) (at_members c.args.actor.place c.args.generation c.args.own x (is_some seen.top) seen.top)
-    (settled c.args.actor.number (call_of c.args.actor.number c.args.generation) c.args.own x seen.top)
-    (peeked_forgot c.args.actor.sizes c.args.actor.number c.args.actor.place c.args.generation c.args.own x v c.own_peek-word.new.seat.me.0 c.own_peek-word.result seen c.in-Forgot.is c.own_peek-word.ensures.told)
-    (subst (λ (b : Bool). Goes c.args.actor.sizes c.args.actor.number c.own_peek-word.new.seat.me.0 c.clear_own.new.seat.me.0 (at_members c.args.actor.place c.args.generation c.args.own x b seen.top) [] 0) c.is_some.ensures c.clear_own.ensures.told)
+    let told = c.own_peek-word.ensures.told in
+    let both = peeked_forgot c.args.actor.sizes c.args.actor.number c.args.actor.place c.args.generation c.args.own x v c.own_peek-word.new.seat.me.0 c.own_peek-word.result seen c.in-Forgot.is told in
+    record {
+      joiners = told.joiners;
+      number = both.1;
+      goes = goes_still c.args.actor.sizes c.args.actor.number 0 v c.own_peek-word.new.seat.me.0 c.clear_own.new.seat.me.0 (Settling c.args.actor.place c.args.generation c.args.own x (settle.Clear seen.top)) (at_count c.args.actor.place c.args.generation c.args.own x seen.top)
+          (settled c.args.actor.number (call_of c.args.actor.number c.args.generation) c.args.own x told.joiners seen.top) both.0 c.clear_own.ensures.told;
+    }

@@ -26,8 +26,8 @@ returns g c =
     let goes = subst (λ (z : Sizes). Goes z a v w Free [] 0) same c.ask_current.ensures.free in
     let right = subst (λ (z : Sizes). IsTrue c.ask_current.result → WasCurrent z l.place l.call v w) same c.ask_current.ensures.right in
     let outdated = subst (λ (z : Sizes). IsFalse c.ask_current.result → current_call nat_eq (history_of z w.known.turns) l.place ≢ Some l.call) same c.ask_current.ensures.outdated in
-    let shown : LetterValue _ = record { group = l.note.group; seen = l.note.seen; place = l.place; call = l.call; value = l.value; shared = l.shared } in
-    let after : LetterValue _ = record { group = c.learn.new.note.group; seen = c.learn.new.note.seen; place = l.place; call = l.call; value = l.value; shared = l.shared } in
+    let shown : LetterValue _ = record { group = l.note.group; seen = l.note.seen; place = l.place; call = l.call; value = l.value; joiners = l.joiners } in
+    let after : LetterValue _ = record { group = c.learn.new.note.group; seen = c.learn.new.note.seen; place = l.place; call = l.call; value = l.value; joiners = l.joiners } in
     let learnt = subst (λ (d : CallerValue _). HasLearnt c.args.caller.now l.note.seen d) (sym c.caller.view_is) c.learn.ensures.learnt in
     subst (λ (x : LetterValue _). HasQuestioned c.args.caller.now x c.ask_current.result (caller_of t w a) after) c.letter.view_is
     (questioned_row c.args.caller.now shown after seat.table_id t a v w c.ask_current.result learnt (lent_row shown c.learn.new.note c.learn.ensures.note) c.ask_current.ensures.own.0 goes right outdated)

@@ -25,29 +25,28 @@ pub invariant_of-hand_on : goal.invariant_of-hand_on
 invariant_of-hand_on g c =
     let f = c.flight.inside in
     let v = f.seat.me.0 in
-    let w = c.settle_often-top.new.seat.me.0 in
-    let top = c.settle_often-top.result in
-    let t = c.settle_often-top.new.seat.table_id in
-    let p = at_members f.place f.call.generation f.own c.args.value (is_some top) top in
-    let es = settled f.number (record { caller = f.number; generation = f.call.generation }) f.own c.args.value top in
+    let w = c.settle_and_count-tally.new.seat.me.0 in
+    let top = c.settle_and_count-tally.result.top in
+    let n = c.settle_and_count-tally.result.joiners in
+    let t = c.settle_and_count-tally.new.seat.table_id in
+    let p = at_members f.place f.call.generation f.own c.args.value n top in
+    let es = settled f.number (record { caller = f.number; generation = f.call.generation }) f.own c.args.value n top in
     let same : sizes_of v ≡ c.self.inside.sizes = ap (λ (x : FlightValue _). x.group.sizes) c.flight.view_is ∙ (ap (λ (x : GroupValue). x.sizes) c.requires.own ∙ ap (λ (x : GroupValue). x.sizes) (sym c.self.view_is)) in
-    let goes = subst (λ (z : Sizes). Goes z f.number v w p es 0) (sym same) c.settle_often-top.ensures.settled in
+    let goes = subst (λ (z : Sizes). Goes z f.number v w p es 0) (sym same) c.settle_and_count-tally.ensures.settled in
     let owed : IsOwed top f.own = elim c.then-is_some.branch [
       | then-is_some-via-then-is_some w ↦ inl (sym c.is_some.ensures ∙ w.if-is_some.true)
       | then-is_some-via-else-is_some+then-is_some-2 w ↦ inr (sym w.is_some-else-is_some.ensures ∙ w.if-is_some-2.true)
     ] in
     let flight = flight_of f.seat.table_id v f.number f.place f.call f.own in
-    let held = held_row f.seat.table_id t f.number f.place f.call f.own c.args.value top v w c.settle_often-top.ensures.own.0 c.flight.invariant.1 owed goes in
-    let mark : c.is_some-then-is_some.result ≡ is_some top = c.is_some-then-is_some.ensures in
+    let held = held_row f.seat.table_id t f.number f.place f.call f.own c.args.value n top v w c.settle_and_count-tally.ensures.own.0 c.flight.invariant.1 owed c.settle_and_count-tally.ensures.joined goes in
     let fit = fits_later g.V.Fit.fits g.V.Fit.lasts f.seat.table_id f.number 0 f.place f.call c.args.value v w p es (subst (λ (x : FlightValue _). g.V.Fit.fits x.place x.call c.args.value x.seen) (sym c.flight.view_is) c.requires.fits) goes in (
-      subst (λ b. Sits (sizes_of w) f.number w (at_members f.place f.call.generation f.own c.args.value b top)) (sym mark) (sits_now f.number 0 v w p es goes),
+      sits_now f.number 0 v w p es goes,
       c.flight.invariant.1,
       next_now f.number f.next v w p es c.flight.invariant.2 goes,
-      c.settle_often-top.ensures.own.1 ∙ c.flight.invariant.3,
+      c.settle_and_count-tally.ensures.own.1 ∙ c.flight.invariant.3,
       owed,
       fit,
-      subst (λ b. Stands (event.Settle f.call.caller f.call c.args.value b) (history_of (sizes_of w) w.known.turns)) (sym mark)
-          (held_stands flight c.args.value (settled_of t w f.number f.place f.call c.args.value (is_some top)) c.flight.invariant.1 held),
+      held_stands flight c.args.value (settled_of t w f.number f.place f.call c.args.value n) c.flight.invariant.1 held,
       placed_later f.number 0 f.place v w p es c.flight.invariant.4 goes,
     )
 
@@ -55,97 +54,101 @@ pub returns-then-is_some-clause-finished : goal.returns-then-is_some-clause-fini
 returns-then-is_some-clause-finished g c =
     let f = c.flight.inside in
     let v = f.seat.me.0 in
-    let w = c.settle_often-top.new.seat.me.0 in
-    let top = c.settle_often-top.result in
-    let t = c.settle_often-top.new.seat.table_id in
-    let p = at_members f.place f.call.generation f.own c.args.value (is_some top) top in
-    let es = settled f.number (record { caller = f.number; generation = f.call.generation }) f.own c.args.value top in
+    let w = c.settle_and_count-tally.new.seat.me.0 in
+    let top = c.settle_and_count-tally.result.top in
+    let n = c.settle_and_count-tally.result.joiners in
+    let t = c.settle_and_count-tally.new.seat.table_id in
+    let p = at_members f.place f.call.generation f.own c.args.value n top in
+    let es = settled f.number (record { caller = f.number; generation = f.call.generation }) f.own c.args.value n top in
     let same : sizes_of v ≡ c.self.inside.sizes = ap (λ (x : FlightValue _). x.group.sizes) c.flight.view_is ∙ (ap (λ (x : GroupValue). x.sizes) c.requires.own ∙ ap (λ (x : GroupValue). x.sizes) (sym c.self.view_is)) in
-    let goes = subst (λ (z : Sizes). Goes z f.number v w p es 0) (sym same) c.settle_often-top.ensures.settled in
+    let goes = subst (λ (z : Sizes). Goes z f.number v w p es 0) (sym same) c.settle_and_count-tally.ensures.settled in
     let owed : IsOwed top f.own = elim c.then-is_some.branch [
       | then-is_some-via-then-is_some w ↦ inl (sym c.is_some.ensures ∙ w.if-is_some.true)
       | then-is_some-via-else-is_some+then-is_some-2 w ↦ inr (sym w.is_some-else-is_some.ensures ∙ w.if-is_some-2.true)
     ] in
     let flight = flight_of f.seat.table_id v f.number f.place f.call f.own in
-    let held = held_row f.seat.table_id t f.number f.place f.call f.own c.args.value top v w c.settle_often-top.ensures.own.0 c.flight.invariant.1 owed goes in
-    let mark : c.is_some-then-is_some.result ≡ is_some top = c.is_some-then-is_some.ensures in
-    let s = settled_of t w f.number f.place f.call c.args.value (is_some top) in
-    let gone = subst (λ b. HasGoneOn g.V.Fit.fits (settled_of t w f.number f.place f.call c.args.value b) c.hand_on.result) mark c.hand_on.ensures.gone in
+    let held = held_row f.seat.table_id t f.number f.place f.call f.own c.args.value n top v w c.settle_and_count-tally.ensures.own.0 c.flight.invariant.1 owed c.settle_and_count-tally.ensures.joined goes in
+    let s = settled_of t w f.number f.place f.call c.args.value n in
+    let gone = c.hand_on.ensures.gone in
     subst (λ (x : FlightValue _). HasFinished g.V.Fit.fits x c.args.value c.hand_on.result) c.flight.view_is (finished_after g.V.Fit.fits flight c.args.value s c.hand_on.result held gone)
 
 pub returns-then-is_some-clause-closed : goal.returns-then-is_some-clause-closed
 returns-then-is_some-clause-closed g c =
     let f = c.flight.inside in
     let v = f.seat.me.0 in
-    let w = c.settle_often-top.new.seat.me.0 in
-    let top = c.settle_often-top.result in
-    let t = c.settle_often-top.new.seat.table_id in
-    let p = at_members f.place f.call.generation f.own c.args.value (is_some top) top in
-    let es = settled f.number (record { caller = f.number; generation = f.call.generation }) f.own c.args.value top in
+    let w = c.settle_and_count-tally.new.seat.me.0 in
+    let top = c.settle_and_count-tally.result.top in
+    let n = c.settle_and_count-tally.result.joiners in
+    let t = c.settle_and_count-tally.new.seat.table_id in
+    let p = at_members f.place f.call.generation f.own c.args.value n top in
+    let es = settled f.number (record { caller = f.number; generation = f.call.generation }) f.own c.args.value n top in
     let same : sizes_of v ≡ c.self.inside.sizes = ap (λ (x : FlightValue _). x.group.sizes) c.flight.view_is ∙ (ap (λ (x : GroupValue). x.sizes) c.requires.own ∙ ap (λ (x : GroupValue). x.sizes) (sym c.self.view_is)) in
-    let goes = subst (λ (z : Sizes). Goes z f.number v w p es 0) (sym same) c.settle_often-top.ensures.settled in
+    let goes = subst (λ (z : Sizes). Goes z f.number v w p es 0) (sym same) c.settle_and_count-tally.ensures.settled in
     let owed : IsOwed top f.own = elim c.then-is_some.branch [
       | then-is_some-via-then-is_some w ↦ inl (sym c.is_some.ensures ∙ w.if-is_some.true)
       | then-is_some-via-else-is_some+then-is_some-2 w ↦ inr (sym w.is_some-else-is_some.ensures ∙ w.if-is_some-2.true)
     ] in
     let flight = flight_of f.seat.table_id v f.number f.place f.call f.own in
-    let held = held_row f.seat.table_id t f.number f.place f.call f.own c.args.value top v w c.settle_often-top.ensures.own.0 c.flight.invariant.1 owed goes in
-    let mark : c.is_some-then-is_some.result ≡ is_some top = c.is_some-then-is_some.ensures in
-    let s = settled_of t w f.number f.place f.call c.args.value (is_some top) in
-    let known = subst (λ b. HasKnown (settled_of t w f.number f.place f.call c.args.value b) c.hand_on.result) mark c.hand_on.ensures.known in
+    let held = held_row f.seat.table_id t f.number f.place f.call f.own c.args.value n top v w c.settle_and_count-tally.ensures.own.0 c.flight.invariant.1 owed c.settle_and_count-tally.ensures.joined goes in
+    let s = settled_of t w f.number f.place f.call c.args.value n in
+    let known = c.hand_on.ensures.known in
     subst (λ (x : FlightValue _). HasClosed x c.hand_on.result) c.flight.view_is (closed_known flight s goes.turns c.hand_on.result held.group goes.knows known)
 
 pub letter-letter-requires-clause-led : goal.letter-letter-requires-clause-led
 letter-letter-requires-clause-led g c =
     let f = c.flight.inside in
     let v = f.seat.me.0 in
-    let w = c.settle_often-top.new.seat.me.0 in
-    let top = c.settle_often-top.result in
-    let p = at_members f.place f.call.generation f.own c.args.value (is_some top) top in
-    let es = settled f.number (record { caller = f.number; generation = f.call.generation }) f.own c.args.value top in
+    let w = c.settle_and_count-tally.new.seat.me.0 in
+    let top = c.settle_and_count-tally.result.top in
+    let n = c.settle_and_count-tally.result.joiners in
+    let p = at_members f.place f.call.generation f.own c.args.value n top in
+    let es = settled f.number (record { caller = f.number; generation = f.call.generation }) f.own c.args.value n top in
     let same : sizes_of v ≡ c.self.inside.sizes = ap (λ (x : FlightValue _). x.group.sizes) c.flight.view_is ∙ (ap (λ (x : GroupValue). x.sizes) c.requires.own ∙ ap (λ (x : GroupValue). x.sizes) (sym c.self.view_is)) in
-    let goes = subst (λ (z : Sizes). Goes z f.number v w p es 0) (sym same) c.settle_often-top.ensures.settled in
+    let goes = subst (λ (z : Sizes). Goes z f.number v w p es 0) (sym same) c.settle_and_count-tally.ensures.settled in
     led_later f.seat.table_id f.number 0 f.place f.call v w p es (leading_led (sizes_of v) f.number f.place f.call f.own v c.flight.invariant.1 c.flight.invariant.0) goes
 
 pub letter-letter-requires-clause-fits : goal.letter-letter-requires-clause-fits
 letter-letter-requires-clause-fits g c =
     let f = c.flight.inside in
     let v = f.seat.me.0 in
-    let w = c.settle_often-top.new.seat.me.0 in
-    let top = c.settle_often-top.result in
+    let w = c.settle_and_count-tally.new.seat.me.0 in
+    let top = c.settle_and_count-tally.result.top in
+    let n = c.settle_and_count-tally.result.joiners in
     let same : sizes_of v ≡ c.self.inside.sizes = ap (λ (x : FlightValue _). x.group.sizes) c.flight.view_is ∙ (ap (λ (x : GroupValue). x.sizes) c.requires.own ∙ ap (λ (x : GroupValue). x.sizes) (sym c.self.view_is)) in
-    let goes = subst (λ (z : Sizes). Goes z f.number v w (at_members f.place f.call.generation f.own c.args.value (is_some top) top) (settled f.number (record { caller = f.number; generation = f.call.generation }) f.own c.args.value top) 0) (sym same) c.settle_often-top.ensures.settled in
+    let goes = subst (λ (z : Sizes). Goes z f.number v w (at_members f.place f.call.generation f.own c.args.value n top) (settled f.number (record { caller = f.number; generation = f.call.generation }) f.own c.args.value n top) 0) (sym same) c.settle_and_count-tally.ensures.settled in
     let fit = subst (λ (x : FlightValue _). g.V.Fit.fits x.place x.call c.args.value x.seen) (sym c.flight.view_is) c.requires.fits in
-    fits_later g.V.Fit.fits g.V.Fit.lasts f.seat.table_id f.number 0 f.place f.call c.args.value v w (at_members f.place f.call.generation f.own c.args.value (is_some top) top) (settled f.number (record { caller = f.number; generation = f.call.generation }) f.own c.args.value top) fit goes
+    fits_later g.V.Fit.fits g.V.Fit.lasts f.seat.table_id f.number 0 f.place f.call c.args.value v w (at_members f.place f.call.generation f.own c.args.value n top) (settled f.number (record { caller = f.number; generation = f.call.generation }) f.own c.args.value n top) fit goes
 
 pub returns-clause-finished : goal.returns-clause-finished
 returns-clause-finished g c =
     let f = c.flight.inside in
     let v = f.seat.me.0 in
-    let w = c.settle_often-top.new.seat.me.0 in
-    let top = c.settle_often-top.result in
+    let w = c.settle_and_count-tally.new.seat.me.0 in
+    let top = c.settle_and_count-tally.result.top in
+    let n = c.settle_and_count-tally.result.joiners in
     let same : sizes_of v ≡ c.self.inside.sizes = ap (λ (x : FlightValue _). x.group.sizes) c.flight.view_is ∙ (ap (λ (x : GroupValue). x.sizes) c.requires.own ∙ ap (λ (x : GroupValue). x.sizes) (sym c.self.view_is)) in
-    let goes = subst (λ (z : Sizes). Goes z f.number v w (at_members f.place f.call.generation f.own c.args.value (is_some top) top) (settled f.number (record { caller = f.number; generation = f.call.generation }) f.own c.args.value top) 0) (sym same) c.settle_often-top.ensures.settled in
+    let goes = subst (λ (z : Sizes). Goes z f.number v w (at_members f.place f.call.generation f.own c.args.value n top) (settled f.number (record { caller = f.number; generation = f.call.generation }) f.own c.args.value n top) 0) (sym same) c.settle_and_count-tally.ensures.settled in
     let bare : is_some top ≡ false = sym c.is_some.ensures ∙ c.if-is_some.false in
     let alone : is_some f.own ≡ false = sym c.is_some-else-is_some.ensures ∙ c.if-is_some-2.false in
-    let back : caller_of c.letter-letter.new.seat.table_id c.letter-letter.new.seat.me.0 f.number ≡ caller_of c.settle_often-top.new.seat.table_id w f.number =
-    ap (λ t. caller_of t c.letter-letter.new.seat.me.0 f.number) c.letter-letter.ensures.seat.0 ∙ ap (λ (m : Me (Option (Letter _)) (View _)). caller_of c.settle_often-top.new.seat.table_id m.0 f.number) c.letter-letter.ensures.seat.1 in
-    let fit = fits_later g.V.Fit.fits g.V.Fit.lasts f.seat.table_id f.number 0 f.place f.call c.args.value v w (at_members f.place f.call.generation f.own c.args.value (is_some top) top) (settled f.number (record { caller = f.number; generation = f.call.generation }) f.own c.args.value top) (subst (λ (x : FlightValue _). g.V.Fit.fits x.place x.call c.args.value x.seen) (sym c.flight.view_is) c.requires.fits) goes in
+    let back : caller_of c.letter-letter.new.seat.table_id c.letter-letter.new.seat.me.0 f.number ≡ caller_of c.settle_and_count-tally.new.seat.table_id w f.number =
+    ap (λ t. caller_of t c.letter-letter.new.seat.me.0 f.number) c.letter-letter.ensures.seat.0 ∙ ap (λ (m : Me (Option (Letter _)) (View _)). caller_of c.settle_and_count-tally.new.seat.table_id m.0 f.number) c.letter-letter.ensures.seat.1 in
+    let fit = fits_later g.V.Fit.fits g.V.Fit.lasts f.seat.table_id f.number 0 f.place f.call c.args.value v w (at_members f.place f.call.generation f.own c.args.value n top) (settled f.number (record { caller = f.number; generation = f.call.generation }) f.own c.args.value n top) (subst (λ (x : FlightValue _). g.V.Fit.fits x.place x.call c.args.value x.seen) (sym c.flight.view_is) c.requires.fits) goes in
     subst (λ (x : FlightValue _). IsDone g.V.Fit.fits x c.args.value (caller_of c.letter-letter.new.seat.table_id c.letter-letter.new.seat.me.0 f.number) c.letter-letter.result) c.flight.view_is
     (subst (λ (d : CallerValue _). IsDone g.V.Fit.fits (flight_of f.seat.table_id v f.number f.place f.call f.own) c.args.value d c.letter-letter.result) (sym back)
-    (subst (λ (l : LetterValue _). IsDone g.V.Fit.fits (flight_of f.seat.table_id v f.number f.place f.call f.own) c.args.value (caller_of c.settle_often-top.new.seat.table_id w f.number) l) (sym c.letter-letter.ensures.letter)
-    (done_row g.V.Fit.fits f.seat.table_id c.settle_often-top.new.seat.table_id f.number f.place f.call f.own c.args.value top v w c.settle_often-top.ensures.own.0 c.flight.invariant.1 bare alone goes fit)))
+    (subst (λ (l : LetterValue _). IsDone g.V.Fit.fits (flight_of f.seat.table_id v f.number f.place f.call f.own) c.args.value (caller_of c.settle_and_count-tally.new.seat.table_id w f.number) l) (sym c.letter-letter.ensures.letter)
+    (done_row g.V.Fit.fits f.seat.table_id c.settle_and_count-tally.new.seat.table_id f.number f.place f.call f.own c.args.value n top v w c.settle_and_count-tally.ensures.own.0 c.flight.invariant.1 bare alone goes fit)))
 
 pub returns-clause-closed : goal.returns-clause-closed
 returns-clause-closed g c =
     let f = c.flight.inside in
     let v = f.seat.me.0 in
-    let w = c.settle_often-top.new.seat.me.0 in
-    let top = c.settle_often-top.result in
+    let w = c.settle_and_count-tally.new.seat.me.0 in
+    let top = c.settle_and_count-tally.result.top in
+    let n = c.settle_and_count-tally.result.joiners in
     let same : sizes_of v ≡ c.self.inside.sizes = ap (λ (x : FlightValue _). x.group.sizes) c.flight.view_is ∙ (ap (λ (x : GroupValue). x.sizes) c.requires.own ∙ ap (λ (x : GroupValue). x.sizes) (sym c.self.view_is)) in
-    let p = at_members f.place f.call.generation f.own c.args.value (is_some top) top in
-    let es = settled f.number (record { caller = f.number; generation = f.call.generation }) f.own c.args.value top in
-    let goes = subst (λ (z : Sizes). Goes z f.number v w p es 0) (sym same) c.settle_often-top.ensures.settled in
+    let p = at_members f.place f.call.generation f.own c.args.value n top in
+    let es = settled f.number (record { caller = f.number; generation = f.call.generation }) f.own c.args.value n top in
+    let goes = subst (λ (z : Sizes). Goes z f.number v w p es 0) (sym same) c.settle_and_count-tally.ensures.settled in
     let turns_are = ap (λ (m : Me (Option (Letter _)) (View _)). m.0.known.turns) c.letter-letter.ensures.seat.1 in
     subst (λ ts. ClosesSeldom c.args.flight ts) (sym turns_are)
     (subst (λ (x : FlightValue _). ClosesSeldom x w.known.turns) c.flight.view_is (closed_row f.seat.table_id f.number f.place 0 f.call f.own v w p es goes))

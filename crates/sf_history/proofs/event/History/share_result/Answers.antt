@@ -2,7 +2,7 @@
 use Rattle.std.proofs.Common.{◌≡◌, ◌<◌, List, length, get_or, option_and_then, None, true, rules, ◌∙◌, ap}
 use Rattle.std.specs.Prelude.{find}
 use Rattle.sf_history.specs.declared.event.Event.{Event}
-use Rattle.sf_history.specs.declared.event.Event.TheVariants.{Lead, Enter, Forget, Settle, Handed}
+use Rattle.sf_history.specs.declared.event.Event.TheVariants.{Lead, Enter, Forget, ForgetCall, Settle, Handed}
 use Rattle.sf_history.specs.History.{settles, result_in}
 use Rattle.sf_history.specs.declared.call.CallId.{CallId}
 use Rattle.sf_history.proofs.Settling.{found_here, none_yet, set_same}
@@ -12,7 +12,8 @@ settles_something : {K V : Type 0} (c : CallId) (e : Event K V) → settles c e 
 settles_something c (Lead by key call own) is none = cc
 settles_something c (Enter by key call member) is none = cc
 settles_something c (Forget by key closed) is none = cc
-settles_something c (Settle by call result shared) is none = cc
+settles_something c (ForgetCall by key call hit) is none = cc
+settles_something c (Settle by call result joiners) is none = cc
 settles_something c (Handed by call) is none = cc
 
 pub returns-in-Some-clause-shared : goal.returns-in-Some-clause-shared

@@ -6,4 +6,4 @@ use Rattle.sf_history.proofs.seq_group.SeqGroup.settle.Goals as goal
 pub invariant_of-self-2 : goal.invariant_of-self-2
 invariant_of-self-2 g c =
     rw c.in_default-push_settled.ensures.ok
-    (kept_settle g.K.PartialEq.eq _ c.args.caller c.in-Some.call c.args.value c.is_joined-shared.result c.self.invariant (search rules) (search rules) (search rules))
+    (kept_settle g.K.PartialEq.eq _ c.args.caller c.in-Some.call c.args.value c.joined-joiners.result c.self.invariant (search rules) (search rules) (search rules))

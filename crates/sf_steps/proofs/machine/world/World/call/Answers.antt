@@ -1,4 +1,4 @@
-use Rattle.std.proofs.Common.{◌≡◌, ◌≤◌, ◌∙◌, ℕ, List, sym, ap, subst, slice_index_or}
+use Rattle.std.proofs.Common.{◌≡◌, ◌≤◌, ◌∙◌, List, sym, ap, subst, slice_index_or}
 use Rattle.sf_schedules.specs.Stages.{top_in}
 use Rattle.sf_steps.specs.declared.machine.caller_row.CallerRow.{CallerRow}
 use Rattle.sf_steps.specs.Rows.{first_row, row_at}

@@ -1,4 +1,4 @@
-use Rattle.std.proofs.Common.{◌≡◌, ◌+◌, ◌≤◌, ℕ, refl, sym, ◌∙◌, ap, arith}
+use Rattle.std.proofs.Common.{◌+◌, ℕ, sym, ap, arith}
 use Rattle.std.proofs.lemmas.Bool.{true≢false}
 use Rattle.sf_words.specs.declared.key_word.KeyState.TheVariants.{Never}
 use Rattle.sf_schedules.specs.Stages.{second_in}
@@ -19,7 +19,7 @@ invariant_of-result-clause-places_in_range g c = (c.requires.places.0, omega ari
 pub invariant_of-result-clause-lawful : goal.invariant_of-result-clause-lawful
 invariant_of-result-clause-lawful g c =
     all_replicate (λ (r : CallerRow g.row.V.Denot). IsLawful c.args.callers c.args.places r) c.in_ok-first_rows.field-0.items (c.args.callers + 1) first_row c.in_ok-first_rows.ensures
-    (record { place = (omega arith, c.requires.places.0); unspent = λ asks. absurd (true≢false (sym asks)); top = omega arith; next = omega arith; stage = (omega arith, omega arith, omega arith) })
+    (record { place = (omega arith, c.requires.places.0); unspent = λ asks. absurd (true≢false (sym asks)); top = omega arith; next = omega arith; stage = (omega arith, omega arith, omega arith, omega arith) })
 
 pub invariant_of-result-clause-paired : goal.invariant_of-result-clause-paired
 invariant_of-result-clause-paired g c = λ a b has.

@@ -9,4 +9,4 @@ goes_to_members-requires-clause-settles g c =
 
 pub returns-clause-world : goal.returns-clause-world
 returns-clause-world g c =
-    c.goes_to_members.ensures.world ∙ ap (λ (x : World g.row.V.Denot). with_stage x c.args.led.call.caller (members_at c.args.shared c.args.top (x.stages c.args.led.call.caller))) c.share_result.ensures.world
+    c.goes_to_members.ensures.world ∙ ap (λ (x : World g.row.V.Denot). with_stage x c.args.led.call.caller (members_at c.args.joiners c.args.top (x.stages c.args.led.call.caller))) c.share_result.ensures.world

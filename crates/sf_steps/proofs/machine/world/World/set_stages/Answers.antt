@@ -1,14 +1,12 @@
 use Rattle.std.proofs.Math.ListN.{length-set}
-use Rattle.std.proofs.Common.{◌≡◌, true, false, ◌≤◌, ◌<◌, ◌+◌, ℕ, length, sym, subst, ◌∙◌, refl, ap, arith, slice_index_or, slice_set}
-use Rattle.std.proofs.lemmas.Bool.{true≢false}
+use Rattle.std.proofs.Common.{◌≡◌, true, ◌≤◌, ◌<◌, ℕ, length, sym, subst, ◌∙◌, refl, ap, arith, slice_index_or, slice_set}
 use Rattle.sf_words.specs.declared.key_word.KeyState.TheVariants.{Never}
 use Rattle.sf_schedules.specs.declared.operation.Stage.{Stage}
-use Rattle.sf_schedules.specs.declared.operation.Stage.TheVariants.{Free}
-use Rattle.sf_schedules.specs.Stages.{is_asking, second_in}
+use Rattle.sf_schedules.specs.Stages.{is_asking}
 use Rattle.sf_schedules.specs.World.{World, with_stage}
 use Rattle.sf_lists.proofs.Functions.{put_here, put_else}
 use Rattle.sf_steps.specs.declared.machine.caller_row.CallerRow.{CallerRow}
-use Rattle.sf_steps.specs.Rows.{IsLawful, ArePaired, row_at}
+use Rattle.sf_steps.specs.Rows.{ArePaired}
 use Rattle.sf_steps.specs.Running.{world_of}
 use Rattle.sf_steps.proofs.Rows.{still_below, lent_row, generation_kept, stage_set, paired_puts, lawful_set}
 use Rattle.sf_steps.proofs.machine.world.World.set_stages.Goals as goal
@@ -19,7 +17,7 @@ returns-clause-world g c =
     let is = lent_row c.args.self.now.rows.items c.args.second c.index_mut.result.now within c.index_mut.ensures.value in
     let within_2 : c.args.caller < length (slice_set c.args.self.now.rows.items c.args.second (record c.index_mut.result.now { stage = c.args.second_stage })) = still_below c.args.self.now.rows.items c.args.second (record c.index_mut.result.now { stage = c.args.second_stage }) c.args.caller (omega (arith, c.requires.callers.1)) in
     let is_2 = lent_row (slice_set c.args.self.now.rows.items c.args.second (record c.index_mut.result.now { stage = c.args.second_stage })) c.args.caller c.index_mut-2.result.now within_2 c.index_mut-2.ensures.value in
-    stage_set (λ k. slice_index_or c.args.self.now.keys.items k Never) (slice_set c.args.self.now.rows.items c.args.second (record c.index_mut.result.now { stage = c.args.second_stage })) c.args.caller c.index_mut-2.result.now within_2 is_2 c.args.stage ∙ ap (λ (w : World g.row.V.Denot). with_stage w c.args.caller c.args.stage) (stage_set (λ k. slice_index_or c.args.self.now.keys.items k Never) c.args.self.now.rows.items c.args.second c.index_mut.result.now within is c.args.second_stage)
+    stage_set c.args.self.now.callers (λ k. slice_index_or c.args.self.now.keys.items k Never) (slice_set c.args.self.now.rows.items c.args.second (record c.index_mut.result.now { stage = c.args.second_stage })) c.args.caller c.index_mut-2.result.now within_2 is_2 c.args.stage ∙ ap (λ (w : World g.row.V.Denot). with_stage w c.args.caller c.args.stage) (stage_set c.args.self.now.callers (λ k. slice_index_or c.args.self.now.keys.items k Never) c.args.self.now.rows.items c.args.second c.index_mut.result.now within is c.args.second_stage)
 
 pub returns-clause-stage : goal.returns-clause-stage
 returns-clause-stage g c =
@@ -28,7 +26,7 @@ returns-clause-stage g c =
     let within_2 : c.args.caller < length (slice_set c.args.self.now.rows.items c.args.second (record c.index_mut.result.now { stage = c.args.second_stage })) = still_below c.args.self.now.rows.items c.args.second (record c.index_mut.result.now { stage = c.args.second_stage }) c.args.caller (omega (arith, c.requires.callers.1)) in
     let is_2 = lent_row (slice_set c.args.self.now.rows.items c.args.second (record c.index_mut.result.now { stage = c.args.second_stage })) c.args.caller c.index_mut-2.result.now within_2 c.index_mut-2.ensures.value in
     let stages = (with_stage (world_of c.args.self.now) c.args.second c.args.second_stage).stages in
-    ap (λ (w : World g.row.V.Denot). w.stages c.args.caller) (stage_set (λ k. slice_index_or c.args.self.now.keys.items k Never) (slice_set c.args.self.now.rows.items c.args.second (record c.index_mut.result.now { stage = c.args.second_stage })) c.args.caller c.index_mut-2.result.now within_2 is_2 c.args.stage ∙ ap (λ (w : World g.row.V.Denot). with_stage w c.args.caller c.args.stage) (stage_set (λ k. slice_index_or c.args.self.now.keys.items k Never) c.args.self.now.rows.items c.args.second c.index_mut.result.now within is c.args.second_stage)) ∙ put_here stages c.args.caller c.args.stage
+    ap (λ (w : World g.row.V.Denot). w.stages c.args.caller) (stage_set c.args.self.now.callers (λ k. slice_index_or c.args.self.now.keys.items k Never) (slice_set c.args.self.now.rows.items c.args.second (record c.index_mut.result.now { stage = c.args.second_stage })) c.args.caller c.index_mut-2.result.now within_2 is_2 c.args.stage ∙ ap (λ (w : World g.row.V.Denot). with_stage w c.args.caller c.args.stage) (stage_set c.args.self.now.callers (λ k. slice_index_or c.args.self.now.keys.items k Never) c.args.self.now.rows.items c.args.second c.index_mut.result.now within is c.args.second_stage)) ∙ put_here stages c.args.caller c.args.stage
 
 pub returns-clause-second_stage : goal.returns-clause-second_stage
 returns-clause-second_stage g c =
@@ -37,7 +35,7 @@ returns-clause-second_stage g c =
     let within_2 : c.args.caller < length (slice_set c.args.self.now.rows.items c.args.second (record c.index_mut.result.now { stage = c.args.second_stage })) = still_below c.args.self.now.rows.items c.args.second (record c.index_mut.result.now { stage = c.args.second_stage }) c.args.caller (omega (arith, c.requires.callers.1)) in
     let is_2 = lent_row (slice_set c.args.self.now.rows.items c.args.second (record c.index_mut.result.now { stage = c.args.second_stage })) c.args.caller c.index_mut-2.result.now within_2 c.index_mut-2.ensures.value in
     let stages = (with_stage (world_of c.args.self.now) c.args.second c.args.second_stage).stages in
-    ap (λ (w : World g.row.V.Denot). w.stages c.args.second) (stage_set (λ k. slice_index_or c.args.self.now.keys.items k Never) (slice_set c.args.self.now.rows.items c.args.second (record c.index_mut.result.now { stage = c.args.second_stage })) c.args.caller c.index_mut-2.result.now within_2 is_2 c.args.stage ∙ ap (λ (w : World g.row.V.Denot). with_stage w c.args.caller c.args.stage) (stage_set (λ k. slice_index_or c.args.self.now.keys.items k Never) c.args.self.now.rows.items c.args.second c.index_mut.result.now within is c.args.second_stage))
+    ap (λ (w : World g.row.V.Denot). w.stages c.args.second) (stage_set c.args.self.now.callers (λ k. slice_index_or c.args.self.now.keys.items k Never) (slice_set c.args.self.now.rows.items c.args.second (record c.index_mut.result.now { stage = c.args.second_stage })) c.args.caller c.index_mut-2.result.now within_2 is_2 c.args.stage ∙ ap (λ (w : World g.row.V.Denot). with_stage w c.args.caller c.args.stage) (stage_set c.args.self.now.callers (λ k. slice_index_or c.args.self.now.keys.items k Never) c.args.self.now.rows.items c.args.second c.index_mut.result.now within is c.args.second_stage))
     ∙ (put_else stages c.args.caller c.args.stage c.args.second c.requires.callers.2 ∙ put_here (world_of c.args.self.now).stages c.args.second c.args.second_stage)
 
 pub returns-clause-generations : goal.returns-clause-generations
@@ -46,7 +44,7 @@ returns-clause-generations g c =
     let is = lent_row c.args.self.now.rows.items c.args.second c.index_mut.result.now within c.index_mut.ensures.value in
     let within_2 : c.args.caller < length (slice_set c.args.self.now.rows.items c.args.second (record c.index_mut.result.now { stage = c.args.second_stage })) = still_below c.args.self.now.rows.items c.args.second (record c.index_mut.result.now { stage = c.args.second_stage }) c.args.caller (omega (arith, c.requires.callers.1)) in
     let is_2 = lent_row (slice_set c.args.self.now.rows.items c.args.second (record c.index_mut.result.now { stage = c.args.second_stage })) c.args.caller c.index_mut-2.result.now within_2 c.index_mut-2.ensures.value in
-    generation_kept (λ k. slice_index_or c.args.self.now.keys.items k Never) (slice_set c.args.self.now.rows.items c.args.second (record c.index_mut.result.now { stage = c.args.second_stage })) c.args.caller c.index_mut-2.result.now within_2 is_2 (record c.index_mut-2.result.now { stage = c.args.stage }) refl ∙ generation_kept (λ k. slice_index_or c.args.self.now.keys.items k Never) c.args.self.now.rows.items c.args.second c.index_mut.result.now within is (record c.index_mut.result.now { stage = c.args.second_stage }) refl
+    generation_kept c.args.self.now.callers (λ k. slice_index_or c.args.self.now.keys.items k Never) (slice_set c.args.self.now.rows.items c.args.second (record c.index_mut.result.now { stage = c.args.second_stage })) c.args.caller c.index_mut-2.result.now within_2 is_2 (record c.index_mut-2.result.now { stage = c.args.stage }) refl ∙ generation_kept c.args.self.now.callers (λ k. slice_index_or c.args.self.now.keys.items k Never) c.args.self.now.rows.items c.args.second c.index_mut.result.now within is (record c.index_mut.result.now { stage = c.args.second_stage }) refl
 
 pub invariant_of-self-clause-rows_for_callers : goal.invariant_of-self-clause-rows_for_callers
 invariant_of-self-clause-rows_for_callers g c =
@@ -59,10 +57,10 @@ invariant_of-self-clause-lawful g c =
     let within_2 : c.args.caller < length (slice_set c.args.self.now.rows.items c.args.second (record c.index_mut.result.now { stage = c.args.second_stage })) = still_below c.args.self.now.rows.items c.args.second (record c.index_mut.result.now { stage = c.args.second_stage }) c.args.caller (omega (arith, c.requires.callers.1)) in
     let is_2 = lent_row (slice_set c.args.self.now.rows.items c.args.second (record c.index_mut.result.now { stage = c.args.second_stage })) c.args.caller c.index_mut-2.result.now within_2 c.index_mut-2.ensures.value in
     let second_spent : is_asking c.args.second_stage ≡ true → c.index_mut.result.now.generation ≤ 4294967295 = λ asks. subst (λ (n : ℕ). n ≤ 4294967295) (sym (ap (λ (r : CallerRow g.row.V.Denot). r.generation) is)) (c.requires.second_spent asks) in
-    let kept = ap (λ (f : ℕ → ℕ). f c.args.caller) (generation_kept (λ k. slice_index_or c.args.self.now.keys.items k Never) c.args.self.now.rows.items c.args.second c.index_mut.result.now within is (record c.index_mut.result.now { stage = c.args.second_stage }) refl) in
+    let kept = ap (λ (f : ℕ → ℕ). f c.args.caller) (generation_kept c.args.self.now.callers (λ k. slice_index_or c.args.self.now.keys.items k Never) c.args.self.now.rows.items c.args.second c.index_mut.result.now within is (record c.index_mut.result.now { stage = c.args.second_stage }) refl) in
     let spent : is_asking c.args.stage ≡ true → c.index_mut-2.result.now.generation ≤ 4294967295 = λ asks. subst (λ (n : ℕ). n ≤ 4294967295) (sym (ap (λ (r : CallerRow g.row.V.Denot). r.generation) is_2 ∙ kept)) (c.requires.spent asks) in
-    lawful_set (λ k. slice_index_or c.args.self.now.keys.items k Never) (slice_set c.args.self.now.rows.items c.args.second (record c.index_mut.result.now { stage = c.args.second_stage })) c.args.caller c.index_mut-2.result.now within_2 is_2 c.args.self.now.callers c.args.self.now.places (record c.index_mut-2.result.now { stage = c.args.stage })
-    (lawful_set (λ k. slice_index_or c.args.self.now.keys.items k Never) c.args.self.now.rows.items c.args.second c.index_mut.result.now within is c.args.self.now.callers c.args.self.now.places (record c.index_mut.result.now { stage = c.args.second_stage }) c.args.self.now.lawful
+    lawful_set c.args.self.now.callers (λ k. slice_index_or c.args.self.now.keys.items k Never) (slice_set c.args.self.now.rows.items c.args.second (record c.index_mut.result.now { stage = c.args.second_stage })) c.args.caller c.index_mut-2.result.now within_2 is_2 c.args.self.now.callers c.args.self.now.places (record c.index_mut-2.result.now { stage = c.args.stage })
+    (lawful_set c.args.self.now.callers (λ k. slice_index_or c.args.self.now.keys.items k Never) c.args.self.now.rows.items c.args.second c.index_mut.result.now within is c.args.self.now.callers c.args.self.now.places (record c.index_mut.result.now { stage = c.args.second_stage }) c.args.self.now.lawful
     (λ old. record { place = (c.requires.places.2, c.requires.places.3); unspent = second_spent; top = old.top; next = old.next; stage = c.requires.second_within }))
     (λ old. record { place = (c.requires.places.0, c.requires.places.1); unspent = spent; top = old.top; next = old.next; stage = c.requires.within })
 
@@ -72,5 +70,5 @@ invariant_of-self-clause-paired g c =
     let is = lent_row c.args.self.now.rows.items c.args.second c.index_mut.result.now within c.index_mut.ensures.value in
     let within_2 : c.args.caller < length (slice_set c.args.self.now.rows.items c.args.second (record c.index_mut.result.now { stage = c.args.second_stage })) = still_below c.args.self.now.rows.items c.args.second (record c.index_mut.result.now { stage = c.args.second_stage }) c.args.caller (omega (arith, c.requires.callers.1)) in
     let is_2 = lent_row (slice_set c.args.self.now.rows.items c.args.second (record c.index_mut.result.now { stage = c.args.second_stage })) c.args.caller c.index_mut-2.result.now within_2 c.index_mut-2.ensures.value in
-    subst (λ (f : ℕ → Stage g.row.V.Denot). ArePaired f) (sym (ap (λ (w : World g.row.V.Denot). w.stages) (stage_set (λ k. slice_index_or c.args.self.now.keys.items k Never) (slice_set c.args.self.now.rows.items c.args.second (record c.index_mut.result.now { stage = c.args.second_stage })) c.args.caller c.index_mut-2.result.now within_2 is_2 c.args.stage ∙ ap (λ (w : World g.row.V.Denot). with_stage w c.args.caller c.args.stage) (stage_set (λ k. slice_index_or c.args.self.now.keys.items k Never) c.args.self.now.rows.items c.args.second c.index_mut.result.now within is c.args.second_stage))))
+    subst (λ (f : ℕ → Stage g.row.V.Denot). ArePaired f) (sym (ap (λ (w : World g.row.V.Denot). w.stages) (stage_set c.args.self.now.callers (λ k. slice_index_or c.args.self.now.keys.items k Never) (slice_set c.args.self.now.rows.items c.args.second (record c.index_mut.result.now { stage = c.args.second_stage })) c.args.caller c.index_mut-2.result.now within_2 is_2 c.args.stage ∙ ap (λ (w : World g.row.V.Denot). with_stage w c.args.caller c.args.stage) (stage_set c.args.self.now.callers (λ k. slice_index_or c.args.self.now.keys.items k Never) c.args.self.now.rows.items c.args.second c.index_mut.result.now within is c.args.second_stage))))
     (paired_puts (world_of c.args.self.now).stages c.args.second c.args.second_stage c.args.caller c.args.stage c.requires.callers.2 c.requires.alone c.requires.first c.requires.second c.requires.no_second c.args.self.now.paired)

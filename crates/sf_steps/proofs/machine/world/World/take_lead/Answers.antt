@@ -44,7 +44,7 @@ set_stages-requires-clause-within g c =
     let second = is_second (world_of c.args.self.now).stages c.args.self.now.callers c.args.caller c.args.place c.in-Some.second c.args.second c.requires.asks.0 (past_free c.args.self.now.rows.items c.args.self.now.callers c.args.self.now.rows_for_callers) c.args.self.now.paired c.requires.asks.1 c.in-Some.is in
     let who : c.next_call-member.result.caller ≡ c.in-Some.second = ap (λ (m : CallId). m.caller) c.next_call-member.ensures in
     let there : c.in-Some.second ≤ c.args.self.now.callers = second.within in
-    (omega arith, omega arith, omega arith)
+    (omega arith, omega arith, omega arith, omega arith)
 
 pub use_generation-requires-2-clause-caller : goal.use_generation-requires-2-clause-caller
 use_generation-requires-2-clause-caller g c =

@@ -1,15 +1,9 @@
 use Rattle.std.proofs.Math.ListN.{length-set}
-use Rattle.std.proofs.Common.{◌≡◌, true, false, ◌≤◌, ◌<◌, ◌+◌, ℕ, length, sym, subst, ◌∙◌, refl, ap, arith, slice_index_or, slice_set}
+use Rattle.std.proofs.Common.{◌≡◌, false, ◌<◌, ◌+◌, length, sym, ◌∙◌, refl, ap, arith, slice_index_or}
 use Rattle.std.proofs.lemmas.Bool.{true≢false}
 use Rattle.sf_words.specs.declared.key_word.KeyState.TheVariants.{Never}
-use Rattle.sf_schedules.specs.declared.operation.Stage.{Stage}
-use Rattle.sf_schedules.specs.declared.operation.Stage.TheVariants.{Free}
-use Rattle.sf_schedules.specs.Stages.{is_asking, second_in}
-use Rattle.sf_schedules.specs.World.{World, with_stage}
-use Rattle.sf_lists.proofs.Functions.{put_here, put_else}
+use Rattle.sf_schedules.specs.Stages.{is_asking}
 use Rattle.sf_steps.specs.declared.machine.caller_row.CallerRow.{CallerRow}
-use Rattle.sf_steps.specs.Rows.{IsLawful, ArePaired, row_at}
-use Rattle.sf_steps.specs.Running.{world_of}
 use Rattle.sf_steps.proofs.Rows.{lent_row, generation_used, stage_kept, still_paired, lawful_set}
 use Rattle.sf_steps.proofs.machine.world.World.use_generation.Goals as goal
 
@@ -17,13 +11,13 @@ pub returns-clause-world : goal.returns-clause-world
 returns-clause-world g c =
     let within : c.args.caller < length c.args.self.now.rows.items = omega arith in
     let is = lent_row c.args.self.now.rows.items c.args.caller c.index_mut.result.now within c.index_mut.ensures.value in
-    generation_used (λ k. slice_index_or c.args.self.now.keys.items k Never) c.args.self.now.rows.items c.args.caller c.index_mut.result.now within is
+    generation_used c.args.self.now.callers (λ k. slice_index_or c.args.self.now.keys.items k Never) c.args.self.now.rows.items c.args.caller c.index_mut.result.now within is
 
 pub returns-clause-stages : goal.returns-clause-stages
 returns-clause-stages g c =
     let within : c.args.caller < length c.args.self.now.rows.items = omega arith in
     let is = lent_row c.args.self.now.rows.items c.args.caller c.index_mut.result.now within c.index_mut.ensures.value in
-    stage_kept (λ k. slice_index_or c.args.self.now.keys.items k Never) c.args.self.now.rows.items c.args.caller c.index_mut.result.now within is (record c.index_mut.result.now { generation = c.index_mut.result.now.generation + 1 }) refl
+    stage_kept c.args.self.now.callers (λ k. slice_index_or c.args.self.now.keys.items k Never) c.args.self.now.rows.items c.args.caller c.index_mut.result.now within is (record c.index_mut.result.now { generation = c.index_mut.result.now.generation + 1 }) refl
 
 pub invariant_of-self-clause-rows_for_callers : goal.invariant_of-self-clause-rows_for_callers
 invariant_of-self-clause-rows_for_callers g c =
@@ -34,11 +28,11 @@ invariant_of-self-clause-lawful g c =
     let within : c.args.caller < length c.args.self.now.rows.items = omega arith in
     let is = lent_row c.args.self.now.rows.items c.args.caller c.index_mut.result.now within c.index_mut.ensures.value in
     let none : is_asking c.index_mut.result.now.stage ≡ false = ap (λ (r : CallerRow g.row.V.Denot). is_asking r.stage) is ∙ c.requires.asks in
-    lawful_set (λ k. slice_index_or c.args.self.now.keys.items k Never) c.args.self.now.rows.items c.args.caller c.index_mut.result.now within is c.args.self.now.callers c.args.self.now.places (record c.index_mut.result.now { generation = c.index_mut.result.now.generation + 1 }) c.args.self.now.lawful
+    lawful_set c.args.self.now.callers (λ k. slice_index_or c.args.self.now.keys.items k Never) c.args.self.now.rows.items c.args.caller c.index_mut.result.now within is c.args.self.now.callers c.args.self.now.places (record c.index_mut.result.now { generation = c.index_mut.result.now.generation + 1 }) c.args.self.now.lawful
     (λ old. record { place = old.place; unspent = λ asks. absurd (true≢false (sym asks ∙ none)); top = old.top; next = old.next; stage = old.stage })
 
 pub invariant_of-self-clause-paired : goal.invariant_of-self-clause-paired
 invariant_of-self-clause-paired g c =
     let within : c.args.caller < length c.args.self.now.rows.items = omega arith in
     let is = lent_row c.args.self.now.rows.items c.args.caller c.index_mut.result.now within c.index_mut.ensures.value in
-    still_paired (λ k. slice_index_or c.args.self.now.keys.items k Never) c.args.self.now.rows.items c.args.caller c.index_mut.result.now within is (record c.index_mut.result.now { generation = c.index_mut.result.now.generation + 1 }) refl c.args.self.now.paired
+    still_paired c.args.self.now.callers (λ k. slice_index_or c.args.self.now.keys.items k Never) c.args.self.now.rows.items c.args.caller c.index_mut.result.now within is (record c.index_mut.result.now { generation = c.index_mut.result.now.generation + 1 }) refl c.args.self.now.paired
