@@ -135,9 +135,9 @@ fresh_at k old moment h l legal within begins current place fits settled shown =
 -- so is the same letter, whose note may show more
 fresh_lent : (k : ℕ) (old h : Seen) (l m : LetterValue Filled) → HasLent l m → IsFresh k old h l → IsFresh k old h m
 fresh_lent k old h l m lent fresh =
-    let settled : event.Settle m.call.caller m.call m.value m.shared ≡ event.Settle l.call.caller l.call l.value l.shared =
-    ap (λ (c : CallId). event.Settle c.caller c m.value m.shared) lent.call
-    ∙ (ap (λ (v : Filled). event.Settle l.call.caller l.call v m.shared) lent.value ∙ ap (λ (b : Bool). event.Settle l.call.caller l.call l.value b) lent.mark) in
+    let settled : event.Settle m.call.caller m.call m.value m.joiners ≡ event.Settle l.call.caller l.call l.value l.joiners =
+    ap (λ (c : CallId). event.Settle c.caller c m.value m.joiners) lent.call
+    ∙ (ap (λ (v : Filled). event.Settle l.call.caller l.call v m.joiners) lent.value ∙ ap (λ (n : ℕ). event.Settle l.call.caller l.call l.value n) lent.count) in
     record {
       place = lent.place ∙ fresh.place;
       settled = subst (λ (e : Event ℕ Filled). Stands e h) (sym settled) fresh.settled;
@@ -210,7 +210,7 @@ module _ {P F L C : Type 0} (path : CallId → Loaders P F L C → LoadAnswer �
       let lead : Event ℕ Filled = event.Lead u.number p.number (call_of u) None in
       let led : Moved u.group u.number u.seen f.group f.number f.seen (lead ∷ []) 1 = record { group = r.led.group; number = r.led.number; adds = r.led.adds } in
       let same : Moved f.group f.number f.seen ready.group ready.number ready.seen [] 0 = record { group = r.learnt.group; number = r.learnt.number; adds = r.learnt.adds } in
-      let over : Moved ready.group ready.number ready.seen e.group e.number e.seen (event.Settle ready.number ready.call r.value l.shared ∷ event.Handed ready.number ready.call ∷ []) 0 =
+      let over : Moved ready.group ready.number ready.seen e.group e.number e.seen (event.Settle ready.number ready.call r.value l.joiners ∷ event.Handed ready.number ready.call ∷ []) 0 =
       record { group = done.group; number = done.number; adds = done.adds } in
       let first = moved_again _ _ _ _ _ _ _ _ _ _ _ _ _ led same in
       let second = moved_again _ _ _ _ _ _ _ _ _ _ _ _ _ first over in
@@ -219,8 +219,8 @@ module _ {P F L C : Type 0} (path : CallId → Loaders P F L C → LoadAnswer �
       let call : ready.call ≡ call_of u = r.learnt.call ∙ r.led.call in
       let place : l.place ≡ p.number = done.letter.place ∙ (r.learnt.place ∙ r.led.place) in
       let mine : l.call ≡ call_of u = done.letter.call ∙ call in
-      let settled : IsSettled l = subst (λ (i : CallId). Stands (event.Settle i.caller i l.value l.shared) l.seen) (sym done.letter.call)
-      (subst (λ (v : Filled). Stands (event.Settle ready.call.caller ready.call v l.shared) l.seen) (sym done.letter.value) done.letter.settled) in
+      let settled : IsSettled l = subst (λ (i : CallId). Stands (event.Settle i.caller i l.value l.joiners) l.seen) (sym done.letter.call)
+      (subst (λ (v : Filled). Stands (event.Settle ready.call.caller ready.call v l.joiners) l.seen) (sym done.letter.value) done.letter.settled) in
       let at = first_added u.number u.seen c.seen lead _ all.adds.grows.begins all.adds.grows.own in
       let fresh = fresh_at p.number u.seen ((u.seen ++ at.0) ++ lead ∷ []) c.seen l all.adds.lawful.legal at.1 (at.0 ++ lead ∷ [], append_assoc u.seen at.0 (lead ∷ []))
       (led_current (u.seen ++ at.0) u.number p.number (call_of u) None ∙ ap Some (sym mine)) place done.fitting settled (starts_again l.seen e.seen c.seen done.shows nothing.adds.grows.begins) in
@@ -232,9 +232,9 @@ module _ {P F L C : Type 0} (path : CallId → Loaders P F L C → LoadAnswer �
         call = call_of u;
         asking = inr (inr (record {
           value = r.value;
-          shared = l.shared;
-          is = ap (λ (i : ℕ). lead ∷ event.Settle i ready.call r.value l.shared ∷ event.Handed i ready.call ∷ []) number
-              ∙ ap (λ (i : CallId). lead ∷ event.Settle u.number i r.value l.shared ∷ event.Handed u.number i ∷ []) call;
+          joiners = l.joiners;
+          is = ap (λ (i : ℕ). lead ∷ event.Settle i ready.call r.value l.joiners ∷ event.Handed i ready.call ∷ []) number
+              ∙ ap (λ (i : CallId). lead ∷ event.Settle u.number i r.value l.joiners ∷ event.Handed u.number i ∷ []) call;
         }));
         answer = answered p.number (call_of u) u.seen c.seen _ m m.value.result refl (lent.call ∙ mine) (fresh_lent p.number u.seen c.seen l m lent fresh);
         suits = record { gets = counts.0; loads = λ _. counts.1; hits = λ e. cc };
@@ -244,7 +244,7 @@ module _ {P F L C : Type 0} (path : CallId → Loaders P F L C → LoadAnswer �
       let lead : Event ℕ Filled = event.Lead u.number p.number (call_of u) None in
       let led : Moved u.group u.number u.seen f.group f.number f.seen (lead ∷ []) 1 = record { group = r.led.group; number = r.led.number; adds = r.led.adds } in
       let same : Moved f.group f.number f.seen ready.group ready.number ready.seen [] 0 = record { group = r.learnt.group; number = r.learnt.number; adds = r.learnt.adds } in
-      let over : Moved ready.group ready.number ready.seen s.group s.number s.seen (event.Settle ready.number ready.call r.value s.shared ∷ []) 0 =
+      let over : Moved ready.group ready.number ready.seen s.group s.number s.seen (event.Settle ready.number ready.call r.value s.joiners ∷ []) 0 =
       record { group = held.group; number = held.number; adds = held.adds } in
       let first = moved_again _ _ _ _ _ _ _ _ _ _ _ _ _ led same in
       let all = moved_again _ _ _ _ _ _ _ _ _ _ _ _ _ first over in
@@ -258,8 +258,8 @@ module _ {P F L C : Type 0} (path : CallId → Loaders P F L C → LoadAnswer �
         call = call_of u;
         asking = inr (inr (record {
           value = r.value;
-          shared = s.shared;
-          is = ap (λ (i : ℕ). lead ∷ event.Settle i ready.call r.value s.shared ∷ []) number ∙ ap (λ (i : CallId). lead ∷ event.Settle u.number i r.value s.shared ∷ []) call;
+          joiners = s.joiners;
+          is = ap (λ (i : ℕ). lead ∷ event.Settle i ready.call r.value s.joiners ∷ []) number ∙ ap (λ (i : CallId). lead ∷ event.Settle u.number i r.value s.joiners ∷ []) call;
         }));
         answer = tt;
         suits = record { gets = counts.0; loads = λ _. counts.1; hits = λ e. cc };
@@ -287,7 +287,7 @@ module _ {P F L C : Type 0} (path : CallId → Loaders P F L C → LoadAnswer �
       let in_call : Moved u.group u.number u.seen t.group t.number t.seen (enter ∷ []) 1 = record { group = joined.group; number = joined.number; adds = joined.adds } in
       let waited : Moved t.group t.number t.seen e.group e.number e.seen [] 0 = record { group = ready.group; number = ready.number; adds = ready.adds } in
       let all = moved_again _ _ _ _ _ _ _ _ _ _ _ _ _ in_call waited in
-      let settled : IsSettled l = subst (λ (i : CallId). Stands (event.Settle i.caller i l.value l.shared) l.seen) (sym ready.letter.call) ready.letter.settled in
+      let settled : IsSettled l = subst (λ (i : CallId). Stands (event.Settle i.caller i l.value l.joiners) l.seen) (sym ready.letter.call) ready.letter.settled in
       let at = first_added u.number u.seen e.seen enter _ all.adds.grows.begins all.adds.grows.own in
       let fresh = fresh_at p.number u.seen ((u.seen ++ at.0) ++ enter ∷ []) e.seen l all.adds.lawful.legal at.1 (at.0 ++ enter ∷ [], append_assoc u.seen at.0 (enter ∷ []))
       (entered_current e.seen (u.seen ++ at.0) u.number p.number t.call (call_of u) all.adds.lawful.legal at.1 ∙ ap Some (sym ready.letter.call)) (ready.letter.place ∙ joined.place) ready.fitting settled ready.shows in

@@ -20,7 +20,7 @@ lent_again l m n first second = record {
   place = second.place ∙ first.place;
   call = second.call ∙ first.call;
   value = second.value ∙ first.value;
-  mark = second.mark ∙ first.mark;
+  count = second.count ∙ first.count;
   shows = starts_again l.seen m.seen n.seen first.shows second.shows;
 }
 

@@ -90,7 +90,7 @@ module _ {V : Type 0} where
       step h (Lead by key call own) before is = at_lead h by key call own before (nat_eq key k) refl (sym (fold_push (keeps_current nat_eq k) None h _) ∙ is)
       step h (Enter by key call member) before is = unforgotten_after k c h _ (before (sym (fold_push (keeps_current nat_eq k) None h _) ∙ is)) refl
       step h (Forget by key closed) before is = at_forget h by key closed before (nat_eq key k) refl (sym (fold_push (keeps_current nat_eq k) None h _) ∙ is)
-      step h (Settle by call result shared) before is = unforgotten_after k c h _ (before (sym (fold_push (keeps_current nat_eq k) None h _) ∙ is)) refl
+      step h (Settle by call result joiners) before is = unforgotten_after k c h _ (before (sym (fold_push (keeps_current nat_eq k) None h _) ∙ is)) refl
       step h (Handed by call) before is = unforgotten_after k c h _ (before (sym (fold_push (keeps_current nat_eq k) None h _) ∙ is)) refl
 
   -- where a rooted call is current, its root is unforgotten
@@ -151,7 +151,7 @@ module _ {V : Type 0} where
       step h (Lead by key call own) before is = fold_push (keeps_current nat_eq k) None h _ ∙ at_lead h call before (nat_eq key k) (sym (fold_push (opens nat_eq k) None h _) ∙ is)
       step h (Enter by key call member) before is = fold_push (keeps_current nat_eq k) None h _ ∙ before (sym (fold_push (opens nat_eq k) None h _) ∙ is)
       step h (Forget by key closed) before is = fold_push (keeps_current nat_eq k) None h _ ∙ at_forget h before (nat_eq key k) (sym (fold_push (opens nat_eq k) None h _) ∙ is)
-      step h (Settle by call result shared) before is = fold_push (keeps_current nat_eq k) None h _ ∙ at_settle h before (holds_call (open_call nat_eq h k) call) (sym (fold_push (opens nat_eq k) None h _) ∙ is)
+      step h (Settle by call result joiners) before is = fold_push (keeps_current nat_eq k) None h _ ∙ at_settle h before (holds_call (open_call nat_eq h k) call) (sym (fold_push (opens nat_eq k) None h _) ∙ is)
       step h (Handed by call) before is = fold_push (keeps_current nat_eq k) None h _ ∙ before (sym (fold_push (opens nat_eq k) None h _) ∙ is)
 
   -- a caller's first own event in a list stands in it

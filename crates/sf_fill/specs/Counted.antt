@@ -15,7 +15,7 @@ module _ {V : Type 0} where
   is_asking (Lead by key call own) = true
   is_asking (Enter by key call member) = true
   is_asking (Forget by key closed) = false
-  is_asking (Settle by call result shared) = false
+  is_asking (Settle by call result joiners) = false
   is_asking (Handed by call) = false
 
   abbrev pub has_asking : List (Event ℕ V) → Bool

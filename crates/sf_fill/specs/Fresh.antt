@@ -42,7 +42,7 @@ delivered_by old middle = handed_by old (not (is_owing middle))
 -- the call was current, and its value's root led the place before, with no Forget since.
 pub record IsFresh (k : ℕ) (old new : List (Event ℕ Filled)) (l : LetterValue Filled) : Type 0 where
   pub place : l.place ≡ k
-  pub settled : Stands (Settle l.call.caller l.call l.value l.shared) new
+  pub settled : Stands (Settle l.call.caller l.call l.value l.joiners) new
   pub moment : List (Event ℕ Filled)
   pub begins : StartsWith moment old
   pub within : StartsWith new moment
@@ -53,8 +53,8 @@ pub record IsFresh (k : ℕ) (old new : List (Event ℕ Filled)) (l : LetterValu
 -- the Handed.
 pub record IsRun (by k : ℕ) (call : CallId) (owes : Bool) (added : List (Event ℕ Filled)) : Type 0 where
   pub value : Filled
-  pub shared : Bool
-  pub is : added ≡ Lead by k call None ∷ Settle by call value shared ∷ cond owes [] (Handed by call ∷ [])
+  pub joiners : ℕ
+  pub is : added ≡ Lead by k call None ∷ Settle by call value joiners ∷ cond owes [] (Handed by call ∷ [])
 
 abbrev pub IsAsking : ℕ → ℕ → CallId → Bool → List (Event ℕ Filled) → Type 0
 IsAsking by k call owes added = (added ≡ []) ⊎ (((member : CallId) × (added ≡ Enter by k call member ∷ [])) ⊎ IsRun by k call owes added)

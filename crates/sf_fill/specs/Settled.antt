@@ -11,9 +11,9 @@ use Rattle.sf_calls.specs.Currents.{WasCurrent}
 use Rattle.sf_calls.specs.Afters.{FollowsCall}
 use Rattle.sf_fill.specs.FillValue.{Filled, FitsFill}
 
--- the list that its note shows has the Settle of its call, with its value and mark
+-- the list that its note shows has the Settle of its call, with its value and number of joiners
 abbrev pub IsSettled : {V : Type 0} → LetterValue V → Type 0
-IsSettled l = Stands (Settle l.call.caller l.call l.value l.shared) l.seen
+IsSettled l = Stands (Settle l.call.caller l.call l.value l.joiners) l.seen
 
 -- what a look finds: a letter of the group and the place, whose call was settled so, with a value that fits
 pub record IsKeptLetter (g : GroupValue) (place : ℕ) (l : LetterValue Filled) : Type 0 where

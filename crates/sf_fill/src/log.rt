@@ -32,16 +32,15 @@ impl Log {
 
     // How a finish ended of a call that nobody has a channel of: what was settled, and what was handed out.
     pub(crate) fn add_finished<V: Fit>(&mut self, call: CallId, finished: &Finished<V>) {
-        // A delivery is owed only where somebody joined.
-        let shared = match finished {
-            Finished::Done(_, letter) => letter.shared(),
-            Finished::Held(_) => true,
+        let joiners = match finished {
+            Finished::Done(_, letter) => letter.joiners(),
+            Finished::Held(settled) => settled.joiners(),
         };
         self.add(Event::Settle {
             by: call.caller,
             call,
             result: (),
-            shared,
+            joiners,
         });
         if let Finished::Done(_, _) = finished {
             self.add(Event::Handed {

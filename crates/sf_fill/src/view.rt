@@ -1,5 +1,5 @@
 //! What a get answers.
-ghost use Rattle.std.specs.Prelude.{◌≡◌, Ok, IfOk};
+ghost use Rattle.std.specs.Prelude.{◌≡◌, Ok, IfOk, nat_lt};
 ghost use Rattle.sf_calls.specs.Finishes.{FitsLetter};
 ghost use Rattle.sf_fill.specs.FillValue.{FitsFill};
 ghost use Rattle.sf_fill.specs.Gets.{IsLoadedFor, answer_in};
@@ -21,7 +21,7 @@ pub struct View<'d, D: Naming, O: Origin> {
     root: CallId,
     bytes: Bytes,
     call: CallId,
-    shared: bool,
+    joiners: u32,
     note: Note<FillValue<'d, D, O>>,
 }
 
@@ -32,7 +32,7 @@ impl<'d, D: Naming, O: Origin> Model for View<'d, D, O> {
 
     ghost Value = { LetterValue Filled };
 
-    ghost view = { λ v. record { group = v.note.group; seen = v.note.seen; place = v.place.number; call = v.call; value = record { place = v.place; root = v.root; result = Ok v.bytes }; shared = v.shared } };
+    ghost view = { λ v. record { group = v.note.group; seen = v.note.seen; place = v.place.number; call = v.call; value = record { place = v.place; root = v.root; result = Ok v.bytes }; joiners = v.joiners } };
 
     ghost invariant = { λ v. O.loaded v.place.key v.root v.bytes };
 }
@@ -59,11 +59,18 @@ impl<'d, D: Naming, O: Origin> View<'d, D, O> {
         self.root
     }
 
+    /// How many joined the call.
+    pub fn joiners(&self) -> u32
+        ensures { result ≡ self.now.joiners }
+    {
+        self.joiners
+    }
+
     /// Whether somebody joined the call.
     pub fn shared(&self) -> bool
-        ensures { result ≡ self.now.shared }
+        ensures { result ≡ nat_lt 0 self.now.joiners }
     {
-        self.shared
+        self.joiners > 0
     }
 }
 
@@ -80,7 +87,7 @@ pub(crate) fn show<'d, D: Naming, O: Origin>(
     ensures same { place.new ≡ place.old }
 {
     let call = letter.call();
-    let shared = letter.shared();
+    let joiners = letter.joiners();
     let (mut value, note) = letter.into_parts();
     value.agree(place);
     let (own, root, result) = value.into_parts();
@@ -90,7 +97,7 @@ pub(crate) fn show<'d, D: Naming, O: Origin>(
             root,
             bytes,
             call,
-            shared,
+            joiners,
             note,
         }),
         Err(LocalFault::Failed(text)) => Err(LoadFault::Local(text)),
