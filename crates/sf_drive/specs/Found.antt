@@ -22,7 +22,7 @@ abbrev pub empty_settled : Event (List ℕ) (Unit {0}) → TextEvent
 empty_settled (Lead by key call own) = Lead by key call own
 empty_settled (Enter by key call member) = Enter by key call member
 empty_settled (Forget by key closed) = Forget by key closed
-empty_settled (Settle by call result shared) = Settle by call (Ok []) shared
+empty_settled (Settle by call result joiners) = Settle by call (Ok []) joiners
 empty_settled (Handed by call) = Handed by call
 
 abbrev pub drive_records : List DriveEvent → List ℕ

@@ -51,13 +51,13 @@ fn empty_settled(alloc: Global, event: Event<Text, ()>) -> TextEvent
         Event::Settle {
             by,
             call,
-            shared,
+            joiners,
             ..
         } => Event::Settle {
             by,
             call,
             result: Ok(Text::from_string(String::new(alloc))),
-            shared,
+            joiners,
         },
         Event::Handed { by, call } => Event::Handed { by, call },
     }
