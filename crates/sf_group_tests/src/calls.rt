@@ -166,7 +166,7 @@ pub(crate) fn finish(
     requires { flight.group ≡ group.now }
     ensures { result.group ≡ group.now }
 {
-    hand_out(rt, group, flight, value, false)
+    hand_out(rt, group, flight, value, 0)
 }
 
 /// The leader settles its call, and hands all its letters out.
@@ -175,7 +175,7 @@ pub(crate) fn hand_out(
     group: &Group<Outcome>,
     flight: Flight<Outcome>,
     value: u32,
-    shared: bool,
+    joiners: u32,
 ) -> Caller<Outcome>
     requires { flight.group ≡ group.now }
     ensures { result.group ≡ group.now }
@@ -183,7 +183,7 @@ pub(crate) fn hand_out(
     let (call, place) = (flight.call(), flight.place());
     match group.finish(flight, Outcome(value)) {
         Finished::Done(caller, letter) => {
-            check_letter(rt, &letter, place, call, value, shared);
+            check_letter(rt, &letter, place, call, value, joiners);
             caller
         }
         Finished::Held(settled) => {
@@ -199,12 +199,16 @@ fn check_letter(
     place: u32,
     call: CallId,
     value: u32,
-    shared: bool,
+    joiners: u32,
 ) {
     let (on, of, found) = (letter.place(), letter.call(), letter.value().0);
     assert!(rt; on == place && of == call, "a letter of {of} on {on}");
     assert!(rt; found == value, "a letter with {found}");
-    assert!(rt; letter.shared() == shared, "a letter with another mark");
+    let (joined, shared) = (letter.joiners(), letter.shared());
+    assert!(rt;
+        joined == joiners && shared == (joiners > 0),
+        "a letter of {joined} joiners"
+    );
     letter.known();
 }
 
@@ -231,7 +235,7 @@ pub(crate) fn ready(
     ticket: Ticket<Outcome>,
     place: u32,
     value: u32,
-    shared: bool,
+    joiners: u32,
 ) -> Caller<Outcome>
     requires { ticket.group ≡ group.now }
     ensures { result.group ≡ group.now }
@@ -239,7 +243,7 @@ pub(crate) fn ready(
     let call = ticket.call();
     match group.poll(ticket) {
         Polled::Ready(caller, letter) => {
-            check_letter(rt, &letter, place, call, value, shared);
+            check_letter(rt, &letter, place, call, value, joiners);
             caller
         }
         Polled::Pending(ticket) => {

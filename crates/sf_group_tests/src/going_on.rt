@@ -100,6 +100,7 @@ fn delivery_goes_on_where_it_stood(rt: HostRuntime) -> Result<(), Fail> {
         Finished::Held(settled) => settled,
         Finished::Done(..) => panic!(rt; "it is done"),
     };
+    let joiners = settled.joiners();
     match look(&group, last) {
         Ok(found) => assert!(rt; found == 7, "a letter with {found}"),
         Err(ticket) => {
@@ -112,12 +113,16 @@ fn delivery_goes_on_where_it_stood(rt: HostRuntime) -> Result<(), Fail> {
         Ok(found) => panic!(rt; "the first is there, with {found}"),
     };
     match group.go_on(settled) {
-        Finished::Done(_, letter) => assert!(rt; letter.shared(), "it is not shared"),
+        Finished::Done(_, letter) => assert!(rt; letter.joiners() == 2, "not of two joiners"),
         Finished::Held(settled) => {
             settled.abandon();
             panic!(rt; "it is held again")
         }
     }
+    assert!(rt;
+        joiners == 2,
+        "{joiners} joiners before the delivery went on"
+    );
     match look(&group, first) {
         Ok(found) => assert!(rt; found == 7, "a letter with {found}"),
         Err(ticket) => {

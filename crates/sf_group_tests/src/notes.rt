@@ -37,7 +37,7 @@ fn letter_is_copied(rt: HostRuntime) -> Result<(), Fail> {
                 copy.call() == id(1, 1) && copy.place() == 1,
                 "a copy of another letter"
             );
-            assert!(rt; !copy.shared(), "a copy with another mark");
+            assert!(rt; copy.joiners() == 0, "a copy with joiners");
             let mut note = letter.note(&group);
             group.learn(&mut two, &mut note);
             let (value, mut shown) = copy.into_parts();

@@ -147,7 +147,7 @@ struct Expected {
     call: CallId,
     place: u32,
     number: u32,
-    shared: bool,
+    joiners: u32,
 }
 
 // How often something was met that has to be.
@@ -264,7 +264,7 @@ fn check_letter(rt: &impl Abort, letter: &Letter<Scarce>, expected: Expected) {
         "a letter of another place"
     );
     assert!(rt; letter.value().number == expected.number, "another value");
-    assert!(rt; letter.shared() == expected.shared, "another mark");
+    assert!(rt; letter.joiners() == expected.joiners, "another number");
 }
 
 // Whether the letter's call is current.
@@ -473,7 +473,7 @@ impl<'a> Play<'a> {
             flight.abandon();
             panic!(rt; "another leader")
         }
-        let Ok((settled, shared)) = self.told.settle(call.caller, Plain(number)) else {
+        let Ok((settled, joiners)) = self.told.settle(call.caller, Plain(number)) else {
             flight.abandon();
             panic!(rt; "it is not leading")
         };
@@ -488,7 +488,7 @@ impl<'a> Play<'a> {
             call: settled,
             place,
             number,
-            shared,
+            joiners,
         };
         assert!(rt; settled == call, "it leads another call");
         match finished {
@@ -521,7 +521,7 @@ impl<'a> Play<'a> {
         match self.group.poll(ticket) {
             Polled::Ready(caller, letter) => {
                 assert!(rt; self.told.has_caller(number), "another member");
-                let Ok(Taken::Got(of, Plain(value), shared)) = self.told.take(number) else {
+                let Ok(Taken::Got(of, Plain(value), joiners)) = self.told.take(number) else {
                     panic!(rt; "there is no letter")
                 };
                 check_letter(
@@ -531,7 +531,7 @@ impl<'a> Play<'a> {
                         call: of,
                         place: letter.place(),
                         number: value,
-                        shared,
+                        joiners,
                     },
                 );
                 assert!(rt;

@@ -77,8 +77,8 @@ fn forgotten_call_is_delivered(rt: HostRuntime) -> Result<(), Fail> {
     let ticket = join(&rt, &group, two, 1, id(1, 1), id(2, 1));
     forget(&rt, &group, &mut three, 1, Some(id(1, 1)));
     let new = lead(&rt, &group, three, 1, id(3, 1));
-    hand_out(&rt, &group, flight, 7, true);
-    let two = ready(&rt, &group, ticket, 1, 7, true);
+    hand_out(&rt, &group, flight, 7, 1);
+    let two = ready(&rt, &group, ticket, 1, 7, 1);
     let ticket = join(&rt, &group, two, 1, id(3, 1), id(2, 2));
     ticket.abandon();
     new.abandon();

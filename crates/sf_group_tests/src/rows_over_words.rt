@@ -12,7 +12,7 @@ fn lone_lead_is_not_shared(rt: HostRuntime) -> Result<(), Fail> {
     let (group, mut callers) = Group::<Outcome>::new(rt.alloc(), 1, 1, 1)?;
     let one = next_caller(&rt, &group, &mut callers, 1);
     let flight = lead(&rt, &group, one, 1, id(1, 1));
-    hand_out(&rt, &group, flight, 7, false);
+    hand_out(&rt, &group, flight, 7, 0);
     Ok(())
 }
 
@@ -24,17 +24,17 @@ fn joiner_gets_the_shared_value(rt: HostRuntime) -> Result<(), Fail> {
     let flight = lead(&rt, &group, one, 1, id(1, 1));
     let ticket = join(&rt, &group, two, 1, id(1, 1), id(2, 1));
     let ticket = pending(&rt, &group, ticket);
-    let one = hand_out(&rt, &group, flight, 7, true);
-    let two = ready(&rt, &group, ticket, 1, 7, true);
+    let one = hand_out(&rt, &group, flight, 7, 1);
+    let two = ready(&rt, &group, ticket, 1, 7, 1);
     // The cells are used again.
     let flight = lead(&rt, &group, two, 1, id(2, 2));
     let ticket = join(&rt, &group, one, 1, id(2, 2), id(1, 2));
-    let two = hand_out(&rt, &group, flight, 8, true);
-    let one = ready(&rt, &group, ticket, 1, 8, true);
+    let two = hand_out(&rt, &group, flight, 8, 1);
+    let one = ready(&rt, &group, ticket, 1, 8, 1);
     let flight = lead(&rt, &group, one, 1, id(1, 3));
     let ticket = join(&rt, &group, two, 1, id(1, 3), id(2, 3));
-    hand_out(&rt, &group, flight, 9, true);
-    ready(&rt, &group, ticket, 1, 9, true);
+    hand_out(&rt, &group, flight, 9, 1);
+    ready(&rt, &group, ticket, 1, 9, 1);
     Ok(())
 }
 
@@ -52,14 +52,14 @@ fn each_joiner_gets_the_value(rt: HostRuntime) -> Result<(), Fail> {
     let second = join(&rt, &group, two, 1, id(1, 1), id(2, 1));
     let third = join(&rt, &group, three, 1, id(1, 1), id(3, 1));
     let fourth = join(&rt, &group, four, 1, id(1, 1), id(4, 1));
-    let one = hand_out(&rt, &group, flight, 13, true);
-    let two = ready(&rt, &group, second, 1, 13, true);
+    let one = hand_out(&rt, &group, flight, 13, 3);
+    let two = ready(&rt, &group, second, 1, 13, 3);
     lead(&rt, &group, two, 1, id(2, 2)).abandon();
-    ready(&rt, &group, fourth, 1, 13, true);
-    ready(&rt, &group, third, 1, 13, true);
+    ready(&rt, &group, fourth, 1, 13, 3);
+    ready(&rt, &group, third, 1, 13, 3);
     let ticket = join(&rt, &group, one, 2, id(5, 1), id(1, 2));
-    hand_out(&rt, &group, apart, 14, true);
-    ready(&rt, &group, ticket, 2, 14, true);
+    hand_out(&rt, &group, apart, 14, 1);
+    ready(&rt, &group, ticket, 2, 14, 1);
     Ok(())
 }
 
@@ -74,8 +74,8 @@ fn forget_parts_old_and_new_callers(rt: HostRuntime) -> Result<(), Fail> {
     let ticket = join(&rt, &group, two, 1, id(1, 1), id(2, 1));
     forget(&rt, &group, &mut three, 1, Some(id(1, 1)));
     let new = lead(&rt, &group, four, 1, id(4, 1));
-    hand_out(&rt, &group, old, 7, true);
-    ready(&rt, &group, ticket, 1, 7, true);
+    hand_out(&rt, &group, old, 7, 1);
+    ready(&rt, &group, ticket, 1, 7, 1);
     finish(&rt, &group, new, 8);
     Ok(())
 }
@@ -92,8 +92,8 @@ fn late_settle_leaves_the_newer_call(rt: HostRuntime) -> Result<(), Fail> {
     let new = lead(&rt, &group, three, 1, id(3, 1));
     finish(&rt, &group, old, 7);
     let ticket = join(&rt, &group, four, 1, id(3, 1), id(4, 1));
-    hand_out(&rt, &group, new, 8, true);
-    ready(&rt, &group, ticket, 1, 8, true);
+    hand_out(&rt, &group, new, 8, 1);
+    ready(&rt, &group, ticket, 1, 8, 1);
     Ok(())
 }
 
@@ -103,8 +103,8 @@ fn own_channel_is_not_shared(rt: HostRuntime) -> Result<(), Fail> {
     let two = next_caller(&rt, &group, &mut callers, 2);
     let one = next_caller(&rt, &group, &mut callers, 1);
     let (flight, ticket) = lead_chan(&rt, &group, one, two, id(1, 1), id(2, 1));
-    hand_out(&rt, &group, flight, 7, false);
-    ready(&rt, &group, ticket, 1, 7, false);
+    hand_out(&rt, &group, flight, 7, 0);
+    ready(&rt, &group, ticket, 1, 7, 0);
     Ok(())
 }
 
@@ -117,8 +117,8 @@ fn later_channel_is_shared(rt: HostRuntime) -> Result<(), Fail> {
     let one = next_caller(&rt, &group, &mut callers, 1);
     let (flight, own) = lead_chan(&rt, &group, one, two, id(1, 1), id(2, 1));
     let (later, _three) = join_chan(&rt, &group, three, four, id(1, 1), id(4, 1));
-    hand_out(&rt, &group, flight, 7, true);
-    ready(&rt, &group, later, 1, 7, true);
-    ready(&rt, &group, own, 1, 7, true);
+    hand_out(&rt, &group, flight, 7, 1);
+    ready(&rt, &group, later, 1, 7, 1);
+    ready(&rt, &group, own, 1, 7, 1);
     Ok(())
 }

@@ -1,9 +1,11 @@
-//! A leader and a joiner on two threads.
+//! A leader and joiners on threads of their own.
 ghost use Rattle.std.specs.Prelude.{◌≡◌};
+ghost use Rattle.sf_group.specs.Same.{IsPlaceOf};
 
 use crate::calls::{Outcome, id, join, lead, next_caller};
-use sf_group::{CallId, Finished, Flight, Group, Polled, Ticket};
+use sf_group::{CallId, Caller, Finished, Flight, Group, Polled, Ticket};
 use std::marker::Model;
+use std::process::Abort;
 use std::test::Fail;
 use std::thread;
 
@@ -12,7 +14,7 @@ use std::thread;
 struct Got {
     call: CallId,
     value: u32,
-    shared: bool,
+    joiners: u32,
 }
 
 // A ticket of the group, which is given up where it is not used.
@@ -23,6 +25,7 @@ struct Joiner<'a> {
 
 impl<'a> Model for Joiner<'a> {
     ghost use Rattle.std.specs.Prelude.{◌≡◌};
+    ghost use Rattle.sf_group.specs.Same.{IsPlaceOf};
 
     ghost Value = { Unit {0} };
 
@@ -38,8 +41,24 @@ impl<'a> Drop for Joiner<'a> {
     }
 }
 
+// The caller joins call 1.1 as this member.
+fn join_call<'a>(
+    rt: &impl Abort,
+    group: &'a Group<Outcome>,
+    caller: Caller<Outcome>,
+    member: CallId,
+) -> Joiner<'a>
+    requires own { caller.group ≡ group.now }
+    requires place { IsPlaceOf group.now 1 }
+{
+    Joiner {
+        group,
+        ticket: join(rt, group, caller, 1, id(1, 1), member),
+    }
+}
+
 impl<'a> Joiner<'a> {
-    // Looks 1,000,000 times at most.
+    // Looks 1,000,000 times at most, and gives way between two looks.
     fn poll_often(self) -> Option<Got> {
         let Self { group, mut ticket } = self;
         for _ in 0..1_000_000 {
@@ -48,11 +67,12 @@ impl<'a> Joiner<'a> {
                     return Some(Got {
                         call: letter.call(),
                         value: letter.value().0,
-                        shared: letter.shared(),
+                        joiners: letter.joiners(),
                     });
                 }
                 Polled::Pending(back) => ticket = back,
             }
+            thread::yield_now();
         }
         ticket.abandon();
         None
@@ -67,6 +87,7 @@ struct Leader<'a> {
 
 impl<'a> Model for Leader<'a> {
     ghost use Rattle.std.specs.Prelude.{◌≡◌};
+    ghost use Rattle.sf_group.specs.Same.{IsPlaceOf};
 
     ghost Value = { Unit {0} };
 
@@ -89,7 +110,7 @@ impl<'a> Leader<'a> {
             Finished::Done(_, letter) => Some(Got {
                 call: letter.call(),
                 value: letter.value().0,
-                shared: letter.shared(),
+                joiners: letter.joiners(),
             }),
             Finished::Held(settled) => {
                 settled.abandon();
@@ -105,31 +126,53 @@ fn row_three_two_threads(rt: HostRuntime) -> Result<(), Fail> {
     let two = next_caller(&rt, &group, &mut callers, 2);
     let one = next_caller(&rt, &group, &mut callers, 1);
     let flight = lead(&rt, &group, one, 1, id(1, 1));
-    let ticket = join(&rt, &group, two, 1, id(1, 1), id(2, 1));
+    let joiner = join_call(&rt, &group, two, id(2, 1));
     let leader = Leader {
         group: &group,
         flight,
     };
-    let joiner = Joiner {
-        group: &group,
-        ticket,
-    };
     let (led, joined) = thread::join(&rt, || leader.finish(7), || joiner.poll_often());
     for got in [led, joined] {
-        let Some(
-            Got {
-                call,
-                value,
-                shared,
-            },
-        ) = got
-        else {
-            panic!(rt; "a letter is missing")
-        };
-        assert!(rt;
-            call == id(1, 1) && value == 7 && shared,
-            "a letter of {call} with {value}"
-        );
+        check_got(&rt, got, 1);
+    }
+    Ok(())
+}
+
+// A letter of call 1.1, which so many joined.
+fn check_got(rt: &impl Abort, got: Option<Got>, joiners: u32) {
+    let Some(got) = got else {
+        panic!(rt; "a letter is missing")
+    };
+    assert!(rt;
+        got.call == id(1, 1) && got.value == 7,
+        "a letter of {} with {}",
+        got.call,
+        got.value
+    );
+    assert!(rt; got.joiners == joiners, "{} joined", got.joiners);
+}
+
+#[test]
+fn three_joiners_on_threads(rt: HostRuntime) -> Result<(), Fail> {
+    let (group, mut callers) = Group::<Outcome>::new(rt.alloc(), 1, 4, 1)?;
+    let four = next_caller(&rt, &group, &mut callers, 4);
+    let three = next_caller(&rt, &group, &mut callers, 3);
+    let two = next_caller(&rt, &group, &mut callers, 2);
+    let one = next_caller(&rt, &group, &mut callers, 1);
+    let leader = Leader {
+        group: &group,
+        flight: lead(&rt, &group, one, 1, id(1, 1)),
+    };
+    let second = join_call(&rt, &group, two, id(2, 1));
+    let third = join_call(&rt, &group, three, id(3, 1));
+    let fourth = join_call(&rt, &group, four, id(4, 1));
+    let ((led, second), (third, fourth)) = thread::join(
+        &rt,
+        || thread::join(&rt, || leader.finish(7), || second.poll_often()),
+        || thread::join(&rt, || third.poll_often(), || fourth.poll_often()),
+    );
+    for got in [led, second, third, fourth] {
+        check_got(&rt, got, 3);
     }
     Ok(())
 }

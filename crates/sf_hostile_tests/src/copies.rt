@@ -49,7 +49,7 @@ fn poll(
         Polled::Ready(_, letter) => {
             assert!(rt; due, "a letter is there too early");
             assert!(rt;
-                letter.value().value == 7 && letter.shared(),
+                letter.value().value == 7 && letter.joiners() == 3,
                 "another letter"
             );
             None
@@ -111,7 +111,7 @@ fn deliver(rt: &impl Abort, alloc: Global, refused: u32) -> Result<(), Fail> {
         }
         Finished::Done(_, letter) => {
             assert!(rt;
-                letter.value().value == 7 && letter.shared(),
+                letter.value().value == 7 && letter.joiners() == 3,
                 "the leader's letter"
             )
         }

@@ -65,7 +65,7 @@ fn check_letter(rt: &impl Abort, letter: &Letter<Text>) {
         letter.value().text.as_slice() == b"v".as_slice(),
         "another value"
     );
-    assert!(rt; letter.shared(), "it is not shared");
+    assert!(rt; letter.joiners() == 1, "not of one joiner");
 }
 
 // A delivery that is held for want of memory goes on to the same letters.

@@ -36,16 +36,16 @@ pub fn check_letter(
     letter: &Letter<Outcome>,
     call: CallId,
     value: u32,
-    shared: bool,
+    joiners: u32,
 ) {
     check_call(rt, letter.call(), call);
     let (place, is) = (letter.place(), letter.value().0);
     assert!(rt; place == 1, "the letter is of place {place}");
     assert!(rt; is == value, "its value is {is}");
     assert!(rt;
-        letter.shared() == shared,
-        "whether it is shared: {}",
-        letter.shared()
+        letter.joiners() == joiners,
+        "{} joined",
+        letter.joiners()
     );
     letter.known();
 }

@@ -64,7 +64,7 @@ fn forms_of_one_caller(rt: HostRuntime) -> Result<(), Fail> {
     let one = next_caller(&rt, &group, &mut callers);
     let flight = lead(&rt, &group, one, id(1, 1));
     let (mut one, letter) = finish(&rt, &group, flight, 7);
-    check_letter(&rt, &letter, id(1, 1), 7, false);
+    check_letter(&rt, &letter, id(1, 1), 7, 0);
     let forgotten = forget_wait(&rt, &group, &mut one, 1);
     assert!(rt; matches!(&forgotten, Forgotten::Idle), "it closed a call");
     Ok(())
@@ -98,9 +98,9 @@ fn forms_of_a_channel(rt: HostRuntime) -> Result<(), Fail> {
     let one = next_caller(&rt, &group, &mut callers);
     let (flight, ticket) = lead_chan(&rt, &group, one, two);
     let (_, letter) = finish(&rt, &group, flight, 7);
-    check_letter(&rt, &letter, id(1, 1), 7, false);
+    check_letter(&rt, &letter, id(1, 1), 7, 0);
     let (two, letter) = wait(&rt, &group, ticket);
-    check_letter(&rt, &letter, id(1, 1), 7, false);
+    check_letter(&rt, &letter, id(1, 1), 7, 0);
     assert!(rt; two.number() == 2, "caller {} is free", two.number());
     Ok(())
 }
@@ -171,7 +171,7 @@ fn lone_do_loads_once(rt: HostRuntime) -> Result<(), Fail> {
     let one = next_caller(&rt, &group, &mut callers);
     let loads = AtomicU32::new(0);
     let (one, letter) = load_once(&rt, &group, one, &loads);
-    check_letter(&rt, &letter, id(1, 4_294_967_295), 7, false);
+    check_letter(&rt, &letter, id(1, 4_294_967_295), 7, 0);
     let loads = loads.load(Ordering::SeqCst);
     assert!(rt; loads == 1, "after {loads} loads");
     match do_with(&rt, &group, one, 1, || Outcome(8)) {
