@@ -1,17 +1,16 @@
 -- a call's answer is that of its one Settle
-use Rattle.std.proofs.Common.{◌≡◌, ℕ, inl, inr, ◌⊎◌, Bool, true, false, cond, ◌||◌, ◌==◌, List, [], ◌∷◌, ◌++◌, refl, sym, ap, ◌∙◌, subst, append_assoc, Option, Some, None}
+use Rattle.std.proofs.Common.{◌≡◌, ℕ, inl, inr, ◌⊎◌, Bool, true, false, cond, ◌||◌, ◌&&◌, ◌==◌, List, [], ◌∷◌, ◌++◌, refl, sym, ap, ◌∙◌, subst, append_assoc, Option, Some, None}
 use Rattle.std.specs.Prelude.{nat_eq, find, option_and_then, option_map}
 use Rattle.std.specs.Option.{option_or}
 use Rattle.std.specs.List.{list_any}
-use Rattle.std.proofs.Math.Bool.{or-false}
 use Rattle.std.proofs.lemmas.Bool.{cases_Bool, and_parts, eqb-true, cond-true, cond-false, false_from_ne_true}
 use Rattle.sf_history.specs.declared.call.CallId.{CallId}
 use Rattle.sf_history.specs.declared.event.Event.{Event}
-use Rattle.sf_history.specs.declared.event.Event.TheVariants.{Lead, Enter, Forget, Settle, Handed}
+use Rattle.sf_history.specs.declared.event.Event.TheVariants.{Lead, Enter, Forget, ForgetCall, Settle, Handed}
 use Rattle.sf_history.specs.Calls.{same_call}
-use Rattle.sf_history.specs.History.{holds_call, names, opens, open_call, enters, joined, leads, was_led, settles, is_settled, result_in, result_of, answer_of, maker, own_events}
+use Rattle.sf_history.specs.History.{holds_call, has_closed, names, opens, open_call, enters, joined, leads, was_led, settles, is_settled, result_in, result_of, answer_of, maker, own_events}
 use Rattle.sf_history.specs.Legal.{IsLegal, MayFollow}
-use Rattle.sf_lists.proofs.Lists.{by_push, list_any_push, list_any_push_cases, list_any_push_none}
+use Rattle.sf_lists.proofs.Lists.{by_push, list_any_push_cases, list_any_push_none}
 use Rattle.sf_history.proofs.LegalHistories.{same_call_is, other_call, legal_front, legal_last, fold_push, settled_named}
 use Rattle.sf_history.proofs.Members.{joined_kept}
 use Rattle.sf_calls.specs.Seen.{Stands}
@@ -52,6 +51,7 @@ module _ {V : Type 0} where
           sym (eqb-true by a parts.0) ∙ (follows.0 ∙ ap (λ (x : CallId). x.caller) (same_call_is call c parts.1))
       last h (Enter by key call member) follows is = absurd (let no : false ≡ true = is in cc)
       last h (Forget by key closed) follows is = absurd (let no : false ≡ true = is in cc)
+      last h (ForgetCall by key call hit) follows is = absurd (let no : false ≡ true = is in cc)
       last h (Settle by call result joiners) follows is = absurd (let no : false ≡ true = is in cc)
       last h (Handed by call) follows is = absurd (let no : false ≡ true = is in cc)
 
@@ -89,6 +89,10 @@ module _ {V : Type 0} where
           list_any_push_none (settles c) h (Lead by key call own) (at_lead h call front follows.1 (before front) (nat_eq key k) (sym (fold_push (opens nat_eq k) None h (Lead by key call own)) ∙ is)) refl
       step h (Enter by key call member) before legal is = list_any_push_none (settles c) h (Enter by key call member) (before (legal_front nat_eq h (Enter by key call member) legal) (sym (fold_push (opens nat_eq k) None h (Enter by key call member)) ∙ is)) refl
       step h (Forget by key closed) before legal is = list_any_push_none (settles c) h (Forget by key closed) (at_forget h (before (legal_front nat_eq h (Forget by key closed) legal)) (nat_eq key k) (sym (fold_push (opens nat_eq k) None h (Forget by key closed)) ∙ is)) refl
+      step h (ForgetCall by key call hit) before legal is =
+          let front = legal_front nat_eq h (ForgetCall by key call hit) legal in
+          let found = sym (fold_push (opens nat_eq k) None h (ForgetCall by key call hit)) ∙ is in
+          list_any_push_none (settles c) h (ForgetCall by key call hit) (at_forget h (before front) (nat_eq key k && has_closed hit) found) refl
       step h (Settle by call result joiners) before legal is =
           let parts = at_settle h call (before (legal_front nat_eq h (Settle by call result joiners) legal)) (holds_call (open_call nat_eq h k) call) refl (sym (fold_push (opens nat_eq k) None h (Settle by call result joiners)) ∙ is) in
           list_any_push_none (settles c) h (Settle by call result joiners) parts.0 parts.1
@@ -103,6 +107,7 @@ module _ {V : Type 0} where
       let un = open_unsettled h key c legal opened in
       cc
   not_entered h c (Forget by key closed) legal follows settled is = let no : false ≡ true = is in cc
+  not_entered h c (ForgetCall by key call hit) legal follows settled is = let no : false ≡ true = is in cc
   not_entered h c (Settle by call result joiners) legal follows settled is = let no : false ≡ true = is in cc
   not_entered h c (Handed by call) legal follows settled is = let no : false ≡ true = is in cc
 
@@ -117,6 +122,7 @@ module _ {V : Type 0} where
       newly h (Lead by key call own) legal follows is = absurd (let no : false ≡ true = is in cc)
       newly h (Enter by key call member) legal follows is = absurd (let no : false ≡ true = is in cc)
       newly h (Forget by key closed) legal follows is = absurd (let no : false ≡ true = is in cc)
+      newly h (ForgetCall by key call hit) legal follows is = absurd (let no : false ≡ true = is in cc)
       newly h (Settle by call result joiners) legal follows is =
           let same : call ≡ c = same_call_is call c is in
           let maker_is : by ≡ c.caller = led_by h by call legal follows.0 ∙ ap (λ (x : CallId). x.caller) same in

@@ -1,5 +1,5 @@
 -- nobody else has a cell for itself
-use Rattle.std.proofs.Common.{Bool, ◌≡◌, ℕ, zero, suc, ◌<◌, List, [], ◌∷◌, ◌++◌, length, refl, sym, ap, ◌∙◌, subst, Option, None, Some, inl, inr, ◌⊎◌, arith}
+use Rattle.std.proofs.Common.{◌≡◌, ℕ, zero, suc, ◌<◌, List, [], ◌∷◌, ◌++◌, length, refl, sym, ap, ◌∙◌, subst, Option, None, Some, inl, inr, ◌⊎◌, arith}
 use mathlib.Core.Option.{some, some-ne-none}
 use lib.ListN.{get_elem?}
 use Rattle.sf_history.specs.declared.call.CallId.{CallId}
@@ -44,7 +44,8 @@ module _ {V : Type 0} where
   handling_alone (stage.Polling place g d) a k h c e = absurd h
   handling_alone (stage.Seconding first) a k h c e = absurd h
   handling_alone (stage.Asking place s step) a k h c e = absurd h
-  handling_alone (stage.Forgetting place step) a k h c e = absurd h
+  handling_alone (stage.Forgetting place target step) a k h c e = absurd h
+  handling_alone (stage.Naming place) a k h c e = absurd h
   handling_alone (stage.Questioning place d step) a k h c e = absurd h
 
   -- the member to which a caller delivers holds a ticket of the caller's call
@@ -101,7 +102,8 @@ module _ {V : Type 0} where
           go (stage.Polling place i d) at g = absurd g
           go (stage.Seconding first) at g = absurd g
           go (stage.Asking place t step) at g = absurd g
-          go (stage.Forgetting place step) at g = absurd g
+          go (stage.Forgetting place target step) at g = absurd g
+          go (stage.Naming place) at g = absurd g
           go (stage.Questioning place d step) at g = absurd g
 
       ticket_free : (c : ℕ) → WaitsFor (world_of z s) c k → (world_of z s).stages k ≡ stage.Free → ⊥

@@ -40,6 +40,8 @@ module _ {V : Type 0} where
   other (turn.Start b (op.Chan second k)) a spares = ne_eqb b a (λ e. spares (inl e))
   other (turn.Start b (op.Settle v)) a spares = ne_eqb b a spares
   other (turn.Start b (op.Forget k)) a spares = ne_eqb b a spares
+  other (turn.Start b (op.ForgetCall k c)) a spares = ne_eqb b a spares
+  other (turn.Start b (op.Named k)) a spares = ne_eqb b a spares
   other (turn.Start b op.Poll) a spares = ne_eqb b a spares
   other (turn.Start b (op.Current k c)) a spares = ne_eqb b a spares
   other (turn.Step b) a spares = ne_eqb b a spares

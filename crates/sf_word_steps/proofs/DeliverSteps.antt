@@ -1,5 +1,5 @@
 -- steps that take a cell out or bring it back, and those of a delivery
-use Rattle.std.proofs.Common.{◌≡◌, ℕ, Bool, eq-eqb, List, [], ◌∷◌, ◌++◌, inl, Option, Some, None, refl, sym, ◌∙◌, ap, subst, arith}
+use Rattle.std.proofs.Common.{◌≡◌, ℕ, eq-eqb, List, [], ◌∷◌, ◌++◌, inl, Option, Some, None, refl, sym, ◌∙◌, ap, subst, arith}
 use Rattle.std.proofs.lemmas.Bool.{cond-true}
 use Rattle.atomic_table.specs.Table.{Me}
 use Rattle.sf_history.specs.declared.call.CallId.{CallId}

@@ -1,35 +1,32 @@
 -- the kinds of step of a settle up to its clear, and that its closes fail seldom
-use Rattle.std.proofs.Common.{◌≡◌, ℕ, ◌+◌, ◌≤◌, Bool, true, false, ◌==◌, ◌&&◌, not, eqb, eq-eqb, List, [], ◌∷◌, ◌++◌, inl, Option, None, refl, sym, ◌∙◌, ap, subst, arith}
+use Rattle.std.proofs.Common.{◌≡◌, ℕ, ◌+◌, ◌≤◌, Bool, true, false, ◌==◌, ◌&&◌, not, eqb, eq-eqb, List, [], ◌∷◌, ◌++◌, inl, Option, refl, sym, ◌∙◌, ap, subst, arith}
 use Rattle.std.specs.Prelude.{cond, if◌then◌else◌}
 use Rattle.std.proofs.lemmas.Bool.{cond-true}
 use prog.Atomic.{either}
 use Rattle.sf_history.specs.declared.call.CallId.{CallId}
-use Rattle.sf_history.specs.declared.event.Event.TheVariants as event
 use Rattle.sf_words.specs.declared.call_word.LeaderState.{LeaderState}
 use Rattle.sf_words.specs.declared.call_word.CallState.TheVariants as word
-use Rattle.sf_words.specs.CallWord.{IsCallState, call_code}
+use Rattle.sf_words.specs.CallWord.{call_code}
 use Rattle.sf_schedules.specs.declared.operation.Stage.{Stage}
 use Rattle.sf_schedules.specs.declared.operation.Stage.TheVariants as stage
 use Rattle.sf_schedules.specs.declared.operation.SettleStep.TheVariants as settle
 use Rattle.sf_schedules.specs.declared.turn.Turn.{Turn}
 use Rattle.sf_schedules.specs.declared.turn.Turn.TheVariants as turn
 use Rattle.sf_schedules.specs.World.{World, first_world, is_open_with, count}
-use Rattle.sf_schedules.specs.Turns.{at_members, after_close, turned, run}
+use Rattle.sf_schedules.specs.Turns.{after_close, turned, run}
 use Rattle.sf_schedules.specs.Events.{settled, close_events}
 use Rattle.sf_schedules.specs.Closes.{fails_at, fails, failed_closes}
 use Rattle.sf_schedules.specs.Schedules.{IsCaller, IsSchedule}
-use Rattle.sf_lists.proofs.Functions.{put_here}
 use Rattle.sf_schedules.proofs.Sound.{call_of}
 use Rattle.sf_schedules.proofs.Closes.{closes_fail_seldom}
 use Rattle.sf_calls.specs.declared.sizes.Sizes.{Sizes}
 use Rattle.sf_word_steps.specs.declared.view.View.{View}
 use Rattle.sf_word_steps.specs.Words.{call, code_at, IsCallFor, Writes}
 use Rattle.sf_word_steps.specs.View.{setting_of, world_of, history_of}
-use Rattle.sf_word_steps.specs.Plays.{Moves, Found}
-use Rattle.sf_history.specs.History.{own_events}
-use Rattle.sf_word_steps.specs.Stands.{Sits, Goes}
+use Rattle.sf_word_steps.specs.Plays.{Moves}
+use Rattle.sf_word_steps.specs.Stands.{Sits}
 use Rattle.sf_schedules.proofs.Named.{IsAlone}
-use Rattle.sf_word_steps.proofs.Ways.{Ran, step_ran, writes_none, writes_call, stands, Does, moves_by, goes_by}
+use Rattle.sf_word_steps.proofs.Ways.{Ran, step_ran, writes_none, writes_call, Does, moves_by}
 use Rattle.sf_word_steps.proofs.EnterSteps.{call_test}
 
 module _ {V : Type 0} where

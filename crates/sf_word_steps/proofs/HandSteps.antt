@@ -1,5 +1,5 @@
 -- the kinds of step of a delivery
-use Rattle.std.proofs.Common.{◌≡◌, ℕ, Bool, eq-eqb, List, [], ◌∷◌, Option, Some, refl, sym, ◌∙◌, ap, subst}
+use Rattle.std.proofs.Common.{◌≡◌, ℕ, eq-eqb, List, [], ◌∷◌, Option, Some, refl, sym, ◌∙◌, ap, subst}
 use Rattle.std.proofs.lemmas.Bool.{cond-true}
 use Rattle.atomic_table.specs.Table.{Me}
 use Rattle.sf_history.specs.declared.call.CallId.{CallId}

@@ -1,4 +1,4 @@
--- the kinds peek and look of a question, and what they answer
+-- the kinds peek and look of a question, and what they answer, and the look of one which call a key word names
 use Rattle.std.proofs.Common.{◌≡◌, ◌≢◌, ℕ, ◌==◌, Bool, true, false, List, [], ◌∷◌, ◌++◌, inl, inr, Option, Some, None, refl, sym, ◌∙◌, ap, subst, append_assoc, arith}
 use Rattle.std.specs.Prelude.{nat_eq, if◌then◌else◌}
 use Rattle.std.specs.List.{list_any, All}
@@ -8,7 +8,7 @@ use Rattle.std.proofs.lemmas.List.Folds.{list_any-append}
 use Rattle.std.proofs.lemmas.Bool.{or_left, or_cases, and_parts, true≢false}
 use Rattle.sf_history.specs.declared.call.CallId.{CallId}
 use Rattle.sf_history.specs.declared.event.Event.{Event}
-use Rattle.sf_history.specs.declared.event.Event.TheVariants.{Lead, Enter, Forget, Settle, Handed}
+use Rattle.sf_history.specs.declared.event.Event.TheVariants.{Lead, Enter, Forget, ForgetCall, Settle, Handed}
 use Rattle.sf_history.specs.Calls.{same_call}
 use Rattle.sf_history.specs.History.{maker, holds_call, current_call}
 use Rattle.sf_history.specs.Legal.{IsLegal}
@@ -26,21 +26,23 @@ use Rattle.sf_schedules.specs.declared.turn.Turn.{Turn}
 use Rattle.sf_schedules.specs.declared.turn.Turn.TheVariants as turn
 use Rattle.sf_schedules.specs.World.{World, first_world, with_stage, key_of, same_key, is_forgot_in}
 use Rattle.sf_schedules.specs.Turns.{current_peeked, current_stepped, started}
-use Rattle.sf_schedules.specs.Events.{step_events, adds, current_answer}
+use Rattle.sf_schedules.specs.Events.{step_events, adds, current_answer, named_by}
+use Rattle.sf_schedules.specs.Naming.{IsNamed}
 use Rattle.sf_schedules.specs.Laws.{is_current_after}
 use Rattle.sf_schedules.specs.Schedules.{Setting, IsCaller, IsPlace, IsSchedule, leads_on, was_led_on}
 use Rattle.sf_lists.proofs.Functions.{put_here}
 use Rattle.sf_schedules.proofs.Named.{IsAlone, makers_are_callers}
 use Rattle.sf_schedules.proofs.RightAnswers.{run_append, adds_append, schedule_parts, schedules_are_legal, peeks_are_right}
 use Rattle.sf_schedules.proofs.Questions.{yes_at_the_peek_no_at_the_look}
+use Rattle.sf_schedules.proofs.LastLed.{names_are_right}
 use Rattle.sf_calls.specs.declared.sizes.Sizes.{Sizes}
 use Rattle.sf_word_steps.specs.declared.view.View.{View}
 use Rattle.sf_word_steps.specs.Words.{key, call, IsKeyFor, IsCallFor}
 use Rattle.sf_word_steps.specs.View.{setting_of, world_of, history_of}
 use Rattle.sf_word_steps.specs.Plays.{Moves, Found, Comes}
 use Rattle.sf_word_steps.specs.Stands.{Sits, Goes}
-use Rattle.sf_word_steps.specs.Questions.{question_turns, HasPeeked, HasLooked, WasCurrent}
-use Rattle.sf_word_steps.proofs.Ways.{Ran, ran_then, step_ran, writes_none, stands, moves_by, goes_by}
+use Rattle.sf_word_steps.specs.Questions.{question_turns, named_turns, HasPeeked, HasLooked, WasCurrent}
+use Rattle.sf_word_steps.proofs.Ways.{Ran, ran_then, step_ran, named_ran, writes_none, stands, moves_by, goes_by}
 use Rattle.sf_word_steps.proofs.LookSteps.{free_alone}
 
 held_some : (o : Option CallId) (c : CallId) → holds_call o c ≡ true → o ≡ Some c
@@ -66,6 +68,7 @@ module _ {V : Type 0} where
           subst (IsCaller z) by_is by_caller
       here p q (Enter by at d member) legal by_caller is = absurd (true≢false (sym is))
       here p q (Forget by at closed) legal by_caller is = absurd (true≢false (sym is))
+      here p q (ForgetCall by at d hit) legal by_caller is = absurd (true≢false (sym is))
       here p q (Settle by d result joiners) legal by_caller is = absurd (true≢false (sym is))
       here p q (Handed by d) legal by_caller is = absurd (true≢false (sym is))
 
@@ -231,3 +234,42 @@ module _ {V : Type 0} where
 
       same : history_of z w.known.turns ≡ history_of z (p ++ turn.Step a ∷ rest)
       same = ap (history_of z) look.looked ∙ (same_history z a k c current.Look look.before look.asks ∙ ap (history_of z) split)
+
+  -- the question which call the key word names
+  naming_alone : (k : ℕ) → IsAlone {V = V} (stage.Naming k)
+  naming_alone k d is = cc
+
+  abbrev naming : World V → ℕ → ℕ → World V
+  naming w a k = with_stage w a (stage.Naming k)
+
+  started_naming : (z : Sizes) (a k : ℕ) (s : List (Turn V)) → IsCaller (setting_of z) a → IsPlace (setting_of z) k → (world_of z s).stages a ≡ stage.Free
+      → Ran (setting_of z) (history_of z s) (world_of z s) (named_turns a k) (with_stage (naming (world_of z s) a k) a stage.Free) []
+  started_naming z a k s caller place at =
+      let w : World V = world_of z s in
+      let u : World V = naming w a k in
+      ran_then (setting_of z) (history_of z s) w u (with_stage u a stage.Free) (turn.Start a (op.Named k) ∷ []) (turn.Step a ∷ []) [] []
+      (named_ran (setting_of z) (history_of z s) w a k caller place at)
+      (step_ran (setting_of z) (history_of z s ++ []) u a (stage.Naming k) caller tt (put_here w.stages a (stage.Naming k)))
+
+  pub named_move : (z : Sizes) (a k : ℕ) (v : View V) → IsPlace (setting_of z) k → Sits z a v stage.Free → Moves z v (key k) (λ n. n) (λ _. named_turns a k)
+  named_move z a k v place free = moves_by z a v stage.Free (key k) (λ n. n) (λ _. named_turns a k) free free_alone
+      (λ s comes at used n found.
+      let w : World V = world_of z s in
+      let u : World V = with_stage (naming w a k) a stage.Free in (
+        ((λ b e. inl e), ((λ b e. inl e), tt)),
+        record { world = u; events = []; ran = started_naming z a k s free.caller place at; writes = writes_none z.callers w u (key k) n found refl refl refl; cells = refl },
+      ))
+
+  pub named_told : (z : Sizes) (a k n : ℕ) (v w : View V) (x : KeyState) → IsPlace (setting_of z) k → Sits z a v stage.Free → Found (key k) (λ _. named_turns a k) z v n w
+      → ((y : KeyState) → IsKeyFor z.callers y → key_code y ≡ n → x ≡ y) → Goes z a v w stage.Free [] 0 × IsNamed (history_of z w.known.turns) k (named_by x)
+  named_told z a k n v w x place free found says =
+      let m = found.0 in
+      let w₀ : World V = world_of z m.before in
+      let mid : World V = naming w₀ a k in
+      let u : World V = with_stage mid a stage.Free in
+      let is : x ≡ w₀.keys k = says (w₀.keys k) (m.comes.lawful.keys k) (sym found.1) in
+      let ran = started_naming z a k m.before free.caller place (stands z a v stage.Free m.before free free_alone m.comes) in
+      let goes = goes_by z a v w stage.Free stage.Free (named_turns a k) u [] [] 0 free free_alone m ran (put_here mid.stages a stage.Free) refl (omega arith) in
+      let world_is : world_of z w.known.turns ≡ u = ap (λ (y : View V). world_of z y.known.turns) m.view ∙ (run_append (first_world z.callers z.first) m.before (named_turns a k) ∙ ran.world) in
+      let known : (world_of z w.known.turns).keys k ≡ x = ap (λ (y : World V). y.keys k) world_is ∙ sym is in
+      (goes, subst (λ (y : KeyState). IsNamed (history_of z w.known.turns) k (named_by y)) known (names_are_right (setting_of z) w.known.turns goes.sits.schedule k))

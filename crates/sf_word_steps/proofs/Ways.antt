@@ -1,5 +1,5 @@
 -- from a turn of the core to what a seat may do and what it then knows
-use Rattle.std.proofs.Common.{◌≡◌, ℕ, ◌+◌, ◌≤◌, Bool, true, false, ◌==◌, List, [], ◌∷◌, ◌++◌, inl, Option, None, refl, sym, ◌∙◌, ap, subst, append_assoc}
+use Rattle.std.proofs.Common.{◌≡◌, ℕ, ◌+◌, ◌≤◌, Bool, true, false, ◌==◌, List, [], ◌∷◌, ◌++◌, inl, Option, Some, None, refl, sym, ◌∙◌, ap, subst, append_assoc}
 use Rattle.std.specs.Prelude.{cond, if◌then◌else◌}
 use Rattle.std.proofs.lemmas.Bool.{le-ltb, eqb-true}
 use Rattle.std.proofs.lemmas.List.{append-nil}
@@ -35,6 +35,7 @@ use Rattle.sf_word_steps.specs.Plays.{Comes, Moves, MadeWith, Made}
 use Rattle.sf_calls.specs.Seen.{Adds}
 use Rattle.sf_history.specs.History.{own_events}
 use Rattle.sf_word_steps.specs.Stands.{SitsWith, Sits, next_in, GoesWith, Goes}
+use Rattle.sf_word_steps.specs.Forgets.{forget_op}
 use Rattle.sf_schedules.proofs.Named.{IsAlone, spared_others, spared_stage, spared_generation, others_none, makers_are_callers}
 use Rattle.sf_schedules.proofs.Parts.{schedule_append}
 
@@ -73,8 +74,13 @@ module _ {V : Type 0} where
       started_at : Stage V → World V
       started_at q = started w a (op.Ask k) q
 
-  pub forget_ran : (z : Setting) (h : List (Event ℕ V)) (w : World V) (a k : ℕ) → IsCaller z a → IsPlace z k → w.stages a ≡ stage.Free → Ran z h w (turn.Start a (op.Forget k) ∷ []) (with_stage w a (stage.Forgetting k (forget.Look false))) []
-  forget_ran z h w a k caller place at = record { allowed = ((caller, (place, at), tt), tt); world = ap (λ q. started w a (op.Forget k) q) at; events = refl }
+  pub forget_ran : (z : Setting) (h : List (Event ℕ V)) (w : World V) (a k : ℕ) (target : Option CallId) → IsCaller z a → IsPlace z k → w.stages a ≡ stage.Free
+      → Ran z h w (turn.Start a (forget_op k target) ∷ []) (with_stage w a (stage.Forgetting k target (forget.Look false))) []
+  forget_ran z h w a k None caller place at = record { allowed = ((caller, (place, at), tt), tt); world = ap (λ q. started w a (op.Forget k) q) at; events = refl }
+  forget_ran z h w a k (Some c) caller place at = record { allowed = ((caller, (place, at), tt), tt); world = ap (λ q. started w a (op.ForgetCall k c) q) at; events = refl }
+
+  pub named_ran : (z : Setting) (h : List (Event ℕ V)) (w : World V) (a k : ℕ) → IsCaller z a → IsPlace z k → w.stages a ≡ stage.Free → Ran z h w (turn.Start a (op.Named k) ∷ []) (with_stage w a (stage.Naming k)) []
+  named_ran z h w a k caller place at = record { allowed = ((caller, (place, at), tt), tt); world = ap (λ q. started w a (op.Named k) q) at; events = refl }
 
   pub settle_ran : (z : Setting) (h : List (Event ℕ V)) (w : World V) (a k g : ℕ) (own : Option CallId) (x : V) → IsCaller z a → w.stages a ≡ stage.Leading k g own → Ran z h w (turn.Start a (op.Settle x) ∷ []) (with_stage w a (stage.Settling k g own x settle.Peek)) []
   settle_ran z h w a k g own x caller at = record { allowed = ((caller, (k, g, own, at), tt), tt); world = ap (λ q. started w a (op.Settle x) q) at; events = refl }

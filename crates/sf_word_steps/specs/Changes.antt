@@ -46,7 +46,7 @@ module _ {V : Type 0} where
 
   abbrev pub tries_in : Stage V → List Word
   tries_in (stage.Asking k s step) = tries_at step
-  tries_in (stage.Forgetting k step) = forget_tries step
+  tries_in (stage.Forgetting k target step) = forget_tries step
   tries_in _ = []
 
   abbrev pub tries_by : ℕ → World V → Turn V → List Word

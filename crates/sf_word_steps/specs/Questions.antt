@@ -21,6 +21,10 @@ module _ {V : Type 0} where
   abbrev pub question_turns : ℕ → ℕ → CallId → List (Turn V)
   question_turns a k c = turn.Start a (op.Current k c) ∷ turn.Step a ∷ []
 
+  -- the look starts the question which call the key word names
+  abbrev pub named_turns : ℕ → ℕ → List (Turn V)
+  named_turns a k = turn.Start a (op.Named k) ∷ turn.Step a ∷ []
+
   -- the seat's last turn was the question's peek, which found that a Forget had closed the call, or not
   pub record HasPeeked (z : Sizes) (a k : ℕ) (c : CallId) (v w : View V) (forgot : Bool) : Type 0 where
     pub goes : Goes z a v w (current_peeked k c forgot) [] 0

@@ -1,25 +1,27 @@
-//! The kinds of step of a Forget, and its attempts.
-ghost use Rattle.std.specs.Prelude.{◌≡◌, ◌≢◌, ℕ, ◌≤◌, None, Some, [], ◌∷◌, IsTrue, IsFalse};
-ghost use Rattle.sf_history.specs.declared.event.Event.TheVariants as event;
+//! The kinds of step of a Forget, of a place's key or of one call, and its attempts.
+ghost use Rattle.std.specs.Prelude.{◌≡◌, ◌≢◌, ℕ, ◌≤◌, Some, [], ◌∷◌, IsTrue, IsFalse};
 ghost use Rattle.sf_words.specs.KeyWord.{key_code};
 ghost use Rattle.sf_words.specs.CallWord.{call_code};
 ghost use Rattle.sf_words.specs.declared.call_word.LeaderState.{LeaderState};
 ghost use Rattle.sf_words.specs.declared.call_word.CallState.TheVariants.{Open};
 ghost use Rattle.sf_schedules.specs.Schedules.{IsPlace};
-ghost use Rattle.sf_schedules.specs.World.{open_in, key_of};
-ghost use Rattle.sf_schedules.specs.Turns.{forget_looked, forget_peeked};
-ghost use Rattle.sf_schedules.specs.Events.{look_events};
+ghost use Rattle.sf_schedules.specs.World.{open_in, is_forgot_in, key_of};
+ghost use Rattle.sf_schedules.specs.Turns as turns;
+ghost use Rattle.sf_schedules.specs.Turns.{forget_looked};
+ghost use Rattle.sf_schedules.specs.Events.{look_events, closes, clears};
 ghost use Rattle.sf_schedules.specs.declared.operation.Stage.TheVariants.{Forgetting, Free};
 ghost use Rattle.sf_schedules.specs.declared.operation.ForgetStep.TheVariants as forget;
 ghost use Rattle.sf_word_steps.specs.Words.{key, call, IsKeyFor, IsCallFor};
 ghost use Rattle.sf_word_steps.specs.View.{setting_of, world_of};
 ghost use Rattle.sf_word_steps.specs.Stands.{IsSeatOf, Sits, Goes};
-ghost use Rattle.sf_word_steps.specs.Changes.{Stays, Loses, Went};
-ghost use Rattle.sf_word_steps.specs.Forgets.{lost_forget, MayForget, HasForgot, HasCleared, HasClosed, HasForgottenOften};
+ghost use Rattle.sf_word_steps.specs.Changes.{Loses, Went};
+ghost use Rattle.sf_word_steps.specs.Forgets as forgets;
+ghost use Rattle.sf_word_steps.specs.Forgets.{IsMeant, lost_forget, MayForget, peek_stage, peek_adds, HasForgot, HasCleared, HasClosed, HasForgottenOften};
 
 use crate::actor::Actor;
-use crate::attempting::opened;
+use crate::attempting::{is_forgot, opened};
 use crate::numbering::{call_index, key_index};
+use crate::questioning::{named_by, names};
 use crate::rule::{WordSeat, Words};
 use crate::steps::{exchange_turns, load_turns};
 use sf_calls::Fit;
@@ -30,34 +32,60 @@ use sf_words::{
 };
 use std::marker::Brand;
 
-/// How an attempt of a Forget ended.
+/// How an attempt of a Forget ended, of a place's key or of one call.
 pub enum ForgetAttempt {
-    /// The place had no open call.
-    Idle,
     /// It closed this call.
     Closed(CallId),
-    /// Its exchange failed.
+    /// It found this call current and not open, and cleared the key word.
+    Cleared(CallId),
+    /// It found no call to close or to clear.
     Missed,
+    /// Its exchange failed.
+    Lost,
 }
 
-/// Loads the key word of the place. Where it names no call, or one that is cleared, nothing was open, and the Forget is
-/// made.
-fn forget_look<V: Fit>(words: &Words<V>, seat: &mut WordSeat<V>, actor: Actor) -> KeyState
+/// The call to which a Forget goes on from its look: the one that the key word names, and for a Forget of one call that
+/// alone.
+fn called_by(seen: KeyState, target: Option<CallId>) -> Option<CallId>
+    ensures { result ≡ forgets.called_by target seen }
+{
+    match target {
+        None => named_by(seen),
+        Some(call) if names(seen, call) => Some(call),
+        Some(_) => None,
+    }
+}
+
+/// Whether a Forget of one call misses it at its peek, which finds it forgotten.
+fn misses(target: Option<CallId>, called: CallId, found: CallState) -> bool
+    ensures { result ≡ turns.misses target (is_forgot_in called.generation found) }
+{
+    target.is_some() && is_forgot(found, called.generation)
+}
+
+/// Loads the key word of the place. Where it names no call, or one that is cleared, or not the call that is to be
+/// forgotten, the Forget is made.
+fn forget_look<V: Fit>(
+    words: &Words<V>,
+    seat: &mut WordSeat<V>,
+    actor: Actor,
+    target: Option<CallId>,
+) -> KeyState
     requires own { IsSeatOf seat.old.table_id words.now.table_id words.now.key }
     requires sizes { actor.sizes ≡ words.now.key }
     requires place { IsPlace (setting_of actor.sizes) actor.place }
-    requires may { MayForget actor.sizes actor.number actor.place seat.old.me.0 }
+    requires may { MayForget actor.sizes actor.number actor.place target seat.old.me.0 }
     ensures own { (seat.new.table_id ≡ seat.old.table_id) × (seat.new.me.1 ≡ seat.old.me.1) }
-    ensures told { Went actor.sizes actor.number seat.old.me.0 seat.new.me.0 (forget_looked actor.place result) (look_events actor.number actor.place result) }
+    ensures told { Went actor.sizes actor.number seat.old.me.0 seat.new.me.0 (forget_looked actor.place target result) (look_events actor.number actor.place target result) }
     ensures shown { (world_of actor.sizes seat.new.me.0.known.turns).keys actor.place ≡ result }
     ensures range { IsKeyFor actor.sizes.callers result }
 {
-    let found = load_turns::<V, u32, Brand>(
+    let found = load_turns::<V, (u32, Option<CallId>), Brand>(
         words,
         seat,
         key_index(actor.sizes, actor.place),
         actor.number,
-        &actor.place,
+        &(actor.place, target),
     );
     let Some(word) = unpack_key(found) else {
         unreachable!()
@@ -65,19 +93,20 @@ fn forget_look<V: Fit>(words: &Words<V>, seat: &mut WordSeat<V>, actor: Actor) -
     word.state()
 }
 
-/// Loads the call word of the call that the key word named.
+/// Loads the call word of the call that the key word named. A Forget of one call that finds it forgotten is made.
 fn forget_peek<V: Fit>(
     words: &Words<V>,
     seat: &mut WordSeat<V>,
     actor: Actor,
+    target: Option<CallId>,
     called: CallId,
 ) -> CallState
     requires own { IsSeatOf seat.old.table_id words.now.table_id words.now.key }
     requires sizes { actor.sizes ≡ words.now.key }
     requires called { (1 ≤ called.caller) × (called.caller ≤ actor.sizes.callers) }
-    requires asks { Sits actor.sizes actor.number seat.old.me.0 (Forgetting actor.place (forget.Peek called)) }
+    requires asks { Sits actor.sizes actor.number seat.old.me.0 (Forgetting actor.place target (forget.Peek called)) }
     ensures own { (seat.new.table_id ≡ seat.old.table_id) × (seat.new.me.1 ≡ seat.old.me.1) }
-    ensures told { Stays actor.sizes actor.number seat.old.me.0 seat.new.me.0 (Forgetting actor.place (forget_peeked called (open_in called.generation result))) }
+    ensures told { Went actor.sizes actor.number seat.old.me.0 seat.new.me.0 (peek_stage actor.place target called result) (peek_adds actor.number actor.place target called result) }
     ensures shown { (world_of actor.sizes seat.new.me.0.known.turns).calls called.caller ≡ result }
     ensures other { (seen : LeaderState) → open_in called.generation result ≡ Some seen → called.caller ≢ actor.number }
     ensures range { IsCallFor actor.sizes.callers result }
@@ -101,6 +130,7 @@ fn close_forgotten<V: Fit>(
     words: &Words<V>,
     seat: &mut WordSeat<V>,
     actor: Actor,
+    target: Option<CallId>,
     called: CallId,
     seen: LeaderState,
     last: bool,
@@ -109,10 +139,10 @@ fn close_forgotten<V: Fit>(
     requires sizes { actor.sizes ≡ words.now.key }
     requires called { (1 ≤ called.caller) × (called.caller ≤ actor.sizes.callers) }
     requires seen { IsCallFor actor.sizes.callers (Open seen) }
-    requires asks { Sits actor.sizes actor.number seat.old.me.0 (Forgetting actor.place (forget.Close called seen)) }
+    requires asks { Sits actor.sizes actor.number seat.old.me.0 (Forgetting actor.place target (forget.Close called seen)) }
     ensures own { (seat.new.table_id ≡ seat.old.table_id) × (seat.new.me.1 ≡ seat.old.me.1) }
-    ensures won { IsTrue result → Goes actor.sizes actor.number seat.old.me.0 seat.new.me.0 (Forgetting actor.place (forget.LastClear called)) (event.Forget actor.number actor.place (Some called) ∷ []) 0 }
-    ensures lost { IsFalse result → Loses actor.sizes actor.number (call called.caller) (call_code (Open seen)) seat.old.me.0 seat.new.me.0 (lost_forget actor.place last) }
+    ensures won { IsTrue result → Goes actor.sizes actor.number seat.old.me.0 seat.new.me.0 (Forgetting actor.place target (forget.LastClear called)) (closes actor.number actor.place target called ∷ []) 0 }
+    ensures lost { IsFalse result → Loses actor.sizes actor.number (call called.caller) (call_code (Open seen)) seat.old.me.0 seat.new.me.0 (lost_forget actor.place target last) }
 {
     let Some(old) = CallWord::new(CallState::Open(seen)) else {
         unreachable!()
@@ -139,6 +169,7 @@ fn first_clear<V: Fit>(
     words: &Words<V>,
     seat: &mut WordSeat<V>,
     actor: Actor,
+    target: Option<CallId>,
     called: CallId,
     last: bool,
 ) -> bool
@@ -146,10 +177,10 @@ fn first_clear<V: Fit>(
     requires sizes { actor.sizes ≡ words.now.key }
     requires place { IsPlace (setting_of actor.sizes) actor.place }
     requires called { IsKeyFor actor.sizes.callers (key_of called) }
-    requires asks { Sits actor.sizes actor.number seat.old.me.0 (Forgetting actor.place (forget.FirstClear called)) }
+    requires asks { Sits actor.sizes actor.number seat.old.me.0 (Forgetting actor.place target (forget.FirstClear called)) }
     ensures own { (seat.new.table_id ≡ seat.old.table_id) × (seat.new.me.1 ≡ seat.old.me.1) }
-    ensures won { IsTrue result → Goes actor.sizes actor.number seat.old.me.0 seat.new.me.0 Free (event.Forget actor.number actor.place None ∷ []) 0 }
-    ensures lost { IsFalse result → Loses actor.sizes actor.number (key actor.place) (key_code (key_of called)) seat.old.me.0 seat.new.me.0 (lost_forget actor.place last) }
+    ensures won { IsTrue result → Goes actor.sizes actor.number seat.old.me.0 seat.new.me.0 Free (clears actor.number actor.place target called ∷ []) 0 }
+    ensures lost { IsFalse result → Loses actor.sizes actor.number (key actor.place) (key_code (key_of called)) seat.old.me.0 seat.new.me.0 (lost_forget actor.place target last) }
 {
     let Some(old) = KeyWord::new(KeyState::Names {
         caller: called.caller,
@@ -180,12 +211,18 @@ fn first_clear<V: Fit>(
 
 /// Clears the key word of the call that this Forget closed, where it still names that. Whether it does is nobody's
 /// matter: its leader clears it too, and an asking leads over it as it is.
-fn last_clear<V: Fit>(words: &Words<V>, seat: &mut WordSeat<V>, actor: Actor, called: CallId)
+fn last_clear<V: Fit>(
+    words: &Words<V>,
+    seat: &mut WordSeat<V>,
+    actor: Actor,
+    target: Option<CallId>,
+    called: CallId,
+)
     requires own { IsSeatOf seat.old.table_id words.now.table_id words.now.key }
     requires sizes { actor.sizes ≡ words.now.key }
     requires place { IsPlace (setting_of actor.sizes) actor.place }
     requires called { IsKeyFor actor.sizes.callers (key_of called) }
-    requires asks { Sits actor.sizes actor.number seat.old.me.0 (Forgetting actor.place (forget.LastClear called)) }
+    requires asks { Sits actor.sizes actor.number seat.old.me.0 (Forgetting actor.place target (forget.LastClear called)) }
     ensures own { (seat.new.table_id ≡ seat.old.table_id) × (seat.new.me.1 ≡ seat.old.me.1) }
     ensures told { Goes actor.sizes actor.number seat.old.me.0 seat.new.me.0 Free [] 0 }
 {
@@ -219,6 +256,7 @@ fn clear_on<V: Fit>(
     words: &Words<V>,
     seat: &mut WordSeat<V>,
     actor: Actor,
+    target: Option<CallId>,
     called: CallId,
     last: bool,
 ) -> ForgetAttempt
@@ -226,14 +264,14 @@ fn clear_on<V: Fit>(
     requires sizes { actor.sizes ≡ words.now.key }
     requires place { IsPlace (setting_of actor.sizes) actor.place }
     requires called { IsKeyFor actor.sizes.callers (key_of called) }
-    requires asks { Sits actor.sizes actor.number seat.old.me.0 (Forgetting actor.place (forget.FirstClear called)) }
+    requires asks { Sits actor.sizes actor.number seat.old.me.0 (Forgetting actor.place target (forget.FirstClear called)) }
     ensures own { (seat.new.table_id ≡ seat.old.table_id) × (seat.new.me.1 ≡ seat.old.me.1) }
-    ensures cleared { HasCleared actor.sizes actor.number actor.place called last seat.old.me.0 seat.new.me.0 result }
+    ensures cleared { HasCleared actor.sizes actor.number actor.place target called last seat.old.me.0 seat.new.me.0 result }
 {
-    if first_clear(words, seat, actor, called, last) {
-        ForgetAttempt::Idle
+    if first_clear(words, seat, actor, target, called, last) {
+        ForgetAttempt::Cleared(called)
     } else {
-        ForgetAttempt::Missed
+        ForgetAttempt::Lost
     }
 }
 
@@ -242,6 +280,7 @@ fn close_on<V: Fit>(
     words: &Words<V>,
     seat: &mut WordSeat<V>,
     actor: Actor,
+    target: Option<CallId>,
     called: CallId,
     seen: LeaderState,
     last: bool,
@@ -251,23 +290,25 @@ fn close_on<V: Fit>(
     requires place { IsPlace (setting_of actor.sizes) actor.place }
     requires called { IsKeyFor actor.sizes.callers (key_of called) }
     requires seen { IsCallFor actor.sizes.callers (Open seen) }
-    requires asks { Sits actor.sizes actor.number seat.old.me.0 (Forgetting actor.place (forget.Close called seen)) }
+    requires asks { Sits actor.sizes actor.number seat.old.me.0 (Forgetting actor.place target (forget.Close called seen)) }
     ensures own { (seat.new.table_id ≡ seat.old.table_id) × (seat.new.me.1 ≡ seat.old.me.1) }
-    ensures closed { HasClosed actor.sizes actor.number actor.place called last (Open seen) seat.old.me.0 seat.new.me.0 result }
+    ensures closed { HasClosed actor.sizes actor.number actor.place target called last (Open seen) seat.old.me.0 seat.new.me.0 result }
 {
-    if close_forgotten(words, seat, actor, called, seen, last) {
-        last_clear(words, seat, actor, called);
+    if close_forgotten(words, seat, actor, target, called, seen, last) {
+        last_clear(words, seat, actor, target, called);
         ForgetAttempt::Closed(called)
     } else {
-        ForgetAttempt::Missed
+        ForgetAttempt::Lost
     }
 }
 
-/// Peeks at the call that the key word named, and closes it where it is open, or clears the key word.
+/// Peeks at the call that the key word named, and closes it where it is open, or clears the key word. A Forget of one
+/// call misses it where another has forgotten it.
 fn forget_on<V: Fit>(
     words: &Words<V>,
     seat: &mut WordSeat<V>,
     actor: Actor,
+    target: Option<CallId>,
     called: CallId,
     last: bool,
 ) -> ForgetAttempt
@@ -275,15 +316,19 @@ fn forget_on<V: Fit>(
     requires sizes { actor.sizes ≡ words.now.key }
     requires place { IsPlace (setting_of actor.sizes) actor.place }
     requires called { IsKeyFor actor.sizes.callers (key_of called) }
+    requires meant { IsMeant target called }
     requires shown { (world_of actor.sizes seat.old.me.0.known.turns).keys actor.place ≡ key_of called }
-    requires asks { Sits actor.sizes actor.number seat.old.me.0 (Forgetting actor.place (forget.Peek called)) }
+    requires asks { Sits actor.sizes actor.number seat.old.me.0 (Forgetting actor.place target (forget.Peek called)) }
     ensures own { (seat.new.table_id ≡ seat.old.table_id) × (seat.new.me.1 ≡ seat.old.me.1) }
-    ensures forgot { HasForgot actor.sizes actor.number actor.place last seat.old.me.0 seat.new.me.0 result }
+    ensures forgot { HasForgot actor.sizes actor.number actor.place target last seat.old.me.0 seat.new.me.0 result }
 {
-    let word = forget_peek(words, seat, actor, called);
+    let word = forget_peek(words, seat, actor, target, called);
+    if misses(target, called, word) {
+        return ForgetAttempt::Missed;
+    }
     match opened(word, called.generation) {
-        Some(leader) => close_on(words, seat, actor, called, leader, last),
-        None => clear_on(words, seat, actor, called, last),
+        Some(leader) => close_on(words, seat, actor, target, called, leader, last),
+        None => clear_on(words, seat, actor, target, called, last),
     }
 }
 
@@ -292,35 +337,30 @@ fn forget_once<V: Fit>(
     words: &Words<V>,
     seat: &mut WordSeat<V>,
     actor: Actor,
+    target: Option<CallId>,
     last: bool,
 ) -> ForgetAttempt
     requires own { IsSeatOf seat.old.table_id words.now.table_id words.now.key }
     requires sizes { actor.sizes ≡ words.now.key }
     requires place { IsPlace (setting_of actor.sizes) actor.place }
-    requires may { MayForget actor.sizes actor.number actor.place seat.old.me.0 }
+    requires may { MayForget actor.sizes actor.number actor.place target seat.old.me.0 }
     ensures own { (seat.new.table_id ≡ seat.old.table_id) × (seat.new.me.1 ≡ seat.old.me.1) }
-    ensures forgot { HasForgot actor.sizes actor.number actor.place last seat.old.me.0 seat.new.me.0 result }
+    ensures forgot { HasForgot actor.sizes actor.number actor.place target last seat.old.me.0 seat.new.me.0 result }
 {
-    let seen = forget_look(words, seat, actor);
-    match seen {
-        KeyState::Never => ForgetAttempt::Idle,
-        KeyState::Names { cleared: true, .. } => ForgetAttempt::Idle,
-        KeyState::Names {
-            caller,
-            generation,
-            cleared: false,
-        } => {
-            let called = CallId { caller, generation };
-            forget_on(words, seat, actor, called, last)
-        }
+    let seen = forget_look(words, seat, actor, target);
+    match called_by(seen, target) {
+        Some(called) => forget_on(words, seat, actor, target, called, last),
+        None => ForgetAttempt::Missed,
     }
 }
 
-/// Tries so often. After the last try that fails the caller has left its Forget.
+/// Forgets the place's key, or the call `target` of it alone, with so many tries. After the last try that fails the caller
+/// has left its Forget.
 pub fn forget_often<V: Fit>(
     words: &Words<V>,
     seat: &mut WordSeat<V>,
     actor: Actor,
+    target: Option<CallId>,
     tries: u32,
 ) -> ForgetAttempt
     requires own { IsSeatOf seat.old.table_id words.now.table_id words.now.key }
@@ -328,14 +368,14 @@ pub fn forget_often<V: Fit>(
     requires place { IsPlace (setting_of actor.sizes) actor.place }
     requires free { Sits actor.sizes actor.number seat.old.me.0 Free }
     ensures own { (seat.new.table_id ≡ seat.old.table_id) × (seat.new.me.1 ≡ seat.old.me.1) }
-    ensures forgot { HasForgottenOften actor.sizes actor.number actor.place tries seat.old.me.0 seat.new.me.0 result }
+    ensures forgot { HasForgottenOften actor.sizes actor.number actor.place target tries seat.old.me.0 seat.new.me.0 result }
 {
     for failed in 0..tries {
-        let attempt = forget_once(words, seat, actor, failed + 1 == tries);
+        let attempt = forget_once(words, seat, actor, target, failed + 1 == tries);
         match attempt {
-            ForgetAttempt::Missed => {}
+            ForgetAttempt::Lost => {}
             _ => return attempt,
         }
     }
-    ForgetAttempt::Missed
+    ForgetAttempt::Lost
 }

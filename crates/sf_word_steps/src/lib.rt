@@ -39,7 +39,7 @@ pub use hands::hand_out;
 pub use hearing::{hear_note, take_in};
 pub use numbering::{call_index, key_index, next_index, word_count};
 pub use plays::Plan;
-pub use questioning::ask_current;
+pub use questioning::{ask_current, ask_named};
 pub use resting::{Resting, Unrested, Wakes};
 pub use rule::{Deals, Law, Tells, WordSeat, Words};
 pub use steps::{exchange_turns, load_turns, store_turns};

@@ -1,5 +1,5 @@
-use Rattle.std.proofs.Common.{refl, [], ◌∷◌, Some}
-use Rattle.sf_history.specs.declared.event.Event.TheVariants as event
+use Rattle.std.proofs.Common.{refl, [], ◌∷◌}
+use Rattle.sf_schedules.specs.Events.{closes}
 use Rattle.sf_schedules.specs.declared.operation.Stage.TheVariants.{Forgetting, Free}
 use Rattle.sf_schedules.specs.declared.operation.ForgetStep.TheVariants as forget
 use Rattle.sf_word_steps.proofs.Forgets.{goes_still}
@@ -8,7 +8,7 @@ use Rattle.sf_word_steps.proofs.forgetting.close_on.Goals as goal
 pub returns-then-close_forgotten-clause-closed : goal.returns-then-close_forgotten-clause-closed
 returns-then-close_forgotten-clause-closed g c = (
   refl,
-  goes_still c.args.actor.sizes c.args.actor.number 0 c.args.seat.now.me.0 c.close_forgotten.new.seat.me.0 c.last_clear.new.seat.me.0 (Forgetting c.args.actor.place (forget.LastClear c.args.called)) Free (event.Forget c.args.actor.number c.args.actor.place (Some c.args.called) ∷ [])
+  goes_still c.args.actor.sizes c.args.actor.number 0 c.args.seat.now.me.0 c.close_forgotten.new.seat.me.0 c.last_clear.new.seat.me.0 (Forgetting c.args.actor.place c.args.target (forget.LastClear c.args.called)) Free (closes c.args.actor.number c.args.actor.place c.args.target c.args.called ∷ [])
       (c.close_forgotten.ensures.won c.if-close_forgotten.true) c.last_clear.ensures.told,
 )
 

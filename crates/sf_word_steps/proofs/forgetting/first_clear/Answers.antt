@@ -16,7 +16,7 @@ exchange_turns-found-requires-clause-moves g c =
     let old_is : c.in-Some.old ≡ key_of c.args.called = c.in-Some.ensures.1 in
     let new_is : c.in-Some-new.new ≡ cleared_key_of c.args.called = c.in-Some-new.ensures.1 in
     subst (λ (z : Sizes). Moves z v (key c.args.actor.place) (λ n. either (n == c.pack_key-old.result) c.pack_key.result n) (lead_turns c.pack_key-old.result c.args.actor.number c.args.last)) c.requires.sizes
-    (first_clear_move c.args.actor.sizes c.args.actor.number c.args.actor.place c.pack_key-old.result c.pack_key.result c.args.called c.args.last v c.requires.asks c.requires.called
+    (first_clear_move c.args.actor.sizes c.args.actor.number c.args.actor.place c.pack_key-old.result c.pack_key.result c.args.target c.args.called c.args.last v c.requires.asks c.requires.called
     (c.pack_key-old.ensures.code ∙ ap key_code old_is) (c.pack_key.ensures.code ∙ ap key_code new_is))
 
 pub returns-clause-won : goal.returns-clause-won
@@ -24,7 +24,7 @@ returns-clause-won g c won =
     let v = c.args.seat.now.me.0 in
     let old_is : c.in-Some.old ≡ key_of c.args.called = c.in-Some.ensures.1 in
     let found = c.exchange_turns-found.ensures.told.0 c.args.actor.sizes c.requires.asks.sizes in
-    first_clear_won c.args.actor.sizes c.args.actor.number c.args.actor.place c.exchange_turns-found.result c.pack_key-old.result c.args.called c.args.last v c.exchange_turns-found.new.seat.me.0 c.requires.asks c.requires.called.0
+    first_clear_won c.args.actor.sizes c.args.actor.number c.args.actor.place c.exchange_turns-found.result c.pack_key-old.result c.args.target c.args.called c.args.last v c.exchange_turns-found.new.seat.me.0 c.requires.asks c.requires.called.0
     (c.pack_key-old.ensures.code ∙ ap key_code old_is) found (eqb-true c.exchange_turns-found.result c.pack_key-old.result won)
 
 pub returns-clause-lost : goal.returns-clause-lost
@@ -32,5 +32,5 @@ returns-clause-lost g c lost =
     let v = c.args.seat.now.me.0 in
     let old_is : c.in-Some.old ≡ key_of c.args.called = c.in-Some.ensures.1 in
     let found = c.exchange_turns-found.ensures.told.0 c.args.actor.sizes c.requires.asks.sizes in
-    first_clear_lost c.args.actor.sizes c.args.actor.number c.args.actor.place c.exchange_turns-found.result c.pack_key-old.result c.args.called c.args.last v c.exchange_turns-found.new.seat.me.0 c.requires.asks c.requires.called.0
+    first_clear_lost c.args.actor.sizes c.args.actor.number c.args.actor.place c.exchange_turns-found.result c.pack_key-old.result c.args.target c.args.called c.args.last v c.exchange_turns-found.new.seat.me.0 c.requires.asks c.requires.called.0
     (c.pack_key-old.ensures.code ∙ ap key_code old_is) found (λ e. true≢false (sym (eq-eqb c.exchange_turns-found.result c.pack_key-old.result e) ∙ lost))

@@ -4,7 +4,7 @@ use Rattle.sf_word_steps.proofs.Forgets.{forgetting_none, forgetting_more, forgo
 use Rattle.sf_word_steps.proofs.forgetting.forget_often.Goals as goal
 
 pub loop-failed-init : goal.loop-failed-init
-loop-failed-init g c = (refl, refl, forgetting_none c.args.actor.sizes c.args.actor.number c.args.actor.place c.args.tries c.args.seat.now.me.0 c.requires.free)
+loop-failed-init g c = (refl, refl, forgetting_none c.args.actor.sizes c.args.actor.number c.args.actor.place c.args.target c.args.tries c.args.seat.now.me.0 c.requires.free)
 
 pub returns-in_default : goal.returns-in_default
 returns-in_default g c =
@@ -12,19 +12,19 @@ returns-in_default g c =
     let own = c.forget_once-attempt.ensures.own in
     record {
       own = (own.0 ∙ was.0, own.1 ∙ was.1);
-      forgot = forgotten_now c.args.actor.sizes c.args.actor.number c.args.actor.place c.args.tries c.loop-failed.failed c.args.seat.now.me.0 c.loop-failed.seat.me.0 c.forget_once-attempt.new.seat.me.0 (c.loop-failed.failed + 1 == c.args.tries) c.forget_once-attempt.result
-          c.in_default.not-Missed was.2 c.forget_once-attempt.ensures.forgot;
+      forgot = forgotten_now c.args.actor.sizes c.args.actor.number c.args.actor.place c.args.target c.args.tries c.loop-failed.failed c.args.seat.now.me.0 c.loop-failed.seat.me.0 c.forget_once-attempt.new.seat.me.0 (c.loop-failed.failed + 1 == c.args.tries) c.forget_once-attempt.result
+          c.in_default.not-Lost was.2 c.forget_once-attempt.ensures.forgot;
     }
 
 pub loop-failed-preserved : goal.loop-failed-preserved
 loop-failed-preserved g c =
     let was = c.loop-failed.invariant in
     let own = c.forget_once-attempt.ensures.own in
-    (own.0 ∙ was.0, own.1 ∙ was.1, forgetting_more c.args.actor.sizes c.args.actor.number c.args.actor.place c.args.tries c.loop-failed.failed c.args.seat.now.me.0 c.loop-failed.seat.me.0 c.forget_once-attempt.new.seat.me.0 was.2 c.in-Missed.ensures.forgot)
+    (own.0 ∙ was.0, own.1 ∙ was.1, forgetting_more c.args.actor.sizes c.args.actor.number c.args.actor.place c.args.target c.args.tries c.loop-failed.failed c.args.seat.now.me.0 c.loop-failed.seat.me.0 c.forget_once-attempt.new.seat.me.0 was.2 c.in-Lost.ensures.forgot)
 
 pub returns-clause-forgot : goal.returns-clause-forgot
 returns-clause-forgot g c =
     let was = c.loop-failed.invariant in
     let last : c.loop-failed.failed ≡ c.args.tries = let low = c.loop-failed-test.false in let high = c.loop-failed.auto.failed-end in omega arith in
-    forgotten_all c.args.actor.sizes c.args.actor.number c.args.actor.place c.args.tries c.args.seat.now.me.0 c.loop-failed.seat.me.0
-    (subst (λ (n : ℕ). Forgetting c.args.actor.sizes c.args.actor.number c.args.actor.place c.args.tries n c.args.seat.now.me.0 c.loop-failed.seat.me.0) last was.2)
+    forgotten_all c.args.actor.sizes c.args.actor.number c.args.actor.place c.args.target c.args.tries c.args.seat.now.me.0 c.loop-failed.seat.me.0
+    (subst (λ (n : ℕ). Forgetting c.args.actor.sizes c.args.actor.number c.args.actor.place c.args.target c.args.tries n c.args.seat.now.me.0 c.loop-failed.seat.me.0) last was.2)

@@ -15,10 +15,10 @@ exchange_turns-requires-clause-moves g c =
     let old_is : c.in-Some.old ≡ key_of c.args.called = c.in-Some.ensures.1 in
     let new_is : c.in-Some-new.new ≡ cleared_key_of c.args.called = c.in-Some-new.ensures.1 in
     subst (λ (z : Sizes). Moves z v (key c.args.actor.place) (λ n. either (n == c.pack_key.result) c.pack_key-2.result n) (λ _. Step c.args.actor.number ∷ [])) c.requires.sizes
-    (last_clear_move c.args.actor.sizes c.args.actor.number c.args.actor.place c.pack_key.result c.pack_key-2.result c.args.called v c.requires.asks c.requires.called
+    (last_clear_move c.args.actor.sizes c.args.actor.number c.args.actor.place c.pack_key.result c.pack_key-2.result c.args.target c.args.called v c.requires.asks c.requires.called
     (c.pack_key.ensures.code ∙ ap key_code old_is) (c.pack_key-2.ensures.code ∙ ap key_code new_is))
 
 pub returns-clause-told : goal.returns-clause-told
 returns-clause-told g c =
     let v = c.args.seat.now.me.0 in
-    last_clear_told c.args.actor.sizes c.args.actor.number c.args.actor.place c.exchange_turns.result c.args.called v c.exchange_turns.new.seat.me.0 c.requires.asks (c.exchange_turns.ensures.told.0 c.args.actor.sizes c.requires.asks.sizes)
+    last_clear_told c.args.actor.sizes c.args.actor.number c.args.actor.place c.exchange_turns.result c.args.target c.args.called v c.exchange_turns.new.seat.me.0 c.requires.asks (c.exchange_turns.ensures.told.0 c.args.actor.sizes c.requires.asks.sizes)
