@@ -1,7 +1,9 @@
--- the row of a question, from what its caller learnt and what its steps answered
-use Rattle.std.proofs.Common.{◌≡◌, ◌≢◌, ℕ, Bool, [], Some, refl, sym, subst}
+-- the rows of questions, from what their callers learnt and what their steps answered
+use Rattle.std.proofs.Common.{◌≡◌, ◌≢◌, ℕ, Bool, List, [], Option, Some, None, refl, sym, subst}
 use Rattle.std.specs.Prelude.{nat_eq, IsTrue, IsFalse}
 use Rattle.atomic_table.specs.Seated.{TableId}
+use Rattle.sf_history.specs.declared.call.CallId.{CallId}
+use Rattle.sf_history.specs.declared.event.Event.{Event}
 use Rattle.sf_history.specs.History.{current_call}
 use Rattle.sf_schedules.specs.declared.operation.Stage.TheVariants as stage
 use Rattle.sf_calls.specs.declared.sizes.Sizes.{Sizes}
@@ -10,10 +12,12 @@ use Rattle.sf_calls.specs.Seen.{StartsWith}
 use Rattle.sf_calls.specs.Same.{HasNothing, IsStill}
 use Rattle.sf_calls.specs.Notes.{HasLearnt, HasGrown, HasLent}
 use Rattle.sf_calls.specs.Currents.{HasQuestioned}
+use Rattle.sf_calls.specs.Forgets.{IsNamedBy, HasNamed}
 use Rattle.sf_calls.proofs.AddsAgain.{starts_again, nothing_after}
 use Rattle.sf_word_steps.specs.declared.view.View.{View}
 use Rattle.sf_word_steps.specs.View.{sizes_of, history_of}
 use Rattle.sf_word_steps.specs.Stands.{Goes}
+use Rattle.sf_schedules.specs.Naming.{IsNamed}
 use Rattle.sf_word_steps.specs.Questions.{WasCurrent}
 use Rattle.sf_group.specs.Known.{caller_of}
 use Rattle.sf_group.proofs.Rows.{sizes_are, nothing_row}
@@ -57,3 +61,14 @@ module _ {V : Type 0} where
 
       still : IsStill c d
       still = record { group = learnt.0.group; number = learnt.0.number; grows = learnt.0.adds.grows }
+
+  -- which call a place names, as the table of calls says it
+  named_by : (h : List (Event ℕ V)) (k : ℕ) (found : Option CallId) → IsNamed h k found → IsNamedBy h k found
+  named_by h k None is = is
+  named_by h k (Some c) is = is
+
+  pub named_row : (t t' : TableId) (a k : ℕ) (found : Option CallId) (v w : View V) → t' ≡ t → Goes (sizes_of v) a v w stage.Free [] 0 → IsNamed (history_of (sizes_of v) w.known.turns) k found → HasNamed (caller_of t v a) k found (caller_of t' w a)
+  named_row t t' a k found v w table goes is = record {
+    nothing = nothing_row t t' a v w table goes;
+    right = named_by (history_of (sizes_of w) w.known.turns) k found (subst (λ (z : Sizes). IsNamed (history_of z w.known.turns) k found) (sym (sizes_are (sizes_of v) a w stage.Free goes.sits)) is);
+  }

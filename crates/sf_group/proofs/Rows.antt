@@ -5,6 +5,7 @@ use Rattle.atomic_table.specs.Seated.{TableId}
 use Rattle.sf_history.specs.declared.call.CallId.{CallId}
 use Rattle.sf_history.specs.declared.event.Event.{Event}
 use Rattle.sf_history.specs.declared.event.Event.TheVariants as event
+use Rattle.sf_history.specs.declared.event.Hit.{Hit}
 use Rattle.sf_history.specs.History.{next_generation}
 use Rattle.sf_schedules.specs.declared.operation.Stage.{Stage}
 use Rattle.sf_schedules.specs.declared.operation.Stage.TheVariants as stage
@@ -22,7 +23,7 @@ use Rattle.sf_calls.specs.Afters.{FollowsCall}
 use Rattle.sf_group.specs.Known.{IsPlaceIn, group_of, caller_of, flight_of, ticket_of}
 use Rattle.sf_calls.specs.Same.{call_of, HasNothing}
 use Rattle.sf_calls.specs.Begins.{HasLed, HasJoined, IsRefusedSpent}
-use Rattle.sf_calls.specs.Forgets.{HasForgot}
+use Rattle.sf_calls.specs.Forgets.{HasForgot, HasForgotCall}
 use Rattle.sf_group.specs.Calls.{HasNotBegun, HasNotForgotten}
 use Rattle.sf_word_steps.proofs.Trying.{goes_none, busy_after}
 
@@ -116,6 +117,18 @@ module _ {V : Type 0} where
     number = refl;
     adds = added t a 0 v w stage.Free (event.Forget a k o ∷ []) goes;
   }
+
+  -- a Forget of one call
+  pub forget_call_row : (t t' : TableId) (a k : ℕ) (c : CallId) (found : Hit) (v w : View V) → t' ≡ t → Goes (sizes_of v) a v w stage.Free (event.ForgetCall a k c found ∷ []) 0 → HasForgotCall (caller_of t v a) k c found (caller_of t' w a)
+  forget_call_row t t' a k c found v w table goes = record {
+    group = group_is t t' v w a stage.Free table goes.sits;
+    number = refl;
+    adds = added t a 0 v w stage.Free (event.ForgetCall a k c found ∷ []) goes;
+  }
+
+  -- of a call that is the one that was meant
+  pub forget_meant_row : (t t' : TableId) (a k : ℕ) (c d : CallId) (found : Hit) (v w : View V) → t' ≡ t → c ≡ d → Goes (sizes_of v) a v w stage.Free (event.ForgetCall a k d found ∷ []) 0 → HasForgotCall (caller_of t v a) k c found (caller_of t' w a)
+  forget_meant_row t t' a k c d found v w table same goes = subst (λ (x : CallId). HasForgotCall (caller_of t v a) k x found (caller_of t' w a)) (sym same) (forget_call_row t t' a k d found v w table goes)
 
   pub miss_row : (t t' : TableId) (a k tries : ℕ) (v w : View V) → t' ≡ t → Tries (sizes_of v) a k tries v w stage.Free → HasNotForgotten (caller_of t v a) k tries (caller_of t' w a) tries
   miss_row t t' a k tries v w table done = record {

@@ -3,7 +3,7 @@ ghost use Rattle.std.specs.Prelude.{◌≡◌, ◌+◌, ◌≤◌, ◌↔◌, []
 ghost use Rattle.std.specs.List.{All, range_with_len};
 ghost use Rattle.sf_calls.specs.Same.{IsPlaceOf};
 ghost use Rattle.sf_calls.specs.Begins.{HasBegun};
-ghost use Rattle.sf_calls.specs.Forgets.{HasForgotten};
+ghost use Rattle.sf_calls.specs.Forgets.{HasForgotten, HasForgotCall};
 ghost use Rattle.sf_calls.specs.Making.{IsNewCaller, new_caller, numbers_of};
 ghost use Rattle.sf_word_steps.specs.Stands.{IsSeatOf};
 ghost use Rattle.sf_group.specs.Calls.{HasNotBegun, HasNotForgotten};
@@ -14,7 +14,7 @@ use crate::flight::Flight;
 use crate::ticket::Ticket;
 use atomic_table::Table;
 use sf_calls::{Begun, Fit, MOST_CALLERS, MOST_PLACES, NotBegun, Sizes};
-use sf_history::{CallId, Forgotten};
+use sf_history::{CallId, Forgotten, Hit};
 use sf_schedules::Letter as Cell;
 use sf_word_steps::{
     Actor, Attempt, Deals, ForgetAttempt, Law, Resting, View, WordSeat, Words, forget_often,
@@ -193,11 +193,49 @@ impl<V: Fit> Group<V> {
             number: caller.number,
             place,
         };
-        let attempt = forget_often(&self.table.shared, &mut caller.seat, actor, tries);
+        let attempt = forget_often(&self.table.shared, &mut caller.seat, actor, None, tries);
         match attempt {
-            ForgetAttempt::Idle => return Ok(Forgotten::Idle),
             ForgetAttempt::Closed(call) => return Ok(Forgotten::Closed(call)),
-            ForgetAttempt::Missed => {}
+            ForgetAttempt::Cleared(_) => return Ok(Forgotten::Idle),
+            ForgetAttempt::Missed => return Ok(Forgotten::Idle),
+            ForgetAttempt::Lost => {}
+        }
+        Err(tries)
+    }
+
+    /// The caller forgets this call of the place, whichever call it is, and leaves a newer one as it is: it closes the call
+    /// where that is the open one, clears it where it is the current one and not open, and else misses it. Refused as busy
+    /// is one whose exchanges failed so often.
+    pub fn forget_call(
+        &self,
+        caller: &mut Caller<V>,
+        place: u32,
+        call: CallId,
+        tries: u32,
+    ) -> Result<Hit, u32>
+        requires own { caller.old.group ≡ self.now }
+        requires place { IsPlaceOf self.now place }
+        requires tries { (1 ≤ tries) × (tries ≤ MOST_TRIES) }
+        ensures forgot { IfOk result (λ hit. HasForgotCall caller.old place call hit caller.new) }
+        ensures refused { IfErr result (λ failed. HasNotForgotten caller.old place tries caller.new failed) }
+    {
+        let actor = Actor {
+            sizes: self.sizes,
+            number: caller.number,
+            place,
+        };
+        let attempt = forget_often(
+            &self.table.shared,
+            &mut caller.seat,
+            actor,
+            Some(call),
+            tries,
+        );
+        match attempt {
+            ForgetAttempt::Closed(_) => return Ok(Hit::Closed),
+            ForgetAttempt::Cleared(_) => return Ok(Hit::Cleared),
+            ForgetAttempt::Missed => return Ok(Hit::Missed),
+            ForgetAttempt::Lost => {}
         }
         Err(tries)
     }

@@ -8,6 +8,7 @@
 //! | `Do` | `do_with`: it leads and calls the load, or waits for another's answer |
 //! | `DoChan` | `do_chan` for the ticket; the leader's flight and its work make a `Job`, which a worker of `serve` does |
 //! | `Forget` | `forget_wait` |
+//! | a Forget of one call, which leaves a newer one | `forget_call_wait` |
 #![tactic(auto)]
 
 mod doing;
@@ -20,6 +21,7 @@ pub use doing::{DoFault, do_with};
 pub use job::{Job, Work};
 pub use serving::{MOST_JOBS, Unserved, serve};
 pub use waiting::{
-    begin_chan_wait, begin_wait, do_chan, finish_wait, forget_wait, go_on_wait, wait,
+    begin_chan_wait, begin_wait, do_chan, finish_wait, forget_call_wait, forget_wait, go_on_wait,
+    wait,
 };
 pub use workers::{Gate, Served};

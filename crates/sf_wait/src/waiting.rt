@@ -2,13 +2,13 @@
 ghost use Rattle.std.specs.Prelude.{◌≡◌, IfOk, IfErr};
 ghost use Rattle.sf_calls.specs.Same.{IsPlaceOf};
 ghost use Rattle.sf_calls.specs.Begins.{HasBegun, HasChanBegun, IsRefusedSpent, AreRefusedSpent};
-ghost use Rattle.sf_calls.specs.Forgets.{HasForgotten};
+ghost use Rattle.sf_calls.specs.Forgets.{HasForgotten, HasForgotCall};
 ghost use Rattle.sf_calls.specs.Finishes.{HasFinished, HasGoneOn, IsReady};
 
 use sf_calls::{Fit, NotBegun, Spent};
 use sf_group::{
-    Begun, Caller, ChanBegun, Finished, Flight, Forgotten, Group, Letter, MOST_TRIES, Polled,
-    Settled, Ticket,
+    Begun, CallId, Caller, ChanBegun, Finished, Flight, Forgotten, Group, Hit, Letter, MOST_TRIES,
+    Polled, Settled, Ticket,
 };
 use std::sync::Wait;
 
@@ -123,6 +123,26 @@ pub fn forget_wait<V: Fit, R: Wait>(
     for _ in rt.forever() {
         if let Ok(forgotten) = group.forget(caller, place, MOST_TRIES) {
             return forgotten;
+        }
+    }
+    unreachable!()
+}
+
+/// The caller forgets this call of the place, whichever call it is, and leaves a newer one as it is.
+pub fn forget_call_wait<V: Fit, R: Wait>(
+    rt: &R,
+    group: &Group<V>,
+    caller: &mut Caller<V>,
+    place: u32,
+    call: CallId,
+) -> Hit
+    requires own { caller.old.group ≡ group.now }
+    requires place { IsPlaceOf group.now place }
+    ensures { HasForgotCall caller.old place call result caller.new }
+{
+    for _ in rt.forever() {
+        if let Ok(hit) = group.forget_call(caller, place, call, MOST_TRIES) {
+            return hit;
         }
     }
     unreachable!()

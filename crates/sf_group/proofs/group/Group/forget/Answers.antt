@@ -13,17 +13,6 @@ use Rattle.sf_group.specs.Calls.{HasNotForgotten}
 use Rattle.sf_group.proofs.Rows.{forget_row, miss_row}
 use Rattle.sf_group.proofs.group.Group.forget.Goals as goal
 
-pub returns-in-Idle-clause-forgotten : goal.returns-in-Idle-clause-forgotten
-returns-in-Idle-clause-forgotten g c =
-    let seat = c.caller.inside.seat in
-    let v = seat.me.0 in
-    let w = c.forget_often-attempt.new.seat.me.0 in
-    let a = c.caller.inside.number in
-    let same : sizes_of v ≡ c.self.inside.sizes = ap (λ (x : CallerValue _). x.group.sizes) c.caller.view_is ∙ (ap (λ (x : GroupValue). x.sizes) c.requires.own ∙ ap (λ (x : GroupValue). x.sizes) (sym c.self.view_is)) in
-    let goes = subst (λ (z : Sizes). Goes z a v w stage.Free (event.Forget a c.args.place None ∷ []) 0) (sym same) c.in-Idle.ensures.forgot in
-    subst (λ (x : CallerValue _). HasForgotten x c.args.place (caller_of c.forget_often-attempt.new.seat.table_id w a) forgotten.Idle) c.caller.view_is
-    (forget_row seat.table_id c.forget_often-attempt.new.seat.table_id a c.args.place None v w c.forget_often-attempt.ensures.own.0 goes)
-
 pub returns-in-Closed-clause-forgotten : goal.returns-in-Closed-clause-forgotten
 returns-in-Closed-clause-forgotten g c =
     let seat = c.caller.inside.seat in
@@ -32,9 +21,31 @@ returns-in-Closed-clause-forgotten g c =
     let a = c.caller.inside.number in
     let called = c.in-Closed.call in
     let same : sizes_of v ≡ c.self.inside.sizes = ap (λ (x : CallerValue _). x.group.sizes) c.caller.view_is ∙ (ap (λ (x : GroupValue). x.sizes) c.requires.own ∙ ap (λ (x : GroupValue). x.sizes) (sym c.self.view_is)) in
-    let goes = subst (λ (z : Sizes). Goes z a v w stage.Free (event.Forget a c.args.place (Some called) ∷ []) 0) (sym same) c.in-Closed.ensures.forgot in
+    let goes = subst (λ (z : Sizes). Goes z a v w stage.Free (event.Forget a c.args.place (Some called) ∷ []) 0) (sym same) c.in-Closed.ensures.forgot.1 in
     subst (λ (x : CallerValue _). HasForgotten x c.args.place (caller_of c.forget_often-attempt.new.seat.table_id w a) (forgotten.Closed called)) c.caller.view_is
     (forget_row seat.table_id c.forget_often-attempt.new.seat.table_id a c.args.place (Some called) v w c.forget_often-attempt.ensures.own.0 goes)
+
+pub returns-in-Cleared-clause-forgotten : goal.returns-in-Cleared-clause-forgotten
+returns-in-Cleared-clause-forgotten g c =
+    let seat = c.caller.inside.seat in
+    let v = seat.me.0 in
+    let w = c.forget_often-attempt.new.seat.me.0 in
+    let a = c.caller.inside.number in
+    let same : sizes_of v ≡ c.self.inside.sizes = ap (λ (x : CallerValue _). x.group.sizes) c.caller.view_is ∙ (ap (λ (x : GroupValue). x.sizes) c.requires.own ∙ ap (λ (x : GroupValue). x.sizes) (sym c.self.view_is)) in
+    let goes = subst (λ (z : Sizes). Goes z a v w stage.Free (event.Forget a c.args.place None ∷ []) 0) (sym same) c.in-Cleared.ensures.forgot.1 in
+    subst (λ (x : CallerValue _). HasForgotten x c.args.place (caller_of c.forget_often-attempt.new.seat.table_id w a) forgotten.Idle) c.caller.view_is
+    (forget_row seat.table_id c.forget_often-attempt.new.seat.table_id a c.args.place None v w c.forget_often-attempt.ensures.own.0 goes)
+
+pub returns-in-Missed-clause-forgotten : goal.returns-in-Missed-clause-forgotten
+returns-in-Missed-clause-forgotten g c =
+    let seat = c.caller.inside.seat in
+    let v = seat.me.0 in
+    let w = c.forget_often-attempt.new.seat.me.0 in
+    let a = c.caller.inside.number in
+    let same : sizes_of v ≡ c.self.inside.sizes = ap (λ (x : CallerValue _). x.group.sizes) c.caller.view_is ∙ (ap (λ (x : GroupValue). x.sizes) c.requires.own ∙ ap (λ (x : GroupValue). x.sizes) (sym c.self.view_is)) in
+    let goes = subst (λ (z : Sizes). Goes z a v w stage.Free (event.Forget a c.args.place None ∷ []) 0) (sym same) c.in-Missed.ensures.forgot in
+    subst (λ (x : CallerValue _). HasForgotten x c.args.place (caller_of c.forget_often-attempt.new.seat.table_id w a) forgotten.Idle) c.caller.view_is
+    (forget_row seat.table_id c.forget_often-attempt.new.seat.table_id a c.args.place None v w c.forget_often-attempt.ensures.own.0 goes)
 
 pub returns-clause-refused : goal.returns-clause-refused
 returns-clause-refused g c =
@@ -43,6 +54,6 @@ returns-clause-refused g c =
     let w = c.forget_often-attempt.new.seat.me.0 in
     let a = c.caller.inside.number in
     let same : sizes_of v ≡ c.self.inside.sizes = ap (λ (x : CallerValue _). x.group.sizes) c.caller.view_is ∙ (ap (λ (x : GroupValue). x.sizes) c.requires.own ∙ ap (λ (x : GroupValue). x.sizes) (sym c.self.view_is)) in
-    let done = subst (λ (z : Sizes). Tries z a c.args.place c.args.tries v w stage.Free) (sym same) c.in-Missed.ensures.forgot in
+    let done = subst (λ (z : Sizes). Tries z a c.args.place c.args.tries v w stage.Free) (sym same) c.in-Lost.ensures.forgot in
     subst (λ (x : CallerValue _). HasNotForgotten x c.args.place c.args.tries (caller_of c.forget_often-attempt.new.seat.table_id w a) c.args.tries) c.caller.view_is
     (miss_row seat.table_id c.forget_often-attempt.new.seat.table_id a c.args.place c.args.tries v w c.forget_often-attempt.ensures.own.0 done)

@@ -1,0 +1,60 @@
+use Rattle.std.proofs.Common.{◌≡◌, ◌∙◌, [], ◌∷◌, sym, ap, subst}
+use Rattle.sf_history.specs.declared.event.Event.TheVariants as event
+use Rattle.sf_history.specs.declared.event.Hit.TheVariants as hit
+use Rattle.sf_schedules.specs.declared.operation.Stage.TheVariants as stage
+use Rattle.sf_calls.specs.declared.sizes.Sizes.{Sizes}
+use Rattle.sf_word_steps.specs.View.{sizes_of}
+use Rattle.sf_calls.specs.Tokens.{GroupValue, CallerValue}
+use Rattle.sf_word_steps.specs.Stands.{Goes}
+use Rattle.sf_word_steps.specs.Changes.{Tries}
+use Rattle.sf_group.specs.Known.{caller_of}
+use Rattle.sf_calls.specs.Forgets.{HasForgotCall}
+use Rattle.sf_group.specs.Calls.{HasNotForgotten}
+use Rattle.sf_group.proofs.Rows.{forget_call_row, forget_meant_row, miss_row}
+use Rattle.sf_group.proofs.group.Group.forget_call.Goals as goal
+
+pub returns-in-Closed-clause-forgot : goal.returns-in-Closed-clause-forgot
+returns-in-Closed-clause-forgot g c =
+    let seat = c.caller.inside.seat in
+    let v = seat.me.0 in
+    let w = c.forget_often-attempt.new.seat.me.0 in
+    let a = c.caller.inside.number in
+    let same : sizes_of v ≡ c.self.inside.sizes = ap (λ (x : CallerValue _). x.group.sizes) c.caller.view_is ∙ (ap (λ (x : GroupValue). x.sizes) c.requires.own ∙ ap (λ (x : GroupValue). x.sizes) (sym c.self.view_is)) in
+    let called = c.in-Closed.field-0 in
+    let goes = subst (λ (z : Sizes). Goes z a v w stage.Free (event.ForgetCall a c.args.place called hit.Closed ∷ []) 0) (sym same) c.in-Closed.ensures.forgot.1 in
+    subst (λ (x : CallerValue _). HasForgotCall x c.args.place c.args.call hit.Closed (caller_of c.forget_often-attempt.new.seat.table_id w a)) c.caller.view_is
+    (forget_meant_row seat.table_id c.forget_often-attempt.new.seat.table_id a c.args.place c.args.call called hit.Closed v w c.forget_often-attempt.ensures.own.0 c.in-Closed.ensures.forgot.0 goes)
+
+pub returns-in-Cleared-clause-forgot : goal.returns-in-Cleared-clause-forgot
+returns-in-Cleared-clause-forgot g c =
+    let seat = c.caller.inside.seat in
+    let v = seat.me.0 in
+    let w = c.forget_often-attempt.new.seat.me.0 in
+    let a = c.caller.inside.number in
+    let same : sizes_of v ≡ c.self.inside.sizes = ap (λ (x : CallerValue _). x.group.sizes) c.caller.view_is ∙ (ap (λ (x : GroupValue). x.sizes) c.requires.own ∙ ap (λ (x : GroupValue). x.sizes) (sym c.self.view_is)) in
+    let called = c.in-Cleared.field-0 in
+    let goes = subst (λ (z : Sizes). Goes z a v w stage.Free (event.ForgetCall a c.args.place called hit.Cleared ∷ []) 0) (sym same) c.in-Cleared.ensures.forgot.1 in
+    subst (λ (x : CallerValue _). HasForgotCall x c.args.place c.args.call hit.Cleared (caller_of c.forget_often-attempt.new.seat.table_id w a)) c.caller.view_is
+    (forget_meant_row seat.table_id c.forget_often-attempt.new.seat.table_id a c.args.place c.args.call called hit.Cleared v w c.forget_often-attempt.ensures.own.0 c.in-Cleared.ensures.forgot.0 goes)
+
+pub returns-in-Missed-clause-forgot : goal.returns-in-Missed-clause-forgot
+returns-in-Missed-clause-forgot g c =
+    let seat = c.caller.inside.seat in
+    let v = seat.me.0 in
+    let w = c.forget_often-attempt.new.seat.me.0 in
+    let a = c.caller.inside.number in
+    let same : sizes_of v ≡ c.self.inside.sizes = ap (λ (x : CallerValue _). x.group.sizes) c.caller.view_is ∙ (ap (λ (x : GroupValue). x.sizes) c.requires.own ∙ ap (λ (x : GroupValue). x.sizes) (sym c.self.view_is)) in
+    let goes = subst (λ (z : Sizes). Goes z a v w stage.Free (event.ForgetCall a c.args.place c.args.call hit.Missed ∷ []) 0) (sym same) c.in-Missed.ensures.forgot in
+    subst (λ (x : CallerValue _). HasForgotCall x c.args.place c.args.call hit.Missed (caller_of c.forget_often-attempt.new.seat.table_id w a)) c.caller.view_is
+    (forget_call_row seat.table_id c.forget_often-attempt.new.seat.table_id a c.args.place c.args.call hit.Missed v w c.forget_often-attempt.ensures.own.0 goes)
+
+pub returns-clause-refused : goal.returns-clause-refused
+returns-clause-refused g c =
+    let seat = c.caller.inside.seat in
+    let v = seat.me.0 in
+    let w = c.forget_often-attempt.new.seat.me.0 in
+    let a = c.caller.inside.number in
+    let same : sizes_of v ≡ c.self.inside.sizes = ap (λ (x : CallerValue _). x.group.sizes) c.caller.view_is ∙ (ap (λ (x : GroupValue). x.sizes) c.requires.own ∙ ap (λ (x : GroupValue). x.sizes) (sym c.self.view_is)) in
+    let done = subst (λ (z : Sizes). Tries z a c.args.place c.args.tries v w stage.Free) (sym same) c.in-Lost.ensures.forgot in
+    subst (λ (x : CallerValue _). HasNotForgotten x c.args.place c.args.tries (caller_of c.forget_often-attempt.new.seat.table_id w a) c.args.tries) c.caller.view_is
+    (miss_row seat.table_id c.forget_often-attempt.new.seat.table_id a c.args.place c.args.tries v w c.forget_often-attempt.ensures.own.0 done)
