@@ -1,7 +1,7 @@
 //! The two caches: what is kept of places, and the limit that both share.
 ghost use Rattle.std.specs.Prelude.{◌≡◌, ◌<◌, ◌≤◌, ◌+◌, ◌^◌, OnOk, OnErr, IfOk, length};
 ghost use Rattle.std.specs.Borrow.{sem};
-ghost use Rattle.std.specs.Option.{option_copied_mut};
+ghost use Rattle.std.specs.Option.{option_copied, option_copied_mut};
 ghost use Rattle.sf_caches.specs.Trimming.{CachesValue, no_entries, removed, after_put, room_of, trimmed, entries_of};
 ghost use Rattle.sf_caches.specs.LendingBoth.{LendsFrom};
 ghost use Rattle.sf_caches.specs.Looks.{item_at};
@@ -81,6 +81,16 @@ impl<T: Drop> Caches<T> {
         match which {
             Which::Main => self.main.look(place),
             Which::Hot => self.hot.look(place),
+        }
+    }
+
+    /// The item of the place, to read; the order of the entries stays. It takes no memory.
+    pub fn peek(&self, which: Which, place: u32) -> Option<&T>
+        ensures { option_copied result ≡ item_at place (entries_of which self.now) }
+    {
+        match which {
+            Which::Main => self.main.peek(place),
+            Which::Hot => self.hot.peek(place),
         }
     }
 

@@ -4,7 +4,7 @@ ghost use Rattle.std.specs.Map.{remove_entry};
 ghost use Rattle.std.specs.NonZero.{non_zero_usize_get};
 ghost use Rattle.lru.specs.LruCache.{lru_cache, promoted};
 ghost use Rattle.std.specs.Borrow.{sem};
-ghost use Rattle.std.specs.Option.{option_copied_mut};
+ghost use Rattle.std.specs.Option.{option_copied, option_copied_mut};
 ghost use Rattle.sf_caches.specs.Lending.{LendsItem};
 ghost use Rattle.sf_caches.specs.LendingItem.{LendsItsItem};
 ghost use Rattle.sf_caches.specs.Looks.{item_at};
@@ -81,6 +81,14 @@ impl<T: Drop> Shelf<T> {
     {
         let kept = self.entries.get_mut(&place)?;
         Some(kept.item_mut())
+    }
+
+    // The place's item; the order stays.
+    pub(crate) fn peek(&self, place: u32) -> Option<&T>
+        ensures { option_copied result ≡ item_at place self.now.entries }
+    {
+        let kept = self.entries.peek(&place)?;
+        Some(&kept.item)
     }
 
     pub(crate) fn remove(&mut self, place: u32)

@@ -1,3 +1,4 @@
 pub mod AddsAgain
+pub mod Moments
 pub mod Refused
 pub mod RowsAfter

@@ -6,6 +6,7 @@ pub mod Making
 pub mod Notes
 pub mod Same
 pub mod Seen
+pub mod Unforgotten
 pub mod Tokens
 pub mod Afters
 pub mod Currents

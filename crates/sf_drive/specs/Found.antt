@@ -1,7 +1,7 @@
 -- what a drive found, and what it says of it
 use Rattle.std.specs.Prelude.{◌≡◌, ℕ, Bool, true, false, List, [], ◌++◌, map, Ok, codes, nat_eq}
 use Rattle.sf_history.specs.declared.event.Event.{Event}
-use Rattle.sf_history.specs.declared.event.Event.TheVariants.{Lead, Enter, Forget, Settle, Handed}
+use Rattle.sf_history.specs.declared.event.Event.TheVariants.{Lead, Enter, Forget, ForgetCall, Settle, Handed}
 use Rattle.sf_checker.specs.Checker.{IsVerdictOf}
 use Rattle.sf_replay.specs.Record.{TextEvent}
 use Rattle.sf_replay.specs.TextKeys.{with_text_keys}
@@ -22,6 +22,7 @@ abbrev pub empty_settled : Event (List ℕ) (Unit {0}) → TextEvent
 empty_settled (Lead by key call own) = Lead by key call own
 empty_settled (Enter by key call member) = Enter by key call member
 empty_settled (Forget by key closed) = Forget by key closed
+empty_settled (ForgetCall by key call hit) = ForgetCall by key call hit
 empty_settled (Settle by call result joiners) = Settle by call (Ok []) joiners
 empty_settled (Handed by call) = Handed by call
 

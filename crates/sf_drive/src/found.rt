@@ -48,6 +48,7 @@ fn empty_settled(alloc: Global, event: Event<Text, ()>) -> TextEvent
             member,
         },
         Event::Forget { by, key, closed } => Event::Forget { by, key, closed },
+        Event::ForgetCall { by, key, call, hit } => Event::ForgetCall { by, key, call, hit },
         Event::Settle {
             by,
             call,

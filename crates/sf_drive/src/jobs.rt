@@ -115,7 +115,7 @@ impl<'a, 'd, D: Naming, N: Naming> Job<'a, 'd, D, N> {
                 answers = answers.saturating_add(is_right as u32);
             }
             getter = if turn % 10 == 9 {
-                let (back, _forgotten) = fill.reload(rt, back, key);
+                let (back, _forgot) = fill.reload(rt, back, key);
                 back
             } else {
                 back

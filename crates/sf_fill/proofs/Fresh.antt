@@ -3,8 +3,8 @@ use Rattle.std.proofs.Common.{◌≡◌, ℕ, ◌+◌, nat_eq, Bool, true, false
 use Rattle.std.proofs.lemmas.List.{append-nil}
 use Rattle.std.proofs.lemmas.List.Folds.{list_any-append}
 use Rattle.sf_history.specs.declared.call.CallId.{CallId}
-use Rattle.sf_history.specs.declared.command.Forgotten.{Forgotten}
-use Rattle.sf_history.specs.declared.command.Forgotten.TheVariants as forgotten
+use Rattle.sf_history.specs.declared.event.Hit.{Hit}
+use Rattle.sf_history.specs.declared.event.Hit.TheVariants as hit
 use Rattle.sf_history.specs.declared.event.Event.{Event}
 use Rattle.sf_history.specs.declared.event.Event.TheVariants as event
 use Rattle.sf_history.specs.History.{current_call}
@@ -15,7 +15,6 @@ use Rattle.sf_calls.specs.Tokens.{GroupValue, CallerValue, FlightValue, SettledV
 use Rattle.sf_calls.specs.Seen.{StartsWith, Stands, Grows, Adds}
 use Rattle.sf_calls.specs.Same.{HasNothing, IsStill, call_of}
 use Rattle.sf_calls.specs.Notes.{HasLent}
-use Rattle.sf_calls.specs.Forgets.{HasForgotten}
 use Rattle.sf_calls.proofs.AddsAgain.{starts_again, grows_again, adds_again}
 use Rattle.sf_dir.specs.Known.{DirectoryId, DeskState, PlaceState}
 use Rattle.sf_dir.specs.declared.refusal.Refusal.{Refusal}
@@ -28,6 +27,8 @@ use Rattle.sf_fill.specs.declared.fault.LoadFault.{LoadFault}
 use Rattle.sf_fill.specs.declared.fault.LoadFault.TheVariants as fault
 use Rattle.sf_fill.specs.declared.found.Found.{Found}
 use Rattle.sf_fill.specs.declared.found.Found.TheVariants.{Kept, Uncopied, Spent, Joined, Led}
+use Rattle.sf_fill.specs.declared.forgot.Forgot.{Forgot}
+use Rattle.sf_fill.specs.declared.forgot.Forgot.TheVariants as forgot
 use Rattle.sf_fill.specs.declared.standing.Standing.{Standing}
 use Rattle.sf_fill.specs.declared.standing.Standing.TheVariants.{Free, Owing}
 use Rattle.sf_fill.specs.declared.totals.GetCounts.{GetCounts}
@@ -35,14 +36,16 @@ use Rattle.sf_fill.specs.declared.totals.Totals.{Totals}
 use Rattle.sf_fill.specs.Counted.{has_asking, is_asking, IsCounted}
 use Rattle.sf_fill.specs.FillValue.{Filled, FitsFill, fill_lasts}
 use Rattle.sf_fill.specs.Found.{HasFoundFrom, HasRun, IsSource}
-use Rattle.sf_fill.specs.Fresh.{HasAdded, handed_by, delivered_by, IsFresh, IsAsking, IsAnswer, IsUnanswered, closed_by, IsFreshGet, ForgetsOnce, IsReloading}
+use Rattle.sf_fill.specs.Fresh.{HasAdded, handed_by, delivered_by, IsFresh, IsAsking, IsAnswer, IsUnanswered, forgot_by, IsOutdated, IsFreshGet, ForgetsOnce, IsReloading}
 use Rattle.sf_fill.specs.Gets.{GetAnswer, Reply, reply_of, refusal_of, answer_by, GetsFrom, HasGot}
 use Rattle.sf_fill.specs.GetterValue.{GetterValue, number_of, group_of, seen_of, is_owing}
 use Rattle.sf_fill.specs.Owing.{HasDelivered}
-use Rattle.sf_fill.specs.Reloads.{ReloadsFrom, HasReloaded}
-use Rattle.sf_fill.specs.Rooted.{IsUnforgotten}
+use Rattle.sf_fill.specs.Reloads.{HasForgotNamed, ForgetsNamed, ReloadsFrom, HasReloaded}
+use Rattle.sf_calls.specs.Unforgotten.{IsUnforgotten}
 use Rattle.sf_fill.specs.Settled.{IsSettled}
-use Rattle.sf_fill.proofs.Rooting.{root_unforgotten, first_added, led_current, entered_current}
+use Rattle.sf_fill.proofs.Outdated.{outdated}
+use Rattle.sf_calls.proofs.Moments.{first_added, led_current, entered_current}
+use Rattle.sf_fill.proofs.Rooting.{root_unforgotten}
 
 abbrev Seen : Type 0
 Seen = List (Event ℕ Filled)
@@ -195,9 +198,26 @@ asked_before c u k reply still a = record {
   suits = a.suits;
 }
 
-forgot : (c back : CallerValue Filled) (k : ℕ) (f : Forgotten) → HasForgotten c k back f → Moved c.group c.number c.seen back.group back.number back.seen (event.Forget c.number k (closed_by f) ∷ []) 0
-forgot c back k (forgotten.Closed x) h = record { group = h.group; number = h.number; adds = h.adds }
-forgot c back k forgotten.Idle h = record { group = h.group; number = h.number; adds = h.adds }
+forgot_named : (c back : CallerValue Filled) (k : ℕ) (x : CallId) (h : Hit) → HasForgotNamed c k x h back
+    → Moved c.group c.number c.seen back.group back.number back.seen (event.ForgetCall c.number k x h ∷ []) 0
+forgot_named c back k x h w =
+    let m = w.0 in
+    let one : Moved m.group m.number m.seen back.group back.number back.seen (event.ForgetCall m.number k x h ∷ []) 0 = record { group = w.2.group; number = w.2.number; adds = w.2.adds } in
+    subst (λ (i : ℕ). Moved c.group c.number c.seen back.group back.number back.seen (event.ForgetCall i k x h ∷ []) 0) w.1.nothing.number
+    (moved_again _ _ _ _ _ _ _ _ _ _ _ _ _ (nothing_moved c m w.1.nothing) one)
+
+forgot : (c back : CallerValue Filled) (k : ℕ) (f : Forgot) → ForgetsNamed c k f back → Moved c.group c.number c.seen back.group back.number back.seen (forgot_by c.number k f) 0
+forgot c back k (forgot.Closed x) w = forgot_named c back k x hit.Closed w
+forgot c back k (forgot.Cleared x) w = forgot_named c back k x hit.Cleared w
+forgot c back k (forgot.Missed x) w = forgot_named c back k x hit.Missed w
+forgot c back k forgot.Idle w = nothing_moved c back w.nothing
+
+-- a reload asks for nothing
+none_forgot : (a k : ℕ) (f : Forgot) → 0 ≡ cond (has_asking (forgot_by a k f)) 1 0
+none_forgot a k (forgot.Closed x) = refl
+none_forgot a k (forgot.Cleared x) = refl
+none_forgot a k (forgot.Missed x) = refl
+none_forgot a k forgot.Idle = refl
 
 module _ {P F L C : Type 0} (path : CallId → Loaders P F L C → LoadAnswer → Loaders P F L C → Type 0) (draws : C → C → Type 0) (d : DirectoryId) (key : List ℕ) where
   source_counts : (p : PlaceState) (f : FlightValue Filled) (old new : Loaders P F L C) (v : Filled) (n : GetCounts) → IsSource path draws p f old new v n → (n.gets ≡ 1) × (n.loads ≡ 1)
@@ -384,36 +404,39 @@ module _ {P F L C : Type 0} (path : CallId → Loaders P F L C → LoadAnswer �
       }
 
 module _ {P F L C : Type 0} (d : DirectoryId) (key : List ℕ) where
-  reloads_from : (old new : GetterValue P F L C) (m : Standing Filled) (answer : Result Forgotten LoadFault) → HasDelivered old.standing m → ReloadsFrom d key m old.desk new.desk new.standing answer → IsReloading d key old new answer
+  reloads_from : (old new : GetterValue P F L C) (m : Standing Filled) (answer : Result Forgot LoadFault) → HasDelivered old.standing m → ReloadsFrom d key m old.desk new.desk new.standing answer → IsReloading d key old new answer
   reloads_from old new (Owing s) answer owed r = (
     false,
-    subst (λ (a : Result Forgotten LoadFault). ForgetsOnce d key old new false a) (sym r.2)
+    subst (λ (a : Result Forgot LoadFault). ForgetsOnce d key old new false a) (sym r.2)
         (subst (λ (n : Standing Filled). HasAdded old.standing n (handed_by old.standing false)) (sym r.1) (delivered old.standing (Owing s) owed)),
   )
   reloads_from old new (Free c) answer owed r = elim r.1 [
     | inl w ↦ (
       true,
-      subst (λ (a : Result Forgotten LoadFault). ForgetsOnce d key old new true a) (sym w.answer_is)
+      subst (λ (a : Result Forgot LoadFault). ForgetsOnce d key old new true a) (sym w.answer_is)
           (subst (λ (n : Standing Filled). HasAdded old.standing n (handed_by old.standing true)) (sym w.still) (delivered old.standing (Free c) owed)),
     )
     | inr w ↦
         let before = delivered old.standing (Free c) owed in
-        let one : Seen = event.Forget c.number w.place.number (closed_by w.forgotten) ∷ [] in
-        let all = added_more old.standing (Free c) (Free w.back) (handed_by old.standing true) one 0 before (none_asked old.standing true) (forgot c w.back w.place.number w.forgotten w.forgot) refl in (
+        let one : Seen = forgot_by c.number w.place.number w.came_to in
+        let all = added_more old.standing (Free c) (Free w.back) (handed_by old.standing true) one 0 before (none_asked old.standing true) (forgot c w.back w.place.number w.came_to w.forgot)
+        (none_forgot c.number w.place.number w.came_to) in (
           true,
-          subst (λ (a : Result Forgotten LoadFault). ForgetsOnce d key old new true a) (sym w.answer_is) (
+          subst (λ (a : Result Forgot LoadFault). ForgetsOnce d key old new true a) (sym w.answer_is) (
             refl,
             record {
               place = w.place;
               resolved = w.resolved;
-              adds = subst (λ (i : ℕ). HasAdded old.standing new.standing (handed_by old.standing true ++ event.Forget i w.place.number (closed_by w.forgotten) ∷ [])) before.number
+              adds = subst (λ (i : ℕ). HasAdded old.standing new.standing (handed_by old.standing true ++ forgot_by i w.place.number w.came_to)) before.number
                   (subst (λ (n : Standing Filled). HasAdded old.standing n (handed_by old.standing true ++ one)) (sym w.free) all);
+              outdated = subst (λ (n : Standing Filled). IsOutdated w.place.number (seen_of old.standing) (seen_of n)) (sym w.free)
+                  (outdated (seen_of old.standing) c w.back w.place.number w.came_to before.grows.begins w.forgot);
             },
           ),
         )
   ]
 
-  pub reloading : (old new : GetterValue P F L C) (answer : Result Forgotten LoadFault) → HasReloaded d key old new answer → IsReloading d key old new answer
+  pub reloading : (old new : GetterValue P F L C) (answer : Result Forgot LoadFault) → HasReloaded d key old new answer → IsReloading d key old new answer
   reloading old new answer h =
       let desk : h.middle.desk ≡ old.desk = ap (λ (g : GetterValue P F L C). g.desk) h.settled.rest in
       reloads_from old new h.middle.standing answer h.settled.delivered (subst (λ (k : DeskState). ReloadsFrom d key h.middle.standing k new.desk new.standing answer) desk h.reloaded)

@@ -1,11 +1,11 @@
 -- gets and reloads, over the parts of their getters
 use Rattle.std.proofs.Common.{◌≡◌, ℕ, List, Result, ap, sym, ◌∙◌, subst, refl}
 use Rattle.sf_history.specs.declared.call.CallId.{CallId}
-use Rattle.sf_history.specs.declared.command.Forgotten.{Forgotten}
 use Rattle.sf_dir.specs.Known.{DirectoryId, DeskState}
 use Rattle.sf_loaders.specs.LoadPath.{LoadAnswer}
 use Rattle.sf_loaders.specs.declared.load_path.Loaders.{Loaders}
 use Rattle.sf_fill.specs.declared.fault.LoadFault.{LoadFault}
+use Rattle.sf_fill.specs.declared.forgot.Forgot.{Forgot}
 use Rattle.sf_fill.specs.declared.standing.Standing.{Standing}
 use Rattle.sf_fill.specs.declared.totals.Totals.{Totals}
 use Rattle.sf_fill.specs.FillValue.{Filled}
@@ -32,7 +32,7 @@ module _ {P F L C : Type 0} where
       }
 
   pub reloaded : (d : DirectoryId) (key : List ℕ) (old middle : GetterValue P F L C) (desk after : DeskState) (standing back : Standing Filled) (loaders : Loaders P F L C)
-      (tallies : Totals) (answer : Result Forgotten LoadFault)
+      (tallies : Totals) (answer : Result Forgot LoadFault)
       → HasSettledUp old middle → record { desk = desk; standing = standing; loaders = loaders; counted = tallies } ≡ middle
       → ReloadsFrom d key standing desk after back answer
       → HasReloaded d key old (record { desk = after; standing = back; loaders = loaders; counted = tallies }) answer

@@ -3,6 +3,7 @@ pub mod Dealt
 pub mod Fresh
 pub mod Got
 pub mod Looks
+pub mod Outdated
 pub mod Popped
 pub mod Rooting
 pub mod Sums

@@ -12,7 +12,8 @@ use Rattle.sf_calls.proofs.AddsAgain.{starts_again, grows_again, grows_none}
 use Rattle.sf_fill.specs.FillValue.{Filled, FitsFill, fill_lasts}
 use Rattle.sf_fill.specs.Rooted.{IsRooted}
 use Rattle.sf_fill.specs.Settled.{IsKeptLetter, IsCurrentLetter, IsFollowed, HasLooked}
-use Rattle.sf_fill.proofs.Rooting.{first_added, rooted_itself, rooted_after}
+use Rattle.sf_calls.proofs.Moments.{first_added}
+use Rattle.sf_fill.proofs.Rooting.{rooted_itself, rooted_after}
 
 pub lent_again : (l m n : LetterValue Filled) → HasLent l m → HasLent m n → HasLent l n
 lent_again l m n first second = record {

@@ -2,7 +2,7 @@
 use Rattle.std.specs.Prelude.{◌≡◌, ℕ, ◌+◌, Bool, true, false, List, ◌++◌, IsOk}
 use Rattle.std.specs.List.{list_any}
 use Rattle.sf_history.specs.declared.event.Event.{Event}
-use Rattle.sf_history.specs.declared.event.Event.TheVariants.{Lead, Enter, Forget, Settle, Handed}
+use Rattle.sf_history.specs.declared.event.Event.TheVariants.{Lead, Enter, Forget, ForgetCall, Settle, Handed}
 use Rattle.sf_history.specs.History.{own_events}
 use Rattle.sf_calls.specs.Seen.{StartsWith}
 use Rattle.sf_fill.specs.FillValue.{Filled}
@@ -15,6 +15,7 @@ module _ {V : Type 0} where
   is_asking (Lead by key call own) = true
   is_asking (Enter by key call member) = true
   is_asking (Forget by key closed) = false
+  is_asking (ForgetCall by key call hit) = false
   is_asking (Settle by call result joiners) = false
   is_asking (Handed by call) = false
 

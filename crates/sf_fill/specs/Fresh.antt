@@ -1,10 +1,9 @@
 -- what getters add to the history, and how fresh their answers are
-use Rattle.std.specs.Prelude.{◌≡◌, ℕ, nat_eq, Bool, true, false, cond, not, ◌⊎◌, List, [], ◌∷◌, ◌++◌, Option, Some, None, Result, Ok, Err}
+use Rattle.std.specs.Prelude.{◌≡◌, ◌≢◌, ℕ, nat_eq, Bool, true, false, cond, not, ◌⊎◌, List, [], ◌∷◌, ◌++◌, Option, Some, None, Result, Ok, Err}
 use Rattle.sf_history.specs.declared.call.CallId.{CallId}
-use Rattle.sf_history.specs.declared.command.Forgotten.{Forgotten}
-use Rattle.sf_history.specs.declared.command.Forgotten.TheVariants as forgotten
 use Rattle.sf_history.specs.declared.event.Event.{Event}
-use Rattle.sf_history.specs.declared.event.Event.TheVariants.{Lead, Enter, Forget, Settle, Handed}
+use Rattle.sf_history.specs.declared.event.Event.TheVariants.{Lead, Enter, ForgetCall, Settle, Handed}
+use Rattle.sf_history.specs.declared.event.Hit.TheVariants as hit
 use Rattle.sf_history.specs.History.{current_call}
 use Rattle.sf_calls.specs.Tokens.{LetterValue}
 use Rattle.sf_calls.specs.Seen.{StartsWith, Stands, IsLawful, Grows}
@@ -12,6 +11,8 @@ use Rattle.sf_dir.specs.Known.{DirectoryId, PlaceState}
 use Rattle.sf_loaders.specs.declared.faults.LocalFault.TheVariants as local
 use Rattle.sf_fill.specs.declared.fault.LoadFault.{LoadFault}
 use Rattle.sf_fill.specs.declared.fault.LoadFault.TheVariants as fault
+use Rattle.sf_fill.specs.declared.forgot.Forgot.{Forgot}
+use Rattle.sf_fill.specs.declared.forgot.Forgot.TheVariants as forgot
 use Rattle.sf_fill.specs.declared.standing.Standing.{Standing}
 use Rattle.sf_fill.specs.declared.standing.Standing.TheVariants.{Free, Owing}
 use Rattle.sf_fill.specs.Counted.{has_asking}
@@ -19,7 +20,7 @@ use Rattle.sf_fill.specs.FillValue.{Filled}
 use Rattle.sf_fill.specs.Gets.{GetAnswer}
 use Rattle.sf_fill.specs.GetterValue.{GetterValue, number_of, group_of, seen_of, is_owing}
 use Rattle.sf_fill.specs.Resolving.{IsPlaceOfKey}
-use Rattle.sf_fill.specs.Rooted.{IsUnforgotten}
+use Rattle.sf_calls.specs.Unforgotten.{IsUnforgotten}
 
 -- A caller that stays the same has seen more, in which it made these events, with a generation for an asking among them. All
 -- that it has seen is a legal history of the group's callers, or what it was.
@@ -73,9 +74,16 @@ IsUnanswered added (Err (fault.Local text)) = ⊥
 IsUnanswered added (Err (fault.Refused refusal)) = added ≡ []
 IsUnanswered added (Err fault.Memory) = added ≡ []
 
-abbrev pub closed_by : Forgotten → Option CallId
-closed_by (forgotten.Closed c) = Some c
-closed_by forgotten.Idle = None
+-- what a reload adds that came to this: a Forget of the call that it names; where it names none, nothing
+abbrev pub forgot_by : ℕ → ℕ → Forgot → List (Event ℕ Filled)
+forgot_by by k (forgot.Closed c) = ForgetCall by k c hit.Closed ∷ []
+forgot_by by k (forgot.Cleared c) = ForgetCall by k c hit.Cleared ∷ []
+forgot_by by k (forgot.Missed c) = ForgetCall by k c hit.Missed ∷ []
+forgot_by by k forgot.Idle = []
+
+-- the call that was current in what had been seen is not current in what is seen then
+abbrev pub IsOutdated : ℕ → List (Event ℕ Filled) → List (Event ℕ Filled) → Type 0
+IsOutdated k old new = (c : CallId) → current_call nat_eq old k ≡ Some c → current_call nat_eq new k ≢ Some c
 
 module _ {P F L C : Type 0} (d : DirectoryId) (key : List ℕ) where
   -- the key has a place, of which this call was asked for or found
@@ -94,15 +102,16 @@ module _ {P F L C : Type 0} (d : DirectoryId) (key : List ℕ) where
     pub outcome : IsUnanswered added answer ⊎ IsAnswered old new added answer
     pub undelivered : delivered ≡ false → (added ≡ []) × (answer ≡ Err fault.Memory)
 
-  -- a reload adds one Forget of the key's place, after what was owed; where it is refused, none
-  pub record IsForgetOf (old new : GetterValue P F L C) (delivered : Bool) (forgotten : Forgotten) : Type 0 where
+  -- a reload adds one Forget of the call that it names, after what was owed; where it names none or is refused, none
+  pub record IsForgetOf (old new : GetterValue P F L C) (delivered : Bool) (came_to : Forgot) : Type 0 where
     pub place : PlaceState
     pub resolved : IsPlaceOfKey d key old.desk new.desk place
-    pub adds : HasAdded old.standing new.standing (handed_by old.standing delivered ++ Forget (number_of old.standing) place.number (closed_by forgotten) ∷ [])
+    pub adds : HasAdded old.standing new.standing (handed_by old.standing delivered ++ forgot_by (number_of old.standing) place.number came_to)
+    pub outdated : IsOutdated place.number (seen_of old.standing) (seen_of new.standing)
 
-  abbrev pub ForgetsOnce : GetterValue P F L C → GetterValue P F L C → Bool → Result Forgotten LoadFault → Type 0
-  ForgetsOnce old new delivered (Ok forgotten) = (delivered ≡ true) × IsForgetOf old new delivered forgotten
+  abbrev pub ForgetsOnce : GetterValue P F L C → GetterValue P F L C → Bool → Result Forgot LoadFault → Type 0
+  ForgetsOnce old new delivered (Ok came_to) = (delivered ≡ true) × IsForgetOf old new delivered came_to
   ForgetsOnce old new delivered (Err refused) = HasAdded old.standing new.standing (handed_by old.standing delivered)
 
-  abbrev pub IsReloading : GetterValue P F L C → GetterValue P F L C → Result Forgotten LoadFault → Type 0
+  abbrev pub IsReloading : GetterValue P F L C → GetterValue P F L C → Result Forgot LoadFault → Type 0
   IsReloading old new answer = (delivered : Bool) × ForgetsOnce old new delivered answer

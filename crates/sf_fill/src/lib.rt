@@ -18,6 +18,7 @@ mod cached;
 mod counting;
 mod fault;
 mod fill;
+mod forgot;
 mod found;
 mod getter;
 mod getting;
@@ -38,6 +39,7 @@ mod view;
 pub use counting::{Account, Parts, Tally, open};
 pub use fault::{GetRefusal, LoadFault};
 pub use fill::Fill;
+pub use forgot::Forgot;
 pub use getter::Getter;
 pub use making::FillParts;
 pub use naming::{

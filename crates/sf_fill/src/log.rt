@@ -1,8 +1,9 @@
 //! What a getter's calls added to the group's history, as far as there is room for it.
 
+use crate::forgot::Forgot;
 use sf_calls::Fit;
-use sf_group::{Event, Finished, Forgotten};
-use sf_history::CallId;
+use sf_group::{Event, Finished};
+use sf_history::{CallId, Hit};
 use sf_words::PlaceNo;
 use std::alloc::{AllocError, Global};
 use std::mem;
@@ -50,13 +51,15 @@ impl Log {
         }
     }
 
-    // A Forget of the place by the caller of this number.
-    pub(crate) fn add_forget(&mut self, by: u32, key: PlaceNo, forgotten: Forgotten) {
-        let closed = match forgotten {
-            Forgotten::Closed(call) => Some(call),
-            Forgotten::Idle => None,
+    // What a reload of the place by the caller of this number came to.
+    pub(crate) fn add_forgot(&mut self, by: u32, key: PlaceNo, forgot: Forgot) {
+        let (call, hit) = match forgot {
+            Forgot::Closed(call) => (call, Hit::Closed),
+            Forgot::Cleared(call) => (call, Hit::Cleared),
+            Forgot::Missed(call) => (call, Hit::Missed),
+            Forgot::Idle => return,
         };
-        self.add(Event::Forget { by, key, closed });
+        self.add(Event::ForgetCall { by, key, call, hit });
     }
 
     // The events; there is no room from then on.

@@ -85,10 +85,14 @@ impl<'d, D: Naming, N: Naming, O: Origin> Kept<'d, D, N, O> {
             .put(which, place, key_len, value_len, Cached::new(letter));
     }
 
-    // Takes the place's letters out of both caches.
-    fn remove(&mut self, place: u32) {
-        self.caches.remove(Which::Main, place);
-        self.caches.remove(Which::Hot, place);
+    // Takes the letters of the place's call out of both caches; those of a newer call stay.
+    fn remove(&mut self, place: u32, call: CallId) {
+        for which in [Which::Main, Which::Hot] {
+            let kept = self.caches.peek(which, place);
+            if kept.is_some_and(|cached| cached.call() == call) {
+                self.caches.remove(which, place);
+            }
+        }
     }
 
     // Enters what a get counted.
@@ -167,10 +171,10 @@ impl<'d, D: Naming, N: Naming, O: Origin> Fill<'d, D, N, O> {
         }
     }
 
-    // Takes the place's letters out of both caches.
-    pub(crate) fn remove<R: Wait>(&self, rt: &R, place: u32) {
+    // Takes the letters of the place's call out of both caches; those of a newer call stay.
+    pub(crate) fn remove<R: Wait>(&self, rt: &R, place: u32, call: CallId) {
         let mut kept = self.kept.lock(rt);
-        kept.remove(place);
+        kept.remove(place, call);
     }
 
     // Enters what a get counted.

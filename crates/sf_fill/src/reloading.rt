@@ -1,24 +1,45 @@
 //! Reloads.
 ghost use Rattle.std.specs.Prelude.{◌≡◌};
+ghost use Rattle.sf_calls.specs.Same.{IsPlaceOf};
 ghost use Rattle.sf_fill.specs.Fresh.{IsReloading};
 ghost use Rattle.sf_fill.specs.GetterValue.{IsOfGroup};
-ghost use Rattle.sf_fill.specs.Reloads.{HasReloaded, ReloadsFrom};
+ghost use Rattle.sf_fill.specs.Reloads.{ForgetsNamed, HasReloaded, ReloadsFrom};
 
 use crate::fault::{LoadFault, of_key};
 use crate::fill::Fill;
+use crate::forgot::Forgot;
 use crate::getter::Getter;
 use crate::log::Log;
 use crate::naming::Naming;
 use crate::standing::Standing;
 use crate::value::FillValue;
 use sf_dir::Desk;
-use sf_group::{Event, Forgotten};
+use sf_group::Caller;
 use sf_loaders::Origin;
-use sf_wait::forget_wait;
+use sf_wait::forget_call_wait;
 use std::sync::Wait;
 
 impl<'d, D: Naming, N: Naming, O: Origin> Fill<'d, D, N, O> {
-    // Forgets the key, unless the caller owes letters.
+    // Forgets the call that the place names, whose entries then leave both caches.
+    fn forget_named<R: Wait>(
+        &self,
+        rt: &R,
+        caller: &mut Caller<FillValue<'d, D, O>>,
+        place: u32,
+    ) -> Forgot
+        requires caller { caller.old.group ≡ N.group }
+        requires place { IsPlaceOf N.group place }
+        ensures { ForgetsNamed caller.old place result caller.new }
+    {
+        let Some(call) = self.group.named(caller, place) else {
+            return Forgot::Idle;
+        };
+        let hit = forget_call_wait(rt, &self.group, caller, place, call);
+        self.remove(rt, place, call);
+        Forgot::of(call, hit)
+    }
+
+    // Forgets the call that the key names, unless the caller owes letters.
     fn forget<R: Wait>(
         &self,
         rt: &R,
@@ -26,7 +47,7 @@ impl<'d, D: Naming, N: Naming, O: Origin> Fill<'d, D, N, O> {
         desk: &mut Desk,
         key: &[u8],
         log: &mut Log,
-    ) -> (Standing<FillValue<'d, D, O>>, Result<Forgotten, LoadFault>)
+    ) -> (Standing<FillValue<'d, D, O>>, Result<Forgot, LoadFault>)
         requires group { IsOfGroup N.group standing }
         requires desk { desk.old.directory ≡ N.directory }
         ensures reloaded { ReloadsFrom N.directory key.now standing.entry desk.old desk.new result.0 result.1 }
@@ -43,16 +64,16 @@ impl<'d, D: Naming, N: Naming, O: Origin> Fill<'d, D, N, O> {
             Err(refusal) => (Standing::Free(caller), Err(of_key(refusal))),
             Ok(place) => {
                 let number = place.number();
-                let forgotten = forget_wait(rt, &self.group, &mut caller, number.number());
-                self.remove(rt, number.number());
-                log.add_forget(caller.number(), number, forgotten);
-                (Standing::Free(caller), Ok(forgotten))
+                let forgot = self.forget_named(rt, &mut caller, number.number());
+                log.add_forgot(caller.number(), number, forgot);
+                (Standing::Free(caller), Ok(forgot))
             }
         }
     }
 
-    /// Forgets the key, whose entries then leave both caches. What the getter owes is delivered first; where that is refused
-    /// memory, so is the reload.
+    /// Forgets the call that the key names, whose entries then leave both caches; a newer call, and what is kept of it,
+    /// stays. A key that names none is idle. What the getter owes is delivered first; where that is refused memory, so is the
+    /// reload.
     pub fn reload<R: Wait, P, F, L, C>(
         &self,
         rt: &R,
@@ -60,7 +81,7 @@ impl<'d, D: Naming, N: Naming, O: Origin> Fill<'d, D, N, O> {
         key: &[u8],
     ) -> (
         Getter<'d, D, N, O, P, F, L, C>,
-        Result<Forgotten, LoadFault>,
+        Result<Forgot, LoadFault>,
     )
         ensures reloaded { HasReloaded N.directory key.now getter.entry result.0 result.1 }
         ensures adds { IsReloading N.directory key.now getter.entry result.0 result.1 }

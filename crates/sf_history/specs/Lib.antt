@@ -1,4 +1,5 @@
 pub mod Calls
+pub mod Hits
 pub mod CauseText
 pub mod History
 pub mod Legal

@@ -7,6 +7,7 @@ ghost use Rattle.sf_history.specs.History.{settles, result_in, result_of};
 use crate::call::CallId;
 use crate::share::{Memory, Share};
 use std::alloc::{AllocFailed, Global};
+use std::fmt;
 use std::marker::Model;
 
 /// What a Forget of one call found.
@@ -18,6 +19,21 @@ pub enum Hit {
     Cleared,
     /// The call was not the key's current one, and nothing changed.
     Missed,
+}
+
+impl fmt::Display for Hit {
+    ghost use Rattle.std.specs.Prelude.{Some};
+    ghost use Rattle.sf_history.specs.Hits.{hit_text};
+
+    ghost output = { λ h. Some (hit_text h) };
+
+    fn fmt<W: fmt::Write>(&self, f: &mut fmt::Formatter<W>) -> fmt::Result {
+        match self {
+            Hit::Closed => f.write_str("closed"),
+            Hit::Cleared => f.write_str("cleared"),
+            Hit::Missed => f.write_str("missed"),
+        }
+    }
 }
 
 /// One thing that happened in a group, with the caller `by` that made it.

@@ -1,14 +1,14 @@
 //! Logs of callers, merged into one history.
 //!
 //! Each log keeps the order of its own caller's events alone, so a merged history keeps no order in time. It goes by
-//! keys in their order. Of each key come first the forgets that closed nothing, and then its calls, by caller and
-//! generation: the lead, the enters by their members, the forgets that closed the call, the settle, the handed. What is
-//! of a call that nobody led comes last.
+//! keys in their order. Of each key come first the forgets that closed nothing, or missed their call, and then its calls,
+//! by caller and generation: the lead, the enters by their members, the forgets that closed the call, the settle, the
+//! handed, the forgets that cleared it. What is of a call that nobody led comes last.
 
 ghost use Rattle.std.specs.Prelude.{◌≡◌, ◌++◌, IfOk, OnOk, IsPermutation, map};
 ghost use Rattle.sf_replay.specs.Merged.{events_of_logs};
 
-use sf_history::{CallId, Event, History, Memory};
+use sf_history::{CallId, Event, History, Hit, Memory};
 use std::alloc::Global;
 use std::cmp::Ordering;
 
@@ -20,6 +20,7 @@ enum Part {
     Forget,
     Settle,
     Handed,
+    Cleared,
 }
 
 /// Where an event stands in a merged history: its fields, compared in their order.
@@ -27,9 +28,9 @@ enum Part {
 struct Standing {
     /// How many of the key's places come before it; the greatest number where nobody led the call.
     key: usize,
-    /// Whether it is of a call, and no forget that closed nothing.
+    /// Whether it is of a call, and no forget that closed nothing or missed its call.
     of_call: bool,
-    /// The call's caller, or the one that made a forget that closed nothing.
+    /// The call's caller, or the one that made a forget that closed nothing or missed its call.
     caller: u32,
     generation: u32,
     part: Part,
@@ -66,7 +67,7 @@ fn in_one<K: Drop, V: Drop>(
     Ok(events)
 }
 
-/// The key of a lead, or of a forget that closed nothing.
+/// The key of a lead, or of a forget that closed nothing or missed its call.
 fn own_key<K, V>(event: Option<&Event<K, V>>) -> Option<&K> {
     match event {
         Some(Event::Lead { key, .. }) => Some(key),
@@ -74,6 +75,13 @@ fn own_key<K, V>(event: Option<&Event<K, V>>) -> Option<&K> {
             Event::Forget {
                 key,
                 closed: None,
+                ..
+            },
+        ) => Some(key),
+        Some(
+            Event::ForgetCall {
+                key,
+                hit: Hit::Missed,
                 ..
             },
         ) => Some(key),
@@ -166,7 +174,7 @@ fn part_standing(
     }
 }
 
-/// Where a forget stands that closed nothing.
+/// Where a forget stands that closed nothing or missed its call.
 fn idle_standing(key: usize, by: u32) -> Standing {
     Standing {
         key,
@@ -204,6 +212,11 @@ fn standing_of<K, V>(
             closed: None,
             ..
         } => return idle_standing(own_rank, *by),
+        Event::ForgetCall { by, call, hit, .. } => match hit {
+            Hit::Closed => (*by, *call, Part::Forget, *call),
+            Hit::Cleared => (*by, *call, Part::Cleared, *call),
+            Hit::Missed => return idle_standing(own_rank, *by),
+        },
         Event::Settle { by, call, .. } => (*by, *call, Part::Settle, *call),
         Event::Handed { by, call } => (*by, *call, Part::Handed, *call),
     };

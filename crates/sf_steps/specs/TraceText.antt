@@ -3,9 +3,8 @@ use Rattle.std.specs.Prelude.{ℕ, Bool, true, false, List, [], ◌∷◌, ◌++
 use Rattle.sf_history.specs.declared.call.CallId.{CallId}
 use Rattle.sf_history.specs.declared.event.Event.{Event}
 use Rattle.sf_history.specs.declared.event.Event.TheVariants as event
-use Rattle.sf_history.specs.declared.event.Hit.{Hit}
-use Rattle.sf_history.specs.declared.event.Hit.TheVariants.{Closed, Cleared, Missed}
 use Rattle.sf_history.specs.Calls.{call_text}
+use Rattle.sf_history.specs.Hits.{hit_text}
 use Rattle.sf_words.specs.declared.key_word.KeyState.{KeyState}
 use Rattle.sf_words.specs.declared.key_word.KeyState.TheVariants.{Never, Names}
 use Rattle.sf_words.specs.declared.call_word.LeaderState.{LeaderState}
@@ -100,11 +99,6 @@ own_member_text (Some m) = codes " own=" ++ call_text m
 abbrev pub closed_text : Option CallId → List ℕ
 closed_text None = codes "idle"
 closed_text (Some c) = codes "closed " ++ call_text c
-
-abbrev pub hit_text : Hit → List ℕ
-hit_text Closed = codes "closed"
-hit_text Cleared = codes "cleared"
-hit_text Missed = codes "missed"
 
 abbrev pub event_text : Event ℕ Outcome → List ℕ
 event_text (event.Lead a k c own) = codes "= lead " ++ (decimal k ++ (codes " " ++ (call_text c ++ (own_member_text own ++ codes "\n"))))

@@ -4,7 +4,7 @@ ghost use Rattle.std.specs.Prelude.{◌≡◌, IfOk, string_bytes, true};
 ghost use Rattle.sf_steps.specs.TraceText as texts;
 
 use crate::machine::{Act, Step};
-use sf_history::{CallId, Event, Hit, Memory};
+use sf_history::{CallId, Event, Memory};
 use sf_text::Outcome;
 use sf_words::{CallState, KeyState, LeaderState, PlaceNo};
 use std::alloc::Global;
@@ -173,17 +173,6 @@ fn own_member(alloc: Global, own: Option<CallId>) -> Result<String, Memory>
     }
 }
 
-/// What a Forget of one call found.
-fn hit_word(hit: Hit) -> &'static str
-    ensures { result.now ≡ texts.hit_text hit }
-{
-    match hit {
-        Hit::Closed => "closed",
-        Hit::Cleared => "cleared",
-        Hit::Missed => "missed",
-    }
-}
-
 /// The line of an event.
 fn event(alloc: Global, event: &Event<PlaceNo, Outcome>) -> Result<String, Memory>
     ensures { IfOk result (λ s. string_bytes s ≡ texts.event_text event.now) }
@@ -210,7 +199,6 @@ fn event(alloc: Global, event: &Event<PlaceNo, Outcome>) -> Result<String, Memor
             ..
         } => format!(in alloc; "= forget {key} idle\n"),
         Event::ForgetCall { key, call, hit, .. } => {
-            let hit = hit_word(*hit);
             format!(in alloc; "= forgetcall {key} {call} {hit}\n")
         }
         Event::Settle {
