@@ -82,9 +82,9 @@ fn drive_prints_its_four_lines(rt: HostRuntime) -> Result<(), Fail> {
 #[test]
 fn drive_prints_its_history(rt: HostRuntime) -> Result<(), Fail> {
     let words = ["--threads", "1", "--keys", "1", "--gets", "2", "--history"];
-    let records = "{\"format\":1}
+    let records = "{\"format\":2}
 {\"e\":\"lead\",\"by\":1,\"k\":\"1\",\"c\":[1,1],\"own\":null}
-{\"e\":\"settle\",\"by\":1,\"c\":[1,1],\"ok\":\"\",\"shared\":false}
+{\"e\":\"settle\",\"by\":1,\"c\":[1,1],\"ok\":\"\",\"joiners\":0}
 {\"e\":\"handed\",\"by\":1,\"c\":[1,1]}
 ";
     check_drive(&rt, rt.alloc(), &words, records)
@@ -106,11 +106,11 @@ fn failed_drives_say_what_failed(rt: HostRuntime) -> Result<(), Fail> {
         totals_equal: false,
         verdict: Verdict::Illegal {
             index: 5,
-            cause: Cause::SharedMarkIsWrong,
+            cause: Cause::NumberOfJoinersIsWrong,
         },
     };
     let text = format!(in rt.alloc(); "{report}")?;
-    let wanted = "gets 3\nanswers 2\ntotals differ\nevent 5: shared mark is wrong";
+    let wanted = "gets 3\nanswers 2\ntotals differ\nevent 5: number of joiners is wrong";
     assert!(rt; text.as_str() == wanted, "{text}");
     assert!(rt; status(report.ending()) == 1, "the status");
     Ok(())

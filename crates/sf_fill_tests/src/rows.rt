@@ -51,12 +51,12 @@ fn reload_makes_a_third_get_load_again(rt: HostRuntime) -> Result<(), Fail> {
         ..SETTING
     };
     let outcome = try_out(&rt, rt.alloc(), setting)?;
-    let said = "a v=true 1.1 root=1.1 shared=false\n\
-        a v=true 1.1 root=1.1 shared=false\n\
+    let said = "a v=true 1.1 root=1.1 joiners=0\n\
+        a v=true 1.1 root=1.1 joiners=0\n\
         reload a idle\n\
-        a v=true 1.2 root=1.2 shared=false\n\
-        lead 1 1.1; settle 1 1.1 false; handed 1 1.1; forget 1; \
-        lead 1 1.2; settle 1 1.2 false; handed 1 1.2; log\n";
+        a v=true 1.2 root=1.2 joiners=0\n\
+        lead 1 1.1; settle 1 1.1 0; handed 1 1.1; forget 1; \
+        lead 1 1.2; settle 1 1.2 0; handed 1 1.2; log\n";
     check(&rt, &outcome, [said, ""], [3, 1, 2, 2, 0, 0, 2, 0]);
     Ok(())
 }
@@ -69,8 +69,8 @@ fn failed_peer_then_a_hit_for_the_second_getter(rt: HostRuntime) -> Result<(), F
         ..SETTING
     };
     let outcome = try_out(&rt, rt.alloc(), setting)?;
-    let first = "a v=true 1.1 root=1.1 shared=false\n";
-    let second = "a v=true 1.1 root=1.1 shared=false\nowes=false settled=true\n";
+    let first = "a v=true 1.1 root=1.1 joiners=0\n";
+    let second = "a v=true 1.1 root=1.1 joiners=0\nowes=false settled=true\n";
     check(&rt, &outcome, [first, second], [2, 1, 1, 1, 0, 1, 1, 0]);
     Ok(())
 }
@@ -103,10 +103,10 @@ fn one_in_ten_of_the_peers_values(rt: HostRuntime) -> Result<(), Fail> {
         ..SETTING
     };
     let outcome = try_out(&rt, rt.alloc(), setting)?;
-    let said = "a v=true 1.1 root=1.1 shared=false\n\
-        a v=true 1.1 root=1.1 shared=false\n\
-        b v=true 1.2 root=1.2 shared=false\n\
-        b v=true 1.3 root=1.3 shared=false\n";
+    let said = "a v=true 1.1 root=1.1 joiners=0\n\
+        a v=true 1.1 root=1.1 joiners=0\n\
+        b v=true 1.2 root=1.2 joiners=0\n\
+        b v=true 1.3 root=1.3 joiners=0\n";
     check(&rt, &outcome, [said, ""], [4, 1, 3, 3, 3, 0, 0, 0]);
     Ok(())
 }
@@ -121,10 +121,10 @@ fn refused_keys_and_no_room(rt: HostRuntime) -> Result<(), Fail> {
         ..SETTING
     };
     let outcome = try_out(&rt, rt.alloc(), setting)?;
-    let said = "a v=true 1.1 root=1.1 shared=false\n\
+    let said = "a v=true 1.1 root=1.1 joiners=0\n\
         b directory full\n\
         long! key too long\n\
-        a v=true 1.2 root=1.2 shared=false\n\
+        a v=true 1.2 root=1.2 joiners=0\n\
         reload b directory full\n";
     check(&rt, &outcome, [said, ""], [4, 0, 2, 2, 0, 0, 2, 0]);
     Ok(())
@@ -140,8 +140,8 @@ fn load_holds_no_lock(rt: HostRuntime) -> Result<(), Fail> {
     };
     let outcome = try_out(&rt, rt.alloc(), setting)?;
     assert!(rt; !outcome.failed, "a wait was given up");
-    let first = "a v=true 1.1 root=1.1 shared=false\n";
-    let second = "b v=true 2.1 root=2.1 shared=false\n";
+    let first = "a v=true 1.1 root=1.1 joiners=0\n";
+    let second = "b v=true 2.1 root=2.1 joiners=0\n";
     check(&rt, &outcome, [first, second], [2, 0, 2, 2, 0, 0, 2, 0]);
     Ok(())
 }
@@ -157,8 +157,8 @@ fn reload_during_load(rt: HostRuntime) -> Result<(), Fail> {
     };
     let outcome = try_out(&rt, rt.alloc(), setting)?;
     assert!(rt; !outcome.failed, "a wait was given up");
-    let first = "a v=true 1.1 root=1.1 shared=false\n";
-    let second = "reload a 1.1\na v=true 2.1 root=2.1 shared=false\n";
+    let first = "a v=true 1.1 root=1.1 joiners=0\n";
+    let second = "reload a 1.1\na v=true 2.1 root=2.1 joiners=0\n";
     check(&rt, &outcome, [first, second], [2, 0, 2, 2, 0, 0, 2, 0]);
     Ok(())
 }
@@ -181,10 +181,10 @@ fn old_answer_leaves_the_newer_letter(rt: HostRuntime) -> Result<(), Fail> {
     };
     let outcome = try_out(&rt, rt.alloc(), setting)?;
     assert!(rt; !outcome.failed, "a wait was given up");
-    let first = "a v=true 1.1 root=1.1 shared=false\n";
+    let first = "a v=true 1.1 root=1.1 joiners=0\n";
     let second = "reload a 1.1\n\
-        a v=true 2.1 root=2.1 shared=false\n\
-        a v=true 2.1 root=2.1 shared=false\n";
+        a v=true 2.1 root=2.1 joiners=0\n\
+        a v=true 2.1 root=2.1 joiners=0\n";
     check(&rt, &outcome, [first, second], [3, 1, 2, 2, 0, 0, 2, 0]);
     Ok(())
 }

@@ -75,7 +75,7 @@ impl<'a, 'd, 'f, D: Naming, N: Naming> Drop for Turns<'a, 'd, 'f, D, N> {
     }
 }
 
-// What a get answers: the bytes, the call and whether it is shared. Where memory is refused, the text is short.
+// What a get answers: the bytes, the call and how many joined it. Where memory is refused, the text is short.
 fn say_view<'d, D: Naming>(
     said: &mut String,
     key: &str,
@@ -85,10 +85,11 @@ fn say_view<'d, D: Naming>(
         Ok(view) => {
             let call = view.call();
             let root = view.root();
-            let shared = view.shared();
+            let joiners = view.joiners();
+            let shared = if view.shared() { " shared" } else { "" };
             let bytes: &Bytes = view.bytes();
             let is_v = bytes.as_slice() == b"v".as_slice();
-            write!(said, "{key} v={is_v} {call} root={root} shared={shared}\n")
+            write!(said, "{key} v={is_v} {call} root={root} joiners={joiners}{shared}\n")
         }
         Err(fault) => write!(said, "{key} {fault}\n"),
     };
@@ -111,9 +112,9 @@ fn say_events(said: &mut String, log: &[Event<PlaceNo, ()>]) {
             Event::Settle {
                 by,
                 call,
-                shared,
+                joiners,
                 ..
-            } => write!(said, "settle {by} {call} {shared}; "),
+            } => write!(said, "settle {by} {call} {joiners}; "),
             Event::Handed { by, call } => write!(said, "handed {by} {call}; "),
         };
     }
