@@ -82,7 +82,7 @@ module _ {K V : Type 0} where
       else Ok (asks_chan g a b k (open_call eq g.history k)))))
       else Err (NotFree a)
 
-  -- the leader settles its call with the joined mark, and hands out all its letters
+  -- the leader settles its call with the number of those who joined it, and hands out all its letters
   abbrev pub settles_call : GroupState K V → ℕ → V → Option CallId → Result ((CallId × ℕ) × GroupState K V) ModelRefusal
   settles_call g a v None = Err (NotLeading a)
   settles_call g a v (Some c) = Ok ((c, joined g.history c), with_events g (Settle a c v (joined g.history c) ∷ Handed a c ∷ []))
