@@ -53,9 +53,9 @@ fn reload_makes_a_third_get_load_again(rt: HostRuntime) -> Result<(), Fail> {
     let outcome = try_out(&rt, rt.alloc(), setting)?;
     let said = "a v=true 1.1 root=1.1 joiners=0\n\
         a v=true 1.1 root=1.1 joiners=0\n\
-        reload a idle\n\
+        reload a cleared 1.1\n\
         a v=true 1.2 root=1.2 joiners=0\n\
-        lead 1 1.1; settle 1 1.1 0; handed 1 1.1; forget 1; \
+        lead 1 1.1; settle 1 1.1 0; handed 1 1.1; forgetcall 1 1.1 cleared; \
         lead 1 1.2; settle 1 1.2 0; handed 1 1.2; log\n";
     check(&rt, &outcome, [said, ""], [3, 1, 2, 2, 0, 0, 2, 0]);
     Ok(())
@@ -158,7 +158,7 @@ fn reload_during_load(rt: HostRuntime) -> Result<(), Fail> {
     let outcome = try_out(&rt, rt.alloc(), setting)?;
     assert!(rt; !outcome.failed, "a wait was given up");
     let first = "a v=true 1.1 root=1.1 joiners=0\n";
-    let second = "reload a 1.1\na v=true 2.1 root=2.1 joiners=0\n";
+    let second = "reload a closed 1.1\na v=true 2.1 root=2.1 joiners=0\n";
     check(&rt, &outcome, [first, second], [2, 0, 2, 2, 0, 0, 2, 0]);
     Ok(())
 }
@@ -182,7 +182,7 @@ fn old_answer_leaves_the_newer_letter(rt: HostRuntime) -> Result<(), Fail> {
     let outcome = try_out(&rt, rt.alloc(), setting)?;
     assert!(rt; !outcome.failed, "a wait was given up");
     let first = "a v=true 1.1 root=1.1 joiners=0\n";
-    let second = "reload a 1.1\n\
+    let second = "reload a closed 1.1\n\
         a v=true 2.1 root=2.1 joiners=0\n\
         a v=true 2.1 root=2.1 joiners=0\n";
     check(&rt, &outcome, [first, second], [3, 1, 2, 2, 0, 0, 2, 0]);

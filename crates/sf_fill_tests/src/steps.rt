@@ -2,8 +2,8 @@
 
 use crate::loaders::{Flags, TestLocal};
 use bytes::Bytes;
-use sf_fill::{Fill, Getter, LoadFault, Naming, View};
-use sf_group::{Event, Forgotten};
+use sf_fill::{Fill, Forgot, Getter, LoadFault, Naming, View};
+use sf_group::Event;
 use sf_loaders::scripted::{AnyValue, FixedPicker, RoundChance, Script};
 use sf_words::PlaceNo;
 use std::alloc::Global;
@@ -95,10 +95,12 @@ fn say_view<'d, D: Naming>(
     };
 }
 
-fn say_forgot(said: &mut String, key: &str, answer: &Result<Forgotten, LoadFault>) {
+fn say_forgot(said: &mut String, key: &str, answer: &Result<Forgot, LoadFault>) {
     let _ = match answer {
-        Ok(Forgotten::Closed(call)) => write!(said, "reload {key} {call}\n"),
-        Ok(Forgotten::Idle) => write!(said, "reload {key} idle\n"),
+        Ok(Forgot::Closed(call)) => write!(said, "reload {key} closed {call}\n"),
+        Ok(Forgot::Cleared(call)) => write!(said, "reload {key} cleared {call}\n"),
+        Ok(Forgot::Missed(call)) => write!(said, "reload {key} missed {call}\n"),
+        Ok(Forgot::Idle) => write!(said, "reload {key} idle\n"),
         Err(fault) => write!(said, "reload {key} {fault}\n"),
     };
 }
@@ -109,6 +111,9 @@ fn say_events(said: &mut String, log: &[Event<PlaceNo, ()>]) {
             Event::Lead { by, call, .. } => write!(said, "lead {by} {call}; "),
             Event::Enter { by, member, .. } => write!(said, "enter {by} {member}; "),
             Event::Forget { by, .. } => write!(said, "forget {by}; "),
+            Event::ForgetCall { by, call, hit, .. } => {
+                write!(said, "forgetcall {by} {call} {hit}; ")
+            }
             Event::Settle {
                 by,
                 call,

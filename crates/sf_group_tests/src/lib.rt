@@ -14,6 +14,8 @@ mod currents;
 #[cfg(test)]
 mod going_on;
 #[cfg(test)]
+mod named;
+#[cfg(test)]
 mod notes;
 #[cfg(test)]
 mod random;

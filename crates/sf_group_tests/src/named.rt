@@ -1,0 +1,94 @@
+//! Forgets of one call, and the question which call a place names.
+
+ghost use Rattle.std.specs.Prelude.{◌≡◌};
+ghost use Rattle.sf_group.specs.Same.{IsPlaceOf};
+
+use crate::calls::{Outcome, finish, hand_out, id, join, lead, next_caller, ready};
+use sf_group::{CallId, Caller, Group, Hit};
+use std::process::Abort;
+use std::test::Fail;
+
+// The caller forgets this call of place 1, which finds that.
+fn forget_call(
+    rt: &impl Abort,
+    group: &Group<Outcome>,
+    caller: &mut Caller<Outcome>,
+    call: CallId,
+    hit: Hit,
+)
+    requires own { caller.old.group ≡ group.now }
+    requires place { IsPlaceOf group.now 1 }
+    ensures { caller.new.group ≡ group.now }
+{
+    match group.forget_call(caller, 1, call, 1) {
+        Ok(found) => assert!(rt; found == hit, "the Forget of {call} {found}"),
+        Err(tries) => panic!(rt; "it is busy after {tries}"),
+    }
+}
+
+// Place 1 names this call, or none.
+fn check_named(
+    rt: &impl Abort,
+    group: &Group<Outcome>,
+    caller: &mut Caller<Outcome>,
+    call: Option<CallId>,
+)
+    requires own { caller.old.group ≡ group.now }
+    requires place { IsPlaceOf group.now 1 }
+    ensures { caller.new.group ≡ group.now }
+{
+    match group.named(caller, 1) {
+        Some(found) => assert!(rt; call == Some(found), "the place names {found}"),
+        None => assert!(rt; call.is_none(), "the place names no call"),
+    }
+}
+
+#[test]
+fn forgotten_call_by_name(rt: HostRuntime) -> Result<(), Fail> {
+    let (group, mut callers) = Group::<Outcome>::new(rt.alloc(), 1, 4, 1)?;
+    let four = next_caller(&rt, &group, &mut callers, 4);
+    let three = next_caller(&rt, &group, &mut callers, 3);
+    let mut two = next_caller(&rt, &group, &mut callers, 2);
+    let one = next_caller(&rt, &group, &mut callers, 1);
+    check_named(&rt, &group, &mut two, None);
+    let old = lead(&rt, &group, one, 1, id(1, 1));
+    check_named(&rt, &group, &mut two, Some(id(1, 1)));
+    forget_call(&rt, &group, &mut two, id(1, 1), Hit::Closed);
+    let new = lead(&rt, &group, three, 1, id(3, 1));
+    check_named(&rt, &group, &mut two, Some(id(3, 1)));
+    // The newer call stays open for those who come.
+    forget_call(&rt, &group, &mut two, id(1, 1), Hit::Missed);
+    let ticket = join(&rt, &group, four, 1, id(3, 1), id(4, 1));
+    hand_out(&rt, &group, new, 8, 1);
+    ready(&rt, &group, ticket, 1, 8, 1);
+    check_named(&rt, &group, &mut two, Some(id(3, 1)));
+    forget_call(&rt, &group, &mut two, id(3, 1), Hit::Cleared);
+    check_named(&rt, &group, &mut two, None);
+    forget_call(&rt, &group, &mut two, id(3, 1), Hit::Missed);
+    finish(&rt, &group, old, 7);
+    Ok(())
+}
+
+// Neither a caller that has not asked yet nor one that the group does not have.
+#[test]
+fn missed_call_stays_new(rt: HostRuntime) -> Result<(), Fail> {
+    let (group, mut callers) = Group::<Outcome>::new(rt.alloc(), 1, 2, 1)?;
+    let two = next_caller(&rt, &group, &mut callers, 2);
+    let mut one = next_caller(&rt, &group, &mut callers, 1);
+    forget_call(&rt, &group, &mut one, id(2, 1), Hit::Missed);
+    forget_call(
+        &rt,
+        &group,
+        &mut one,
+        id(65_535, 4_294_967_295),
+        Hit::Missed,
+    );
+    forget_call(&rt, &group, &mut one, id(0, 0), Hit::Missed);
+    let flight = lead(&rt, &group, two, 1, id(2, 1));
+    forget_call(&rt, &group, &mut one, id(2, 2), Hit::Missed);
+    forget_call(&rt, &group, &mut one, id(1, 1), Hit::Missed);
+    let ticket = join(&rt, &group, one, 1, id(2, 1), id(1, 1));
+    hand_out(&rt, &group, flight, 7, 1);
+    ready(&rt, &group, ticket, 1, 7, 1);
+    Ok(())
+}
