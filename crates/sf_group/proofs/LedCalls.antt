@@ -1,5 +1,5 @@
 -- the call of a letter was led on its place
-use Rattle.std.proofs.Common.{◌≡◌, ℕ, Bool, true, List, inl, inr, Option, Some, None, sym, subst}
+use Rattle.std.proofs.Common.{◌≡◌, ℕ, true, List, inl, inr, Option, Some, None, sym, subst}
 use Rattle.atomic_table.specs.Seated.{TableId}
 use Rattle.sf_history.specs.declared.call.CallId.{CallId}
 use Rattle.sf_history.specs.declared.event.Event.{Event}

@@ -1,5 +1,5 @@
-use Rattle.std.proofs.Common.{◌≡◌, refl, List, [], ◌∷◌, ◌++◌, length, ap, ◌∙◌, sym, subst, append_assoc, arith, rules}
-use Rattle.std.specs.Vec.Iter.{into_iter_items, into_iter_len}
+use Rattle.std.proofs.Common.{[], ◌∷◌, ◌++◌, length, ap, ◌∙◌, sym, subst, append_assoc, arith, rules}
+use Rattle.std.specs.Vec.Iter.{into_iter_items}
 use Rattle.sf_wait.specs.Served.{HasServed, ArePaired}
 use Rattle.sf_wait.proofs.Pairs.{paired_snoc, whole}
 use Rattle.sf_wait.proofs.serving.join_all.Goals as goal

@@ -1,4 +1,4 @@
-use Rattle.std.proofs.Common.{◌≡◌, List, length, ap, ◌∙◌, sym, arith, rules, subst, vec_len, All}
+use Rattle.std.proofs.Common.{◌≡◌, length, ap, ◌∙◌, sym, arith, rules, subst, vec_len, All}
 use Rattle.sf_wait.specs.Served.{HasServed, ArePaired}
 use Rattle.sf_wait.proofs.serving.serve.Goals as goal
 

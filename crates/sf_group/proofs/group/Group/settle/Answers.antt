@@ -2,19 +2,17 @@ use Rattle.std.proofs.Common.{◌≡◌, ◌∙◌, false, Option, inl, inr, sym
 use Rattle.std.specs.Prelude.{is_some}
 use Rattle.atomic_table.specs.Table.{Me}
 use Rattle.sf_schedules.specs.declared.letter.Letter.{Letter}
-use Rattle.sf_history.specs.declared.event.Event.TheVariants as event
-use Rattle.sf_calls.specs.Seen.{Stands}
 use Rattle.sf_word_steps.specs.declared.view.View.{View}
 use Rattle.sf_schedules.specs.Turns.{at_members}
 use Rattle.sf_schedules.specs.Events.{settled}
 use Rattle.sf_calls.specs.declared.sizes.Sizes.{Sizes}
 use Rattle.sf_calls.specs.Tokens.{GroupValue, CallerValue, FlightValue, LetterValue}
-use Rattle.sf_calls.specs.Finishes.{IsDone, HasFinished, HasGoneOn}
-use Rattle.sf_word_steps.specs.View.{sizes_of, history_of}
-use Rattle.sf_word_steps.specs.Stands.{Sits, Goes}
+use Rattle.sf_calls.specs.Finishes.{IsDone, HasFinished}
+use Rattle.sf_word_steps.specs.View.{sizes_of}
+use Rattle.sf_word_steps.specs.Stands.{Goes}
 use Rattle.sf_word_steps.specs.Delivers.{IsOwed}
 use Rattle.sf_group.specs.Known.{caller_of, flight_of, settled_of}
-use Rattle.sf_group.specs.Calls.{ClosesSeldom, HasClosed, HasKnown}
+use Rattle.sf_group.specs.Calls.{ClosesSeldom, HasClosed}
 use Rattle.sf_group.proofs.Finishes.{held_row, done_row, closed_row, fits_later}
 use Rattle.sf_group.proofs.LedCalls.{leading_led, led_later, placed_later}
 use Rattle.sf_group.proofs.Deliveries.{held_stands, finished_after, closed_known, sits_now, next_now}
