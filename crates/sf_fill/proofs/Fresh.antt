@@ -206,14 +206,14 @@ forgot_named c back k x h w =
     subst (λ (i : ℕ). Moved c.group c.number c.seen back.group back.number back.seen (event.ForgetCall i k x h ∷ []) 0) w.1.nothing.number
     (moved_again _ _ _ _ _ _ _ _ _ _ _ _ _ (nothing_moved c m w.1.nothing) one)
 
-forgot : (c back : CallerValue Filled) (k : ℕ) (f : Forgot) → ForgetsNamed c k f back → Moved c.group c.number c.seen back.group back.number back.seen (forgot_by c.number k f) 0
-forgot c back k (forgot.Closed x) w = forgot_named c back k x hit.Closed w
-forgot c back k (forgot.Cleared x) w = forgot_named c back k x hit.Cleared w
-forgot c back k (forgot.Missed x) w = forgot_named c back k x hit.Missed w
-forgot c back k forgot.Idle w = nothing_moved c back w.nothing
+forget_moved : (c back : CallerValue Filled) (k : ℕ) (f : Forgot) → ForgetsNamed c k f back → Moved c.group c.number c.seen back.group back.number back.seen (forgot_by c.number k f) 0
+forget_moved c back k (forgot.Closed x) w = forgot_named c back k x hit.Closed w
+forget_moved c back k (forgot.Cleared x) w = forgot_named c back k x hit.Cleared w
+forget_moved c back k (forgot.Missed x) w = forgot_named c back k x hit.Missed w
+forget_moved c back k forgot.Idle w = nothing_moved c back w.nothing
 
 -- a reload asks for nothing
-none_forgot : (a k : ℕ) (f : Forgot) → 0 ≡ cond (has_asking (forgot_by a k f)) 1 0
+none_forgot : (a k : ℕ) (f : Forgot) → ◌≡◌ {A = ℕ} 0 (cond (has_asking (forgot_by a k f)) 1 0)
 none_forgot a k (forgot.Closed x) = refl
 none_forgot a k (forgot.Cleared x) = refl
 none_forgot a k (forgot.Missed x) = refl
@@ -419,7 +419,7 @@ module _ {P F L C : Type 0} (d : DirectoryId) (key : List ℕ) where
     | inr w ↦
         let before = delivered old.standing (Free c) owed in
         let one : Seen = forgot_by c.number w.place.number w.came_to in
-        let all = added_more old.standing (Free c) (Free w.back) (handed_by old.standing true) one 0 before (none_asked old.standing true) (forgot c w.back w.place.number w.came_to w.forgot)
+        let all = added_more old.standing (Free c) (Free w.back) (handed_by old.standing true) one 0 before (none_asked old.standing true) (forget_moved c w.back w.place.number w.came_to w.forgot)
         (none_forgot c.number w.place.number w.came_to) in (
           true,
           subst (λ (a : Result Forgot LoadFault). ForgetsOnce d key old new true a) (sym w.answer_is) (
