@@ -64,7 +64,7 @@ fn deal<V: Fit>(words: &Words<V>, first: &mut WordSeat<V>, number: u32, next: u6
 }
 
 impl<V: Fit> Group<V> {
-    /// A group of this many places (1 to 1,048,576), and its callers (1 to 65,535), numbered from 1, with this first
+    /// A group of this many places (1 to 134,217,728), and its callers (1 to 65,535), numbered from 1, with this first
     /// generation. All room that its calls need is taken here. Refused where there is no memory.
     pub fn new(
         alloc: Global,

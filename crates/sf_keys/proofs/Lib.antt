@@ -1,0 +1,2 @@
+mod Newer
+mod Answered
