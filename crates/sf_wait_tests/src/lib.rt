@@ -9,6 +9,8 @@ mod holding;
 #[cfg(test)]
 mod outcome;
 #[cfg(test)]
+mod reloading;
+#[cfg(test)]
 mod serving;
 #[cfg(test)]
 mod sharing;

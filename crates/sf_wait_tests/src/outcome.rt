@@ -42,11 +42,7 @@ pub fn check_letter(
     let (place, is) = (letter.place(), letter.value().0);
     assert!(rt; place == 1, "the letter is of place {place}");
     assert!(rt; is == value, "its value is {is}");
-    assert!(rt;
-        letter.joiners() == joiners,
-        "{} joined",
-        letter.joiners()
-    );
+    assert!(rt; letter.joiners() == joiners, "{} joined", letter.joiners());
     letter.known();
 }
 

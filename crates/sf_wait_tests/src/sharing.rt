@@ -45,7 +45,7 @@ struct Tally {
 }
 
 // Asks for the place. The caller's number is what its load answers.
-fn do_once(
+pub(crate) fn do_once(
     rt: &impl Wait,
     group: &Group<Outcome>,
     caller: Caller<Outcome>,
@@ -173,7 +173,7 @@ fn four_threads_over_eight_places(rt: HostRuntime) -> Result<(), Fail> {
 }
 
 // A turn of waiting for a flag. At most 1,000,000 of them; whether it was seen.
-fn is_seen(flag: &AtomicBool) -> bool {
+pub(crate) fn is_seen(flag: &AtomicBool) -> bool {
     for _ in 0..1_000_000 {
         if flag.load(Ordering::SeqCst) {
             return true;
