@@ -1,6 +1,5 @@
 -- an index's maps after a write
-use Rattle.std.proofs.Common.{rules, ◌≡◌, ℕ, ◌==◌, Bool, true, false, cond, inl, inr, Option, Some, refl, sym, ◌∙◌, ap, subst, option_map, if◌then◌else◌, Bor}
-use Rattle.std.proofs.lemmas.Bool.{cases_Bool}
+use Rattle.std.proofs.Common.{rules, ◌≡◌, ℕ, ◌==◌, Bool, true, false, cond, Option, Some, refl, sym, ◌∙◌, ap, subst, option_map, if◌then◌else◌, Bor}
 use Rattle.std.specs.Cmp.{both_tied}
 use Rattle.std.specs.Ordering.{nat_cmp, ordering_then, is_eq}
 use Rattle.std.specs.BTreeMap.{BTreeMap, get_by, UpdatesBy}

@@ -1,11 +1,10 @@
 -- a history has one verdict
-use Rattle.std.proofs.Common.{◌≡◌, ℕ, ◌+◌, ◌<◌, Bool, List, [], ◌∷◌, ◌++◌, ◌⊎◌, inl, inr, length, Some, None, refl, sym, ◌∙◌, ap, subst, append_assoc, arith}
+use Rattle.std.proofs.Common.{◌≡◌, ℕ, ◌+◌, Bool, List, [], ◌∷◌, ◌++◌, ◌⊎◌, inl, inr, length, Some, refl, sym, ◌∙◌, ap, subst}
 use Rattle.sf_history.specs.declared.event.Event.{Event}
 use Rattle.sf_history.specs.Legal.{IsLegal}
 use Rattle.sf_checker.specs.declared.cause.Cause.{Cause}
-use Rattle.sf_checker.specs.declared.checking.Verdict.{Verdict}
 use Rattle.sf_checker.specs.declared.checking.Verdict.TheVariants.{Legal, Illegal}
-use Rattle.sf_checker.specs.Checker.{first_cause, IsFirstFault, IsVerdictOf, HasOneVerdict}
+use Rattle.sf_checker.specs.Checker.{first_cause, IsFirstFault, HasOneVerdict}
 use Rattle.sf_checker.proofs.Causes.{no_cause}
 use Rattle.sf_checker.proofs.Verdicts.{fault_illegal}
 

@@ -1,10 +1,9 @@
 -- how an index's maps are looked up
-use Rattle.std.specs.Prelude.{ℕ, Option}
+use Rattle.std.specs.Prelude.{ℕ}
 use Rattle.std.specs.Ordering.{nat_cmp, ordering_then}
 use Rattle.std.specs.declared.cmp.Ordering.{Ordering}
 use Rattle.std.specs.BTreeMap.{get_by}
 use Rattle.sf_history.specs.declared.call.CallId.{CallId}
-use Rattle.sf_checker.specs.declared.row.Row.{Row}
 use Rattle.sf_checker.specs.declared.index.Index.{Index}
 use Rattle.sf_checker.specs.Index.{Noted}
 

@@ -1,6 +1,6 @@
 //! What an index keeps of a call, a member or an own channel that some lead or enter named.
 
-ghost use Rattle.std.specs.Prelude.{◌≡◌};
+ghost use Rattle.std.specs.Prelude.{◌≡◌, ◌+◌, ◌^◌, ◌<◌};
 ghost use Rattle.sf_checker.specs.Index.{marked};
 
 /// What is known of a name.
@@ -8,7 +8,8 @@ ghost use Rattle.sf_checker.specs.Index.{marked};
 pub(crate) struct Row {
     /// Whether it is a call that was led.
     pub led: bool,
-    pub joined: bool,
+    /// How many entered it.
+    pub joiners: usize,
     pub settled: bool,
     pub handed: bool,
 }
@@ -16,7 +17,7 @@ pub(crate) struct Row {
 /// What an event says of its call.
 #[derive(Clone, Copy)]
 pub(crate) enum Mark {
-    /// Somebody entered it.
+    /// One more entered it.
     Joined,
     /// It is settled.
     Settled,
@@ -25,11 +26,12 @@ pub(crate) enum Mark {
 }
 
 pub(crate) fn marked(mark: Mark, row: Row) -> Row
+    requires room { row.joiners + 1 < 2 ^ 64 }
     ensures { result ≡ marked mark row }
 {
     match mark {
         Mark::Joined => Row {
-            joined: true,
+            joiners: row.joiners + 1,
             ..row
         },
         Mark::Settled => Row {

@@ -1,4 +1,4 @@
-use Rattle.std.proofs.Common.{Some, None}
+use Rattle.std.proofs.Common.{None}
 use Rattle.sf_checker.proofs.Maps.{key_updated}
 use Rattle.sf_checker.proofs.index.Index.forget_key.Goals as goal
 

@@ -1,4 +1,4 @@
-use Rattle.std.proofs.Common.{Some, None}
+use Rattle.std.proofs.Common.{Some}
 use Rattle.sf_checker.proofs.Maps.{key_updated}
 use Rattle.sf_checker.proofs.index.Index.lead_key.Goals as goal
 

@@ -1,4 +1,4 @@
-use Rattle.std.proofs.Common.{rules, Some}
+use Rattle.std.proofs.Common.{Some}
 use Rattle.sf_checker.specs.Index.{new_row}
 use Rattle.sf_checker.proofs.Maps.{name_updated}
 use Rattle.sf_checker.proofs.index.Index.note_name.Goals as goal
