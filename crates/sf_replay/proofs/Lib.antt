@@ -1,4 +1,5 @@
 pub mod Records
+pub mod Counts
 pub mod Lines
 pub mod RecordJson
 pub mod RecordData

@@ -1,13 +1,19 @@
 -- lines of a text
-use Rattle.std.proofs.Common.{◌≡◌, ℕ, ◌-◌, map, Bor, zero, suc, ◌+◌, ◌==◌, ◌<◌, false, List, [], ◌∷◌, ◌++◌, length, take, drop, get_or, Result, Ok, Err, append_assoc, ◌≤◌, Some, None, inl, inr, refl, sym, ◌∙◌, ap, arith, eq-eqb, IsUtf8}
+use Rattle.std.proofs.Common.{◌≡◌, cond, Option, option_and_then, ℕ, ◌-◌, map, Bor, zero, suc, ◌+◌, ◌==◌, ◌<◌, false, List, [], ◌∷◌, ◌++◌, length, take, drop, get_or, Ok, Err, ◌≤◌, Some, None, inl, inr, refl, sym, ◌∙◌, ap, subst, arith, eq-eqb, IsUtf8}
 use Rattle.std.proofs.lemmas.Bool.{cond-true, cond-false, cases_Bool}
 use Rattle.std.proofs.lemmas.Str.{is_utf8-from_IsUtf8, IsUtf8-from_is_utf8}
-use Rattle.std.proofs.lemmas.List.{append-nil, drop_more, drop_all, get_or-map, length-map, take-map}
+use Rattle.std.proofs.lemmas.List.Sums.{sum_by_push, count_by-le-length}
+use Rattle.std.proofs.lemmas.List.{length-append, drop_more, drop_all, get_or-map, length-map, take-map}
 use Rattle.std.specs.Str.{is_utf8}
 use Rattle.serde_json.specs.Data.{Data}
 use Rattle.serde_json.specs.Read.{read}
-use Rattle.sf_replay.specs.Record.{TextEvent}
-use Rattle.sf_replay.specs.RecordText.{json_of, record_of, without_empty_last, then_event, events_of}
+use Rattle.sf_history.specs.declared.call.CallId.{CallId}
+use Rattle.sf_history.specs.History.{enters, joined}
+use Rattle.sf_replay.specs.declared.entered.Entered.{Entered}
+use Rattle.sf_replay.specs.Entered.{entered_in}
+use Rattle.sf_replay.specs.Record.{TextEvent, event_in}
+use Rattle.sf_replay.specs.RecordText.{json_of, record_of, without_empty_last, then_events, events_of}
+use Rattle.sf_replay.proofs.Counts.{event_same}
 
 -- the JSON value of a line that is text, and of one that is none
 pub json_read : (line : List ℕ) (d : Data) → IsUtf8 line → read line ≡ Some d → json_of line ≡ Some d
@@ -37,37 +43,48 @@ kept_last (x ∷ []) (suc n) d counted full = absurd (omega arith)
 kept_last (x ∷ y ∷ more) zero d counted full = absurd (omega arith)
 kept_last (x ∷ y ∷ more) (suc n) d counted full = ap (λ z. x ∷ z) (kept_last (y ∷ more) n d (omega arith) full)
 
--- the events that are read, before those of the further lines
-abbrev pub prepended : List TextEvent → Result (List TextEvent) ℕ → Result (List TextEvent) ℕ
-prepended done (Ok events) = Ok (done ++ events)
-prepended done (Err bad) = Err bad
+-- what the loop that reads keeps: the events so far go on to those of all lines, and calls have the counts that their format asks for
+pub record IsRead (format : ℕ) (lines : List (List ℕ)) (i : ℕ) (events : List TextEvent) (entered : Entered) : Type 0 where
+  pub whole : events_of format events (drop i lines) ≡ events_of format [] lines
+  pub length_is : length events ≡ i
+  pub counts : format ≡ 1 → (c : CallId) → entered_in entered c ≡ joined events c
 
-prepended_more : (n : ℕ) (done : List TextEvent) (e : TextEvent) (r : Result (List TextEvent) ℕ) → prepended done (then_event n (Some e) r) ≡ prepended (done ++ e ∷ []) r
-prepended_more n done e (Ok events) = ap Ok (sym (append_assoc done (e ∷ []) events))
-prepended_more n done e (Err bad) = refl
+pub read_none : (format : ℕ) (lines : List (List ℕ)) (events : List TextEvent) (entered : Entered) → events ≡ [] → ((c : CallId) → entered_in entered c ≡ 0) → IsRead format lines 0 events entered
+read_none format lines events entered is none =
+    subst (λ z. IsRead format lines 0 z entered) (sym is) (record { whole = refl; length_is = refl; counts = λ first. none })
 
-pub prepended_nil : (r : Result (List TextEvent) ℕ) → prepended [] r ≡ r
-prepended_nil (Ok events) = refl
-prepended_nil (Err bad) = refl
+-- there is room for one more entry
+pub entries_few : (format : ℕ) (lines : List (List ℕ)) (i : ℕ) (events : List TextEvent) (entered : Entered) → IsRead format lines i events entered → format ≡ 1 → (c : CallId) → entered_in entered c ≤ i
+entries_few format lines i events entered before first c = omega (arith, before.counts first c, count_by-le-length (enters c) events, before.length_is)
 
--- one more line is read
-pub events_more : (ls : List (List ℕ)) (i n m : ℕ) (done : List TextEvent) (e : TextEvent) (total : Result (List TextEvent) ℕ) → i < length ls → m ≡ n + 1 → record_of (get_or ls i []) ≡ Some e
-    → prepended done (events_of n (drop i ls)) ≡ total → prepended (done ++ e ∷ []) (events_of m (drop (i + 1) ls)) ≡ total
-events_more ls i n m done e total within next is before =
-    let here = ap (λ z. prepended done (events_of n z)) (drop_more ls i [] within) in
-    let read = ap (λ z. prepended done (then_event n z (events_of (n + 1) (drop (i + 1) ls)))) is in
-    ap (λ z. prepended (done ++ e ∷ []) (events_of z (drop (i + 1) ls))) next ∙ sym (prepended_more n done e _) ∙ sym read ∙ sym here ∙ before
+-- what a line is read as
+pub recorded : (format : ℕ) (lines : List (List ℕ)) (i : ℕ) (events : List TextEvent) (entered : Entered) (line : List ℕ) → IsRead format lines i events entered
+    → option_and_then (event_in format (entered_in entered)) (json_of line) ≡ record_of format events line
+recorded format lines i events entered line before = λ j. option_and_then (λ d. event_same format (entered_in entered) (joined events) before.counts d j) (json_of line)
+
+here_read : (format i : ℕ) (lines : List (List ℕ)) (events : List TextEvent) (found : Option TextEvent) → i < length lines → record_of format events (get_or lines i []) ≡ found
+    → events_of format events (drop i lines) ≡ then_events (length events + 2) found (λ e. events_of format (events ++ e ∷ []) (drop (i + 1) lines))
+here_read format i lines events found within is =
+    ap (events_of format events) (drop_more lines i [] within) ∙ ap (λ o. then_events (length events + 2) o (λ e. events_of format (events ++ e ∷ []) (drop (i + 1) lines))) is
+
+-- one more line is read; the first format notes its entry
+pub read_more : (format : ℕ) (lines : List (List ℕ)) (i : ℕ) (events : List TextEvent) (entered new : Entered) (e : TextEvent) → i < length lines → record_of format events (get_or lines i []) ≡ Some e
+    → (format ≡ 1 → (c : CallId) → entered_in new c ≡ entered_in entered c + cond (enters c e) 1 0) → IsRead format lines i events entered → IsRead format lines (i + 1) (events ++ e ∷ []) new
+read_more format lines i events entered new e within is noted before =
+    record {
+      whole = sym (here_read format i lines events (Some e) within is) ∙ before.whole;
+      length_is = length-append events (e ∷ []) ∙ ap (λ n. n + 1) before.length_is;
+      counts = λ first c. noted first c ∙ ap (λ n. n + cond (enters c e) 1 0) (before.counts first c) ∙ sym (sum_by_push (λ x. cond (enters c x) 1 0) events e);
+    }
 
 -- a line that is no record is the least one
-pub events_bad : (ls : List (List ℕ)) (i n : ℕ) (done : List TextEvent) (total : Result (List TextEvent) ℕ) → i < length ls → record_of (get_or ls i []) ≡ None
-    → prepended done (events_of n (drop i ls)) ≡ total → total ≡ Err n
-events_bad ls i n done total within is before =
-    sym before ∙ ap (λ z. prepended done (events_of n z)) (drop_more ls i [] within) ∙ ap (λ z. prepended done (then_event n z (events_of (n + 1) (drop (i + 1) ls)))) is
+pub read_bad : (format : ℕ) (lines : List (List ℕ)) (i : ℕ) (events : List TextEvent) (entered : Entered) → i < length lines → record_of format events (get_or lines i []) ≡ None
+    → IsRead format lines i events entered → events_of format [] lines ≡ Err (i + 2)
+read_bad format lines i events entered within is before = sym before.whole ∙ here_read format i lines events None within is ∙ ap (λ n. Err (n + 2)) before.length_is
 
 -- all lines are read
-pub events_all : (ls : List (List ℕ)) (i n : ℕ) (done : List TextEvent) (total : Result (List TextEvent) ℕ) → length ls ≤ i → prepended done (events_of n (drop i ls)) ≡ total → total ≡ Ok done
-events_all ls i n done total past before =
-    sym before ∙ ap (λ z. prepended done (events_of n z)) (drop_all i ls past) ∙ ap Ok (append-nil done)
+pub read_all : (format : ℕ) (lines : List (List ℕ)) (i : ℕ) (events : List TextEvent) (entered : Entered) → length lines ≤ i → IsRead format lines i events entered → events_of format [] lines ≡ Ok events
+read_all format lines i events entered past before = sym before.whole ∙ ap (events_of format events) (drop_all i lines past)
 
 -- what is lent
 abbrev pub shown : List (Bor (List ℕ)) → List (List ℕ)

@@ -1,5 +1,5 @@
 -- a record's text has no line feed
-use Rattle.std.proofs.Common.{◌≡◌, ℕ, suc, ◌+◌, ◌^◌, ◌/◌, ◌%◌, ◌<◌, ◌==◌, ◌||◌, nat_lt, Bool, true, false, List, [], ◌∷◌, ◌++◌, length, get_or, Option, Some, None, Ok, Err, IfSome, decimal, All, inl, inr, refl, ◌∙◌, arith}
+use Rattle.std.proofs.Common.{◌≡◌, ℕ, suc, ◌+◌, ◌^◌, ◌/◌, ◌%◌, ◌<◌, ◌==◌, ◌||◌, nat_lt, Bool, false, List, [], ◌∷◌, ◌++◌, length, get_or, Option, Some, None, Ok, Err, IfSome, decimal, All, inl, inr, refl, ◌∙◌, arith}
 use Rattle.std.proofs.lemmas.Bool.{or_parts, or_from, or_cases, cond_both, eqb-true, ne_eqb, ltb-false}
 use Rattle.std.proofs.lemmas.Fmt.{decimal_is_IsNumeral}
 use Rattle.std.proofs.lemmas.Str.Parse.{digit_at}
@@ -13,7 +13,7 @@ use Rattle.sf_history.specs.declared.call.CallId.{CallId}
 use Rattle.sf_history.specs.declared.event.Event.TheVariants.{Lead, Enter, Forget, Settle, Handed}
 use Rattle.sf_history.specs.Limits.{IsCallerNumber, IsCallWithin, IsWithinLimits}
 use Rattle.sf_replay.specs.Record.{TextEvent}
-use Rattle.sf_replay.specs.Written.{call_json, option_json, record_text}
+use Rattle.sf_replay.specs.Written.{call_json, option_json, record_text, HasCount}
 
 abbrev pub is_lf : ℕ → Bool
 is_lf byte = byte == 10
@@ -74,23 +74,19 @@ option_no_lf (Some c) within = call_no_lf c within
 caller_no_lf : (n : ℕ) → IsCallerNumber n → list_any is_lf (decimal n) ≡ false
 caller_no_lf n within = decimal_no_lf n (omega (arith, within.1))
 
-pub record_no_lf : (e : TextEvent) → IsWithinLimits e → list_any is_lf (record_text e) ≡ false
+pub record_no_lf : (e : TextEvent) → IsWithinLimits e → HasCount e → list_any is_lf (record_text e) ≡ false
 unfolding record_text
-record_no_lf (Lead by key call own) within =
+record_no_lf (Lead by key call own) within count =
     skip (decimal by) _ (caller_no_lf by within.0) (skip (quoted key) _ (quoted_no_lf key) (skip (call_json call) _ (call_no_lf call within.1) (skip (option_json own) _ (option_no_lf own within.2) refl)))
-record_no_lf (Enter by key call joined) within =
-    skip (decimal by) _ (caller_no_lf by within.0) (skip (quoted key) _ (quoted_no_lf key) (skip (call_json call) _ (call_no_lf call within.1) (skip (call_json joined) _ (call_no_lf joined within.2) refl)))
-record_no_lf (Forget by key closed) within =
+record_no_lf (Enter by key call member) within count =
+    skip (decimal by) _ (caller_no_lf by within.0) (skip (quoted key) _ (quoted_no_lf key) (skip (call_json call) _ (call_no_lf call within.1) (skip (call_json member) _ (call_no_lf member within.2) refl)))
+record_no_lf (Forget by key closed) within count =
     skip (decimal by) _ (caller_no_lf by within.0) (skip (quoted key) _ (quoted_no_lf key) (skip (option_json closed) _ (option_no_lf closed within.1) refl))
-record_no_lf (Settle by call (Ok value) true) within =
-    skip (decimal by) _ (caller_no_lf by within.0) (skip (call_json call) _ (call_no_lf call within.1) (skip (quoted value) _ (quoted_no_lf value) refl))
-record_no_lf (Settle by call (Ok value) false) within =
-    skip (decimal by) _ (caller_no_lf by within.0) (skip (call_json call) _ (call_no_lf call within.1) (skip (quoted value) _ (quoted_no_lf value) refl))
-record_no_lf (Settle by call (Err error) true) within =
-    skip (decimal by) _ (caller_no_lf by within.0) (skip (call_json call) _ (call_no_lf call within.1) (skip (quoted error) _ (quoted_no_lf error) refl))
-record_no_lf (Settle by call (Err error) false) within =
-    skip (decimal by) _ (caller_no_lf by within.0) (skip (call_json call) _ (call_no_lf call within.1) (skip (quoted error) _ (quoted_no_lf error) refl))
-record_no_lf (Handed by call) within =
+record_no_lf (Settle by call (Ok value) joiners) within count =
+    skip (decimal by) _ (caller_no_lf by within.0) (skip (call_json call) _ (call_no_lf call within.1) (skip (quoted value) _ (quoted_no_lf value) (skip (decimal joiners) _ (decimal_no_lf joiners (omega (arith, count))) refl)))
+record_no_lf (Settle by call (Err error) joiners) within count =
+    skip (decimal by) _ (caller_no_lf by within.0) (skip (call_json call) _ (call_no_lf call within.1) (skip (quoted error) _ (quoted_no_lf error) (skip (decimal joiners) _ (decimal_no_lf joiners (omega (arith, count))) refl)))
+record_no_lf (Handed by call) within count =
     skip (decimal by) _ (caller_no_lf by within.0) (skip (call_json call) _ (call_no_lf call within.1) refl)
 
 -- the first line of a text ends at its first line feed

@@ -1,5 +1,5 @@
 -- the JSON that a record's text is, and the event that it reads as
-use Rattle.std.proofs.Common.{◌≡◌, ℕ, ◌≤◌, true, false, List, [], Option, Some, None, Result, Ok, Err, codes, decimal, sym, ◌∙◌, ap, append-nil, append_assoc, option_and_then}
+use Rattle.std.proofs.Common.{◌≡◌, ℕ, ◌≤◌, List, [], Option, Some, None, Result, Ok, Err, codes, decimal, sym, ◌∙◌, ap, append-nil, append_assoc, option_and_then}
 use Rattle.json.specs.Json as json
 use Rattle.json.specs.Print.{print, print_from, escape_byte}
 use Rattle.json.specs.Tree.{json_tokens, HasNumbers, depth}
@@ -42,8 +42,8 @@ json_of_event (Enter by key call member) =
     begun (codes "enter") by (json.member (codes "k") (json.string key) (json.member (codes "c") (call_of call) (json.member (codes "m") (call_of member) json.no_members)))
 json_of_event (Forget by key closed) =
     begun (codes "forget") by (json.member (codes "k") (json.string key) (json.member (codes "closed") (option_of closed) json.no_members))
-json_of_event (Settle by call result shared) =
-    begun (codes "settle") by (json.member (codes "c") (call_of call) (result_of result (json.member (codes "shared") (json.boolean shared) json.no_members)))
+json_of_event (Settle by call result joiners) =
+    begun (codes "settle") by (json.member (codes "c") (call_of call) (result_of result (json.member (codes "joiners") (json.number (decimal joiners)) json.no_members)))
 json_of_event (Handed by call) = begun (codes "handed") by (json.member (codes "c") (call_of call) json.no_members)
 
 pub printed : (e : TextEvent) → print (json_tokens (json_of_event e)) ≡ record_text e
@@ -53,8 +53,6 @@ printed (Lead by key call (Some own)) = simp append_assoc
 printed (Enter by key call member) = simp append_assoc
 printed (Forget by key None) = simp append_assoc
 printed (Forget by key (Some closed)) = simp append_assoc
-printed (Settle by call (Ok value) true) = simp append_assoc
-printed (Settle by call (Ok value) false) = simp append_assoc
-printed (Settle by call (Err error) true) = simp append_assoc
-printed (Settle by call (Err error) false) = simp append_assoc
+printed (Settle by call (Ok value) joiners) = simp append_assoc
+printed (Settle by call (Err error) joiners) = simp append_assoc
 printed (Handed by call) = simp append_assoc

@@ -1,111 +1,111 @@
 -- a text holds a history exactly where its lines are records of it, and else fails at its least bad line
-use Rattle.std.proofs.Common.{◌≡◌, ◌↔◌, ℕ, zero, suc, ◌+◌, Bool, true, false, List, [], ◌∷◌, ◌++◌, map, Option, Some, None, is_some, Result, Ok, Err, replicate, inl, inr, refl, sym, ◌∙◌, ap, arith}
-use Rattle.std.proofs.lemmas.Bool.{cond-true, cond-false, cases_Bool}
+use Rattle.std.proofs.Common.{◌≡◌, ◌↔◌, ◌⊎◌, ℕ, ◌+◌, List, [], ◌∷◌, ◌++◌, length, Option, Some, None, Ok, Err, inl, inr, refl, sym, ◌∙◌, ap, subst, arith, append-nil, append_assoc}
+use Rattle.std.proofs.lemmas.List.{length-append}
 use Rattle.sf_replay.specs.Record.{TextEvent}
-use Rattle.sf_replay.specs.RecordText.{record_of, format_of, record_lines, then_event, events_of, history_of_lines, history_of, AreRecords, good_lines, IsLeastBad, HistoryIsRecords, FailureIsLeastBad}
+use Rattle.sf_replay.specs.RecordText.{record_of, format_of, record_lines, then_events, events_of, history_after, history_of_lines, history_of, RecordEach, AreRecords, IsLeastBadRecord, IsLeastBad, HistoryIsRecords, FailureIsLeastBad}
 
-records_from : (n : ℕ) (ls : List (List ℕ)) (h : List TextEvent) → events_of n ls ≡ Ok h → map record_of ls ≡ map Some h
-records_from n [] h is = let same : [] ≡ h = cc in ap (map Some) same
-records_from n (l ∷ ls) h is = at (record_of l) (events_of (n + 1) ls) refl (records_from (n + 1) ls) refl is
-  where
-    at : (o : Option TextEvent) (r : Result (List TextEvent) ℕ) → record_of l ≡ o → ((es : List TextEvent) → events_of (n + 1) ls ≡ Ok es → map record_of ls ≡ map Some es) → events_of (n + 1) ls ≡ r → then_event n o r ≡ Ok h
-        → record_of l ∷ map record_of ls ≡ map Some h
-    at None r here rest later is = cc
-    at (Some e) (Ok es) here rest later is =
-        let same : e ∷ es ≡ h = cc in
-        ap (λ z. z ∷ map record_of ls) here ∙ ap (λ z. Some e ∷ z) (rest es later) ∙ ap (map Some) same
-    at (Some e) (Err bad) here rest later is = cc
+module _ (format : ℕ) where
+  -- the lines record what comes after these events
+  abbrev Goes : List TextEvent → List (List ℕ) → List TextEvent → Type 0
+  Goes before ls h = (es : List TextEvent) × (h ≡ before ++ es) × RecordEach format before ls es
 
-from_records : (n : ℕ) (ls : List (List ℕ)) (h : List TextEvent) → map record_of ls ≡ map Some h → events_of n ls ≡ Ok h
-from_records n [] [] is = refl
-from_records n [] (e ∷ h) is = cc
-from_records n (l ∷ ls) [] is = cc
-from_records n (l ∷ ls) (e ∷ h) is =
-    let here : record_of l ≡ Some e = cc in
-    let rest : map record_of ls ≡ map Some h = cc in
-    ap (λ o. then_event n o (events_of (n + 1) ls)) here ∙ ap (then_event n (Some e)) (from_records (n + 1) ls h rest)
+  records_from : (before : List TextEvent) (ls : List (List ℕ)) (h : List TextEvent) → events_of format before ls ≡ Ok h → Goes before ls h
+  records_from before [] h is = let same : before ≡ h = cc in ([], sym same ∙ sym (append-nil before), tt)
+  records_from before (l ∷ ls) h is = at (record_of format before l) refl (λ e. records_from (before ++ e ∷ []) ls h) is
+    where
+      at : (o : Option TextEvent) → record_of format before l ≡ o → ((e : TextEvent) → events_of format (before ++ e ∷ []) ls ≡ Ok h → Goes (before ++ e ∷ []) ls h)
+          → then_events (length before + 2) o (λ e. events_of format (before ++ e ∷ []) ls) ≡ Ok h → Goes before (l ∷ ls) h
+      at None here more is = cc
+      at (Some e) here more is = let rest = more e is in (e ∷ rest.0, rest.1 ∙ append_assoc before (e ∷ []) rest.0, (here, rest.2))
 
-abbrev goods : List (List ℕ) → List Bool
-goods = map (λ line. is_some (record_of line))
+  from_records : (before : List TextEvent) (ls : List (List ℕ)) (es : List TextEvent) → RecordEach format before ls es → events_of format before ls ≡ Ok (before ++ es)
+  from_records before [] [] is = ap Ok (sym (append-nil before))
+  from_records before [] (e ∷ es) is = absurd is
+  from_records before (l ∷ ls) [] is = absurd is
+  from_records before (l ∷ ls) (e ∷ es) is =
+      ap (λ o. then_events (length before + 2) o (λ e. events_of format (before ++ e ∷ []) ls)) is.0 ∙ from_records (before ++ e ∷ []) ls es is.1 ∙ ap Ok (append_assoc before (e ∷ []) es)
 
--- some good lines, and then a bad one, which is this one where the first is the nth
-abbrev FailsAt : ℕ → List Bool → ℕ → Type 0
-FailsAt n good m = (k : ℕ) × (rest : List Bool) × (good ≡ replicate k true ++ false ∷ rest) × (m ≡ n + k)
+  -- some lines record what comes after these events, and the next one, which is this one, records nothing after it
+  record FailsAfter (before : List TextEvent) (ls : List (List ℕ)) (n : ℕ) : Type 0 where
+    good : List (List ℕ)
+    bad : List ℕ
+    rest : List (List ℕ)
+    events : List TextEvent
+    stands : ls ≡ good ++ bad ∷ rest
+    recorded : RecordEach format before good events
+    refused : record_of format (before ++ events) bad ≡ None
+    counted : n ≡ length before + (length good + 2)
 
-bad_from : (n : ℕ) (ls : List (List ℕ)) (m : ℕ) → events_of n ls ≡ Err m → FailsAt n (goods ls) m
-bad_from n [] m is = cc
-bad_from n (l ∷ ls) m is = at (record_of l) (events_of (n + 1) ls) refl (bad_from (n + 1) ls) refl is
-  where
-    at : (o : Option TextEvent) (r : Result (List TextEvent) ℕ) → record_of l ≡ o → ((b : ℕ) → events_of (n + 1) ls ≡ Err b → FailsAt (n + 1) (goods ls) b) → events_of (n + 1) ls ≡ r → then_event n o r ≡ Err m
-        → FailsAt n (is_some (record_of l) ∷ goods ls) m
-    at None r here rest later is =
-        let same : n ≡ m = cc in
-        (0, goods ls, ap (λ o. is_some o ∷ goods ls) here, omega arith)
-    at (Some e) (Ok es) here rest later is = cc
-    at (Some e) (Err bad) here rest later is =
-        let same : bad ≡ m = cc in
-        let found = rest bad later in
-        (suc found.0, found.1, ap (λ o. is_some o ∷ goods ls) here ∙ ap (λ z. true ∷ z) found.2, omega (arith, found.3))
+  bad_from : (before : List TextEvent) (ls : List (List ℕ)) (n : ℕ) → events_of format before ls ≡ Err n → FailsAfter before ls n
+  bad_from before [] n is = cc
+  bad_from before (l ∷ ls) n is = at (record_of format before l) refl (λ e. bad_from (before ++ e ∷ []) ls n) is
+    where
+      at : (o : Option TextEvent) → record_of format before l ≡ o → ((e : TextEvent) → events_of format (before ++ e ∷ []) ls ≡ Err n → FailsAfter (before ++ e ∷ []) ls n)
+          → then_events (length before + 2) o (λ e. events_of format (before ++ e ∷ []) ls) ≡ Err n → FailsAfter before (l ∷ ls) n
+      at None here more is =
+          let same : length before + 2 ≡ n = cc in
+          record { good = []; bad = l; rest = ls; events = []; stands = refl; recorded = tt; refused = subst (λ z. record_of format z l ≡ None) (sym (append-nil before)) here; counted = sym same }
+      at (Some e) here more is =
+          let later = more e is in
+          record {
+            good = l ∷ later.good;
+            bad = later.bad;
+            rest = later.rest;
+            events = e ∷ later.events;
+            stands = ap (λ z. l ∷ z) later.stands;
+            recorded = (here, later.recorded);
+            refused = subst (λ z. record_of format z later.bad ≡ None) (append_assoc before (e ∷ []) later.events) later.refused;
+            counted = omega (arith, later.counted, length-append before (e ∷ []));
+          }
 
-from_bad : (n : ℕ) (ls : List (List ℕ)) (k : ℕ) (rest : List Bool) → goods ls ≡ replicate k true ++ false ∷ rest → events_of n ls ≡ Err (n + k)
-from_bad n [] zero rest is = cc
-from_bad n [] (suc k) rest is = cc
-from_bad n (l ∷ ls) zero rest is = at (record_of l) refl cc
-  where
-    at : (o : Option TextEvent) → record_of l ≡ o → is_some (record_of l) ≡ false → then_event n (record_of l) (events_of (n + 1) ls) ≡ Err (n + 0)
-    at None here isnt = ap (λ o. then_event n o (events_of (n + 1) ls)) here ∙ ap Err (omega arith)
-    at (Some e) here isnt = let some = ap is_some here in cc
-from_bad n (l ∷ ls) (suc k) rest is =
-    let tail : goods ls ≡ replicate k true ++ false ∷ rest = cc in
-    let good : is_some (record_of l) ≡ true = cc in
-    at (record_of l) refl good (from_bad (n + 1) ls k rest tail)
-  where
-    at : (o : Option TextEvent) → record_of l ≡ o → is_some (record_of l) ≡ true → events_of (n + 1) ls ≡ Err (n + 1 + k) → then_event n (record_of l) (events_of (n + 1) ls) ≡ Err (n + suc k)
-    at None here isnt later = let none = ap is_some here in cc
-    at (Some e) here isnt later = ap (λ o. then_event n o (events_of (n + 1) ls)) here ∙ ap (then_event n (Some e)) later ∙ ap Err (omega arith)
+  from_bad : (before : List TextEvent) (good : List (List ℕ)) (bad : List ℕ) (rest : List (List ℕ)) (events : List TextEvent) → RecordEach format before good events → record_of format (before ++ events) bad ≡ None
+      → events_of format before (good ++ bad ∷ rest) ≡ Err (length before + (length good + 2))
+  from_bad before [] bad rest [] recorded refused =
+      ap (λ o. then_events (length before + 2) o (λ e. events_of format (before ++ e ∷ []) rest)) (subst (λ z. record_of format z bad ≡ None) (append-nil before) refused)
+  from_bad before [] bad rest (e ∷ events) recorded refused = absurd recorded
+  from_bad before (l ∷ good) bad rest [] recorded refused = absurd recorded
+  from_bad before (l ∷ good) bad rest (e ∷ events) recorded refused =
+      let later = from_bad (before ++ e ∷ []) good bad rest events recorded.1 (subst (λ z. record_of format z bad ≡ None) (sym (append_assoc before (e ∷ []) events)) refused) in
+      ap (λ o. then_events (length before + 2) o (λ e. events_of format (before ++ e ∷ []) (good ++ bad ∷ rest))) recorded.0 ∙ later ∙ ap Err (omega (arith, length-append before (e ∷ [])))
+
+  pub least_bad : (ls : List (List ℕ)) (n : ℕ) → events_of format [] ls ≡ Err n → IsLeastBadRecord format ls n
+  least_bad ls n is =
+      let fails = bad_from [] ls n is in
+      record { good = fails.good; bad = fails.bad; rest = fails.rest; events = fails.events; stands = fails.stands; recorded = fails.recorded; refused = fails.refused; counted = omega (arith, fails.counted) }
+
+  pub fails_there : (ls : List (List ℕ)) (n : ℕ) → IsLeastBadRecord format ls n → events_of format [] ls ≡ Err n
+  fails_there ls n is = ap (events_of format []) is.stands ∙ from_bad [] is.good is.bad is.rest is.events is.recorded is.refused ∙ ap Err (omega (arith, is.counted))
 
 lines_records : (ls : List (List ℕ)) (h : List TextEvent) → (history_of_lines ls ≡ Ok h) ↔ AreRecords ls h
 lines_records [] h = (λ is. cc, λ is. absurd is)
-lines_records (first ∷ ls) h = (to, from)
+lines_records (first ∷ ls) h = at (format_of first)
   where
-    to : history_of_lines (first ∷ ls) ≡ Ok h → AreRecords (first ∷ ls) h
-    to is =
-        elim (cases_Bool (is_some (format_of first))) [
-          | inl good ↦ (good, records_from 2 ls h (sym (cond-true (is_some (format_of first)) (events_of 2 ls) (Err 1) good) ∙ is))
-          | inr bad ↦ let fails = cond-false (is_some (format_of first)) (events_of 2 ls) (Err 1) bad in cc
-        ]
+    at : (o : Option ℕ) → (history_after o ls ≡ Ok h) ↔ ((format : ℕ) × (o ≡ Some format) × RecordEach format [] ls h)
+    at None = (λ is. cc, λ is. let no = is.1 in cc)
+    at (Some format) = (
+      λ is. let found = records_from format [] ls h is in (format, refl, subst (RecordEach format [] ls) (sym found.1) found.2),
+      λ is. let same : format ≡ is.0 = let e = is.1 in cc in from_records format [] ls h (subst (λ z. RecordEach z [] ls h) (sym same) is.2),
+    )
 
-    from : AreRecords (first ∷ ls) h → history_of_lines (first ∷ ls) ≡ Ok h
-    from is = cond-true (is_some (format_of first)) (events_of 2 ls) (Err 1) is.0 ∙ from_records 2 ls h is.1
-
-lines_bad : (ls : List (List ℕ)) (n : ℕ) → (history_of_lines ls ≡ Err n) ↔ IsLeastBad (good_lines ls) n
-lines_bad [] n = (λ is. let same : 1 ≡ n = cc in (0, [], refl, omega arith), λ is. missing is.0 is.1 is.2 is.3)
+lines_bad : (ls : List (List ℕ)) (n : ℕ) → (history_of_lines ls ≡ Err n) ↔ IsLeastBad ls n
+lines_bad [] n = (λ is. let same : 1 ≡ n = cc in sym same, λ is. ap Err (sym is))
+lines_bad (first ∷ ls) n = at (format_of first)
   where
-    missing : (k : ℕ) (rest : List Bool) → false ∷ [] ≡ replicate k true ++ false ∷ rest → n ≡ k + 1 → history_of_lines [] ≡ Err n
-    missing zero rest is counted = ap Err (omega arith)
-    missing (suc k) rest is counted = cc
-lines_bad (first ∷ ls) n = (to, λ is. from is.0 is.1 is.2 is.3)
-  where
-    to : history_of_lines (first ∷ ls) ≡ Err n → IsLeastBad (good_lines (first ∷ ls)) n
-    to is =
-        elim (cases_Bool (is_some (format_of first))) [
-          | inl good ↦
-              let found = bad_from 2 ls n (sym (cond-true (is_some (format_of first)) (events_of 2 ls) (Err 1) good) ∙ is) in
-              (suc found.0, found.1, ap (λ b. b ∷ goods ls) good ∙ ap (λ z. true ∷ z) found.2, omega (arith, found.3))
-          | inr bad ↦
-              let fails = cond-false (is_some (format_of first)) (events_of 2 ls) (Err 1) bad in
-              let same : 1 ≡ n = cc in
-              (0, goods ls, ap (λ b. b ∷ goods ls) bad, omega arith)
-        ]
-
-    from : (k : ℕ) (rest : List Bool) → good_lines (first ∷ ls) ≡ replicate k true ++ false ∷ rest → n ≡ k + 1 → history_of_lines (first ∷ ls) ≡ Err n
-    from zero rest is counted =
-        let bad : is_some (format_of first) ≡ false = cc in
-        cond-false (is_some (format_of first)) (events_of 2 ls) (Err 1) bad ∙ ap Err (omega arith)
-    from (suc k) rest is counted =
-        let good : is_some (format_of first) ≡ true = cc in
-        let tail : goods ls ≡ replicate k true ++ false ∷ rest = cc in
-        cond-true (is_some (format_of first)) (events_of 2 ls) (Err 1) good ∙ from_bad 2 ls k rest tail ∙ ap Err (omega arith)
+    at : (o : Option ℕ) → (history_after o ls ≡ Err n) ↔ (((o ≡ None) × (n ≡ 1)) ⊎ ((format : ℕ) × (o ≡ Some format) × IsLeastBadRecord format ls n))
+    at None = (
+      λ is. let same : 1 ≡ n = cc in inl (refl, sym same),
+      λ is. elim is [
+        | inl missing ↦ ap Err (sym missing.1)
+        | inr found ↦ let no = found.1 in cc
+      ],
+    )
+    at (Some format) = (
+      λ is. inr (format, refl, least_bad format ls n is),
+      λ is. elim is [
+        | inl missing ↦ let no = missing.0 in cc
+        | inr found ↦ let same : format ≡ found.0 = let e = found.1 in cc in fails_there format ls n (subst (λ z. IsLeastBadRecord z ls n) (sym same) found.2)
+      ],
+    )
 
 pub history_is_records : HistoryIsRecords
 unfolding history_of

@@ -1,3 +1,4 @@
+pub mod Entered
 pub mod Merged
 pub mod Record
 pub mod RecordText

@@ -1,5 +1,5 @@
--- one record: the event that a JSON object says
-use Rattle.std.specs.Prelude.{ℕ, ◌==◌, Bool, false, ◌&&◌, nat_lt, nat_le, List, length, if◌then◌else◌, Option, Some, None, is_some, option_map, option_and_then, Result, Ok, Err, codes}
+-- one record: the event that a JSON object says, in its format
+use Rattle.std.specs.Prelude.{ℕ, ◌==◌, max, Bool, true, false, ◌&&◌, nat_lt, nat_le, List, length, if◌then◌else◌, Option, Some, None, is_some, option_map, option_and_then, Result, Ok, Err, codes}
 use Rattle.std.specs.Option.{option_map_or}
 use Rattle.serde_json.specs.Data.{Data, Items, no_items, item}
 use Rattle.serde_json.specs.Find.{get, as_null, as_bool, as_number, as_u64, as_str, as_array, as_object}
@@ -15,12 +15,20 @@ TextEvent = Event (List ℕ) (Result (List ℕ) (List ℕ))
 
 -- ---- what the names of an object hold
 
--- a whole number, 1 to max
+-- a whole number, 1 to the most
 abbrev pub in_range : ℕ → ℕ → Option ℕ
-in_range max n = if nat_lt 0 n && nat_le n max then Some n else None
+in_range most n = if nat_lt 0 n && nat_le n most then Some n else None
 
 abbrev pub number_in : ℕ → Data → Option ℕ
-number_in max d = option_and_then (in_range max) (option_and_then as_u64 (as_number d))
+number_in most d = option_and_then (in_range most) (option_and_then as_u64 (as_number d))
+
+-- a whole number, 0 to the most
+abbrev pub up_to : ℕ → ℕ → Option ℕ
+up_to most n = if nat_le n most then Some n else None
+
+-- how many joined, 0 to 4,294,967,295
+abbrev pub count_in : Data → Option ℕ
+count_in d = option_and_then (up_to 4294967295) (option_and_then as_u64 (as_number d))
 
 abbrev pub caller_in : Data → Option ℕ
 caller_in d = number_in 65535 d
@@ -81,12 +89,12 @@ forget_from (Some by) None closed = None
 forget_from (Some by) (Some key) None = None
 forget_from (Some by) (Some key) (Some closed) = Some (Forget by key closed)
 
-abbrev pub settle_from : Option ℕ → Option CallId → Option (Result (List ℕ) (List ℕ)) → Option Bool → Option TextEvent
-settle_from None call result shared = None
-settle_from (Some by) None result shared = None
-settle_from (Some by) (Some call) None shared = None
-settle_from (Some by) (Some call) (Some result) None = None
-settle_from (Some by) (Some call) (Some result) (Some shared) = Some (Settle by call result shared)
+-- the number of joiners goes by the call
+abbrev pub settle_from : Option ℕ → Option CallId → Option (Result (List ℕ) (List ℕ)) → (CallId → Option ℕ) → Option TextEvent
+settle_from None call result joiners = None
+settle_from (Some by) None result joiners = None
+settle_from (Some by) (Some call) None joiners = None
+settle_from (Some by) (Some call) (Some result) joiners = option_map (Settle by call result) (joiners call)
 
 abbrev pub handed_from : Option ℕ → Option CallId → Option TextEvent
 handed_from None call = None
@@ -102,7 +110,18 @@ result_from None (Some error) = Some (Err error)
 abbrev pub result_in : Data → Option (Result (List ℕ) (List ℕ))
 result_in d = result_from (field (codes "ok") as_str d) (field (codes "err") as_str d)
 
--- beside `e` and `by` the names k, c, own; k, c, m; k, closed; c, ok or err, shared; c
+-- the number that the first format's mark stands for: none, or those who entered before, and at least one
+abbrev pub count_of_mark : ℕ → Bool → Option ℕ
+count_of_mark entered false = Some 0
+count_of_mark entered true = up_to 4294967295 (max entered 1)
+
+-- how many joined a call that so many entered in the lines before: format 1 has a mark, and each later format the number
+abbrev pub joiners_in : ℕ → ℕ → Data → Option ℕ
+joiners_in format entered d =
+    if format == 1 then option_and_then (count_of_mark entered) (field (codes "shared") as_bool d)
+    else field (codes "joiners") count_in d
+
+-- beside `e` and `by` the names k, c, own; k, c, m; k, closed; c, ok or err, shared or joiners; c
 unfoldable pub lead_in : Data → Option TextEvent
 lead_in d = if has_names 5 d then lead_from (field (codes "by") caller_in d) (field (codes "k") key_in d) (field (codes "c") call_in d) (field (codes "own") option_in d) else None
 
@@ -112,25 +131,30 @@ enter_in d = if has_names 5 d then enter_from (field (codes "by") caller_in d) (
 unfoldable pub forget_in : Data → Option TextEvent
 forget_in d = if has_names 4 d then forget_from (field (codes "by") caller_in d) (field (codes "k") key_in d) (field (codes "closed") option_in d) else None
 
-unfoldable pub settle_in : Data → Option TextEvent
-settle_in d = if has_names 5 d then settle_from (field (codes "by") caller_in d) (field (codes "c") call_in d) (result_in d) (field (codes "shared") as_bool d) else None
+unfoldable pub settle_in : ℕ → (CallId → ℕ) → Data → Option TextEvent
+settle_in format entered d =
+    if has_names 5 d then settle_from (field (codes "by") caller_in d) (field (codes "c") call_in d) (result_in d) (λ call. joiners_in format (entered call) d) else None
 
 unfoldable pub handed_in : Data → Option TextEvent
 handed_in d = if has_names 3 d then handed_from (field (codes "by") caller_in d) (field (codes "c") call_in d) else None
 
--- the event of this kind
-unfoldable pub event_of_kind : List ℕ → Data → Option TextEvent
-event_of_kind kind d =
+-- the event of this kind, where so many entered each call in the lines before
+unfoldable pub event_of_kind : ℕ → (CallId → ℕ) → List ℕ → Data → Option TextEvent
+event_of_kind format entered kind d =
     if same_text kind (codes "lead") then lead_in d
     else (if same_text kind (codes "enter") then enter_in d
     else (if same_text kind (codes "forget") then forget_in d
-    else (if same_text kind (codes "settle") then settle_in d
+    else (if same_text kind (codes "settle") then settle_in format entered d
     else (if same_text kind (codes "handed") then handed_in d
     else None))))
 
-unfoldable pub event_in : Data → Option TextEvent
-event_in d = option_and_then (λ kind. event_of_kind kind d) (field (codes "e") as_str d)
+unfoldable pub event_in : ℕ → (CallId → ℕ) → Data → Option TextEvent
+event_in format entered d = option_and_then (λ kind. event_of_kind format entered kind d) (field (codes "e") as_str d)
+
+-- the newest format: the one that is written
+abbrev pub newest_format : ℕ
+newest_format = 2
 
 -- the number of a format: an object with the one name `format`
 unfoldable pub format_in : Data → Option ℕ
-format_in d = if has_names 1 d then field (codes "format") (number_in 1) d else None
+format_in d = if has_names 1 d then field (codes "format") (number_in newest_format) d else None

@@ -1,9 +1,10 @@
 -- a text of records: the history that it holds, or the least line that is not what stands there
-use Rattle.std.specs.Prelude.{◌≡◌, ◌↔◌, ℕ, ◌+◌, ◌==◌, Bool, true, false, List, [], ◌∷◌, ◌++◌, length, map, if◌then◌else◌, Option, Some, None, is_some, option_and_then, Result, Ok, Err, replicate, ⊤, codes, decimal}
+use Rattle.std.specs.Prelude.{◌≡◌, ◌↔◌, ◌⊎◌, ℕ, ◌+◌, ◌==◌, List, [], ◌∷◌, ◌++◌, length, if◌then◌else◌, Option, Some, None, option_and_then, Result, Ok, Err, ⊤, codes, decimal}
 use Rattle.std.specs.List.{slice_split}
 use Rattle.std.specs.Str.{is_utf8}
 use Rattle.serde_json.specs.Data.{Data}
 use Rattle.serde_json.specs.Read.{read}
+use Rattle.sf_history.specs.History.{joined}
 use Rattle.sf_replay.specs.declared.reading.RecordRefusal.{RecordRefusal}
 use Rattle.sf_replay.specs.declared.reading.RecordRefusal.TheVariants.{BadRecord, Memory}
 use Rattle.sf_replay.specs.Record.{TextEvent, event_in, format_in}
@@ -12,9 +13,9 @@ use Rattle.sf_replay.specs.Record.{TextEvent, event_in, format_in}
 unfoldable pub json_of : List ℕ → Option Data
 json_of line = if is_utf8 line then read line else None
 
--- the event that a line records
-abbrev pub record_of : List ℕ → Option TextEvent
-record_of line = option_and_then event_in (json_of line)
+-- the event that a line records in this format, after these events
+abbrev pub record_of : ℕ → List TextEvent → List ℕ → Option TextEvent
+record_of format before line = option_and_then (event_in format (joined before)) (json_of line)
 
 abbrev pub format_of : List ℕ → Option ℕ
 format_of line = option_and_then format_in (json_of line)
@@ -28,20 +29,25 @@ without_empty_last (line ∷ next ∷ more) = line ∷ without_empty_last (next 
 abbrev pub record_lines : List ℕ → List (List ℕ)
 record_lines text = without_empty_last (slice_split (λ byte. byte == 10) text)
 
--- the events of these lines, of which the first is the nth, or the least line that is no record
-abbrev pub then_event : ℕ → Option TextEvent → Result (List TextEvent) ℕ → Result (List TextEvent) ℕ
-then_event n None rest = Err n
-then_event n (Some event) (Ok events) = Ok (event ∷ events)
-then_event n (Some event) (Err bad) = Err bad
+-- goes on with the event of the nth line, or refuses that line
+abbrev pub then_events : ℕ → Option TextEvent → (TextEvent → Result (List TextEvent) ℕ) → Result (List TextEvent) ℕ
+then_events n None more = Err n
+then_events n (Some event) more = more event
 
-abbrev pub events_of : ℕ → List (List ℕ) → Result (List TextEvent) ℕ
-events_of n [] = Ok []
-events_of n (line ∷ lines) = then_event n (record_of line) (events_of (n + 1) lines)
+-- these events and those of the further lines, or the least line that is no record; the first line has the format
+abbrev pub events_of : ℕ → List TextEvent → List (List ℕ) → Result (List TextEvent) ℕ
+events_of format before [] = Ok before
+events_of format before (line ∷ lines) =
+    then_events (length before + 2) (record_of format before line) (λ event. events_of format (before ++ event ∷ []) lines)
+
+abbrev pub history_after : Option ℕ → List (List ℕ) → Result (List TextEvent) ℕ
+history_after None lines = Err 1
+history_after (Some format) lines = events_of format [] lines
 
 -- the history of a text: its first line is the format, and each further line is a record
 abbrev pub history_of_lines : List (List ℕ) → Result (List TextEvent) ℕ
 history_of_lines [] = Err 1
-history_of_lines (first ∷ lines) = if is_some (format_of first) then events_of 2 lines else Err 1
+history_of_lines (first ∷ lines) = history_after (format_of first) lines
 
 unfoldable pub history_of : List ℕ → Result (List TextEvent) ℕ
 history_of text = history_of_lines (record_lines text)
@@ -58,23 +64,39 @@ refusal_text Memory = codes "out of memory"
 
 -- ---- the same in other words
 
--- the first line is a format, and the others record these events
+-- each line records the next of these events, after those before it
+abbrev pub RecordEach : ℕ → List TextEvent → List (List ℕ) → List TextEvent → Type 0
+RecordEach format before [] [] = ⊤
+RecordEach format before [] (event ∷ events) = ⊥
+RecordEach format before (line ∷ lines) [] = ⊥
+RecordEach format before (line ∷ lines) (event ∷ events) =
+    (record_of format before line ≡ Some event) × RecordEach format (before ++ event ∷ []) lines events
+
+-- the first line is a format, and the others record these events in it
 abbrev pub AreRecords : List (List ℕ) → List TextEvent → Type 0
 AreRecords [] h = ⊥
-AreRecords (first ∷ lines) h = (is_some (format_of first) ≡ true) × (map record_of lines ≡ map Some h)
+AreRecords (first ∷ lines) h = (format : ℕ) × (format_of first ≡ Some format) × RecordEach format [] lines h
 
--- which lines are what stands there; where there is none, the first is missing
-abbrev pub good_lines : List (List ℕ) → List Bool
-good_lines [] = false ∷ []
-good_lines (first ∷ lines) = is_some (format_of first) ∷ map (λ line. is_some (record_of line)) lines
+-- some lines record a history, and the next one, which is this one, counted from the line of the format, records nothing after it
+pub record IsLeastBadRecord (format : ℕ) (lines : List (List ℕ)) (n : ℕ) : Type 0 where
+  pub good : List (List ℕ)
+  pub bad : List ℕ
+  pub rest : List (List ℕ)
+  pub events : List TextEvent
+  pub stands : lines ≡ good ++ bad ∷ rest
+  pub recorded : RecordEach format [] good events
+  pub refused : record_of format events bad ≡ None
+  pub counted : n ≡ length good + 2
 
--- some good lines, and then a bad one, which is this one, counted from 1
-abbrev pub IsLeastBad : List Bool → ℕ → Type 0
-IsLeastBad good n = (k : ℕ) × (rest : List Bool) × (good ≡ replicate k true ++ false ∷ rest) × (n ≡ k + 1)
+-- the first line is missing or no format, and is this one; or it is one, and this is the least bad record
+abbrev pub IsLeastBad : List (List ℕ) → ℕ → Type 0
+IsLeastBad [] n = n ≡ 1
+IsLeastBad (first ∷ lines) n =
+    ((format_of first ≡ None) × (n ≡ 1)) ⊎ ((format : ℕ) × (format_of first ≡ Some format) × IsLeastBadRecord format lines n)
 
 -- a text holds a history exactly where its lines are records of it, and else fails at its least bad line
 abbrev pub HistoryIsRecords : Type 0
 HistoryIsRecords = (text : List ℕ) (h : List TextEvent) → (history_of text ≡ Ok h) ↔ AreRecords (record_lines text) h
 
 abbrev pub FailureIsLeastBad : Type 0
-FailureIsLeastBad = (text : List ℕ) (n : ℕ) → (history_of text ≡ Err n) ↔ IsLeastBad (good_lines (record_lines text)) n
+FailureIsLeastBad = (text : List ℕ) (n : ℕ) → (history_of text ≡ Err n) ↔ IsLeastBad (record_lines text) n

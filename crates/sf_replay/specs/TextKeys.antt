@@ -9,7 +9,7 @@ module _ {V : Type 0} where
   with_text_key (Lead by place call own) = Lead by (decimal place) call own
   with_text_key (Enter by place call member) = Enter by (decimal place) call member
   with_text_key (Forget by place closed) = Forget by (decimal place) closed
-  with_text_key (Settle by call result shared) = Settle by call result shared
+  with_text_key (Settle by call result joiners) = Settle by call result joiners
   with_text_key (Handed by call) = Handed by call
 
   abbrev pub with_text_keys : List (Event ℕ V) → List (Event (List ℕ) V)

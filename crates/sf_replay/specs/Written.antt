@@ -1,5 +1,5 @@
 -- what is written: the format, then one record an event, each line ended
-use Rattle.std.specs.Prelude.{ℕ, ◌≤◌, Bool, true, false, List, [], ◌∷◌, ◌++◌, length, Option, Some, None, Result, Ok, Err, codes, decimal}
+use Rattle.std.specs.Prelude.{ℕ, ◌≤◌, List, [], ◌∷◌, ◌++◌, length, Option, Some, None, Result, Ok, Err, codes, decimal}
 use Rattle.json.specs.Print.{quoted}
 use Rattle.sf_history.specs.declared.call.CallId.{CallId}
 use Rattle.sf_history.specs.declared.event.Event.TheVariants.{Lead, Enter, Forget, Settle, Handed}
@@ -13,10 +13,6 @@ abbrev pub option_json : Option CallId → List ℕ
 option_json None = codes "null"
 option_json (Some c) = call_json c
 
-abbrev pub mark_json : Bool → List ℕ
-mark_json true = codes "true"
-mark_json false = codes "false"
-
 -- what a call is settled with, after its name
 abbrev pub result_json : Result (List ℕ) (List ℕ) → List ℕ
 result_json (Ok value) = codes "\"ok\":" ++ quoted value
@@ -29,8 +25,8 @@ record_text (Enter by key call member) =
     codes "{\"e\":\"enter\",\"by\":" ++ (decimal by ++ (codes ",\"k\":" ++ (quoted key ++ (codes ",\"c\":" ++ (call_json call ++ (codes ",\"m\":" ++ (call_json member ++ codes "}")))))))
 record_text (Forget by key closed) =
     codes "{\"e\":\"forget\",\"by\":" ++ (decimal by ++ (codes ",\"k\":" ++ (quoted key ++ (codes ",\"closed\":" ++ (option_json closed ++ codes "}")))))
-record_text (Settle by call result shared) =
-    codes "{\"e\":\"settle\",\"by\":" ++ (decimal by ++ (codes ",\"c\":" ++ (call_json call ++ (codes "," ++ (result_json result ++ (codes ",\"shared\":" ++ (mark_json shared ++ codes "}")))))))
+record_text (Settle by call result joiners) =
+    codes "{\"e\":\"settle\",\"by\":" ++ (decimal by ++ (codes ",\"c\":" ++ (call_json call ++ (codes "," ++ (result_json result ++ (codes ",\"joiners\":" ++ (decimal joiners ++ codes "}")))))))
 record_text (Handed by call) =
     codes "{\"e\":\"handed\",\"by\":" ++ (decimal by ++ (codes ",\"c\":" ++ (call_json call ++ codes "}")))
 
@@ -40,12 +36,20 @@ records_text [] = []
 records_text (event ∷ events) = record_text event ++ (codes "\n" ++ records_text events)
 
 unfoldable pub history_text : List TextEvent → List ℕ
-history_text h = codes "{\"format\":1}\n" ++ records_text h
+history_text h = codes "{\"format\":2}\n" ++ records_text h
+
+-- an event holds a number of joiners in 32 bits
+abbrev pub HasCount : TextEvent → Type 0
+HasCount (Lead by key call own) = Unit {0}
+HasCount (Enter by key call member) = Unit {0}
+HasCount (Forget by key closed) = Unit {0}
+HasCount (Settle by call result joiners) = joiners ≤ 4294967295
+HasCount (Handed by call) = Unit {0}
 
 -- records hold keys of at most 250 bytes
 abbrev pub HasShortKey : TextEvent → Type 0
 HasShortKey (Lead by key call own) = length key ≤ 250
 HasShortKey (Enter by key call member) = length key ≤ 250
 HasShortKey (Forget by key closed) = length key ≤ 250
-HasShortKey (Settle by call result shared) = Unit {0}
+HasShortKey (Settle by call result joiners) = Unit {0}
 HasShortKey (Handed by call) = Unit {0}

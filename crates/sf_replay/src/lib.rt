@@ -1,6 +1,7 @@
-//! Records of histories, and the checker that says whether a history is legal.
+//! Records of histories: what is written for a history, what a text of records says, and logs that are merged.
 #![tactic(auto)]
 
+mod entered;
 mod merging;
 mod reading;
 mod record;

@@ -1,11 +1,14 @@
 //! Reading records.
 
-ghost use Rattle.std.specs.Prelude.{◌≡◌, ◌==◌, IfOk, IfErr, Ok, map, option_map};
+ghost use Rattle.std.specs.Prelude.{◌≡◌, ◌==◌, IfOk, IfErr, Ok, [], map, option_map, option_and_then};
 ghost use Rattle.std.specs.List.{slice_split};
 ghost use Rattle.serde_json.specs.View.{view};
-ghost use Rattle.sf_replay.specs.RecordText.{json_of, record_of, format_of, without_empty_last, record_lines, events_of, history_of_lines, history_of};
+ghost use Rattle.sf_replay.specs.Record.{event_in};
+ghost use Rattle.sf_replay.specs.Entered.{entered_in};
+ghost use Rattle.sf_replay.specs.RecordText.{json_of, format_of, without_empty_last, record_lines, events_of, history_of_lines, history_of};
 ghost use Rattle.sf_replay.specs.RecordText.{IsRecordRefusal, HistoryIsRecords, FailureIsLeastBad};
 
+use crate::entered::Entered;
 use crate::record::{TextEvent, event, format};
 use serde_json::Value;
 use sf_history::{History, Memory};
@@ -79,11 +82,17 @@ fn json(alloc: Global, line: &[u8]) -> Result<Option<Value>, Memory>
     }
 }
 
-fn record(alloc: Global, line: &[u8]) -> Result<Option<TextEvent>, Memory>
-    ensures { IfOk result (λ found. found ≡ record_of line.now) }
+/// The event that a line records in the format, where so many entered each call in the lines before.
+fn record(
+    alloc: Global,
+    format: u32,
+    entered: &Entered,
+    line: &[u8],
+) -> Result<Option<TextEvent>, Memory>
+    ensures { IfOk result (λ found. found ≡ option_and_then (event_in format (entered_in entered.now)) (json_of line.now)) }
 {
     match json(alloc, line)? {
-        Some(value) => event(alloc, &value),
+        Some(value) => event(alloc, format, entered, &value),
         None => Ok(None),
     }
 }
@@ -124,20 +133,23 @@ fn lines(alloc: Global, text: &[u8]) -> Result<Vec<&[u8]>, Memory>
     Ok(lines)
 }
 
-/// The history that these lines record; the first of them is the text's second.
+/// The history that these lines record in the format; the first of them is the text's second.
 fn history(
     alloc: Global,
+    format: u32,
     lines: &[&[u8]],
 ) -> Result<History<Text, Result<Text, Text>>, RecordRefusal>
-    ensures ok { IfOk result (λ history. events_of 2 (map (λ line. line.now) lines.now) ≡ Ok history) }
-    ensures bad { IfErr result (λ refusal. IsRecordRefusal refusal (events_of 2 (map (λ line. line.now) lines.now))) }
+    ensures ok { IfOk result (λ history. events_of format [] (map (λ line. line.now) lines.now) ≡ Ok history) }
+    ensures bad { IfErr result (λ refusal. IsRecordRefusal refusal (events_of format [] (map (λ line. line.now) lines.now))) }
 {
     let mut events = Vec::new(alloc);
+    let mut entered = Entered::new(alloc);
     for (i, line) in lines.iter().enumerate() {
-        match record(alloc, line)? {
-            Some(event) => events.push(event)?,
-            None => return Err(RecordRefusal::BadRecord(i as u64 + 2)),
-        }
+        let Some(event) = record(alloc, format, &entered, line)? else {
+            return Err(RecordRefusal::BadRecord(i as u64 + 2));
+        };
+        entered.note(format, &event)?;
+        events.push(event)?;
     }
     Ok(History::from_vec(events))
 }
@@ -153,14 +165,15 @@ fn history_of_lines(
     let [first, records @ ..] = lines else {
         return Err(RecordRefusal::BadRecord(1));
     };
-    if format_of(alloc, first)?.is_none() {
-        return Err(RecordRefusal::BadRecord(1));
+    match format_of(alloc, first)? {
+        Some(format) => history(alloc, format, records),
+        None => Err(RecordRefusal::BadRecord(1)),
     }
-    history(alloc, records)
 }
 
 /// The history that a text holds: its first line is the format, and each further line is a record. Where it holds none,
-/// the refusal has the first line that is not what stands there, or memory was refused. Its time is linear in the text.
+/// the refusal has the first line that is not what stands there, or memory was refused. Its time is linear in the text, but
+/// for the first format, whose marks want counts of those who entered: there it grows as n log n.
 #[tactic(auto, unfolding(crate::specs::RecordText::history_of))]
 pub fn read(alloc: Global, text: &[u8]) -> Result<History<Text, Result<Text, Text>>, RecordRefusal>
     ensures ok { IfOk result (λ history. history_of text.now ≡ Ok history) }

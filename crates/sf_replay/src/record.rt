@@ -1,11 +1,13 @@
-//! One record: the event that a JSON object says.
+//! One record: the event that a JSON object says, in its format.
 
 ghost use Rattle.std.specs.Prelude.{◌≡◌, IfOk, option_map};
 ghost use Rattle.serde_json.specs.Find.{as_str, as_bool};
 ghost use Rattle.serde_json.specs.View.{view};
-ghost use Rattle.sf_replay.specs.Record.{number_in, caller_in, call_in, option_in, key_in, field, has_names};
+ghost use Rattle.sf_replay.specs.Record.{number_in, count_in, caller_in, call_in, option_in, key_in, field, has_names, count_of_mark, joiners_in};
+ghost use Rattle.sf_replay.specs.Entered.{entered_in};
 ghost use Rattle.sf_replay.specs.Record.{lead_in, enter_in, forget_in, result_in, settle_in, handed_in, event_of_kind, event_in, format_in};
 
+use crate::entered::Entered;
 use serde_json::Value;
 use sf_history::{CallId, Event, Memory};
 use sf_text::{Outcome, Text};
@@ -15,14 +17,26 @@ use std::alloc::Global;
 /// An event whose key is a text, settled with a text or with an error's.
 pub type TextEvent = Event<Text, Outcome>;
 
+/// The first format of records, whose settles have a mark in place of how many joined.
+pub(crate) const FIRST_FORMAT: u32 = 1;
+
 /// The newest format of records.
-const NEWEST_FORMAT: u32 = 1;
+const NEWEST_FORMAT: u32 = 2;
 
 fn number(value: &Value, max: u32) -> Option<u32>
     ensures { result ≡ number_in max (view value.now) }
 {
     match value.as_u64() {
         Some(n) if 0 < n && n <= u64::from(max) => Some(n as u32),
+        _ => None,
+    }
+}
+
+fn count(value: &Value) -> Option<u32>
+    ensures { result ≡ count_in (view value.now) }
+{
+    match value.as_u64() {
+        Some(n) if n <= u64::from(u32::MAX) => Some(n as u32),
         _ => None,
     }
 }
@@ -95,6 +109,32 @@ fn bool_at(value: &Value, name: &str) -> Option<bool>
     ensures { result ≡ field name.now as_bool (view value.now) }
 {
     value.get(name)?.as_bool()
+}
+
+/// How many a mark stands for, where so many entered the call before: none, or those who entered, and at least one.
+fn count_of_mark(entered: u64, shared: bool) -> Option<u32>
+    ensures { result ≡ count_of_mark entered shared }
+{
+    if !shared {
+        return Some(0);
+    }
+    let joiners = entered.max(1);
+    if joiners <= u64::from(u32::MAX) {
+        Some(joiners as u32)
+    } else {
+        None
+    }
+}
+
+/// How many joined, where so many entered the call before.
+fn joiners_at(value: &Value, format: u32, entered: u64) -> Option<u32>
+    ensures { result ≡ joiners_in format entered (view value.now) }
+{
+    if format == FIRST_FORMAT {
+        count_of_mark(entered, bool_at(value, "shared")?)
+    } else {
+        count(value.get("joiners")?)
+    }
 }
 
 #[tactic(auto, unfolding(crate::specs::Record::lead_in))]
@@ -176,25 +216,32 @@ fn result(alloc: Global, value: &Value) -> Result<Option<Result<Text, Text>>, Me
 }
 
 #[tactic(auto, unfolding(crate::specs::Record::settle_in))]
-fn settle(alloc: Global, value: &Value) -> Result<Option<TextEvent>, Memory>
-    ensures { IfOk result (λ found. found ≡ settle_in (view value.now)) }
+fn settle(
+    alloc: Global,
+    format: u32,
+    entered: &Entered,
+    value: &Value,
+) -> Result<Option<TextEvent>, Memory>
+    ensures { IfOk result (λ found. found ≡ settle_in format (entered_in entered.now) (view value.now)) }
 {
     if !has_names(value, 5) {
         return Ok(None);
     }
-    match (
+    let (Some(by), Some(call), Some(result)) = (
         caller_at(value, "by"),
         call_at(value, "c"),
         result(alloc, value)?,
-        bool_at(value, "shared"),
-    ) {
-        (Some(by), Some(call), Some(result), Some(shared)) => Ok(Some(Event::Settle {
+    ) else {
+        return Ok(None);
+    };
+    match joiners_at(value, format, entered.count(call)) {
+        Some(joiners) => Ok(Some(Event::Settle {
             by,
             call,
             result,
-            shared,
+            joiners,
         })),
-        _ => Ok(None),
+        None => Ok(None),
     }
 }
 
@@ -211,26 +258,37 @@ fn handed(value: &Value) -> Option<TextEvent>
 }
 
 #[tactic(auto, unfolding(crate::specs::Record::event_of_kind))]
-fn event_of_kind(alloc: Global, kind: &str, value: &Value) -> Result<Option<TextEvent>, Memory>
-    ensures { IfOk result (λ found. found ≡ event_of_kind kind.now (view value.now)) }
+fn event_of_kind(
+    alloc: Global,
+    format: u32,
+    entered: &Entered,
+    kind: &str,
+    value: &Value,
+) -> Result<Option<TextEvent>, Memory>
+    ensures { IfOk result (λ found. found ≡ event_of_kind format (entered_in entered.now) kind.now (view value.now)) }
 {
     match kind {
         "lead" => lead(alloc, value),
         "enter" => enter(alloc, value),
         "forget" => forget(alloc, value),
-        "settle" => settle(alloc, value),
+        "settle" => settle(alloc, format, entered, value),
         "handed" => Ok(handed(value)),
         _ => Ok(None),
     }
 }
 
-/// The event that a JSON value says, if it says one.
+/// The event that a JSON value says in the format, if it says one, where so many entered each call in the lines before.
 #[tactic(auto, unfolding(crate::specs::Record::event_in))]
-pub(crate) fn event(alloc: Global, value: &Value) -> Result<Option<TextEvent>, Memory>
-    ensures { IfOk result (λ found. found ≡ event_in (view value.now)) }
+pub(crate) fn event(
+    alloc: Global,
+    format: u32,
+    entered: &Entered,
+    value: &Value,
+) -> Result<Option<TextEvent>, Memory>
+    ensures { IfOk result (λ found. found ≡ event_in format (entered_in entered.now) (view value.now)) }
 {
     match text_at(value, "e") {
-        Some(kind) => event_of_kind(alloc, kind, value),
+        Some(kind) => event_of_kind(alloc, format, entered, kind, value),
         None => Ok(None),
     }
 }

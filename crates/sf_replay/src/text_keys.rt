@@ -46,12 +46,12 @@ fn with_text_key<V: Drop>(alloc: Global, event: Event<PlaceNo, V>) -> Result<Eve
             by,
             call,
             result,
-            shared,
+            joiners,
         } => Event::Settle {
             by,
             call,
             result,
-            shared,
+            joiners,
         },
         Event::Handed { by, call } => Event::Handed { by, call },
     })

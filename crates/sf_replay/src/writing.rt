@@ -4,7 +4,7 @@ ghost use Rattle.std.specs.Prelude.{◌≡◌, ◌++◌, Ok, IfOk, All, codes, s
 ghost use Rattle.json.specs.Print.{quoted};
 ghost use Rattle.sf_history.specs.Limits.{IsWithinLimits};
 ghost use Rattle.sf_replay.specs.RecordText.{history_of};
-ghost use Rattle.sf_replay.specs.Written.{call_json, option_json, result_json, record_text, history_text, HasShortKey};
+ghost use Rattle.sf_replay.specs.Written.{call_json, option_json, result_json, record_text, history_text, HasCount, HasShortKey};
 
 use crate::record::TextEvent;
 use serde_json::Value;
@@ -13,8 +13,8 @@ use sf_text::Text;
 use std::alloc::Global;
 use std::fmt;
 
-/// The first line of records.
-const FORMAT_LINE: &str = "{\"format\":1}\n";
+/// The first line of records, in the newest format.
+const FORMAT_LINE: &str = "{\"format\":2}\n";
 
 /// A call or a member, as in `[1,2]`.
 #[derive(Clone, Copy)]
@@ -78,7 +78,8 @@ fn settled(alloc: Global, outcome: &Result<Text, Text>) -> Result<String, Memory
 /// One record, without the end of its line.
 #[tactic(auto, unfolding(crate::specs::Written::record_text))]
 fn record(alloc: Global, event: &TextEvent) -> Result<String, Memory>
-    ensures { IfOk result (λ string. string_bytes string ≡ record_text event.now) }
+    ensures text { IfOk result (λ string. string_bytes string ≡ record_text event.now) }
+    ensures counted { IfOk result (λ string. HasCount event.now) }
 {
     match event {
         Event::Lead { by, key, call, own } => {
@@ -106,11 +107,11 @@ fn record(alloc: Global, event: &TextEvent) -> Result<String, Memory>
             by,
             call,
             result,
-            shared,
+            joiners,
         } => {
-            let (call, result) = (CallJson(*call), settled(alloc, result)?);
+            let (call, result, joiners) = (CallJson(*call), settled(alloc, result)?, *joiners);
             format!(in alloc;
-                "{{\"e\":\"settle\",\"by\":{by},\"c\":{call},{result},\"shared\":{shared}}}"
+                "{{\"e\":\"settle\",\"by\":{by},\"c\":{call},{result},\"joiners\":{joiners}}}"
             )
         }
         Event::Handed { by, call } => {

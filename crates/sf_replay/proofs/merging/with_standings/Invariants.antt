@@ -1,6 +1,5 @@
 use Rattle.std.proofs.Common.{◌≡◌, ◌++◌, map, length}
 use Rattle.std.specs.Vec.Iter.{into_iter_items, into_iter_len}
-use Rattle.sf_replay.specs.Merged.{events_of_logs}
 use Rattle.sf_replay.proofs.merging.with_standings.Given as goal
 
 abbrev pub invariant-loop-event : goal.invariant-loop-event

@@ -1,15 +1,33 @@
-use Rattle.std.proofs.Common.{◌∙◌, sym, ap, arith}
+use Rattle.std.proofs.Common.{◌∙◌, Ok, sym, ap, arith}
 use Rattle.sf_replay.specs.RecordText.{record_of}
-use Rattle.sf_replay.proofs.Lines.{shown, shown_at, shown_within, events_more, events_bad}
+use Rattle.sf_replay.proofs.Lines.{shown, shown_at, shown_within, shown_past, entries_few, recorded, read_none, read_more, read_bad, read_all}
 use Rattle.sf_replay.proofs.reading.history.Goals as goal
 
-pub returns-in-None-clause-bad : goal.returns-in-None-clause-bad
-returns-in-None-clause-bad c =
-    let here = ap record_of (shown_at c.args.lines.now c.loop-i.i _ c.loop-i-test.true) ∙ sym c.in_ok-event.ensures ∙ c.in-None.is in
-    events_bad (shown c.args.lines.now) c.loop-i.i _ c.loop-i.events.items _ (shown_within c.args.lines.now c.loop-i.i c.loop-i-test.true) here c.loop-i.invariant
+pub loop-i-init : goal.loop-i-init
+loop-i-init c = read_none c.args.format (shown c.args.lines.now) c.new-events.result.items c.new-entered.result c.new-events.ensures.items c.new-entered.ensures
+
+pub returns-in_default-clause-bad : goal.returns-in_default-clause-bad
+returns-in_default-clause-bad c =
+    let lines = shown c.args.lines.now in
+    let events = c.loop-i.events.items in
+    let here = ap (record_of c.args.format events) (shown_at c.args.lines.now c.loop-i.i _ c.loop-i-test.true)
+    ∙ sym (recorded c.args.format lines c.loop-i.i events c.loop-i.entered _ c.loop-i.invariant) ∙ sym c.in_ok-event.ensures ∙ c.in_default.is in
+    read_bad c.args.format lines c.loop-i.i events c.loop-i.entered (shown_within c.args.lines.now c.loop-i.i c.loop-i-test.true) here c.loop-i.invariant
+
+pub note-requires : goal.note-requires
+note-requires c =
+    record { room = λ first id. omega (arith, entries_few c.args.format (shown c.args.lines.now) c.loop-i.i c.loop-i.events.items c.loop-i.entered c.loop-i.invariant first id, c.loop-i-test.true) }
 
 pub loop-i-preserved : goal.loop-i-preserved
 loop-i-preserved c =
-    let here = ap record_of (shown_at c.args.lines.now c.loop-i.i _ c.loop-i-test.true) ∙ sym c.in_ok-event.ensures ∙ c.in-Some.is in
-    rw c.in_ok-push-in-Some.ensures.items
-    (events_more (shown c.args.lines.now) c.loop-i.i _ _ c.loop-i.events.items c.in-Some.event _ (shown_within c.args.lines.now c.loop-i.i c.loop-i-test.true) (omega arith) here c.loop-i.invariant)
+    let lines = shown c.args.lines.now in
+    let events = c.loop-i.events.items in
+    let here = ap (record_of c.args.format events) (shown_at c.args.lines.now c.loop-i.i _ c.loop-i-test.true)
+    ∙ sym (recorded c.args.format lines c.loop-i.i events c.loop-i.entered _ c.loop-i.invariant) ∙ sym c.in_ok-event.ensures ∙ c.in-Some.is in
+    rw c.in_ok-push.ensures.items
+    (read_more c.args.format lines c.loop-i.i events c.loop-i.entered c.note.new.self c.in-Some.event (shown_within c.args.lines.now c.loop-i.i c.loop-i-test.true) here c.in_ok-note.ensures c.loop-i.invariant)
+
+pub returns-clause-ok : goal.returns-clause-ok
+returns-clause-ok c =
+    read_all c.args.format (shown c.args.lines.now) c.loop-i.i c.loop-i.events.items c.loop-i.entered (shown_past c.args.lines.now c.loop-i.i c.loop-i-test.false) c.loop-i.invariant
+    ∙ ap Ok (sym c.from_vec.ensures)

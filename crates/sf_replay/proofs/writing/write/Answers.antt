@@ -9,7 +9,7 @@ pub loop-event-preserved : goal.loop-event-preserved
 loop-event-preserved c =
     let added = c.in_ok-push_str-2.ensures.bytes ∙ ap (λ text. text ++ codes "\n") c.in_ok-push_str.ensures.bytes in
     written_more c.events-event-items.result.now c.loop-event.event-index c.event-item.result (string_bytes c.loop-event.text) c.as_str.result.now _
-    c.loop-event-test.true c.event-item.is (c.as_str.ensures.value ∙ c.in_ok-record.ensures) c.as_str.utf8 added c.loop-event.invariant
+    c.loop-event-test.true c.event-item.is (c.as_str.ensures.value ∙ c.in_ok-record.ensures.text) c.as_str.utf8 c.in_ok-record.ensures.counted added c.loop-event.invariant
 
 pub returns-clause-reads_back : goal.returns-clause-reads_back
 returns-clause-reads_back c =
