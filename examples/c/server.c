@@ -30,15 +30,15 @@ static uint64_t get(sf_slot *caller, unsigned key) {
     char name[16];
     size_t len = name_of(key, name);
     uint64_t value = 0;
-    bool shared = false;
+    uint32_t joiners = 0;
     for (;;) {
         switch (sf_ask(caller, (const uint8_t *)name, len, TRIES)) {
         case SF_LEADS:
             value = load(key);
-            while (sf_finish(caller, value, &shared) == SF_OWES && sf_go_on(caller, &shared) == SF_OWES) {}
+            while (sf_finish(caller, value, &joiners) == SF_OWES && sf_go_on(caller, &joiners) == SF_OWES) {}
             return value;
         case SF_JOINED:
-            while (sf_poll(caller, &value, &shared) == SF_NOT_YET) sched_yield();
+            while (sf_poll(caller, &value, &joiners) == SF_NOT_YET) sched_yield();
             atomic_fetch_add(&joined, 1);
             return value;
         case SF_BUSY:

@@ -13,23 +13,35 @@ pub(crate) fn record_hint(alloc: Global, input: &[u8]) -> Option<Hint> {
     if line == 1 {
         return Some(Hint {
             line,
-            says: "expected {\"format\":1}",
+            says: "expected {\"format\":2} or {\"format\":1}",
         });
     }
-    let refused = input
-        .split(|byte| *byte == b'\n')
-        .nth(index(line))
-        .unwrap_or_default();
-    match Value::from_slice(alloc, refused) {
+    match Value::from_slice(alloc, line_of(input, line)) {
         Ok(record) => Some(Hint {
             line,
-            says: record_says(&record),
+            says: record_says(&record, joiners_name(alloc, input)),
         }),
         Err(error) if error.is_memory() => None,
         Err(_) => Some(Hint {
             line,
             says: "it is no JSON",
         }),
+    }
+}
+
+/// The line of this number, from 1.
+fn line_of(input: &[u8], line: u64) -> &[u8] {
+    input
+        .split(|byte| *byte == b'\n')
+        .nth(index(line))
+        .unwrap_or_default()
+}
+
+/// The name under which a settle says how many joined, in the input's format.
+fn joiners_name(alloc: Global, input: &[u8]) -> &'static str {
+    match Value::from_slice(alloc, line_of(input, 1)) {
+        Ok(first) if first.get("format").and_then(Value::as_u64) == Some(1) => "shared",
+        _ => "joiners",
     }
 }
 
@@ -44,8 +56,8 @@ fn has(record: &Value, names: &[&str]) -> bool {
     }
 }
 
-/// What is wrong with a value that is no record.
-fn record_says(record: &Value) -> &'static str {
+/// What is wrong with a value that is no record, where settles have this name for how many joined.
+fn record_says(record: &Value, joiners: &str) -> &'static str {
     match record.get("e").and_then(Value::as_str) {
         Some("lead") if !has(record, &["by", "k", "c", "own"]) => {
             "expected the names e, by, k, c and own"
@@ -57,13 +69,17 @@ fn record_says(record: &Value) -> &'static str {
             "expected the names e, by, k and closed"
         }
         Some("settle")
-            if !has(record, &["by", "c", "ok", "shared"])
-                && !has(record, &["by", "c", "err", "shared"]) => {
-            "expected the names e, by, c, shared, and one of ok and err"
+            if !has(record, &["by", "c", "ok", joiners])
+                && !has(record, &["by", "c", "err", joiners]) => {
+            if joiners == "shared" {
+                "expected the names e, by, c, shared, and one of ok and err"
+            } else {
+                "expected the names e, by, c, joiners, and one of ok and err"
+            }
         }
         Some("handed") if !has(record, &["by", "c"]) => "expected the names e, by and c",
         Some("lead") | Some("enter") | Some("forget") | Some("settle") | Some("handed") => {
-            "a value has another type or is out of range; callers are 1 to 65535, generations 1 to 4294967295, keys at most 250 bytes"
+            "a value has another type or is out of range; callers are 1 to 65535, generations 1 to 4294967295, joiners 0 to 4294967295, keys at most 250 bytes"
         }
         _ => "expected an object whose e is lead, enter, forget, settle or handed",
     }
