@@ -5,7 +5,7 @@ use std::test::Fail;
 
 #[test]
 fn refused_lines_have_hints(rt: HostRuntime) -> Result<(), Fail> {
-    let rows: [(Engine, &[u8], &str); 16] = [
+    let rows: [(Engine, &[u8], &str); 17] = [
         (
             Engine::Run,
             b"ask 1 k\nask 2\n",
@@ -58,8 +58,8 @@ fn refused_lines_have_hints(rt: HostRuntime) -> Result<(), Fail> {
         ),
         (
             Engine::Check,
-            b"{\"format\":2}\n",
-            "hint: line 1: expected {\"format\":1}",
+            b"{\"format\":9}\n",
+            "hint: line 1: expected {\"format\":2} or {\"format\":1}",
         ),
         (
             Engine::Check,
@@ -83,8 +83,13 @@ fn refused_lines_have_hints(rt: HostRuntime) -> Result<(), Fail> {
         ),
         (
             Engine::Check,
+            b"{\"format\":2}\n{\"e\":\"settle\",\"by\":1,\"c\":[1,1],\"ok\":\"v\",\"shared\":true}\n",
+            "hint: line 2: expected the names e, by, c, joiners, and one of ok and err",
+        ),
+        (
+            Engine::Check,
             b"{\"format\":1}\n{\"e\":\"handed\",\"by\":1,\"c\":[1,0]}\n",
-            "hint: line 2: a value has another type or is out of range; callers are 1 to 65535, generations 1 to 4294967295, keys at most 250 bytes",
+            "hint: line 2: a value has another type or is out of range; callers are 1 to 65535, generations 1 to 4294967295, joiners 0 to 4294967295, keys at most 250 bytes",
         ),
     ];
     for (engine, input, expected) in rows {

@@ -40,7 +40,7 @@ fn histories(rt: HostRuntime) -> Result<(), Fail> {
         // wrong_shared_mark
         (
             "{\"format\":1}\n{\"e\":\"lead\",\"by\":1,\"k\":\"k\",\"c\":[1,1],\"own\":null}\n{\"e\":\"settle\",\"by\":1,\"c\":[1,1],\"ok\":\"v\",\"shared\":true}\n",
-            "event 2: shared mark is wrong\n",
+            "event 2: number of joiners is wrong\n",
             Ending::Illegal,
         ),
         // idle_forget_beside_an_open_call
@@ -62,50 +62,181 @@ fn histories(rt: HostRuntime) -> Result<(), Fail> {
     Ok(())
 }
 
-/// A history of four events, a record a line.
-const FOUR_EVENTS: [&str; 5] = [
-    "{\"format\":1}",
-    "{\"e\":\"lead\",\"by\":1,\"k\":\"k\",\"c\":[1,1],\"own\":null}",
-    "{\"e\":\"enter\",\"by\":2,\"k\":\"k\",\"c\":[1,1],\"m\":[2,1]}",
-    "{\"e\":\"settle\",\"by\":1,\"c\":[1,1],\"err\":\"down\",\"shared\":true}",
-    "{\"e\":\"handed\",\"by\":1,\"c\":[1,1]}",
+const LEAD: &str = "{\"e\":\"lead\",\"by\":1,\"k\":\"k\",\"c\":[1,1],\"own\":null}\n";
+
+const ENTER: &str = "{\"e\":\"enter\",\"by\":2,\"k\":\"k\",\"c\":[1,1],\"m\":[2,1]}\n";
+
+const ENTER_TOO: &str = "{\"e\":\"enter\",\"by\":3,\"k\":\"k\",\"c\":[1,1],\"m\":[3,1]}\n";
+
+/// Checks the records of a format: the first ones, and then a settle of the call 1.1 that says its joiners so.
+fn settles(
+    rt: &impl Abort,
+    alloc: Global,
+    format: u32,
+    before: &[&str],
+    joiners: &str,
+    line: &str,
+) -> Result<(), Fail> {
+    let mut records = format!(in alloc; "{{\"format\":{format}}}\n")?;
+    for record in before {
+        records.push_str(record)?;
+    }
+    records.push_str("{\"e\":\"settle\",\"by\":1,\"c\":[1,1],\"ok\":\"v\",")?;
+    records.push_str(joiners)?;
+    records.push_str("}\n")?;
+    let ending = if line.starts_with("legal") {
+        Ending::Answered
+    } else if line.starts_with("event") {
+        Ending::Illegal
+    } else {
+        Ending::Refused
+    };
+    judges(rt, alloc, records.as_str(), line, ending)
+}
+
+/// The number of joiners is that of the enters on the call.
+#[test]
+fn joiner_counts_in_records(rt: HostRuntime) -> Result<(), Fail> {
+    let rows: [(&[&str], &str, &str); 14] = [
+        (&[LEAD, ENTER], "\"joiners\":1", "legal: 3 events\n"),
+        (
+            &[LEAD, ENTER],
+            "\"joiners\":2",
+            "event 3: number of joiners is wrong\n",
+        ),
+        (
+            &[LEAD, ENTER],
+            "\"joiners\":0",
+            "event 3: number of joiners is wrong\n",
+        ),
+        (&[LEAD], "\"joiners\":0", "legal: 2 events\n"),
+        (
+            &[LEAD, ENTER, ENTER_TOO],
+            "\"joiners\":2",
+            "legal: 4 events\n",
+        ),
+        (
+            &[LEAD, ENTER, ENTER_TOO],
+            "\"joiners\":1",
+            "event 4: number of joiners is wrong\n",
+        ),
+        (
+            &[LEAD],
+            "\"joiners\":4294967295",
+            "event 2: number of joiners is wrong\n",
+        ),
+        (&[LEAD], "\"joiners\":4294967296", "line 3: not a record\n"),
+        (&[LEAD], "\"joiners\":-1", "line 3: not a record\n"),
+        (&[LEAD], "\"joiners\":0.0", "line 3: not a record\n"),
+        (&[LEAD], "\"joiners\":\"0\"", "line 3: not a record\n"),
+        (&[LEAD], "\"joiners\":false", "line 3: not a record\n"),
+        // The mark of the first format.
+        (&[LEAD], "\"shared\":false", "line 3: not a record\n"),
+        (
+            &[LEAD],
+            "\"joiners\":0,\"shared\":false",
+            "line 3: not a record\n",
+        ),
+    ];
+    for (before, joiners, line) in rows {
+        settles(&rt, rt.alloc(), 2, before, joiners, line)?;
+    }
+    Ok(())
+}
+
+/// A mark stands for nobody, or for those who entered in the lines before, and at least one.
+#[test]
+fn first_format_is_still_read(rt: HostRuntime) -> Result<(), Fail> {
+    // Two enters on another call, which are not counted.
+    let aside =
+        "{\"e\":\"lead\",\"by\":4,\"k\":\"j\",\"c\":[4,1],\"own\":null}\n{\"e\":\"enter\",\"by\":5,\"k\":\"j\",\"c\":[4,1],\"m\":[5,1]}\n{\"e\":\"enter\",\"by\":6,\"k\":\"j\",\"c\":[4,1],\"m\":[6,1]}\n";
+    let rows: [(&[&str], &str, &str); 9] = [
+        (&[LEAD, ENTER], "\"shared\":true", "legal: 3 events\n"),
+        (
+            &[LEAD, ENTER],
+            "\"shared\":false",
+            "event 3: number of joiners is wrong\n",
+        ),
+        (&[LEAD], "\"shared\":false", "legal: 2 events\n"),
+        (
+            &[LEAD],
+            "\"shared\":true",
+            "event 2: number of joiners is wrong\n",
+        ),
+        (
+            &[LEAD, ENTER, ENTER_TOO],
+            "\"shared\":true",
+            "legal: 4 events\n",
+        ),
+        (
+            &[LEAD, aside, ENTER],
+            "\"shared\":true",
+            "legal: 6 events\n",
+        ),
+        (&[LEAD, ENTER], "\"shared\":1", "line 4: not a record\n"),
+        // The number of the later formats.
+        (&[LEAD, ENTER], "\"joiners\":1", "line 4: not a record\n"),
+        (
+            &[LEAD, ENTER],
+            "\"shared\":true,\"joiners\":1",
+            "line 4: not a record\n",
+        ),
+    ];
+    for (before, mark, line) in rows {
+        settles(&rt, rt.alloc(), 1, before, mark, line)?;
+    }
+    Ok(())
+}
+
+/// A history of four events in each format, a record a line.
+const FOUR_EVENTS: [[&str; 5]; 2] = [
+    [
+        "{\"format\":1}",
+        "{\"e\":\"lead\",\"by\":1,\"k\":\"k\",\"c\":[1,1],\"own\":null}",
+        "{\"e\":\"enter\",\"by\":2,\"k\":\"k\",\"c\":[1,1],\"m\":[2,1]}",
+        "{\"e\":\"settle\",\"by\":1,\"c\":[1,1],\"err\":\"down\",\"shared\":true}",
+        "{\"e\":\"handed\",\"by\":1,\"c\":[1,1]}",
+    ],
+    [
+        "{\"format\":2}",
+        "{\"e\":\"lead\",\"by\":1,\"k\":\"k\",\"c\":[1,1],\"own\":null}",
+        "{\"e\":\"enter\",\"by\":2,\"k\":\"k\",\"c\":[1,1],\"m\":[2,1]}",
+        "{\"e\":\"settle\",\"by\":1,\"c\":[1,1],\"err\":\"down\",\"joiners\":1}",
+        "{\"e\":\"handed\",\"by\":1,\"c\":[1,1]}",
+    ],
 ];
 
-#[test]
-fn history_cut_at_every_byte(rt: HostRuntime) -> Result<(), Fail> {
+/// Checks a history of legal events that is cut at every byte.
+fn is_cut(rt: &impl Abort, alloc: Global, lines: &[&str]) -> Result<(), Fail> {
     // What stands before the line that is cut.
-    let mut before = String::new(rt.alloc());
-    for (i, record) in FOUR_EVENTS.iter().enumerate() {
-        let line = i + 1;
-        let refused = format!(in rt.alloc(); "line {line}: not a record\n")?;
-        let legal = format!(in rt.alloc(); "legal: {i} events\n")?;
+    let mut before = String::new(alloc);
+    for (i, record) in lines.iter().enumerate() {
+        let line = i as u64 + 1;
+        let refused = format!(in alloc; "line {line}: not a record\n")?;
+        let legal = format!(in alloc; "legal: {i} events\n")?;
         for cut in 1..record.len() {
             let mut records = before.clone()?;
             records.push_str(record.get(..cut).unwrap_or_default())?;
             judges(
-                &rt,
-                rt.alloc(),
+                rt,
+                alloc,
                 records.as_str(),
                 refused.as_str(),
                 Ending::Refused,
             )?;
         }
-        before.push_str(record)?;
-        judges(
-            &rt,
-            rt.alloc(),
-            before.as_str(),
-            legal.as_str(),
-            Ending::Answered,
-        )?;
-        before.push_str("\n")?;
-        judges(
-            &rt,
-            rt.alloc(),
-            before.as_str(),
-            legal.as_str(),
-            Ending::Answered,
-        )?;
+        for end in [*record, "\n"] {
+            before.push_str(end)?;
+            judges(rt, alloc, before.as_str(), legal.as_str(), Ending::Answered)?;
+        }
+    }
+    Ok(())
+}
+
+#[test]
+fn history_cut_at_every_byte(rt: HostRuntime) -> Result<(), Fail> {
+    for lines in FOUR_EVENTS {
+        is_cut(&rt, rt.alloc(), lines.as_slice())?;
     }
     Ok(())
 }
@@ -138,7 +269,7 @@ fn hostile_records(rt: HostRuntime) -> Result<(), Fail> {
     judges(
         &rt,
         rt.alloc(),
-        "{\"format\":2}\n",
+        "{\"format\":9}\n",
         "line 1: not a record\n",
         Ending::Refused,
     )

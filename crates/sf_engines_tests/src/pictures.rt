@@ -18,7 +18,7 @@ fn a_picture_has_each_step_and_event(rt: HostRuntime) -> Result<(), Fail> {
         ">lead 1 1.1 yes</text>",
         ">= lead 1 1.1</text>",
         ">close 1.1 done yes</text>",
-        ">= settle 1.1 a&lt;b&gt;&amp;c shared=no</text>",
+        ">= settle 1.1 a&lt;b&gt;&amp;c joiners=0</text>",
         ">= handed 1.1</text>",
         ">&gt; yes</text>",
         "</svg>\n",

@@ -8,31 +8,31 @@ const ROWS: [(Engine, &[u8], &[u8]); 3] = [
     (
         Engine::RunHistory,
         b"ask 1 k\nask 2 k\nsettle 1 ok v\ntake 2\n",
-        b"{\"format\":1}
+        b"{\"format\":2}
 {\"e\":\"lead\",\"by\":1,\"k\":\"k\",\"c\":[1,1],\"own\":null}
 {\"e\":\"enter\",\"by\":2,\"k\":\"k\",\"c\":[1,1],\"m\":[2,1]}
-{\"e\":\"settle\",\"by\":1,\"c\":[1,1],\"ok\":\"v\",\"shared\":true}
+{\"e\":\"settle\",\"by\":1,\"c\":[1,1],\"ok\":\"v\",\"joiners\":1}
 {\"e\":\"handed\",\"by\":1,\"c\":[1,1]}
 ",
     ),
     (
         Engine::RunHistory,
         b"chan 1 2 k\nforget 3 k\nforget 3 j\nsettle 1 err down\n",
-        b"{\"format\":1}
+        b"{\"format\":2}
 {\"e\":\"lead\",\"by\":1,\"k\":\"k\",\"c\":[1,1],\"own\":[2,1]}
 {\"e\":\"forget\",\"by\":3,\"k\":\"k\",\"closed\":[1,1]}
 {\"e\":\"forget\",\"by\":3,\"k\":\"j\",\"closed\":null}
-{\"e\":\"settle\",\"by\":1,\"c\":[1,1],\"err\":\"down\",\"shared\":false}
+{\"e\":\"settle\",\"by\":1,\"c\":[1,1],\"err\":\"down\",\"joiners\":0}
 {\"e\":\"handed\",\"by\":1,\"c\":[1,1]}
 ",
     ),
     (
         Engine::StepsHistory,
         b"do 1 ask 20\nstep 1 3\ndo 3 forget 20\nstep 3 3\ndo 1 settle ok v\nstep 1 2\nstep 3\n",
-        b"{\"format\":1}
+        b"{\"format\":2}
 {\"e\":\"lead\",\"by\":1,\"k\":\"20\",\"c\":[1,1],\"own\":null}
 {\"e\":\"forget\",\"by\":3,\"k\":\"20\",\"closed\":[1,1]}
-{\"e\":\"settle\",\"by\":1,\"c\":[1,1],\"ok\":\"v\",\"shared\":false}
+{\"e\":\"settle\",\"by\":1,\"c\":[1,1],\"ok\":\"v\",\"joiners\":0}
 {\"e\":\"handed\",\"by\":1,\"c\":[1,1]}
 ",
     ),

@@ -23,7 +23,7 @@ fn prints(
 
 #[test]
 fn schedules(rt: HostRuntime) -> Result<(), Fail> {
-    let rows: [(&[u8], &str); 7] = [
+    let rows: [(&[u8], &str); 8] = [
         (b"", ""),
         // stale_joiner_misses_a_reused_word
         (
@@ -44,6 +44,11 @@ fn schedules(rt: HostRuntime) -> Result<(), Fail> {
         (
             b"do 1 ask 1\nstep 1 3\ndo 3 forget 1\nstep 3 3\ndo 1 settle ok v\nstep 1 2\nstep 3\n",
             "1 look 1 0\n1 ready 1.1 open\n1 lead 1 1.1 yes\n= lead 1 1.1\n3 look 1 1.1\n3 peek 1.1 open 0\n3 close 1.1 forgot yes\n= forget 1 closed 1.1\n1 peek 1.1 forgot 0\n= settle 1.1 v joiners=0\n= handed 1.1\n1 clear 1 1.1 yes\n3 clear 1 1.1 no\n",
+        ),
+        // forgotten_call_is_cleared_before_its_count
+        (
+            b"do 1 chan 2 1\nstep 1 4\ndo 3 ask 1\nstep 3 5\ndo 4 forget 1\nstep 4 3\ndo 1 settle ok v\nstep 1 8\nstep 4\ndo 3 poll\nstep 3\n",
+            "1 look 1 0\n2 ready 2.1 listed\n1 ready 1.1 open\n1 lead 1 1.1 yes\n= lead 1 1.1 own=2.1\n3 look 1 1.1\n3 peek 1.1 open own 0\n3 ready 3.1 listed\n3 link 0\n3 enter 1.1 yes\n= enter 1 1.1 3.1\n4 look 1 1.1\n4 peek 1.1 open own 3\n4 close 1.1 forgot yes\n= forget 1 closed 1.1\n1 peek 1.1 forgot own 3\n= settle 1.1 v joiners=1\n1 clear 1 1.1 yes\n1 follow 3 0\n1 follow 3 0\n1 peek 3.1 listed 0\n1 deliver 3.1\n1 peek 2.1 listed 0\n1 deliver 2.1\n= handed 1.1\n4 clear 1 1.1 no\n3 collect 3.1 full\n",
         ),
         // closed_call_is_not_current_before_its_clear
         (

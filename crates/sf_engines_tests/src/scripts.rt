@@ -29,27 +29,32 @@ fn scripts(rt: HostRuntime) -> Result<(), Fail> {
         // lone_lead_is_not_shared
         (
             "ask 1 k\nsettle 1 ok v\n",
-            "1 lead 1.1\n1 settled 1.1 v shared=no\n",
+            "1 lead 1.1\n1 settled 1.1 v joiners=0\n",
         ),
         // joiner_gets_the_shared_value
         (
             "ask 1 k\nask 2 k\nsettle 1 ok v\ntake 2\n",
-            "1 lead 1.1\n2 join 1.1\n1 settled 1.1 v shared=yes\n2 got 1.1 v shared=yes\n",
+            "1 lead 1.1\n2 join 1.1\n1 settled 1.1 v joiners=1\n2 got 1.1 v joiners=1\n",
+        ),
+        // two_joiners_are_counted
+        (
+            "ask 1 k\nask 2 k\nask 3 k\nsettle 1 ok v\ntake 3\n",
+            "1 lead 1.1\n2 join 1.1\n3 join 1.1\n1 settled 1.1 v joiners=2\n3 got 1.1 v joiners=2\n",
         ),
         // error_is_shared_and_not_kept
         (
             "ask 1 k\nask 2 k\nsettle 1 err down\ntake 2\nask 3 k\n",
-            "1 lead 1.1\n2 join 1.1\n1 settled 1.1 error down shared=yes\n2 got 1.1 error down shared=yes\n3 lead 3.1\n",
+            "1 lead 1.1\n2 join 1.1\n1 settled 1.1 error down joiners=1\n2 got 1.1 error down joiners=1\n3 lead 3.1\n",
         ),
         // forget_parts_old_and_new_callers
         (
             "ask 1 k\nask 2 k\nforget 3 k\nask 4 k\nsettle 1 ok old\ntake 2\nsettle 4 ok new\n",
-            "1 lead 1.1\n2 join 1.1\n3 forgot 1.1\n4 lead 4.1\n1 settled 1.1 old shared=yes\n2 got 1.1 old shared=yes\n4 settled 4.1 new shared=no\n",
+            "1 lead 1.1\n2 join 1.1\n3 forgot 1.1\n4 lead 4.1\n1 settled 1.1 old joiners=1\n2 got 1.1 old joiners=1\n4 settled 4.1 new joiners=0\n",
         ),
         // late_settle_leaves_the_newer_call
         (
             "ask 1 k\nforget 2 k\nask 3 k\nsettle 1 ok a\nask 4 k\n",
-            "1 lead 1.1\n2 forgot 1.1\n3 lead 3.1\n1 settled 1.1 a shared=no\n4 join 3.1\n",
+            "1 lead 1.1\n2 forgot 1.1\n3 lead 3.1\n1 settled 1.1 a joiners=0\n4 join 3.1\n",
         ),
         // idle_key_forgotten_twice
         (
@@ -64,17 +69,17 @@ fn scripts(rt: HostRuntime) -> Result<(), Fail> {
         // own_channel_is_not_shared
         (
             "chan 1 2 k\nsettle 1 ok v\ntake 2\n",
-            "1 lead 1.1 own=2.1\n1 settled 1.1 v shared=no\n2 got 1.1 v shared=no\n",
+            "1 lead 1.1 own=2.1\n1 settled 1.1 v joiners=0\n2 got 1.1 v joiners=0\n",
         ),
         // later_channel_is_shared
         (
             "chan 1 2 k\nchan 3 4 k\nsettle 1 ok v\ntake 4\ntake 2\n",
-            "1 lead 1.1 own=2.1\n4 join 1.1\n1 settled 1.1 v shared=yes\n4 got 1.1 v shared=yes\n2 got 1.1 v shared=yes\n",
+            "1 lead 1.1 own=2.1\n4 join 1.1\n1 settled 1.1 v joiners=1\n4 got 1.1 v joiners=1\n2 got 1.1 v joiners=1\n",
         ),
         // forget_ends_a_settled_current_call
         (
             "ask 1 k\nsettle 1 ok v\ncurrent k 1.1\nforget 2 k\ncurrent k 1.1\n",
-            "1 lead 1.1\n1 settled 1.1 v shared=no\nk 1.1 current\n2 forgot nothing\nk 1.1 not current\n",
+            "1 lead 1.1\n1 settled 1.1 v joiners=0\nk 1.1 current\n2 forgot nothing\nk 1.1 not current\n",
         ),
     ];
     for (script, answer) in rows {
