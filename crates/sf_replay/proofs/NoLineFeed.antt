@@ -10,8 +10,11 @@ use Rattle.std.specs.List.{list_any, slice_split}
 use Rattle.std.specs.Char.{digit_char}
 use Rattle.json.specs.Print.{escape_letter, escape_byte, escape, quoted}
 use Rattle.sf_history.specs.declared.call.CallId.{CallId}
-use Rattle.sf_history.specs.declared.event.Event.TheVariants.{Lead, Enter, Forget, Settle, Handed}
+use Rattle.sf_history.specs.declared.event.Event.TheVariants.{Lead, Enter, Forget, ForgetCall, Settle, Handed}
 use Rattle.sf_history.specs.Limits.{IsCallerNumber, IsCallWithin, IsWithinLimits}
+use Rattle.sf_history.specs.declared.event.Hit.{Hit}
+use Rattle.sf_history.specs.declared.event.Hit.TheVariants.{Closed, Cleared, Missed}
+use Rattle.sf_history.specs.Hits.{hit_text}
 use Rattle.sf_replay.specs.Record.{TextEvent}
 use Rattle.sf_replay.specs.Written.{call_json, option_json, record_text, HasCount}
 
@@ -74,6 +77,11 @@ option_no_lf (Some c) within = call_no_lf c within
 caller_no_lf : (n : ℕ) → IsCallerNumber n → list_any is_lf (decimal n) ≡ false
 caller_no_lf n within = decimal_no_lf n (omega (arith, within.1))
 
+hit_no_lf : (hit : Hit) → list_any is_lf (hit_text hit) ≡ false
+hit_no_lf Closed = refl
+hit_no_lf Cleared = refl
+hit_no_lf Missed = refl
+
 pub record_no_lf : (e : TextEvent) → IsWithinLimits e → HasCount e → list_any is_lf (record_text e) ≡ false
 unfolding record_text
 record_no_lf (Lead by key call own) within count =
@@ -82,6 +90,8 @@ record_no_lf (Enter by key call member) within count =
     skip (decimal by) _ (caller_no_lf by within.0) (skip (quoted key) _ (quoted_no_lf key) (skip (call_json call) _ (call_no_lf call within.1) (skip (call_json member) _ (call_no_lf member within.2) refl)))
 record_no_lf (Forget by key closed) within count =
     skip (decimal by) _ (caller_no_lf by within.0) (skip (quoted key) _ (quoted_no_lf key) (skip (option_json closed) _ (option_no_lf closed within.1) refl))
+record_no_lf (ForgetCall by key call hit) within count =
+    skip (decimal by) _ (caller_no_lf by within.0) (skip (quoted key) _ (quoted_no_lf key) (skip (call_json call) _ (call_no_lf call within.1) (skip (hit_text hit) _ (hit_no_lf hit) refl)))
 record_no_lf (Settle by call (Ok value) joiners) within count =
     skip (decimal by) _ (caller_no_lf by within.0) (skip (call_json call) _ (call_no_lf call within.1) (skip (quoted value) _ (quoted_no_lf value) (skip (decimal joiners) _ (decimal_no_lf joiners (omega (arith, count))) refl)))
 record_no_lf (Settle by call (Err error) joiners) within count =

@@ -8,9 +8,11 @@ use Rattle.serde_json.specs.Data.{Data, number, unsigned, string, null, array, i
 use Rattle.serde_json.specs.Read.{of_json, max_depth}
 use Rattle.serde_json.proofs.Numbers.{number_of-decimal}
 use Rattle.sf_history.specs.declared.call.CallId.{CallId}
-use Rattle.sf_history.specs.declared.event.Event.TheVariants.{Lead, Enter, Forget, Settle, Handed}
+use Rattle.sf_history.specs.declared.event.Event.TheVariants.{Lead, Enter, Forget, ForgetCall, Settle, Handed}
+use Rattle.sf_history.specs.declared.event.Hit.TheVariants.{Closed, Cleared, Missed}
+use Rattle.sf_history.specs.Hits.{hit_text}
 use Rattle.sf_history.specs.Limits.{IsCallerNumber, IsCallWithin, IsWithinLimits}
-use Rattle.sf_replay.specs.Record.{TextEvent, in_range, up_to, short, call_from, newest_format, lead_in, enter_in, forget_in, settle_in, handed_in, event_of_kind, event_in}
+use Rattle.sf_replay.specs.Record.{TextEvent, in_range, up_to, short, call_from, newest_format, lead_in, enter_in, forget_in, forget_call_in, settle_in, handed_in, event_of_kind, event_in}
 use Rattle.sf_replay.specs.Written.{HasCount, HasShortKey}
 use Rattle.sf_replay.proofs.RecordJson.{call_of, option_of, json_of_event}
 
@@ -66,6 +68,7 @@ abbrev event_data : TextEvent → Data
 event_data (Lead by key call own) = object (put (codes "own") (option_data own) (put (codes "c") (call_data call) (put (codes "k") (string key) (begun_data (codes "lead") by))))
 event_data (Enter by key call member) = object (put (codes "m") (call_data member) (put (codes "c") (call_data call) (put (codes "k") (string key) (begun_data (codes "enter") by))))
 event_data (Forget by key closed) = object (put (codes "closed") (option_data closed) (put (codes "k") (string key) (begun_data (codes "forget") by)))
+event_data (ForgetCall by key call hit) = object (put (codes "hit") (string (hit_text hit)) (put (codes "c") (call_data call) (put (codes "k") (string key) (begun_data (codes "forgetcall") by))))
 event_data (Settle by call result joiners) = object (put (codes "joiners") (number (unsigned joiners)) (result_data result (put (codes "c") (call_data call) (begun_data (codes "settle") by))))
 event_data (Handed by call) = object (put (codes "c") (call_data call) (begun_data (codes "handed") by))
 
@@ -76,17 +79,22 @@ event_is (Enter by key call member) within count =
     rw (of_number by (small by within.0), of_call call within.1, of_call member within.2) refl
 event_is (Forget by key closed) within count =
     rw (of_number by (small by within.0), of_option closed within.1) refl
+event_is (ForgetCall by key call hit) within count =
+    rw (of_number by (small by within.0), of_call call within.1) refl
 event_is (Settle by call (Ok value) joiners) within count = rw (of_number by (small by within.0), of_call call within.1, of_number joiners (omega (arith, count))) refl
 event_is (Settle by call (Err error) joiners) within count = rw (of_number by (small by within.0), of_call call within.1, of_number joiners (omega (arith, count))) refl
 event_is (Handed by call) within count = rw (of_number by (small by within.0), of_call call within.1) refl
 
 data_reads : (entered : CallId → ℕ) (e : TextEvent) → IsWithinLimits e → HasCount e → HasShortKey e → event_in newest_format entered (event_data e) ≡ Some e
-unfolding event_in event_of_kind lead_in enter_in forget_in settle_in handed_in
+unfolding event_in event_of_kind lead_in enter_in forget_in forget_call_in settle_in handed_in
 data_reads entered (Lead by key call None) within count short = rw (range_is 65535 by within.0.0 within.0.1, short_is key short, call_is call within.1) refl
 data_reads entered (Lead by key call (Some own)) within count short = rw (range_is 65535 by within.0.0 within.0.1, short_is key short, call_is call within.1, call_is own within.2) refl
 data_reads entered (Enter by key call member) within count short = rw (range_is 65535 by within.0.0 within.0.1, short_is key short, call_is call within.1, call_is member within.2) refl
 data_reads entered (Forget by key None) within count short = rw (range_is 65535 by within.0.0 within.0.1, short_is key short) refl
 data_reads entered (Forget by key (Some closed)) within count short = rw (range_is 65535 by within.0.0 within.0.1, short_is key short, call_is closed within.1) refl
+data_reads entered (ForgetCall by key call Closed) within count short = rw (range_is 65535 by within.0.0 within.0.1, short_is key short, call_is call within.1) refl
+data_reads entered (ForgetCall by key call Cleared) within count short = rw (range_is 65535 by within.0.0 within.0.1, short_is key short, call_is call within.1) refl
+data_reads entered (ForgetCall by key call Missed) within count short = rw (range_is 65535 by within.0.0 within.0.1, short_is key short, call_is call within.1) refl
 data_reads entered (Settle by call (Ok value) joiners) within count short = rw (range_is 65535 by within.0.0 within.0.1, call_is call within.1, up_is joiners count) refl
 data_reads entered (Settle by call (Err error) joiners) within count short = rw (range_is 65535 by within.0.0 within.0.1, call_is call within.1, up_is joiners count) refl
 data_reads entered (Handed by call) within count short = rw (range_is 65535 by within.0.0 within.0.1, call_is call within.1) refl
@@ -107,6 +115,7 @@ pub event_numbers : (e : TextEvent) → IsWithinLimits e → HasCount e → HasN
 event_numbers (Lead by key call own) within count = (tt, (IsNumber-decimal by (small by within.0), (tt, (call_numbers call within.1, (option_numbers own within.2, tt)))))
 event_numbers (Enter by key call member) within count = (tt, (IsNumber-decimal by (small by within.0), (tt, (call_numbers call within.1, (call_numbers member within.2, tt)))))
 event_numbers (Forget by key closed) within count = (tt, (IsNumber-decimal by (small by within.0), (tt, (option_numbers closed within.1, tt))))
+event_numbers (ForgetCall by key call hit) within count = (tt, (IsNumber-decimal by (small by within.0), (tt, (call_numbers call within.1, (tt, tt)))))
 event_numbers (Settle by call (Ok value) joiners) within count = (tt, (IsNumber-decimal by (small by within.0), (call_numbers call within.1, (tt, (IsNumber-decimal joiners (omega (arith, count)), tt)))))
 event_numbers (Settle by call (Err error) joiners) within count = (tt, (IsNumber-decimal by (small by within.0), (call_numbers call within.1, (tt, (IsNumber-decimal joiners (omega (arith, count)), tt)))))
 event_numbers (Handed by call) within count = (tt, (IsNumber-decimal by (small by within.0), (call_numbers call within.1, tt)))
@@ -117,6 +126,7 @@ event_shallow (Lead by key call (Some own)) = omega arith
 event_shallow (Enter by key call member) = omega arith
 event_shallow (Forget by key None) = omega arith
 event_shallow (Forget by key (Some closed)) = omega arith
+event_shallow (ForgetCall by key call hit) = omega arith
 event_shallow (Settle by call (Ok value) joiners) = omega arith
 event_shallow (Settle by call (Err error) joiners) = omega arith
 event_shallow (Handed by call) = omega arith

@@ -7,7 +7,9 @@ use Rattle.json.proofs.Printed.Tokens.{tokens-print}
 use Rattle.json.proofs.Printed.Trees.{value-json_tokens, ArePrintable-json_tokens}
 use Rattle.serde_json.specs.Read.{read, of_json, max_depth}
 use Rattle.sf_history.specs.declared.call.CallId.{CallId}
-use Rattle.sf_history.specs.declared.event.Event.TheVariants.{Lead, Enter, Forget, Settle, Handed}
+use Rattle.sf_history.specs.declared.event.Event.TheVariants.{Lead, Enter, Forget, ForgetCall, Settle, Handed}
+use Rattle.sf_history.specs.declared.event.Hit.TheVariants.{Closed, Cleared, Missed}
+use Rattle.sf_history.specs.Hits.{hit_text}
 use Rattle.sf_replay.specs.Record.{TextEvent}
 use Rattle.sf_replay.specs.Written.{record_text}
 
@@ -42,6 +44,8 @@ json_of_event (Enter by key call member) =
     begun (codes "enter") by (json.member (codes "k") (json.string key) (json.member (codes "c") (call_of call) (json.member (codes "m") (call_of member) json.no_members)))
 json_of_event (Forget by key closed) =
     begun (codes "forget") by (json.member (codes "k") (json.string key) (json.member (codes "closed") (option_of closed) json.no_members))
+json_of_event (ForgetCall by key call hit) =
+    begun (codes "forgetcall") by (json.member (codes "k") (json.string key) (json.member (codes "c") (call_of call) (json.member (codes "hit") (json.string (hit_text hit)) json.no_members)))
 json_of_event (Settle by call result joiners) =
     begun (codes "settle") by (json.member (codes "c") (call_of call) (result_of result (json.member (codes "joiners") (json.number (decimal joiners)) json.no_members)))
 json_of_event (Handed by call) = begun (codes "handed") by (json.member (codes "c") (call_of call) json.no_members)
@@ -53,6 +57,9 @@ printed (Lead by key call (Some own)) = simp append_assoc
 printed (Enter by key call member) = simp append_assoc
 printed (Forget by key None) = simp append_assoc
 printed (Forget by key (Some closed)) = simp append_assoc
+printed (ForgetCall by key call Closed) = simp append_assoc
+printed (ForgetCall by key call Cleared) = simp append_assoc
+printed (ForgetCall by key call Missed) = simp append_assoc
 printed (Settle by call (Ok value) joiners) = simp append_assoc
 printed (Settle by call (Err error) joiners) = simp append_assoc
 printed (Handed by call) = simp append_assoc

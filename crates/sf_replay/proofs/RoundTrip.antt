@@ -52,7 +52,7 @@ last_dropped (x ∷ []) = refl
 last_dropped (x ∷ y ∷ ls) = ap (λ z. x ∷ z) (last_dropped (y ∷ ls))
 
 abbrev format_line : List ℕ
-format_line = codes "{\"format\":2}"
+format_line = codes "{\"format\":3}"
 
 format_read : format_of format_line ≡ Some newest_format
 unfolding json_of format_in is_utf8 chars serde_json_on_literals
@@ -75,7 +75,7 @@ pub record IsWritten (h : List TextEvent) (i : ℕ) (text : List ℕ) : Type 0 w
   pub whole : text ++ records_text (drop i h) ≡ history_text h
   pub texts : All IsText (take i h)
 
-pub written_none : (h : List TextEvent) (text : List ℕ) → text ≡ codes "{\"format\":2}\n" → IsWritten h 0 text
+pub written_none : (h : List TextEvent) (text : List ℕ) → text ≡ codes "{\"format\":3}\n" → IsWritten h 0 text
 unfolding history_text
 written_none h text is = record { whole = ap (λ t. t ++ records_text h) is; texts = All-nil IsText }
 

@@ -6,7 +6,9 @@ use Rattle.serde_json.specs.Find.{get, as_null, as_bool, as_number, as_u64, as_s
 use Rattle.serde_json.specs.Events.{members_len}
 use Rattle.sf_history.specs.declared.call.CallId.{CallId}
 use Rattle.sf_history.specs.declared.event.Event.{Event}
-use Rattle.sf_history.specs.declared.event.Event.TheVariants.{Lead, Enter, Forget, Settle, Handed}
+use Rattle.sf_history.specs.declared.event.Event.TheVariants.{Lead, Enter, Forget, ForgetCall, Settle, Handed}
+use Rattle.sf_history.specs.declared.event.Hit.{Hit}
+use Rattle.sf_history.specs.declared.event.Hit.TheVariants.{Closed, Cleared, Missed}
 use Rattle.sf_text.specs.Texts.{same_text}
 
 -- an event whose key is a text, settled with a text or with an error's
@@ -59,6 +61,17 @@ short text = if nat_le (length text) 250 then Some text else None
 abbrev pub key_in : Data → Option (List ℕ)
 key_in d = option_and_then short (as_str d)
 
+-- what a Forget of one call found
+abbrev pub hit_from : List ℕ → Option Hit
+hit_from text =
+    if same_text text (codes "closed") then Some Closed
+    else (if same_text text (codes "cleared") then Some Cleared
+    else (if same_text text (codes "missed") then Some Missed
+    else None))
+
+abbrev pub hit_in : Data → Option Hit
+hit_in d = option_and_then hit_from (as_str d)
+
 -- what an object holds at a name
 abbrev pub field : {A : Type 0} → List ℕ → (Data → Option A) → Data → Option A
 field name value d = option_and_then value (get name d)
@@ -88,6 +101,13 @@ forget_from None key closed = None
 forget_from (Some by) None closed = None
 forget_from (Some by) (Some key) None = None
 forget_from (Some by) (Some key) (Some closed) = Some (Forget by key closed)
+
+abbrev pub forget_call_from : Option ℕ → Option (List ℕ) → Option CallId → Option Hit → Option TextEvent
+forget_call_from None key call hit = None
+forget_call_from (Some by) None call hit = None
+forget_call_from (Some by) (Some key) None hit = None
+forget_call_from (Some by) (Some key) (Some call) None = None
+forget_call_from (Some by) (Some key) (Some call) (Some hit) = Some (ForgetCall by key call hit)
 
 -- the number of joiners goes by the call
 abbrev pub settle_from : Option ℕ → Option CallId → Option (Result (List ℕ) (List ℕ)) → (CallId → Option ℕ) → Option TextEvent
@@ -121,7 +141,7 @@ joiners_in format entered d =
     if format == 1 then option_and_then (count_of_mark entered) (field (codes "shared") as_bool d)
     else field (codes "joiners") count_in d
 
--- beside `e` and `by` the names k, c, own; k, c, m; k, closed; c, ok or err, shared or joiners; c
+-- beside `e` and `by` the names k, c, own; k, c, m; k, closed; k, c, hit; c, ok or err, shared or joiners; c
 unfoldable pub lead_in : Data → Option TextEvent
 lead_in d = if has_names 5 d then lead_from (field (codes "by") caller_in d) (field (codes "k") key_in d) (field (codes "c") call_in d) (field (codes "own") option_in d) else None
 
@@ -131,6 +151,9 @@ enter_in d = if has_names 5 d then enter_from (field (codes "by") caller_in d) (
 unfoldable pub forget_in : Data → Option TextEvent
 forget_in d = if has_names 4 d then forget_from (field (codes "by") caller_in d) (field (codes "k") key_in d) (field (codes "closed") option_in d) else None
 
+unfoldable pub forget_call_in : Data → Option TextEvent
+forget_call_in d = if has_names 5 d then forget_call_from (field (codes "by") caller_in d) (field (codes "k") key_in d) (field (codes "c") call_in d) (field (codes "hit") hit_in d) else None
+
 unfoldable pub settle_in : ℕ → (CallId → ℕ) → Data → Option TextEvent
 settle_in format entered d =
     if has_names 5 d then settle_from (field (codes "by") caller_in d) (field (codes "c") call_in d) (result_in d) (λ call. joiners_in format (entered call) d) else None
@@ -138,22 +161,27 @@ settle_in format entered d =
 unfoldable pub handed_in : Data → Option TextEvent
 handed_in d = if has_names 3 d then handed_from (field (codes "by") caller_in d) (field (codes "c") call_in d) else None
 
+-- the formats before the third have no Forget of one call
+abbrev pub forget_call_of : ℕ → Data → Option TextEvent
+forget_call_of format d = if nat_lt format 3 then None else forget_call_in d
+
 -- the event of this kind, where so many entered each call in the lines before
 unfoldable pub event_of_kind : ℕ → (CallId → ℕ) → List ℕ → Data → Option TextEvent
 event_of_kind format entered kind d =
     if same_text kind (codes "lead") then lead_in d
     else (if same_text kind (codes "enter") then enter_in d
     else (if same_text kind (codes "forget") then forget_in d
+    else (if same_text kind (codes "forgetcall") then forget_call_of format d
     else (if same_text kind (codes "settle") then settle_in format entered d
     else (if same_text kind (codes "handed") then handed_in d
-    else None))))
+    else None)))))
 
 unfoldable pub event_in : ℕ → (CallId → ℕ) → Data → Option TextEvent
 event_in format entered d = option_and_then (λ kind. event_of_kind format entered kind d) (field (codes "e") as_str d)
 
 -- the newest format: the one that is written
 abbrev pub newest_format : ℕ
-newest_format = 2
+newest_format = 3
 
 -- the number of a format: an object with the one name `format`
 unfoldable pub format_in : Data → Option ℕ

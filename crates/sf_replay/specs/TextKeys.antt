@@ -1,7 +1,7 @@
 -- histories over places, with texts as keys
 use Rattle.std.specs.Prelude.{ℕ, List, decimal, map}
 use Rattle.sf_history.specs.declared.event.Event.{Event}
-use Rattle.sf_history.specs.declared.event.Event.TheVariants.{Lead, Enter, Forget, Settle, Handed}
+use Rattle.sf_history.specs.declared.event.Event.TheVariants.{Lead, Enter, Forget, ForgetCall, Settle, Handed}
 
 module _ {V : Type 0} where
   -- the key of a place is its number in decimals
@@ -9,6 +9,7 @@ module _ {V : Type 0} where
   with_text_key (Lead by place call own) = Lead by (decimal place) call own
   with_text_key (Enter by place call member) = Enter by (decimal place) call member
   with_text_key (Forget by place closed) = Forget by (decimal place) closed
+  with_text_key (ForgetCall by place call hit) = ForgetCall by (decimal place) call hit
   with_text_key (Settle by call result joiners) = Settle by call result joiners
   with_text_key (Handed by call) = Handed by call
 

@@ -2,7 +2,8 @@
 use Rattle.std.specs.Prelude.{ℕ, ◌≤◌, List, [], ◌∷◌, ◌++◌, length, Option, Some, None, Result, Ok, Err, codes, decimal}
 use Rattle.json.specs.Print.{quoted}
 use Rattle.sf_history.specs.declared.call.CallId.{CallId}
-use Rattle.sf_history.specs.declared.event.Event.TheVariants.{Lead, Enter, Forget, Settle, Handed}
+use Rattle.sf_history.specs.declared.event.Event.TheVariants.{Lead, Enter, Forget, ForgetCall, Settle, Handed}
+use Rattle.sf_history.specs.Hits.{hit_text}
 use Rattle.sf_replay.specs.Record.{TextEvent}
 
 -- a call or a member, as in `[1,2]`
@@ -25,6 +26,8 @@ record_text (Enter by key call member) =
     codes "{\"e\":\"enter\",\"by\":" ++ (decimal by ++ (codes ",\"k\":" ++ (quoted key ++ (codes ",\"c\":" ++ (call_json call ++ (codes ",\"m\":" ++ (call_json member ++ codes "}")))))))
 record_text (Forget by key closed) =
     codes "{\"e\":\"forget\",\"by\":" ++ (decimal by ++ (codes ",\"k\":" ++ (quoted key ++ (codes ",\"closed\":" ++ (option_json closed ++ codes "}")))))
+record_text (ForgetCall by key call hit) =
+    codes "{\"e\":\"forgetcall\",\"by\":" ++ (decimal by ++ (codes ",\"k\":" ++ (quoted key ++ (codes ",\"c\":" ++ (call_json call ++ (codes ",\"hit\":\"" ++ (hit_text hit ++ codes "\"}")))))))
 record_text (Settle by call result joiners) =
     codes "{\"e\":\"settle\",\"by\":" ++ (decimal by ++ (codes ",\"c\":" ++ (call_json call ++ (codes "," ++ (result_json result ++ (codes ",\"joiners\":" ++ (decimal joiners ++ codes "}")))))))
 record_text (Handed by call) =
@@ -36,13 +39,14 @@ records_text [] = []
 records_text (event ∷ events) = record_text event ++ (codes "\n" ++ records_text events)
 
 unfoldable pub history_text : List TextEvent → List ℕ
-history_text h = codes "{\"format\":2}\n" ++ records_text h
+history_text h = codes "{\"format\":3}\n" ++ records_text h
 
 -- an event holds a number of joiners in 32 bits
 abbrev pub HasCount : TextEvent → Type 0
 HasCount (Lead by key call own) = Unit {0}
 HasCount (Enter by key call member) = Unit {0}
 HasCount (Forget by key closed) = Unit {0}
+HasCount (ForgetCall by key call hit) = Unit {0}
 HasCount (Settle by call result joiners) = joiners ≤ 4294967295
 HasCount (Handed by call) = Unit {0}
 
@@ -51,5 +55,6 @@ abbrev pub HasShortKey : TextEvent → Type 0
 HasShortKey (Lead by key call own) = length key ≤ 250
 HasShortKey (Enter by key call member) = length key ≤ 250
 HasShortKey (Forget by key closed) = length key ≤ 250
+HasShortKey (ForgetCall by key call hit) = length key ≤ 250
 HasShortKey (Settle by call result joiners) = Unit {0}
 HasShortKey (Handed by call) = Unit {0}

@@ -3,13 +3,13 @@
 ghost use Rattle.std.specs.Prelude.{◌≡◌, IfOk, option_map};
 ghost use Rattle.serde_json.specs.Find.{as_str, as_bool};
 ghost use Rattle.serde_json.specs.View.{view};
-ghost use Rattle.sf_replay.specs.Record.{number_in, count_in, caller_in, call_in, option_in, key_in, field, has_names, count_of_mark, joiners_in};
+ghost use Rattle.sf_replay.specs.Record.{number_in, count_in, caller_in, call_in, option_in, key_in, hit_in, field, has_names, count_of_mark, joiners_in};
 ghost use Rattle.sf_replay.specs.Entered.{entered_in};
-ghost use Rattle.sf_replay.specs.Record.{lead_in, enter_in, forget_in, result_in, settle_in, handed_in, event_of_kind, event_in, format_in};
+ghost use Rattle.sf_replay.specs.Record.{lead_in, enter_in, forget_in, forget_call_in, forget_call_of, result_in, settle_in, handed_in, event_of_kind, event_in, format_in};
 
 use crate::entered::Entered;
 use serde_json::Value;
-use sf_history::{CallId, Event, Memory};
+use sf_history::{CallId, Event, Hit, Memory};
 use sf_text::{Outcome, Text};
 use sf_words::{LARGEST_CALLER, LARGEST_GENERATION, LONGEST_KEY};
 use std::alloc::Global;
@@ -20,8 +20,11 @@ pub type TextEvent = Event<Text, Outcome>;
 /// The first format of records, whose settles have a mark in place of how many joined.
 pub(crate) const FIRST_FORMAT: u32 = 1;
 
+/// The first format of records that has Forgets of one call.
+const FORGET_CALL_FORMAT: u32 = 3;
+
 /// The newest format of records.
-const NEWEST_FORMAT: u32 = 2;
+const NEWEST_FORMAT: u32 = 3;
 
 fn number(value: &Value, max: u32) -> Option<u32>
     ensures { result ≡ number_in max (view value.now) }
@@ -204,6 +207,48 @@ fn forget(alloc: Global, value: &Value) -> Result<Option<TextEvent>, Memory>
     }
 }
 
+fn hit_at(value: &Value, name: &str) -> Option<Hit>
+    ensures { result ≡ field name.now hit_in (view value.now) }
+{
+    match value.get(name)?.as_str()? {
+        "closed" => Some(Hit::Closed),
+        "cleared" => Some(Hit::Cleared),
+        "missed" => Some(Hit::Missed),
+        _ => None,
+    }
+}
+
+#[tactic(auto, unfolding(crate::specs::Record::forget_call_in))]
+fn forget_call(alloc: Global, value: &Value) -> Result<Option<TextEvent>, Memory>
+    ensures { IfOk result (λ found. found ≡ forget_call_in (view value.now)) }
+{
+    if !has_names(value, 5) {
+        return Ok(None);
+    }
+    match (
+        caller_at(value, "by"),
+        key_at(value, "k"),
+        call_at(value, "c"),
+        hit_at(value, "hit"),
+    ) {
+        (Some(by), Some(key), Some(call), Some(hit)) => {
+            let key = Text::copied(alloc, key)?;
+            Ok(Some(Event::ForgetCall { by, key, call, hit }))
+        }
+        _ => Ok(None),
+    }
+}
+
+/// The Forget of one call that a JSON value says, which formats before the third do not have.
+fn forget_call_of(alloc: Global, format: u32, value: &Value) -> Result<Option<TextEvent>, Memory>
+    ensures { IfOk result (λ found. found ≡ forget_call_of format (view value.now)) }
+{
+    if format < FORGET_CALL_FORMAT {
+        return Ok(None);
+    }
+    forget_call(alloc, value)
+}
+
 /// The text at the name `ok`, or else the one at the name `err`.
 fn result(alloc: Global, value: &Value) -> Result<Option<Result<Text, Text>>, Memory>
     ensures { IfOk result (λ found. found ≡ result_in (view value.now)) }
@@ -271,6 +316,7 @@ fn event_of_kind(
         "lead" => lead(alloc, value),
         "enter" => enter(alloc, value),
         "forget" => forget(alloc, value),
+        "forgetcall" => forget_call_of(alloc, format, value),
         "settle" => settle(alloc, format, entered, value),
         "handed" => Ok(handed(value)),
         _ => Ok(None),

@@ -42,6 +42,12 @@ fn with_text_key<V: Drop>(alloc: Global, event: Event<PlaceNo, V>) -> Result<Eve
             key: key_text(alloc, key)?,
             closed,
         },
+        Event::ForgetCall { by, key, call, hit } => Event::ForgetCall {
+            by,
+            key: key_text(alloc, key)?,
+            call,
+            hit,
+        },
         Event::Settle {
             by,
             call,

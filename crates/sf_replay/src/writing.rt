@@ -14,7 +14,7 @@ use std::alloc::Global;
 use std::fmt;
 
 /// The first line of records, in the newest format.
-const FORMAT_LINE: &str = "{\"format\":2}\n";
+const FORMAT_LINE: &str = "{\"format\":3}\n";
 
 /// A call or a member, as in `[1,2]`.
 #[derive(Clone, Copy)]
@@ -102,6 +102,12 @@ fn record(alloc: Global, event: &TextEvent) -> Result<String, Memory>
         Event::Forget { by, key, closed } => {
             let (key, closed) = (quoted(alloc, key)?, OptionJson(*closed));
             format!(in alloc; "{{\"e\":\"forget\",\"by\":{by},\"k\":{key},\"closed\":{closed}}}")
+        }
+        Event::ForgetCall { by, key, call, hit } => {
+            let (key, call, hit) = (quoted(alloc, key)?, CallJson(*call), *hit);
+            format!(in alloc;
+                "{{\"e\":\"forgetcall\",\"by\":{by},\"k\":{key},\"c\":{call},\"hit\":\"{hit}\"}}"
+            )
         }
         Event::Settle {
             by,
