@@ -24,7 +24,7 @@ fn last_generation_is_spent(rt: HostRuntime) -> Result<(), Fail> {
     let asked = group.ask(1, text(alloc, "k")?)?;
     assert!(rt; asked == Asked::Lead(id(1, LAST)), "it leads no last call");
     let settled = group.settle(1, Ok(text(alloc, "v")?));
-    assert!(rt; settled == Ok((id(1, LAST), false)), "it settles otherwise");
+    assert!(rt; settled == Ok((id(1, LAST), 0)), "it settles otherwise");
     let asked = group.ask(1, text(alloc, "k")?);
     assert!(rt;
         asked == Err(ModelRefusal::Spent(1)),
@@ -97,8 +97,8 @@ fn a_forgotten_call_is_still_answered(rt: HostRuntime) -> Result<(), Fail> {
         "a forgotten call is current"
     );
     let settled = group.settle(1, Err(text(alloc, "down")?));
-    assert!(rt; settled == Ok((id(1, 1), true)), "it settles otherwise");
-    let letter = Taken::Got(id(1, 1), Err(text(alloc, "down")?), true);
+    assert!(rt; settled == Ok((id(1, 1), 1)), "it settles otherwise");
+    let letter = Taken::Got(id(1, 1), Err(text(alloc, "down")?), 1);
     assert!(rt; group.take(2)? == letter, "another letter");
     let again = group.take(2);
     assert!(rt;

@@ -12,6 +12,9 @@ const LEAD: &str = "{\"e\":\"lead\",\"by\":1,\"k\":\"k\",\"c\":[1,1],\"own\":nul
 const ENTER: &str = "{\"e\":\"enter\",\"by\":2,\"k\":\"k\",\"c\":[1,1],\"m\":[2,1]}\n";
 
 const SETTLE_ERROR: &str =
+    "{\"e\":\"settle\",\"by\":1,\"c\":[1,1],\"err\":\"down\",\"joiners\":1}\n";
+
+const MARKED_ERROR: &str =
     "{\"e\":\"settle\",\"by\":1,\"c\":[1,1],\"err\":\"down\",\"shared\":true}\n";
 
 const HANDED: &str = "{\"e\":\"handed\",\"by\":1,\"c\":[1,1]}\n";
@@ -34,8 +37,8 @@ fn answer(alloc: Global, text: &str) -> Result<String, AllocError> {
     }
 }
 
-fn after_format(alloc: Global, records: &[&str]) -> Result<String, AllocError> {
-    let mut text = String::from_str(alloc, "{\"format\":1}\n")?;
+fn after_format(alloc: Global, format: u32, records: &[&str]) -> Result<String, AllocError> {
+    let mut text = format!(in alloc; "{{\"format\":{format}}}\n")?;
     for record in records {
         text.push_str(record)?;
     }
@@ -46,10 +49,11 @@ fn after_format(alloc: Global, records: &[&str]) -> Result<String, AllocError> {
 fn assert_answer(
     rt: &impl Abort,
     alloc: Global,
+    format: u32,
     records: &[&str],
     due: &str,
 ) -> Result<(), AllocError> {
-    let said = answer(alloc, after_format(alloc, records)?.as_str())?;
+    let said = answer(alloc, after_format(alloc, format, records)?.as_str())?;
     assert!(rt; said.as_str() == due, "{said}");
     Ok(())
 }
@@ -60,16 +64,18 @@ fn check_names_the_foreign_settle(rt: HostRuntime) -> Result<(), Fail> {
     assert_answer(
         &rt,
         rt.alloc(),
+        1,
         &[LEAD, foreign],
         "event 2: settled by a caller that did not lead",
     )?;
     assert_answer(
         &rt,
         rt.alloc(),
+        1,
         &[LEAD, "{\"e\":\"settle\",\"by\":2"],
         "line 3: not a record",
     )?;
-    assert_answer(&rt, rt.alloc(), &[], "legal: 0 events")?;
+    assert_answer(&rt, rt.alloc(), 1, &[], "legal: 0 events")?;
     let said = answer(rt.alloc(), "")?;
     assert!(rt; said.as_str() == "line 1: not a record");
     Ok(())
@@ -81,8 +87,9 @@ fn wrong_shared_mark(rt: HostRuntime) -> Result<(), Fail> {
     assert_answer(
         &rt,
         rt.alloc(),
+        1,
         &[LEAD, shared],
-        "event 2: shared mark is wrong",
+        "event 2: number of joiners is wrong",
     )?;
     Ok(())
 }
@@ -93,6 +100,7 @@ fn idle_forget_beside_an_open_call(rt: HostRuntime) -> Result<(), Fail> {
     assert_answer(
         &rt,
         rt.alloc(),
+        1,
         &[LEAD, ENTER, idle],
         "event 3: forget names another call",
     )?;
@@ -104,16 +112,79 @@ fn shared_error_history_is_legal(rt: HostRuntime) -> Result<(), Fail> {
     assert_answer(
         &rt,
         rt.alloc(),
-        &[LEAD, ENTER, SETTLE_ERROR, HANDED],
+        1,
+        &[LEAD, ENTER, MARKED_ERROR, HANDED],
         "legal: 4 events",
     )?;
     Ok(())
 }
 
+/// Both checkers look at the very number of joiners.
+#[test]
+fn joiner_counts_in_records(rt: HostRuntime) -> Result<(), Fail> {
+    let enter_too = "{\"e\":\"enter\",\"by\":3,\"k\":\"k\",\"c\":[1,1],\"m\":[3,1]}\n";
+    let settle_two = "{\"e\":\"settle\",\"by\":1,\"c\":[1,1],\"ok\":\"v\",\"joiners\":2}\n";
+    let rows: [(&[&str], &str); 4] = [
+        (&[LEAD, ENTER, SETTLE_ERROR], "legal: 3 events"),
+        (
+            &[LEAD, ENTER, settle_two],
+            "event 3: number of joiners is wrong",
+        ),
+        (&[LEAD, ENTER, enter_too, settle_two], "legal: 4 events"),
+        (
+            &[LEAD, ENTER, enter_too, SETTLE_ERROR],
+            "event 4: number of joiners is wrong",
+        ),
+    ];
+    for (records, due) in rows {
+        assert_answer(&rt, rt.alloc(), 2, records, due)?;
+    }
+    Ok(())
+}
+
+// Records of the first format are written so in the newest one.
+fn assert_written(
+    rt: &impl Abort,
+    alloc: Global,
+    records: &[&str],
+    due: &[&str],
+) -> Result<(), Fail> {
+    let history = read(alloc, after_format(alloc, 1, records)?.as_bytes())?;
+    let written = write(alloc, &history)?;
+    let due = after_format(alloc, 2, due)?;
+    assert!(rt; written.as_str() == due.as_str(), "{written}");
+    Ok(())
+}
+
+/// What a mark of the first format stands for is written in the newest one.
+#[test]
+fn first_format_is_still_read(rt: HostRuntime) -> Result<(), Fail> {
+    let alloc = rt.alloc();
+    let unmarked = "{\"e\":\"settle\",\"by\":1,\"c\":[1,1],\"ok\":\"v\",\"shared\":false}\n";
+    let none = "{\"e\":\"settle\",\"by\":1,\"c\":[1,1],\"ok\":\"v\",\"joiners\":0}\n";
+    assert_written(&rt, alloc, &[LEAD, ENTER, unmarked], &[LEAD, ENTER, none])?;
+    assert_written(&rt, alloc, &[LEAD, MARKED_ERROR], &[LEAD, SETTLE_ERROR])?;
+    // Enters are counted also where they may not follow; those on other calls, or after the settle, are not.
+    let aside = "{\"e\":\"enter\",\"by\":2,\"k\":\"k\",\"c\":[1,2],\"m\":[2,1]}\n";
+    let two = "{\"e\":\"settle\",\"by\":1,\"c\":[1,1],\"err\":\"down\",\"joiners\":2}\n";
+    assert_written(
+        &rt,
+        alloc,
+        &[ENTER, aside, MARKED_ERROR],
+        &[ENTER, aside, SETTLE_ERROR],
+    )?;
+    assert_written(
+        &rt,
+        alloc,
+        &[MARKED_ERROR, ENTER, ENTER, MARKED_ERROR],
+        &[SETTLE_ERROR, ENTER, ENTER, two],
+    )
+}
+
 #[test]
 fn written_records_read_back(rt: HostRuntime) -> Result<(), Fail> {
     let alloc = rt.alloc();
-    let text = after_format(alloc, &[LEAD, ENTER, SETTLE_ERROR, HANDED])?;
+    let text = after_format(alloc, 2, &[LEAD, ENTER, SETTLE_ERROR, HANDED])?;
     let history = read(alloc, text.as_bytes())?;
     let written = write(alloc, &history)?;
     assert!(rt; written.as_str() == text.as_str());
@@ -131,7 +202,7 @@ fn other_spellings_of_records(rt: HostRuntime) -> Result<(), Fail> {
         " {\t\"format\" : 1 } \r\n{\"own\":[65535,4294967295],\"k\":\"\\u00e9\\n\",\"by\":9,\"c\":[1,1],\"by\":1,\"e\":\"lead\"}";
     let history = read(alloc, text.as_bytes())?;
     let line =
-        "{\"format\":1}\n{\"e\":\"lead\",\"by\":1,\"k\":\"é\\n\",\"c\":[1,1],\"own\":[65535,4294967295]}\n";
+        "{\"format\":2}\n{\"e\":\"lead\",\"by\":1,\"k\":\"é\\n\",\"c\":[1,1],\"own\":[65535,4294967295]}\n";
     assert!(rt; write(alloc, &history)?.as_str() == line);
     Ok(())
 }
@@ -153,14 +224,25 @@ fn bad_records(rt: HostRuntime) -> Result<(), Fail> {
         "{\"e\":\"handed\",\"by\":1}",
         "{\"e\":\"handled\",\"by\":1,\"c\":[1,1]}",
         "{\"e\":\"settle\",\"by\":1,\"c\":[1,1],\"ok\":\"v\",\"err\":\"v\",\"shared\":true}",
+        "{\"e\":\"settle\",\"by\":1,\"c\":[1,1],\"ok\":\"v\",\"err\":\"v\",\"joiners\":1}",
         "{\"e\":\"settle\",\"by\":1,\"c\":[1,1],\"shared\":true}",
+        "{\"e\":\"settle\",\"by\":1,\"c\":[1,1],\"joiners\":1}",
         "{\"e\":\"forget\",\"by\":1,\"k\":\"k\"}",
     ] {
-        assert_answer(&rt, alloc, &[record, "\n", HANDED], "line 2: not a record")?;
+        for format in [1, 2] {
+            assert_answer(
+                &rt,
+                alloc,
+                format,
+                &[record, "\n", HANDED],
+                "line 2: not a record",
+            )?;
+        }
     }
     for first in [
         "\n",
-        "{\"format\":2}",
+        "{\"format\":9}",
+        "{\"format\":0}",
         "{\"format\":\"1\"}",
         "{\"format\":1,\"more\":null}",
         "{}",
@@ -196,7 +278,7 @@ fn numbers_as_keys(rt: HostRuntime) -> Result<(), Fail> {
         by: 1,
         call,
         result: (),
-        shared: false,
+        joiners: 0,
     })?;
     assert!(rt; check(&history) == Verdict::Legal);
     history.push(Event::Forget {
@@ -244,13 +326,13 @@ fn enter(key: u32, call: CallId, member: CallId) -> Event<u32, ()> {
     }
 }
 
-fn settle(call: CallId, shared: bool) -> Event<u32, ()> {
+fn settle(call: CallId, joiners: u32) -> Event<u32, ()> {
     let (by, result) = (call.caller, ());
     Event::Settle {
         by,
         call,
         result,
-        shared,
+        joiners,
     }
 }
 
@@ -273,7 +355,7 @@ fn logs_merge_by_keys_and_calls(rt: HostRuntime) -> Result<(), Fail> {
         key: 7,
         closed: Some(one),
     };
-    let first = vec![in alloc; handed(1, one), settle(one, true), lead(7, one), idle]?;
+    let first = vec![in alloc; handed(1, one), settle(one, 1), lead(7, one), idle]?;
     let second = vec![in alloc; lead(5, two), enter(7, one, call(2, 1)), handed(2, two)]?;
     let third = vec![in alloc; handed(3, call(9, 9)), closed]?;
     let merged = merge(alloc, vec![in alloc; first, second, third]?)?;
@@ -303,7 +385,7 @@ fn logs_merge_by_keys_and_calls(rt: HostRuntime) -> Result<(), Fail> {
 fn merged_logs_of_a_group_are_legal(rt: HostRuntime) -> Result<(), Fail> {
     let alloc = rt.alloc();
     let one = call(1, 1);
-    let first = vec![in alloc; lead(7, one), settle(one, true), handed(1, one)]?;
+    let first = vec![in alloc; lead(7, one), settle(one, 1), handed(1, one)]?;
     let second = vec![in alloc; enter(7, one, call(2, 1))]?;
     let merged = merge(alloc, vec![in alloc; second, first]?)?;
     assert!(rt; merged.len() == 4 && check(&merged) == Verdict::Legal);

@@ -136,8 +136,10 @@ fn settles_and_delivers(
     let result = Ok(Text::copied(alloc, "v")?);
     start(rt, world, 1, Op::Settle { result });
     prints(rt, alloc, world, 1, "1 peek 1.1 open own 5\n")?;
-    let closed = "1 close 1.1 done yes\n= settle 1.1 v shared=yes\n";
+    let closed = "1 close 1.1 done yes\n= settle 1.1 v joiners=1\n";
     prints(rt, alloc, world, 1, closed)?;
+    // Once to count its members, and once to serve them.
+    prints(rt, alloc, world, 1, "1 follow 5 0\n")?;
     prints(rt, alloc, world, 1, "1 follow 5 0\n")?;
     prints(rt, alloc, world, 1, "1 peek 5.1 listed 0\n")?;
     prints(rt, alloc, world, 1, "1 deliver 5.1\n")?;
@@ -189,6 +191,7 @@ fn laws_of_schedules(_rt: HostRuntime) {
     laws::looks_are_of_one_question::<Outcome>();
     laws::leads_know_the_call_before::<Outcome>();
     laws::leaders_have_lists::<Outcome>();
+    laws::leaders_count_rightly::<Outcome>();
     laws::words_are_in_range::<Outcome>();
     laws::words_change_by_turns::<Outcome>();
     laws::closes_fail_seldom::<Outcome>();
