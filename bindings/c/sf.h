@@ -77,23 +77,23 @@ uint32_t sf_ask(sf_slot *slot, const uint8_t *key, size_t len, uint32_t tries);
 
 /* A free caller asks for the key for that of `other`, which is free too and of the same group. SF_LEADS: the slot's caller leads
  * the key's new call, has to load, and then calls sf_finish; and `other` waits for the letter of that very call, so that another
- * thread may poll it. By that alone the call is not shared: *shared says whether somebody else joined. SF_JOINED: `other` waits for the letter of the call that is open, and the slot's
+ * thread may poll it. Who waits so has not joined: it is not counted by *joiners. SF_JOINED: `other` waits for the letter of the call that is open, and the slot's
  * caller is free. SF_SPENT, where one of the two is, SF_BUSY, SF_TOO_LONG, SF_FULL: both are free still. SF_WRONG_STATE where one of
  * the two is not free; SF_BAD_NUMBER; SF_NOT_OPEN where one of the two is not open. */
 uint32_t sf_ask_chan(sf_slot *slot, sf_slot *other, const uint8_t *key, size_t len, uint32_t tries);
 
-/* The leader settles its call with the value, for good; each who joined gets it. SF_DONE: the caller is free again, and *shared
- * says whether somebody joined. SF_OWES: the call is settled, and sf_go_on has to be called until SF_DONE (today no value
- * needs memory, so this does not come). SF_WRONG_STATE where the caller leads no call; SF_NOT_OPEN. But for SF_DONE *shared is
- * not written. */
-uint32_t sf_finish(sf_slot *slot, uint64_t value, bool *shared);
+/* The leader settles its call with the value, for good; each who joined gets it. SF_DONE: the caller is free again, and *joiners
+ * is how many joined, so that the call was shared where it is not 0. SF_OWES: the call is settled, and sf_go_on has to be called
+ * until SF_DONE (today no value needs memory, so this does not come). SF_WRONG_STATE where the caller leads no call; SF_NOT_OPEN.
+ * But for SF_DONE *joiners is not written. */
+uint32_t sf_finish(sf_slot *slot, uint64_t value, uint32_t *joiners);
 
 /* Goes on with handing out letters. The codes are those of sf_finish. */
-uint32_t sf_go_on(sf_slot *slot, bool *shared);
+uint32_t sf_go_on(sf_slot *slot, uint32_t *joiners);
 
-/* Looks once for the letter of a caller that joined. SF_DONE: the caller is free again, and *value and *shared are the
- * letter's. SF_NOT_YET; SF_WRONG_STATE where it waits for none; SF_NOT_OPEN. But for SF_DONE nothing is written. */
-uint32_t sf_poll(sf_slot *slot, uint64_t *value, bool *shared);
+/* Looks once for the letter of a caller that joined. SF_DONE: the caller is free again, *value is what the call was
+ * settled with, and *joiners how many joined it. SF_NOT_YET; SF_WRONG_STATE where it waits for none; SF_NOT_OPEN. But for SF_DONE nothing is written. */
+uint32_t sf_poll(sf_slot *slot, uint64_t *value, uint32_t *joiners);
 
 /* A free caller closes the key's open call: who asks from then on leads or joins a later one. Those who joined before get
  * its answer still. SF_DONE: a call was closed; SF_NONE_OPEN; SF_BUSY, SF_TOO_LONG, SF_FULL; SF_WRONG_STATE where the caller
@@ -105,9 +105,10 @@ uint32_t sf_forget(sf_slot *slot, const uint8_t *key, size_t len, uint32_t tries
  * was no letter yet; SF_WRONG_STATE where the caller is not free; SF_NOT_OPEN. */
 uint32_t sf_is_current(sf_slot *slot);
 
-/* How many others have the value with which the slot settled a call last: as many as joined it, and one more where sf_ask_chan
- * led it. Who counts what a value stands for gives it so many counts more after sf_finish, and each who polls has one of them. SF_DONE;
- * SF_NOTHING_LEFT where the slot had no letter yet; SF_NOT_OPEN. But for SF_DONE *count is not written. */
+/* Of the letter that the slot had last, by sf_finish, sf_go_on or sf_poll: how many joined its call, and one more where this slot
+ * led it by sf_ask_chan. After sf_finish so many others have the value: who counts what a value stands for gives it so many counts
+ * more then, and each who polls has one of them. SF_DONE; SF_NOTHING_LEFT where the slot had no letter yet; SF_NOT_OPEN. But for
+ * SF_DONE *count is not written. */
 uint32_t sf_joined(sf_slot *slot, uint64_t *count);
 
 /* Puts what the slot's caller, which is free, has seen into the note, in place of what that showed. A note may carry it to

@@ -46,12 +46,12 @@ static void not_open(void) {
     sf_slot none = SF_SLOT_NONE, other = SF_SLOT_NONE;
     sf_note note = SF_NOTE_NONE;
     uint64_t value = 5;
-    bool shared = true;
+    uint32_t joiners = 5;
     check(ask(&none, "k", 1) == SF_NOT_OPEN, "ask not open");
     check(forget(&none, "k", 1) == SF_NOT_OPEN, "forget not open");
-    check(sf_finish(&none, 1, &shared) == SF_NOT_OPEN && shared, "finish not open");
-    check(sf_go_on(&none, &shared) == SF_NOT_OPEN && shared, "go on not open");
-    check(sf_poll(&none, &value, &shared) == SF_NOT_OPEN && value == 5 && shared, "poll not open");
+    check(sf_finish(&none, 1, &joiners) == SF_NOT_OPEN && joiners == 5, "finish not open");
+    check(sf_go_on(&none, &joiners) == SF_NOT_OPEN && joiners == 5, "go on not open");
+    check(sf_poll(&none, &value, &joiners) == SF_NOT_OPEN && value == 5 && joiners == 5, "poll not open");
     check(sf_is_current(&none) == SF_NOT_OPEN, "is current not open");
     check(sf_joined(&none, &value) == SF_NOT_OPEN && value == 5, "joined not open");
     check(sf_tell(&none, &note) == SF_NOT_OPEN && !note.live, "tell not open");
@@ -67,7 +67,7 @@ static void not_open(void) {
 static void one_call(void) {
     sf_slot a = SF_SLOT_NONE, b = SF_SLOT_NONE, c = SF_SLOT_NONE, d = SF_SLOT_NONE;
     uint64_t value = 7, count = 7;
-    bool shared = false;
+    uint32_t joiners = 9;
     check(sf_open(&a, 2, 4, 3) == SF_DONE, "open");
     check(sf_open(&a, 2, 4, 3) == SF_WRONG_STATE, "open twice");
     check(sf_split(&a, &b) == SF_DONE && sf_split(&a, &c) == SF_DONE, "split");
@@ -77,25 +77,26 @@ static void one_call(void) {
     check(forget(&a, "k", 0) == SF_BAD_NUMBER, "forget: bad tries");
     check(ask(&a, "long!", 1) == SF_TOO_LONG && forget(&a, "long!", 1) == SF_TOO_LONG, "too long");
     check(sf_is_current(&a) == SF_NOTHING_LEFT && sf_joined(&a, &count) == SF_NOTHING_LEFT, "no letter yet");
-    check(sf_finish(&a, 1, &shared) == SF_WRONG_STATE && sf_poll(&a, &value, &shared) == SF_WRONG_STATE, "a free caller");
-    check(sf_go_on(&a, &shared) == SF_WRONG_STATE && sf_give_up(&a) == SF_WRONG_STATE, "a free caller has nothing open");
+    check(sf_finish(&a, 1, &joiners) == SF_WRONG_STATE && sf_poll(&a, &value, &joiners) == SF_WRONG_STATE, "a free caller");
+    check(sf_go_on(&a, &joiners) == SF_WRONG_STATE && sf_give_up(&a) == SF_WRONG_STATE, "a free caller has nothing open");
     check(ask(&a, "k", 1) == SF_LEADS, "leads");
     check(ask(&a, "k", 1) == SF_WRONG_STATE && forget(&a, "k", 1) == SF_WRONG_STATE, "a leader asks");
-    check(sf_poll(&a, &value, &shared) == SF_WRONG_STATE && sf_is_current(&a) == SF_WRONG_STATE, "a leader polls");
+    check(sf_poll(&a, &value, &joiners) == SF_WRONG_STATE && sf_is_current(&a) == SF_WRONG_STATE, "a leader polls");
     check(ask(&b, "k", 1) == SF_JOINED && ask(&c, "k", 1) == SF_JOINED, "joins");
-    check(sf_poll(&b, &value, &shared) == SF_NOT_YET && value == 7 && !shared, "not yet");
-    check(sf_finish(&a, UINT64_MAX, &shared) == SF_DONE && shared, "finish");
+    check(sf_poll(&b, &value, &joiners) == SF_NOT_YET && value == 7 && joiners == 9, "not yet");
+    check(sf_finish(&a, UINT64_MAX, &joiners) == SF_DONE && joiners == 2, "finish");
     check(sf_joined(&a, &count) == SF_DONE && count == 2, "two joined");
-    check(sf_poll(&b, &value, &shared) == SF_DONE && value == UINT64_MAX && shared, "the letter");
+    check(sf_poll(&b, &value, &joiners) == SF_DONE && value == UINT64_MAX && joiners == 2, "the letter");
+    check(sf_joined(&b, &count) == SF_DONE && count == 2, "who joined counts those who did, too");
     check(sf_is_current(&a) == SF_YES && sf_is_current(&b) == SF_YES, "current");
     check(forget(&b, "k", 1) == SF_NONE_OPEN, "forget a settled call");
     check(ask(&a, "k", 1) == SF_LEADS, "leads again");
     check(forget(&b, "k", 1) == SF_DONE && forget(&b, "k", 1) == SF_NONE_OPEN, "forget an open call");
     check(sf_is_current(&b) == SF_NO, "no longer current");
     check(ask(&b, "k", 1) == SF_LEADS, "a new call beside the forgotten one");
-    check(sf_finish(&a, 4, &shared) == SF_DONE && !shared, "finish alone");
+    check(sf_finish(&a, 4, &joiners) == SF_DONE && joiners == 0, "finish alone");
     check(sf_joined(&a, &count) == SF_DONE && count == 0, "nobody joined");
-    check(sf_poll(&c, &value, &shared) == SF_DONE && value == UINT64_MAX && shared, "an old letter");
+    check(sf_poll(&c, &value, &joiners) == SF_DONE && value == UINT64_MAX && joiners == 2, "an old letter");
     check(ask(&c, "m", 1) == SF_LEADS && sf_give_up(&c) == SF_DONE, "give up");
     check(sf_give_up(&c) == SF_WRONG_STATE && ask(&c, "m", 1) == SF_WRONG_STATE, "gone");
     check(ask(&a, "n", 1) == SF_FULL && forget(&a, "n", 1) == SF_FULL, "full");
@@ -111,23 +112,25 @@ static void one_call(void) {
 static void two_callers(void) {
     sf_slot a = SF_SLOT_NONE, b = SF_SLOT_NONE, c = SF_SLOT_NONE, none = SF_SLOT_NONE;
     uint64_t value = 7, count = 7;
-    bool shared = false;
+    uint32_t joiners = 9;
     check(sf_open(&a, 1, 4, 3) == SF_DONE && sf_split(&a, &b) == SF_DONE && sf_split(&a, &c) == SF_DONE, "open for two");
     check(ask_chan(&a, &none, "k", 1) == SF_NOT_OPEN && ask_chan(&none, &a, "k", 1) == SF_NOT_OPEN, "one of the two is not open");
     check(ask_chan(&a, &b, "k", 0) == SF_BAD_NUMBER && ask_chan(&a, &b, "k", SF_MOST_TRIES + 1) == SF_BAD_NUMBER, "bad tries for two");
     check(ask_chan(&a, &b, "long!", 1) == SF_TOO_LONG, "too long for two");
     check(ask_chan(&a, &b, "k", 1) == SF_LEADS, "the first leads");
-    check(sf_poll(&b, &value, &shared) == SF_NOT_YET && sf_poll(&a, &value, &shared) == SF_WRONG_STATE, "the second waits");
+    check(sf_poll(&b, &value, &joiners) == SF_NOT_YET && sf_poll(&a, &value, &joiners) == SF_WRONG_STATE, "the second waits");
     check(ask_chan(&a, &c, "k", 1) == SF_WRONG_STATE && ask_chan(&c, &a, "k", 1) == SF_WRONG_STATE, "one of the two leads");
     check(ask_chan(&b, &c, "k", 1) == SF_WRONG_STATE && ask_chan(&c, &b, "k", 1) == SF_WRONG_STATE, "one of the two waits");
-    check(sf_finish(&a, 11, &shared) == SF_DONE && !shared, "nobody else joined");
+    check(sf_finish(&a, 11, &joiners) == SF_DONE && joiners == 0, "nobody else joined");
     check(sf_joined(&a, &count) == SF_DONE && count == 1, "the own channel counts as one");
-    check(sf_poll(&b, &value, &shared) == SF_DONE && value == 11 && !shared, "the letter of the own channel");
+    check(sf_poll(&b, &value, &joiners) == SF_DONE && value == 11 && joiners == 0, "the letter of the own channel");
+    check(sf_joined(&b, &count) == SF_DONE && count == 0, "who waited on it counts those who joined alone");
     check(ask(&c, "k", 1) == SF_LEADS && ask_chan(&a, &b, "k", 1) == SF_JOINED, "the second joins");
-    check(sf_poll(&a, &value, &shared) == SF_WRONG_STATE && sf_poll(&b, &value, &shared) == SF_NOT_YET, "the first is free");
+    check(sf_poll(&a, &value, &joiners) == SF_WRONG_STATE && sf_poll(&b, &value, &joiners) == SF_NOT_YET, "the first is free");
     check(forget(&a, "k", 1) == SF_DONE && ask(&a, "k", 1) == SF_LEADS, "the first goes on");
-    check(sf_finish(&c, 12, &shared) == SF_DONE && shared && sf_finish(&a, 13, &shared) == SF_DONE && !shared, "finish both");
-    check(sf_poll(&b, &value, &shared) == SF_DONE && value == 12 && shared, "the letter of the call that it joined");
+    check(sf_finish(&c, 12, &joiners) == SF_DONE && joiners == 1 && sf_finish(&a, 13, &joiners) == SF_DONE && joiners == 0, "finish both");
+    check(sf_poll(&b, &value, &joiners) == SF_DONE && value == 12 && joiners == 1, "the letter of the call that it joined");
+    check(sf_joined(&a, &count) == SF_DONE && count == 0, "a call that it led for itself later");
     check(ask_chan(&a, &b, "m", 1) == SF_FULL && sf_is_current(&a) == SF_YES && sf_is_current(&b) == SF_NO, "full for two");
     sf_close(&a);
     sf_close(&b);
@@ -139,7 +142,7 @@ static void notes(void) {
     sf_slot a = SF_SLOT_NONE, b = SF_SLOT_NONE, none = SF_SLOT_NONE;
     sf_note note = SF_NOTE_NONE, empty = SF_NOTE_NONE;
     uint64_t value = 7;
-    bool shared = false;
+    uint32_t joiners = 9;
     check(sf_open(&a, 2, 4, 2) == SF_DONE && sf_split(&a, &b) == SF_DONE, "open for notes");
     check(sf_learn(&a, &empty) == SF_NOT_OPEN && !empty.live, "an empty note");
     check(sf_tell(&a, &note) == SF_DONE && note.live, "tell");
@@ -149,9 +152,9 @@ static void notes(void) {
     check(sf_tell(&a, &empty) == SF_WRONG_STATE && !empty.live, "nor into an empty note");
     check(forget(&b, "k", 1) == SF_DONE && sf_tell(&b, &note) == SF_DONE, "told again");
     check(sf_learn(&a, &note) == SF_DONE && ask(&b, "m", 1) == SF_LEADS, "a leader learns");
-    check(sf_finish(&a, 1, &shared) == SF_DONE && ask(&a, "m", 1) == SF_JOINED, "it settles");
+    check(sf_finish(&a, 1, &joiners) == SF_DONE && ask(&a, "m", 1) == SF_JOINED, "it settles");
     check(sf_learn(&a, &note) == SF_WRONG_STATE && sf_tell(&a, &note) == SF_WRONG_STATE, "one who waits does neither");
-    check(sf_finish(&b, 2, &shared) == SF_DONE && sf_poll(&a, &value, &shared) == SF_DONE && value == 2, "free again");
+    check(sf_finish(&b, 2, &joiners) == SF_DONE && sf_poll(&a, &value, &joiners) == SF_DONE && value == 2, "free again");
     sf_close(&a);
     check(sf_learn(&b, &note) == SF_DONE, "a note of a caller that is closed");
     sf_close(&b);
@@ -173,6 +176,8 @@ static atomic_ullong clock_now = 1, ticks = 1;
 static atomic_ullong gets, loads, joins, forgets;
 static atomic_ullong forgotten_at[KEYS];
 static atomic_ullong settled_at[THREADS * ROUNDS + 1];
+/* Of each load: how many joined, as its leader was told; how many were told so who joined; and the sum of what they were told. */
+static atomic_ullong joined_of[THREADS * ROUNDS + 1], got_of[THREADS * ROUNDS + 1], told_of[THREADS * ROUNDS + 1];
 
 struct job {
     sf_slot slot, second;
@@ -193,18 +198,20 @@ static unsigned long long lead(struct job *job, unsigned number, bool with_secon
     if (draw(&job->seed) % 4 == 0) sched_yield();
     unsigned long long load = atomic_fetch_add(&clock_now, 1);
     atomic_fetch_add(&loads, 1);
-    bool shared = false;
+    uint32_t joiners = 9;
     uint64_t count = 99;
-    if (sf_finish(&job->slot, load * KEYS + number, &shared) != SF_DONE) job->strange++;
+    if (sf_finish(&job->slot, load * KEYS + number, &joiners) != SF_DONE) job->strange++;
     atomic_store(&settled_at[load], atomic_fetch_add(&ticks, 1));
-    if (sf_joined(&job->slot, &count) != SF_DONE || (count > with_second) != shared) job->strange++;
+    if (sf_joined(&job->slot, &count) != SF_DONE || count != (uint64_t)joiners + with_second) job->strange++;
+    atomic_store(&joined_of[load], joiners);
     atomic_fetch_add(&joins, -(unsigned long long)count);
     return load;
 }
 
 static void get(struct job *job, unsigned number, const char *key) {
     unsigned long long forgotten = atomic_load(&forgotten_at[number]), before = atomic_fetch_add(&ticks, 1), load = 0;
-    bool with_second = draw(&job->seed) % 8 == 0, shared = false;
+    bool with_second = draw(&job->seed) % 8 == 0;
+    uint32_t joiners = 9;
     sf_slot *waits = with_second ? &job->second : &job->slot;
     uint64_t value = 0;
     uint32_t code;
@@ -216,10 +223,14 @@ static void get(struct job *job, unsigned number, const char *key) {
     else if (code != SF_JOINED) job->strange++;
     if (code == SF_JOINED || with_second) {
         bool joined = code == SF_JOINED;
-        while ((code = sf_poll(waits, &value, &shared)) == SF_NOT_YET) sched_yield();
-        if (code != SF_DONE || value % KEYS != number || (joined ? !shared : value / KEYS != load)) job->strange++;
+        while ((code = sf_poll(waits, &value, &joiners)) == SF_NOT_YET) sched_yield();
+        if (code != SF_DONE || value % KEYS != number || (joined ? joiners == 0 : value / KEYS != load)) job->strange++;
         atomic_fetch_add(&joins, 1);
         load = value / KEYS;
+        if (joined) {
+            atomic_fetch_add(&got_of[load], 1);
+            atomic_fetch_add(&told_of[load], joiners);
+        } else if (joiners != atomic_load(&joined_of[load])) job->strange++;
     }
     /* The call was open when this asked: it was settled later, if that is noted yet, and its load ended after each Forget before. */
     unsigned long long settled = atomic_load(&settled_at[load]);
@@ -274,7 +285,11 @@ static void threads(void) {
     }
     check(old == 0, "no answer from before a Forget that was over when it was asked");
     check(closed == 0, "no answer of a call that was settled before it was asked");
-    check(strange == 0, "codes, keys and marks of threads");
+    for (int i = 0; i <= THREADS * ROUNDS; i++) {
+        unsigned long long joined = atomic_load(&joined_of[i]);
+        if (atomic_load(&got_of[i]) != joined || atomic_load(&told_of[i]) != joined * joined) strange++;
+    }
+    check(strange == 0, "codes, keys and numbers of threads");
     check(atomic_load(&joins) == 0, "each who joined has its letter, and leaders count them");
     check(atomic_load(&loads) > 0 && atomic_load(&loads) < atomic_load(&gets), "threads load, and some join");
     check(atomic_load(&forgets) > 0 && atomic_load(&loads) + 1 == atomic_load(&clock_now), "threads forget, and loads are counted");

@@ -31,21 +31,19 @@ static void forget(uintptr_t slot, _GoString_ key) {
 }
 
 // Settles a call, and returns how many joined it.
-static uint64_t finish(uintptr_t slot, uint64_t number) {
-	bool shared = false;
-	uint64_t joined = 0;
-	if (sf_finish((sf_slot *)slot, number, &shared) == SF_OWES) {
-		while (sf_go_on((sf_slot *)slot, &shared) == SF_OWES) {}
+static uint32_t finish(uintptr_t slot, uint64_t number) {
+	uint32_t joiners = 0;
+	if (sf_finish((sf_slot *)slot, number, &joiners) == SF_OWES) {
+		while (sf_go_on((sf_slot *)slot, &joiners) == SF_OWES) {}
 	}
-	if (shared) sf_joined((sf_slot *)slot, &joined);
-	return joined;
+	return joiners;
 }
 
 // Returns the number that the call was settled with, or 0 where it is not yet.
 static uint64_t poll(uintptr_t slot) {
-	bool shared;
+	uint32_t joiners;
 	uint64_t number = 0;
-	sf_poll((sf_slot *)slot, &number, &shared);
+	sf_poll((sf_slot *)slot, &number, &joiners);
 	return number;
 }
 */

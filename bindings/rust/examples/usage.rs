@@ -17,5 +17,5 @@ fn main() {
     let mut caller = group.caller().unwrap();
     caller.forget(b"user-7").unwrap();
     let got = caller.do_with(b"user-7", || "Grace".to_string()).unwrap();
-    println!("{}, shared: {}", *got.answer, got.shared);
+    println!("{}, shared: {}", *got.answer, got.shared());
 }

@@ -30,9 +30,9 @@ impl<T: Send + Sync> Receiver<T> {
     /// The answer, if it is there. `Disconnected` where the leader's load panicked, or the answer was taken before.
     pub fn try_recv(&mut self) -> Result<Got<T>, TryRecvError> {
         let caller = self.waits.as_mut().ok_or(TryRecvError::Disconnected)?;
-        let (number, shared) = poll(&mut caller.slot).ok_or(TryRecvError::Empty)?;
+        let (number, joiners) = poll(&mut caller.slot).ok_or(TryRecvError::Empty)?;
         self.free = self.waits.take();
-        Caller::got(number, shared).ok_or(TryRecvError::Disconnected)
+        Caller::got(number, joiners).ok_or(TryRecvError::Disconnected)
     }
 
     /// Waits for the answer. An error where the leader's load panicked, or the answer was taken before.

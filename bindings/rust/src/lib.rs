@@ -100,10 +100,17 @@ pub struct Note<T> {
 /// What an asking got.
 pub struct Got<T> {
     pub answer: Answer<T>,
-    /// Whether somebody joined the call.
-    pub shared: bool,
+    /// How many joined the call.
+    pub joiners: u32,
     /// Whether this caller led it.
     pub led: bool,
+}
+
+impl<T> Got<T> {
+    /// Whether somebody joined the call.
+    pub fn shared(&self) -> bool {
+        self.joiners > 0
+    }
 }
 
 fn refusal(code: u32) -> Error {
@@ -198,35 +205,33 @@ struct Leading<'a, T> {
 }
 
 impl<T> Leading<'_, T> {
-    fn settle(&mut self, number: u64) -> (bool, u64) {
+    // How many joined.
+    fn settle(&mut self, number: u64) -> u32 {
         let slot = &mut self.caller.slot;
-        let (mut shared, mut joined) = (false, 0);
+        let mut joiners = 0;
         unsafe {
-            let mut code = raw::sf_finish(slot, number, &mut shared);
+            let mut code = raw::sf_finish(slot, number, &mut joiners);
             while code == raw::OTHERWISE {
-                code = raw::sf_go_on(slot, &mut shared);
-            }
-            if shared || self.has_receiver {
-                raw::sf_joined(slot, &mut joined);
+                code = raw::sf_go_on(slot, &mut joiners);
             }
         }
-        if joined > 0 {
+        if joiners > 0 || self.has_receiver {
             let shard = &self.caller.shared.shards[self.shard];
             // Who looked before the letters were there holds the lock until it sleeps.
             drop(lock(&shard.lock));
             shard.settled.notify_all();
         }
-        (shared, joined)
+        joiners
     }
 
     fn load(mut self, load: impl FnOnce() -> T) -> Got<T> {
         let answer = Answer::lent(load());
-        let (shared, joined) = self.settle(answer.number());
+        let joiners = self.settle(answer.number());
+        answer.settle(u64::from(joiners) + u64::from(self.has_receiver));
         std::mem::forget(self);
-        answer.settle(joined);
         Got {
             answer,
-            shared,
+            joiners,
             led: true,
         }
     }
@@ -238,10 +243,11 @@ impl<T> Drop for Leading<'_, T> {
     }
 }
 
-fn poll(slot: &mut Slot) -> Option<(u64, bool)> {
-    let (mut number, mut shared) = (0, false);
-    let code = unsafe { raw::sf_poll(slot, &mut number, &mut shared) };
-    (code == raw::DONE).then_some((number, shared))
+// The number that the call was settled with, and how many joined it, where the letter is there.
+fn poll(slot: &mut Slot) -> Option<(u64, u32)> {
+    let (mut number, mut joiners) = (0, 0);
+    let code = unsafe { raw::sf_poll(slot, &mut number, &mut joiners) };
+    (code == raw::DONE).then_some((number, joiners))
 }
 
 impl<T: Send + Sync> Caller<T> {
@@ -315,27 +321,27 @@ impl<T: Send + Sync> Caller<T> {
     }
 
     // What the letter that is there brings. None where the leader's load panicked.
-    fn got(number: u64, shared: bool) -> Option<Got<T>> {
+    fn got(number: u64, joiners: u32) -> Option<Got<T>> {
         // SAFETY: the leader counts each who joined, and each takes its letter once.
         unsafe { Answer::of_number(number) }.map(|answer| Got {
             answer,
-            shared,
+            joiners,
             led: false,
         })
     }
 
     fn wait(&mut self, shard: usize) -> Option<Got<T>> {
         for _ in 0..64 {
-            if let Some((number, shared)) = poll(&mut self.slot) {
-                return Self::got(number, shared);
+            if let Some((number, joiners)) = poll(&mut self.slot) {
+                return Self::got(number, joiners);
             }
             std::hint::spin_loop();
         }
         let shard = &self.shared.shards[shard];
         let mut guard = lock(&shard.lock);
         loop {
-            if let Some((number, shared)) = poll(&mut self.slot) {
-                return Self::got(number, shared);
+            if let Some((number, joiners)) = poll(&mut self.slot) {
+                return Self::got(number, joiners);
             }
             guard = shard.settled.wait(guard).unwrap_or_else(PoisonError::into_inner);
         }

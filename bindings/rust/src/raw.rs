@@ -44,10 +44,9 @@ extern "C" {
     pub fn sf_split(slot: &mut Slot, other: &mut Slot) -> u32;
     pub fn sf_ask(slot: &mut Slot, key: *const u8, len: usize, tries: u32) -> u32;
     pub fn sf_ask_chan(slot: &mut Slot, other: &mut Slot, key: *const u8, len: usize, tries: u32) -> u32;
-    pub fn sf_finish(slot: &mut Slot, value: u64, shared: &mut bool) -> u32;
-    pub fn sf_go_on(slot: &mut Slot, shared: &mut bool) -> u32;
-    pub fn sf_poll(slot: &mut Slot, value: &mut u64, shared: &mut bool) -> u32;
-    pub fn sf_joined(slot: &mut Slot, count: &mut u64) -> u32;
+    pub fn sf_finish(slot: &mut Slot, value: u64, joiners: &mut u32) -> u32;
+    pub fn sf_go_on(slot: &mut Slot, joiners: &mut u32) -> u32;
+    pub fn sf_poll(slot: &mut Slot, value: &mut u64, joiners: &mut u32) -> u32;
     pub fn sf_forget(slot: &mut Slot, key: *const u8, len: usize, tries: u32) -> u32;
     pub fn sf_is_current(slot: &mut Slot) -> u32;
     pub fn sf_tell(slot: &mut Slot, note: &mut Note) -> u32;

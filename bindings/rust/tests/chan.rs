@@ -28,9 +28,9 @@ fn a_receiver_of_a_new_call() {
     let thread = std::thread::spawn(move || (receiver.recv().unwrap(), free(receiver)));
     std::thread::sleep(Duration::from_millis(50));
     let got = job.unwrap().run(|| Arc::new(7));
-    assert!(**got.answer == 7 && got.led && !got.shared, "the leader's answer");
+    assert!(**got.answer == 7 && got.led && !got.shared(), "the leader's answer");
     let (got, second) = thread.join().unwrap();
-    assert!(**got.answer == 7 && !got.led && !got.shared, "the receiver's answer");
+    assert!(**got.answer == 7 && !got.led && got.joiners == 0, "the receiver's answer");
     assert!(third.is_current().is_none() && first.is_current() == Some(true), "letters");
 
     // While another leads, the first has nothing to do.
@@ -44,7 +44,7 @@ fn a_receiver_of_a_new_call() {
             Arc::new(8)
         })
         .unwrap();
-    assert!(**got.answer == 8 && got.shared, "a receiver that was dropped had joined");
+    assert!(**got.answer == 8 && got.joiners == 1, "a receiver that was dropped had joined");
 }
 
 #[test]

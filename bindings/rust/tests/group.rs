@@ -60,13 +60,13 @@ fn random_gets_and_forgets() {
                         let (mut receiver, job) = caller.do_chan(second.take().unwrap(), key.as_bytes()).ok().unwrap();
                         let has_led = job.map(|job| job.run(load).led).unwrap_or(false);
                         let got = receiver.recv().unwrap();
-                        assert!(has_led || got.shared, "who joined has a shared answer");
+                        assert!(has_led || got.shared(), "who joined has a shared answer");
                         second = receiver.into_caller().ok();
                         shares.fetch_add(u64::from(!has_led), SeqCst);
                         got
                     } else {
                         let got = caller.do_with(key.as_bytes(), load).unwrap();
-                        assert!(got.led || got.shared, "who joined has a shared answer");
+                        assert!(got.led || got.shared(), "who joined has a shared answer");
                         shares.fetch_add(u64::from(!got.led), SeqCst);
                         got
                     };
@@ -88,7 +88,7 @@ fn random_gets_and_forgets() {
 fn one_load_for_all_who_ask_at_once() {
     let group = Group::<u32>::open(1, 8, 4).unwrap();
     let (started, loads) = (Barrier::new(4), AtomicU64::new(0));
-    let all: Vec<(bool, bool)> = std::thread::scope(|scope| {
+    let all: Vec<(bool, u32)> = std::thread::scope(|scope| {
         let threads: Vec<_> = (0..4)
             .map(|_| {
                 let mut caller = group.caller().unwrap();
@@ -103,14 +103,14 @@ fn one_load_for_all_who_ask_at_once() {
                         })
                         .unwrap();
                     assert!(*got.answer == 7, "the answer");
-                    (got.led, got.shared)
+                    (got.led, got.joiners)
                 })
             })
             .collect();
         threads.into_iter().map(|thread| thread.join().unwrap()).collect()
     });
     assert!(loads.load(SeqCst) == 1, "one load");
-    assert!(all.iter().filter(|got| got.0).count() == 1 && all.iter().all(|got| got.1), "one leader, all shared");
+    assert!(all.iter().filter(|got| got.0).count() == 1 && all.iter().all(|got| got.1 == 3), "one leader, and all know of three who joined");
 }
 
 #[test]
@@ -147,7 +147,7 @@ fn refusals() {
     assert!(caller.is_current().is_none(), "no letter yet");
     assert!(caller.do_with(b"long!", || 1).err() == Some(Error::KeyTooLong), "too long");
     let got = caller.do_with(b"k", || 1).unwrap();
-    assert!(got.led && !got.shared && *got.answer == 1, "leads alone");
+    assert!(got.led && !got.shared() && *got.answer == 1, "leads alone");
     assert!(caller.is_current() == Some(true), "current");
     assert!(caller.forget(b"k") == Ok(false), "nothing is open");
     assert!(caller.do_with(b"m", || 1).err() == Some(Error::Full), "full");

@@ -40,6 +40,7 @@ no_state = record {
   };
   part = Gone;
   last = None;
+  own = false;
 }
 
 abbrev pub HeldNote : Type 0

@@ -1,5 +1,5 @@
 -- How calls change what a slot holds, and which code each ending has.
-use Rattle.std.specs.Prelude.{◌≡◌, ◌⊎◌, ℕ, Bool, cond, List, Option, Some, None, length, ◌<◌, ◌≤◌}
+use Rattle.std.specs.Prelude.{◌≡◌, ◌≢◌, ◌⊎◌, ◌+◌, ℕ, Bool, false, cond, List, Option, Some, None, length, ◌<◌, ◌≤◌}
 use Rattle.sf_calls.specs.Tokens.{GroupValue, CallerValue, FlightValue, LetterValue, NoteValue}
 use Rattle.sf_calls.specs.Fitting.{FitOf}
 use Rattle.sf_calls.specs.Begins.{HasLed, HasJoined, IsRefusedSpent, HasLedChan, HasJoinedChan, AreRefusedSpent}
@@ -20,12 +20,14 @@ use Rattle.sf_c.specs.declared.part.Part.{Part}
 use Rattle.sf_c.specs.declared.part.Part.TheVariants.{Free, Leads, Waits, Owes, Gone}
 use Rattle.sf_c.specs.declared.codes.TheConstants.{DONE, OTHERWISE, SPENT, BUSY, TOO_LONG, FULL, WRONG_STATE, BAD_NUMBER, NOTHING_LEFT}
 
--- what clauses see of a slot: its group, what its desk has seen, what its caller does, and the letter it had last
+-- what clauses see of a slot: its group, what its desk has seen, what its caller does, the letter it had last, and whether
+-- the call that it leads, or settled last, has an own channel
 pub record Seat : Type 0 where
   pub group : GroupValue
   pub desk : DeskState
   pub part : Part
   pub last : Option (LetterValue ℕ)
+  pub own : Bool
 
 -- the part is that group's
 abbrev pub IsOf : GroupValue → Part → Type 0
@@ -116,17 +118,17 @@ HasAskedChan (Owes o) q k tries r s code = AreOthers (Owes o) q r s code
 HasAskedChan Gone q k tries r s code = AreOthers Gone q r s code
 
 -- a call that is settled for all: the caller is free, and its letter is the last one
-pub record HasLetter (l : LetterValue ℕ) (mark : Bool) (last : Option (LetterValue ℕ)) : Type 0 where
-  pub mark_is : mark ≡ l.shared
+pub record HasLetter (l : LetterValue ℕ) (joined : ℕ) (last : Option (LetterValue ℕ)) : Type 0 where
+  pub joined_is : joined ≡ l.joiners
   pub last_is : last ≡ Some l
 
--- the mark and the letter it had last are as they were
-pub record HasNoLetter (mark new_mark : Bool) (last new_last : Option (LetterValue ℕ)) : Type 0 where
-  pub mark_same : new_mark ≡ mark
+-- the number written and the letter it had last are as they were
+pub record HasNoLetter (joined new_joined : ℕ) (last new_last : Option (LetterValue ℕ)) : Type 0 where
+  pub joined_same : new_joined ≡ joined
   pub last_same : new_last ≡ last
 
 -- how settling ends
-abbrev pub HasFinishedPart : Part → ℕ → Part → ℕ → Bool → Bool → Option (LetterValue ℕ) → Option (LetterValue ℕ) → Type 0
+abbrev pub HasFinishedPart : Part → ℕ → Part → ℕ → ℕ → ℕ → Option (LetterValue ℕ) → Option (LetterValue ℕ) → Type 0
 HasFinishedPart (Leads f) v (Free c) code m n a b = (code ≡ DONE) × ((l : LetterValue ℕ) × HasLetter l n b × IsDone fits f v c l)
 HasFinishedPart (Leads f) v (Owes s) code m n a b = (code ≡ OTHERWISE) × HasNoLetter m n a b × IsHeld f v s
 HasFinishedPart (Leads f) v (Leads h) code m n a b = ⊥
@@ -138,7 +140,7 @@ HasFinishedPart (Owes s) v q code m n a b = IsOther (Owes s) q code × HasNoLett
 HasFinishedPart Gone v q code m n a b = IsOther Gone q code × HasNoLetter m n a b
 
 -- how going on with a delivery ends
-abbrev pub HasGoneOnPart : Part → Part → ℕ → Bool → Bool → Option (LetterValue ℕ) → Option (LetterValue ℕ) → Type 0
+abbrev pub HasGoneOnPart : Part → Part → ℕ → ℕ → ℕ → Option (LetterValue ℕ) → Option (LetterValue ℕ) → Type 0
 HasGoneOnPart (Owes s) (Free c) code m n a b = (code ≡ DONE) × ((l : LetterValue ℕ) × HasLetter l n b × IsDoneAtLast fits s c l)
 HasGoneOnPart (Owes s) (Owes t) code m n a b = (code ≡ OTHERWISE) × HasNoLetter m n a b × IsHeldStill s t
 HasGoneOnPart (Owes s) (Leads f) code m n a b = ⊥
@@ -150,7 +152,7 @@ HasGoneOnPart (Waits t) q code m n a b = IsOther (Waits t) q code × HasNoLetter
 HasGoneOnPart Gone q code m n a b = IsOther Gone q code × HasNoLetter m n a b
 
 -- how a poll ends: u and v are the value before and after
-abbrev pub HasPolledPart : Part → Part → ℕ → ℕ → ℕ → Bool → Bool → Option (LetterValue ℕ) → Option (LetterValue ℕ) → Type 0
+abbrev pub HasPolledPart : Part → Part → ℕ → ℕ → ℕ → ℕ → ℕ → Option (LetterValue ℕ) → Option (LetterValue ℕ) → Type 0
 HasPolledPart (Waits t) (Free c) code u v m n a b = (code ≡ DONE) × ((l : LetterValue ℕ) × (l.value ≡ v) × HasLetter l n b × IsReady fits t c l)
 HasPolledPart (Waits t) (Waits w) code u v m n a b = (code ≡ OTHERWISE) × (v ≡ u) × HasNoLetter m n a b × IsPending t w
 HasPolledPart (Waits t) (Leads f) code u v m n a b = ⊥
@@ -203,6 +205,7 @@ pub record IsNewSeat (g : GroupValue) (d : DirectoryId) (s : Seat) : Type 0 wher
   pub part : s.part ≡ Free caller
   pub is_new : IsNewCaller g caller
   pub last : s.last ≡ None
+  pub own : s.own ≡ false
 
 -- the first slot of a new group
 pub record HasOpened (keys key_bytes callers : ℕ) (s : Seat) : Type 0 where
@@ -332,6 +335,20 @@ pub record KeepsLetter (s t : Seat) : Type 0 where
 pub record KeepsDesk (s t : Seat) : Type 0 where
   pub group : t.group ≡ s.group
   pub desk : t.desk ≡ s.desk
+
+-- where the call is done the seat's mark of an own channel is this one then, and else as it was
+pub record MarksOwn (code : ℕ) (own mark new_mark : Bool) : Type 0 where
+  pub done : code ≡ DONE → new_mark ≡ own
+  pub otherwise : code ≢ DONE → new_mark ≡ mark
+
+-- how many others have the value of the letter that it had last: as many as joined the call, and who holds an own channel
+abbrev pub others_of : LetterValue ℕ → Bool → ℕ
+others_of l own = l.joiners + cond own 1 0
+
+-- how the question ends how many others have the last letter's value: m and n are the number before and after
+abbrev pub HasCounted : Option (LetterValue ℕ) → Bool → ℕ → ℕ → ℕ → Type 0
+HasCounted (Some l) own code m n = (code ≡ DONE) × (n ≡ others_of l own)
+HasCounted None own code m n = (code ≡ NOTHING_LEFT) × (n ≡ m)
 
 -- how the question ends whether the last letter's call is its place's current one
 pub record IsAnswered (c : CallerValue ℕ) (l : LetterValue ℕ) (d : CallerValue ℕ) (m : LetterValue ℕ) (code : ℕ) : Type 0 where

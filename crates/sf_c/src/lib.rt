@@ -7,9 +7,9 @@
 //! `sf_learn`, whose two slots, or slot and note, have to be of one group.
 #![tactic(auto)]
 
-ghost use Rattle.std.specs.Prelude.{◌≡◌, ◌≢◌, ◌↔◌, ◌<◌, ◌≤◌, ◌⊎◌, None, true, false};
+ghost use Rattle.std.specs.Prelude.{◌≡◌, ◌≢◌, ◌↔◌, ◌<◌, ◌≤◌, ◌⊎◌, true, false};
 ghost use Rattle.sf_calls.specs.Notes.{HasGrown};
-ghost use Rattle.sf_c.specs.Rows.{AreSizes, HasOpened, IsNewSeat, HasAskedKey, HasAskedChanKey, HasForgotKey, HasFinishedPart, HasGoneOnPart, HasPolledPart, HasQuestionedPart, HasToldPart, HasNotTold, HasLearntPart, HasGivenUp, KeepsDesk, KeepsLetter};
+ghost use Rattle.sf_c.specs.Rows.{AreSizes, HasOpened, IsNewSeat, HasAskedKey, HasAskedChanKey, HasForgotKey, HasFinishedPart, HasGoneOnPart, HasPolledPart, HasQuestionedPart, HasToldPart, HasNotTold, HasLearntPart, HasGivenUp, HasCounted, MarksOwn, KeepsDesk, KeepsLetter};
 
 mod codes;
 mod handle;
@@ -110,6 +110,7 @@ pub extern "C" fn sf_ask(slot: &mut Slot, alloc: Global, key: &[u8], tries: u32)
     ensures kept { slot.new.live ≡ slot.old.live }
     ensures closed { result ≡ NOT_OPEN ↔ slot.old.live ≡ false }
     ensures state { slot.old.live ≡ true → KeepsLetter slot.old.handle.state slot.new.handle.state }
+    ensures own { slot.old.live ≡ true → MarksOwn result false slot.old.handle.state.own slot.new.handle.state.own }
     ensures row { slot.old.live ≡ true → HasAskedKey slot.old.handle.state key.now tries slot.new.handle.state result }
 {
     let Some(mut state) = slot.take(alloc) else {
@@ -135,7 +136,8 @@ pub extern "C" fn sf_ask_chan(
     ensures closed { result ≡ NOT_OPEN ↔ ((slot.old.live ≡ false) ⊎ (other.old.live ≡ false)) }
     ensures unchanged { result ≡ NOT_OPEN → (slot.old.live ≡ true → slot.new.handle.state ≡ slot.old.handle.state) × (other.old.live ≡ true → other.new.handle.state ≡ other.old.handle.state) }
     ensures state { slot.old.live ≡ true → KeepsLetter slot.old.handle.state slot.new.handle.state }
-    ensures other { other.old.live ≡ true → KeepsDesk other.old.handle.state other.new.handle.state × KeepsLetter other.old.handle.state other.new.handle.state }
+    ensures own { slot.old.live ≡ true → other.old.live ≡ true → MarksOwn result true slot.old.handle.state.own slot.new.handle.state.own }
+    ensures other { other.old.live ≡ true → KeepsDesk other.old.handle.state other.new.handle.state × KeepsLetter other.old.handle.state other.new.handle.state × (other.new.handle.state.own ≡ other.old.handle.state.own) }
     ensures row { slot.old.live ≡ true → other.old.live ≡ true → HasAskedChanKey slot.old.handle.state other.old.handle.state key.now tries slot.new.handle.state other.new.handle.state result }
 {
     let Some(mut state) = slot.take(alloc) else {
@@ -156,7 +158,7 @@ pub extern "C" fn sf_ask_chan(
 pub extern "C" fn sf_forget(slot: &mut Slot, alloc: Global, key: &[u8], tries: u32) -> u32
     ensures kept { slot.new.live ≡ slot.old.live }
     ensures closed { result ≡ NOT_OPEN ↔ slot.old.live ≡ false }
-    ensures state { slot.old.live ≡ true → KeepsLetter slot.old.handle.state slot.new.handle.state }
+    ensures state { slot.old.live ≡ true → KeepsLetter slot.old.handle.state slot.new.handle.state × (slot.new.handle.state.own ≡ slot.old.handle.state.own) }
     ensures row { slot.old.live ≡ true → HasForgotKey slot.old.handle.state key.now tries slot.new.handle.state result }
 {
     let Some(mut state) = slot.take(alloc) else {
@@ -169,51 +171,52 @@ pub extern "C" fn sf_forget(slot: &mut Slot, alloc: Global, key: &[u8], tries: u
 
 /// The slot's caller settles the call that it leads, and hands the letters out.
 #[unsafe(no_mangle)]
-pub extern "C" fn sf_finish(slot: &mut Slot, alloc: Global, value: u64, shared: &mut bool) -> u32
+pub extern "C" fn sf_finish(slot: &mut Slot, alloc: Global, value: u64, joiners: &mut u32) -> u32
     ensures kept { slot.new.live ≡ slot.old.live }
     ensures closed { result ≡ NOT_OPEN ↔ slot.old.live ≡ false }
-    ensures unwritten { result ≡ NOT_OPEN → shared.new ≡ shared.old }
-    ensures state { slot.old.live ≡ true → KeepsDesk slot.old.handle.state slot.new.handle.state }
-    ensures row { slot.old.live ≡ true → HasFinishedPart slot.old.handle.state.part value slot.new.handle.state.part result shared.old shared.new slot.old.handle.state.last slot.new.handle.state.last }
+    ensures unwritten { result ≡ NOT_OPEN → joiners.new ≡ joiners.old }
+    ensures state { slot.old.live ≡ true → KeepsDesk slot.old.handle.state slot.new.handle.state × (slot.new.handle.state.own ≡ slot.old.handle.state.own) }
+    ensures row { slot.old.live ≡ true → HasFinishedPart slot.old.handle.state.part value slot.new.handle.state.part result joiners.old joiners.new slot.old.handle.state.last slot.new.handle.state.last }
 {
     let Some(mut state) = slot.take(alloc) else {
         return NOT_OPEN;
     };
-    let code = state.finish(value, shared);
+    let code = state.finish(value, joiners);
     slot.put(state);
     code
 }
 
 /// Goes on with a delivery that stands still.
 #[unsafe(no_mangle)]
-pub extern "C" fn sf_go_on(slot: &mut Slot, alloc: Global, shared: &mut bool) -> u32
+pub extern "C" fn sf_go_on(slot: &mut Slot, alloc: Global, joiners: &mut u32) -> u32
     ensures kept { slot.new.live ≡ slot.old.live }
     ensures closed { result ≡ NOT_OPEN ↔ slot.old.live ≡ false }
-    ensures unwritten { result ≡ NOT_OPEN → shared.new ≡ shared.old }
-    ensures state { slot.old.live ≡ true → KeepsDesk slot.old.handle.state slot.new.handle.state }
-    ensures row { slot.old.live ≡ true → HasGoneOnPart slot.old.handle.state.part slot.new.handle.state.part result shared.old shared.new slot.old.handle.state.last slot.new.handle.state.last }
+    ensures unwritten { result ≡ NOT_OPEN → joiners.new ≡ joiners.old }
+    ensures state { slot.old.live ≡ true → KeepsDesk slot.old.handle.state slot.new.handle.state × (slot.new.handle.state.own ≡ slot.old.handle.state.own) }
+    ensures row { slot.old.live ≡ true → HasGoneOnPart slot.old.handle.state.part slot.new.handle.state.part result joiners.old joiners.new slot.old.handle.state.last slot.new.handle.state.last }
 {
     let Some(mut state) = slot.take(alloc) else {
         return NOT_OPEN;
     };
-    let code = state.go_on(shared);
+    let code = state.go_on(joiners);
     slot.put(state);
     code
 }
 
 /// Looks once for the letter that the slot's caller waits for.
 #[unsafe(no_mangle)]
-pub extern "C" fn sf_poll(slot: &mut Slot, alloc: Global, value: &mut u64, shared: &mut bool) -> u32
+pub extern "C" fn sf_poll(slot: &mut Slot, alloc: Global, value: &mut u64, joiners: &mut u32) -> u32
     ensures kept { slot.new.live ≡ slot.old.live }
     ensures closed { result ≡ NOT_OPEN ↔ slot.old.live ≡ false }
-    ensures unwritten { result ≡ NOT_OPEN → (value.new ≡ value.old) × (shared.new ≡ shared.old) }
+    ensures unwritten { result ≡ NOT_OPEN → (value.new ≡ value.old) × (joiners.new ≡ joiners.old) }
     ensures state { slot.old.live ≡ true → KeepsDesk slot.old.handle.state slot.new.handle.state }
-    ensures row { slot.old.live ≡ true → HasPolledPart slot.old.handle.state.part slot.new.handle.state.part result value.old value.new shared.old shared.new slot.old.handle.state.last slot.new.handle.state.last }
+    ensures own { slot.old.live ≡ true → MarksOwn result false slot.old.handle.state.own slot.new.handle.state.own }
+    ensures row { slot.old.live ≡ true → HasPolledPart slot.old.handle.state.part slot.new.handle.state.part result value.old value.new joiners.old joiners.new slot.old.handle.state.last slot.new.handle.state.last }
 {
     let Some(mut state) = slot.take(alloc) else {
         return NOT_OPEN;
     };
-    let code = state.poll(value, shared);
+    let code = state.poll(value, joiners);
     slot.put(state);
     code
 }
@@ -224,7 +227,7 @@ pub extern "C" fn sf_poll(slot: &mut Slot, alloc: Global, value: &mut u64, share
 pub extern "C" fn sf_is_current(slot: &mut Slot, alloc: Global) -> u32
     ensures kept { slot.new.live ≡ slot.old.live }
     ensures closed { result ≡ NOT_OPEN ↔ slot.old.live ≡ false }
-    ensures state { slot.old.live ≡ true → KeepsDesk slot.old.handle.state slot.new.handle.state }
+    ensures state { slot.old.live ≡ true → KeepsDesk slot.old.handle.state slot.new.handle.state × (slot.new.handle.state.own ≡ slot.old.handle.state.own) }
     ensures row { slot.old.live ≡ true → HasQuestionedPart slot.old.handle.state.part slot.old.handle.state.last slot.new.handle.state.part slot.new.handle.state.last result }
 {
     let Some(mut state) = slot.take(alloc) else {
@@ -235,25 +238,22 @@ pub extern "C" fn sf_is_current(slot: &mut Slot, alloc: Global) -> u32
     code
 }
 
-/// How many others have the value of the call that the slot settled last: as many as joined it.
+/// How many others have the value of the letter that the slot had last: as many as joined its call, and one more where the
+/// slot settled that and another holds its own channel.
 #[unsafe(no_mangle)]
 pub extern "C" fn sf_joined(slot: &mut Slot, alloc: Global, count: &mut u64) -> u32
     ensures kept { slot.new.live ≡ slot.old.live }
     ensures closed { result ≡ NOT_OPEN ↔ slot.old.live ≡ false }
     ensures state { slot.old.live ≡ true → slot.new.handle.state ≡ slot.old.handle.state }
-    ensures none { slot.old.live ≡ true → (result ≡ NOTHING_LEFT ↔ slot.old.handle.state.last ≡ None) }
-    ensures unwritten { result ≢ DONE → count.new ≡ count.old }
+    ensures unwritten { result ≡ NOT_OPEN → count.new ≡ count.old }
+    ensures row { slot.old.live ≡ true → HasCounted slot.old.handle.state.last slot.old.handle.state.own result count.old count.new }
 {
     let Some(state) = slot.take(alloc) else {
         return NOT_OPEN;
     };
-    let joined = state.joined();
+    let code = state.joined(count);
     slot.put(state);
-    let Some(joined) = joined else {
-        return NOTHING_LEFT;
-    };
-    *count = joined;
-    DONE
+    code
 }
 
 /// Puts what the slot's caller, which is free, has seen into the note, in place of what that showed.
@@ -290,7 +290,7 @@ pub extern "C" fn sf_learn(slot: &mut Slot, alloc: Global, note: &mut NoteSlot) 
     requires group { slot.old.live ≡ true → note.old.live ≡ true → slot.old.handle.state.group ≡ note.old.handle.note.group }
     ensures kept { (slot.new.live ≡ slot.old.live) × (note.new.live ≡ note.old.live) }
     ensures closed { result ≡ NOT_OPEN ↔ ((slot.old.live ≡ false) ⊎ (note.old.live ≡ false)) }
-    ensures state { slot.old.live ≡ true → KeepsDesk slot.old.handle.state slot.new.handle.state × KeepsLetter slot.old.handle.state slot.new.handle.state }
+    ensures state { slot.old.live ≡ true → KeepsDesk slot.old.handle.state slot.new.handle.state × KeepsLetter slot.old.handle.state slot.new.handle.state × (slot.new.handle.state.own ≡ slot.old.handle.state.own) }
     ensures unchanged { result ≡ NOT_OPEN → slot.old.live ≡ true → slot.new.handle.state ≡ slot.old.handle.state }
     ensures note { note.old.live ≡ true → HasGrown note.old.handle.note note.new.handle.note }
     ensures row { slot.old.live ≡ true → note.old.live ≡ true → HasLearntPart slot.old.handle.state.part note.old.handle.note slot.new.handle.state.part result }
@@ -322,7 +322,7 @@ pub extern "C" fn sf_drop_note(note: &mut NoteSlot, alloc: Global)
 pub extern "C" fn sf_give_up(slot: &mut Slot, alloc: Global) -> u32
     ensures kept { slot.new.live ≡ slot.old.live }
     ensures closed { result ≡ NOT_OPEN ↔ slot.old.live ≡ false }
-    ensures state { slot.old.live ≡ true → KeepsDesk slot.old.handle.state slot.new.handle.state × KeepsLetter slot.old.handle.state slot.new.handle.state }
+    ensures state { slot.old.live ≡ true → KeepsDesk slot.old.handle.state slot.new.handle.state × KeepsLetter slot.old.handle.state slot.new.handle.state × (slot.new.handle.state.own ≡ slot.old.handle.state.own) }
     ensures row { slot.old.live ≡ true → HasGivenUp slot.old.handle.state.part slot.new.handle.state.part result }
 {
     let Some(mut state) = slot.take(alloc) else {

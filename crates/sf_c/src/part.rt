@@ -132,20 +132,20 @@ impl Part {
         self,
         group: &Group<Word>,
         value: u64,
-        shared: &mut bool,
+        joiners: &mut u32,
         last: &mut Option<Letter<Word>>,
     ) -> (Part, u32)
         requires own { IsOf group.now self }
         requires last { IsLetterOf group.now last.old }
         ensures own { IsOf group.now result.0 }
         ensures last { IsLetterOf group.now last.new }
-        ensures row { HasFinishedPart self value result.0 result.1 shared.old shared.new last.old last.new }
+        ensures row { HasFinishedPart self value result.0 result.1 joiners.old joiners.new last.old last.new }
         ensures open { result.1 ≢ NOT_OPEN }
     {
         match self {
             Part::Leads(flight) => match group.finish_unrested(flight, Word::new(value)) {
                 Finished::Done(caller, letter) => {
-                    *shared = letter.shared();
+                    *joiners = letter.joiners();
                     *last = Some(letter);
                     (Part::Free(caller), DONE)
                 }
@@ -162,20 +162,20 @@ impl Part {
     pub(crate) fn gone_on(
         self,
         group: &Group<Word>,
-        shared: &mut bool,
+        joiners: &mut u32,
         last: &mut Option<Letter<Word>>,
     ) -> (Part, u32)
         requires own { IsOf group.now self }
         requires last { IsLetterOf group.now last.old }
         ensures own { IsOf group.now result.0 }
         ensures last { IsLetterOf group.now last.new }
-        ensures row { HasGoneOnPart self result.0 result.1 shared.old shared.new last.old last.new }
+        ensures row { HasGoneOnPart self result.0 result.1 joiners.old joiners.new last.old last.new }
         ensures open { result.1 ≢ NOT_OPEN }
     {
         match self {
             Part::Owes(settled) => match group.go_on_unrested(settled) {
                 Finished::Done(caller, letter) => {
-                    *shared = letter.shared();
+                    *joiners = letter.joiners();
                     *last = Some(letter);
                     (Part::Free(caller), DONE)
                 }
@@ -193,21 +193,21 @@ impl Part {
         self,
         group: &Group<Word>,
         value: &mut u64,
-        shared: &mut bool,
+        joiners: &mut u32,
         last: &mut Option<Letter<Word>>,
     ) -> (Part, u32)
         requires own { IsOf group.now self }
         requires last { IsLetterOf group.now last.old }
         ensures own { IsOf group.now result.0 }
         ensures last { IsLetterOf group.now last.new }
-        ensures row { HasPolledPart self result.0 result.1 value.old value.new shared.old shared.new last.old last.new }
+        ensures row { HasPolledPart self result.0 result.1 value.old value.new joiners.old joiners.new last.old last.new }
         ensures open { result.1 ≢ NOT_OPEN }
     {
         match self {
             Part::Waits(ticket) => match group.poll(ticket) {
                 Polled::Ready(caller, letter) => {
                     *value = letter.value().number();
-                    *shared = letter.shared();
+                    *joiners = letter.joiners();
                     *last = Some(letter);
                     (Part::Free(caller), DONE)
                 }

@@ -1,11 +1,11 @@
 //! What a slot holds.
-ghost use Rattle.std.specs.Prelude.{◌≡◌, ◌≢◌, ◌↔◌, ◌<◌, ◌≤◌, All, IfOk, IfErr, IfSome, None};
+ghost use Rattle.std.specs.Prelude.{◌≡◌, ◌≢◌, ◌↔◌, ◌<◌, ◌≤◌, All, IfOk, IfErr, IfSome, true, false};
 ghost use Rattle.sf_calls.specs.Making.{IsNewCaller};
 ghost use Rattle.sf_calls.specs.Notes.{HasGrown};
 ghost use Rattle.sf_dir.specs.Known.{IsNewDesk};
-ghost use Rattle.sf_c.specs.Rows.{HasOpened, IsNewSeat, HasPlace, HasNoPlace, HasAskedKey, HasAskedChanKey, HasForgotKey, HasFinishedPart, HasGoneOnPart, HasPolledPart, HasQuestionedPart, HasToldPart, HasNotTold, HasLearntPart, HasGivenUp, KeepsDesk, KeepsLetter};
+ghost use Rattle.sf_c.specs.Rows.{HasOpened, IsNewSeat, HasPlace, HasNoPlace, HasAskedKey, HasAskedChanKey, HasForgotKey, HasFinishedPart, HasGoneOnPart, HasPolledPart, HasQuestionedPart, HasToldPart, HasNotTold, HasLearntPart, HasGivenUp, HasCounted, MarksOwn, KeepsDesk, KeepsLetter};
 
-use crate::codes::{BAD_NUMBER, FULL, NOT_OPEN, NOTHING_LEFT, TOO_LONG, WRONG_STATE};
+use crate::codes::{BAD_NUMBER, DONE, FULL, NOT_OPEN, NOTHING_LEFT, TOO_LONG, WRONG_STATE};
 use crate::note_state::NoteState;
 use crate::part::Part;
 use crate::word::Word;
@@ -16,8 +16,8 @@ use std::marker::Model;
 use std::mem::replace;
 use std::sync::Arc;
 
-/// A caller and a desk, with shares of their group and directory; the letter that it had last; and the desks and callers
-/// that have no slot yet.
+/// A caller and a desk, with shares of their group and directory; the letter that it had last; whether the call that it
+/// leads, or settled last, has an own channel; and the desks and callers that have no slot yet.
 #[derive(Drop)]
 pub struct State {
     pub(crate) group: Arc<Group<Word>>,
@@ -25,6 +25,7 @@ pub struct State {
     pub(crate) desk: Desk,
     pub(crate) part: Part,
     pub(crate) last: Option<Letter<Word>>,
+    pub(crate) own: bool,
     pub(crate) desks: Vec<Desk>,
     pub(crate) callers: Vec<Caller<Word>>,
 }
@@ -37,7 +38,7 @@ impl Model for State {
 
     ghost Value = { Seat };
 
-    ghost view = { λ s. record { group = s.group.value; desk = s.desk; part = s.part; last = s.last } };
+    ghost view = { λ s. record { group = s.group.value; desk = s.desk; part = s.part; last = s.last; own = s.own } };
 
     ghost invariant = { λ s. IsOf s.group.value s.part × IsLetterOf s.group.value s.last × (s.desk.directory ≡ s.directory.value)
         × (s.group.value.sizes.places ≡ s.directory.value.keys)
@@ -96,7 +97,7 @@ fn place_of(directory: &Directory, desk: &mut Desk, key: &[u8]) -> Result<u32, u
     requires own { desk.old.directory ≡ directory.now }
     ensures place { IfOk result (λ place. HasPlace desk.old key.now desk.new place) }
     ensures range { IfOk result (λ place. (0 < place) × (place ≤ directory.now.keys)) }
-    ensures refused { IfErr result (λ code. HasNoPlace desk.old key.now desk.new code × (code ≢ NOT_OPEN)) }
+    ensures refused { IfErr result (λ code. HasNoPlace desk.old key.now desk.new code × (code ≢ NOT_OPEN) × (code ≢ DONE)) }
 {
     match directory.resolve(desk, key) {
         Ok(place) => Ok(place.number().number()),
@@ -132,6 +133,7 @@ impl State {
             desk,
             part: Part::Free(caller),
             last: None,
+            own: false,
             desks,
             callers,
         }))
@@ -152,6 +154,7 @@ impl State {
             desk,
             part: Part::Free(caller),
             last: None,
+            own: false,
             desks: Vec::new(alloc),
             callers: Vec::new(alloc),
         })
@@ -160,6 +163,7 @@ impl State {
     /// Asks for the key: done where its caller leads a new call then, otherwise it waits then.
     pub(crate) fn ask(&mut self, key: &[u8], tries: u32) -> u32
         ensures kept { KeepsLetter self.old self.new }
+        ensures own { MarksOwn result false self.old.own self.new.own }
         ensures row { HasAskedKey self.old key.now tries self.new result }
         ensures open { result ≢ NOT_OPEN }
     {
@@ -175,6 +179,9 @@ impl State {
         };
         let (part, code) = replace(&mut self.part, Part::Gone).asked(&self.group, place, tries);
         self.part = part;
+        if code == DONE {
+            self.own = false;
+        }
         code
     }
 
@@ -183,7 +190,8 @@ impl State {
     pub(crate) fn ask_chan(&mut self, other: &mut State, key: &[u8], tries: u32) -> u32
         requires { self.old.group ≡ other.old.group }
         ensures kept { KeepsLetter self.old self.new }
-        ensures other { KeepsDesk other.old other.new × KeepsLetter other.old other.new }
+        ensures own { MarksOwn result true self.old.own self.new.own }
+        ensures other { KeepsDesk other.old other.new × KeepsLetter other.old other.new × (other.new.own ≡ other.old.own) }
         ensures row { HasAskedChanKey self.old other.old key.now tries self.new other.new result }
         ensures open { result ≢ NOT_OPEN }
     {
@@ -202,12 +210,15 @@ impl State {
         let (caller, second, code) = caller.asked_chan(second, &self.group, place, tries);
         self.part = caller;
         other.part = second;
+        if code == DONE {
+            self.own = true;
+        }
         code
     }
 
     /// Forgets the key: done where that closed a call, otherwise none was open.
     pub(crate) fn forget(&mut self, key: &[u8], tries: u32) -> u32
-        ensures kept { KeepsLetter self.old self.new }
+        ensures kept { KeepsLetter self.old self.new × (self.new.own ≡ self.old.own) }
         ensures row { HasForgotKey self.old key.now tries self.new result }
         ensures open { result ≢ NOT_OPEN }
     {
@@ -225,44 +236,48 @@ impl State {
     }
 
     /// Settles the call that its caller leads.
-    pub(crate) fn finish(&mut self, value: u64, shared: &mut bool) -> u32
-        ensures kept { KeepsDesk self.old self.new }
-        ensures row { HasFinishedPart self.old.part value self.new.part result shared.old shared.new self.old.last self.new.last }
+    pub(crate) fn finish(&mut self, value: u64, joiners: &mut u32) -> u32
+        ensures kept { KeepsDesk self.old self.new × (self.new.own ≡ self.old.own) }
+        ensures row { HasFinishedPart self.old.part value self.new.part result joiners.old joiners.new self.old.last self.new.last }
         ensures open { result ≢ NOT_OPEN }
     {
         let part = replace(&mut self.part, Part::Gone);
-        let (part, code) = part.finished(&self.group, value, shared, &mut self.last);
+        let (part, code) = part.finished(&self.group, value, joiners, &mut self.last);
         self.part = part;
         code
     }
 
     /// Goes on with the delivery of a settled call.
-    pub(crate) fn go_on(&mut self, shared: &mut bool) -> u32
-        ensures kept { KeepsDesk self.old self.new }
-        ensures row { HasGoneOnPart self.old.part self.new.part result shared.old shared.new self.old.last self.new.last }
+    pub(crate) fn go_on(&mut self, joiners: &mut u32) -> u32
+        ensures kept { KeepsDesk self.old self.new × (self.new.own ≡ self.old.own) }
+        ensures row { HasGoneOnPart self.old.part self.new.part result joiners.old joiners.new self.old.last self.new.last }
         ensures open { result ≢ NOT_OPEN }
     {
         let part = replace(&mut self.part, Part::Gone);
-        let (part, code) = part.gone_on(&self.group, shared, &mut self.last);
+        let (part, code) = part.gone_on(&self.group, joiners, &mut self.last);
         self.part = part;
         code
     }
 
     /// Looks for the letter that its caller waits for.
-    pub(crate) fn poll(&mut self, value: &mut u64, shared: &mut bool) -> u32
+    pub(crate) fn poll(&mut self, value: &mut u64, joiners: &mut u32) -> u32
         ensures kept { KeepsDesk self.old self.new }
-        ensures row { HasPolledPart self.old.part self.new.part result value.old value.new shared.old shared.new self.old.last self.new.last }
+        ensures own { MarksOwn result false self.old.own self.new.own }
+        ensures row { HasPolledPart self.old.part self.new.part result value.old value.new joiners.old joiners.new self.old.last self.new.last }
         ensures open { result ≢ NOT_OPEN }
     {
         let part = replace(&mut self.part, Part::Gone);
-        let (part, code) = part.polled(&self.group, value, shared, &mut self.last);
+        let (part, code) = part.polled(&self.group, value, joiners, &mut self.last);
         self.part = part;
+        if code == DONE {
+            self.own = false;
+        }
         code
     }
 
     /// Whether the call of the letter it had last is its key's current one.
     pub(crate) fn is_current(&mut self) -> u32
-        ensures kept { KeepsDesk self.old self.new }
+        ensures kept { KeepsDesk self.old self.new × (self.new.own ≡ self.old.own) }
         ensures row { HasQuestionedPart self.old.part self.old.last self.new.part self.new.last result }
         ensures open { result ≢ NOT_OPEN }
     {
@@ -271,7 +286,7 @@ impl State {
 
     /// Gives up what its caller has open.
     pub(crate) fn give_up(&mut self) -> u32
-        ensures kept { KeepsDesk self.old self.new × KeepsLetter self.old self.new }
+        ensures kept { KeepsDesk self.old self.new × KeepsLetter self.old self.new × (self.new.own ≡ self.old.own) }
         ensures row { HasGivenUp self.old.part self.new.part result }
         ensures open { result ≢ NOT_OPEN }
     {
@@ -280,14 +295,17 @@ impl State {
         code
     }
 
-    /// How often the value of the letter that it had last was copied.
-    pub(crate) fn joined(&self) -> Option<u64>
-        ensures none { result ≡ None ↔ self.now.last ≡ None }
+    /// How many others have the value of the letter that it had last: as many as joined the call, and who holds its own
+    /// channel.
+    pub(crate) fn joined(&self, count: &mut u64) -> u32
+        ensures row { HasCounted self.now.last self.now.own result count.old count.new }
+        ensures open { result ≢ NOT_OPEN }
     {
-        match &self.last {
-            Some(letter) => Some(letter.value().copies()),
-            None => None,
-        }
+        let Some(letter) = &self.last else {
+            return NOTHING_LEFT;
+        };
+        *count = u64::from(letter.joiners()) + u64::from(self.own);
+        DONE
     }
 
     /// A note that shows what its caller has seen; or the code of its refusal.
@@ -308,7 +326,7 @@ impl State {
     /// Its caller has then seen what the note shows.
     pub(crate) fn learn(&mut self, told: &mut NoteState) -> u32
         requires { self.old.group ≡ told.old.group }
-        ensures kept { KeepsDesk self.old self.new × KeepsLetter self.old self.new }
+        ensures kept { KeepsDesk self.old self.new × KeepsLetter self.old self.new × (self.new.own ≡ self.old.own) }
         ensures note { HasGrown told.old told.new }
         ensures row { HasLearntPart self.old.part told.old self.new.part result }
         ensures open { result ≢ NOT_OPEN }

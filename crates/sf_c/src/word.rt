@@ -4,12 +4,10 @@ ghost use Rattle.std.specs.Prelude.{◌≡◌};
 use sf_group::{Fit, Memory, Share};
 use std::marker::Model;
 
-/// A number that a call is settled with. Each member of the call gets the same. Clauses see it as that number; it counts its
-/// copies besides, for programs that count who has what the number stands for.
+/// A number that a call is settled with. Each member of the call gets the same.
 #[derive(Drop)]
 pub struct Word {
     number: u64,
-    copies: u64,
 }
 
 impl Model for Word {
@@ -24,7 +22,7 @@ impl Word {
     pub(crate) fn new(number: u64) -> Self
         ensures { result ≡ number }
     {
-        Word { number, copies: 0 }
+        Word { number }
     }
 
     pub(crate) fn number(&self) -> u64
@@ -32,15 +30,10 @@ impl Word {
     {
         self.number
     }
-
-    pub(crate) fn copies(&self) -> u64 {
-        self.copies
-    }
 }
 
 impl Share for Word {
     fn share(&mut self) -> Result<Self, Memory> {
-        self.copies = self.copies.wrapping_add(1);
         Ok(Word::new(self.number))
     }
 }
