@@ -38,7 +38,8 @@ then_events n (Some event) more = more event
 abbrev pub events_of : ℕ → List TextEvent → List (List ℕ) → Result (List TextEvent) ℕ
 events_of format before [] = Ok before
 events_of format before (line ∷ lines) =
-    then_events (length before + 2) (record_of format before line) (λ event. events_of format (before ++ event ∷ []) lines)
+    then_events (length before + 2) (record_of format before line)
+    (λ event. events_of format (before ++ event ∷ []) lines)
 
 abbrev pub history_after : Option ℕ → List (List ℕ) → Result (List TextEvent) ℕ
 history_after None lines = Err 1
@@ -77,7 +78,7 @@ abbrev pub AreRecords : List (List ℕ) → List TextEvent → Type 0
 AreRecords [] h = ⊥
 AreRecords (first ∷ lines) h = (format : ℕ) × (format_of first ≡ Some format) × RecordEach format [] lines h
 
--- some lines record a history, and the next one, which is this one, counted from the line of the format, records nothing after it
+-- some lines record a history, and the next one, which is this one, records nothing after it; the format's line is the first
 pub record IsLeastBadRecord (format : ℕ) (lines : List (List ℕ)) (n : ℕ) : Type 0 where
   pub good : List (List ℕ)
   pub bad : List ℕ
@@ -92,7 +93,8 @@ pub record IsLeastBadRecord (format : ℕ) (lines : List (List ℕ)) (n : ℕ) :
 abbrev pub IsLeastBad : List (List ℕ) → ℕ → Type 0
 IsLeastBad [] n = n ≡ 1
 IsLeastBad (first ∷ lines) n =
-    ((format_of first ≡ None) × (n ≡ 1)) ⊎ ((format : ℕ) × (format_of first ≡ Some format) × IsLeastBadRecord format lines n)
+    ((format_of first ≡ None) × (n ≡ 1))
+    ⊎ ((format : ℕ) × (format_of first ≡ Some format) × IsLeastBadRecord format lines n)
 
 -- a text holds a history exactly where its lines are records of it, and else fails at its least bad line
 abbrev pub HistoryIsRecords : Type 0

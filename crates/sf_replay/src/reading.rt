@@ -89,7 +89,8 @@ fn record(
     entered: &Entered,
     line: &[u8],
 ) -> Result<Option<TextEvent>, Memory>
-    ensures { IfOk result (λ found. found ≡ option_and_then (event_in format (entered_in entered.now)) (json_of line.now)) }
+    ensures { IfOk result (λ found.
+        found ≡ option_and_then (event_in format (entered_in entered.now)) (json_of line.now)) }
 {
     match json(alloc, line)? {
         Some(value) => event(alloc, format, entered, &value),

@@ -267,7 +267,8 @@ fn settle(
     entered: &Entered,
     value: &Value,
 ) -> Result<Option<TextEvent>, Memory>
-    ensures { IfOk result (λ found. found ≡ settle_in format (entered_in entered.now) (view value.now)) }
+    ensures { IfOk result (λ found.
+        found ≡ settle_in format (entered_in entered.now) (view value.now)) }
 {
     if !has_names(value, 5) {
         return Ok(None);
@@ -310,7 +311,8 @@ fn event_of_kind(
     kind: &str,
     value: &Value,
 ) -> Result<Option<TextEvent>, Memory>
-    ensures { IfOk result (λ found. found ≡ event_of_kind format (entered_in entered.now) kind.now (view value.now)) }
+    ensures { IfOk result (λ found.
+        found ≡ event_of_kind format (entered_in entered.now) kind.now (view value.now)) }
 {
     match kind {
         "lead" => lead(alloc, value),
