@@ -2,10 +2,11 @@
 //! own threads.
 //!
 //! A caller asks for a place and leads a new call, or joins the place's open one and waits for its letter. No call waits:
-//! `begin`, `forget` and `forget_call` try as often as they are told and else answer that the group is busy, and `finish` settles within
-//! one try more than there are callers. Letters lie in cells of the group's table, one a caller: the leader writes its
-//! members' cells, and each takes its letter by `poll`. What a caller has seen is a beginning of one legal history of the
-//! group, and the contract of each call says what it adds to it, by the table of calls in `sf_calls`.
+//! `begin`, `forget` and `forget_call` try as often as they are told and else answer that the group is busy, and `finish`
+//! settles within one try more than there are callers. Letters lie in cells of the group's table, one a caller: the
+//! leader writes its members' cells, and each takes its letter by `poll`. What a caller has seen is a beginning of one
+//! legal history of the group, and the contract of each call says what it adds to it, by the table of calls in
+//! `sf_calls`.
 //!
 //! # The tokens
 //!
