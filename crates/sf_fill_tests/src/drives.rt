@@ -82,7 +82,7 @@ fn drive_prints_its_four_lines(rt: HostRuntime) -> Result<(), Fail> {
 #[test]
 fn drive_prints_its_history(rt: HostRuntime) -> Result<(), Fail> {
     let words = ["--threads", "1", "--keys", "1", "--gets", "2", "--history"];
-    let records = "{\"format\":2}
+    let records = "{\"format\":3}
 {\"e\":\"lead\",\"by\":1,\"k\":\"1\",\"c\":[1,1],\"own\":null}
 {\"e\":\"settle\",\"by\":1,\"c\":[1,1],\"ok\":\"\",\"joiners\":0}
 {\"e\":\"handed\",\"by\":1,\"c\":[1,1]}

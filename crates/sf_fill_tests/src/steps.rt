@@ -89,7 +89,10 @@ fn say_view<'d, D: Naming>(
             let shared = if view.shared() { " shared" } else { "" };
             let bytes: &Bytes = view.bytes();
             let is_v = bytes.as_slice() == b"v".as_slice();
-            write!(said, "{key} v={is_v} {call} root={root} joiners={joiners}{shared}\n")
+            write!(
+                said,
+                "{key} v={is_v} {call} root={root} joiners={joiners}{shared}\n"
+            )
         }
         Err(fault) => write!(said, "{key} {fault}\n"),
     };
