@@ -60,10 +60,13 @@ fn command_form(word: &str) -> &'static str {
             "expected `settle CALLER ok TEXT` or `settle CALLER err TEXT`; callers are 1 to 65535, texts 1 to 250 bytes"
         }
         "forget" => "expected `forget CALLER KEY`; callers are 1 to 65535, keys 1 to 250 bytes",
+        "forgetcall" => {
+            "expected `forgetcall CALLER KEY CALLER.GENERATION`; callers are 1 to 65535, keys 1 to 250 bytes, generations 1 to 4294967295"
+        }
         "take" => "expected `take CALLER`; callers are 1 to 65535",
         "current" => {
             "expected `current KEY CALLER.GENERATION`; callers are 1 to 65535, generations 1 to 4294967295"
         }
-        _ => "expected ask, chan, settle, forget, take or current",
+        _ => "expected ask, chan, settle, forget, forgetcall, take or current",
     }
 }

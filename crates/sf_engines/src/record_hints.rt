@@ -13,13 +13,13 @@ pub(crate) fn record_hint(alloc: Global, input: &[u8]) -> Option<Hint> {
     if line == 1 {
         return Some(Hint {
             line,
-            says: "expected {\"format\":2} or {\"format\":1}",
+            says: "expected {\"format\":3}, {\"format\":2} or {\"format\":1}",
         });
     }
     match Value::from_slice(alloc, line_of(input, line)) {
         Ok(record) => Some(Hint {
             line,
-            says: record_says(&record, joiners_name(alloc, input)),
+            says: record_says(&record, format_of(alloc, input)),
         }),
         Err(error) if error.is_memory() => None,
         Err(_) => Some(Hint {
@@ -37,11 +37,11 @@ fn line_of(input: &[u8], line: u64) -> &[u8] {
         .unwrap_or_default()
 }
 
-/// The name under which a settle says how many joined, in the input's format.
-fn joiners_name(alloc: Global, input: &[u8]) -> &'static str {
+/// The format that the input's first line names.
+fn format_of(alloc: Global, input: &[u8]) -> u64 {
     match Value::from_slice(alloc, line_of(input, 1)) {
-        Ok(first) if first.get("format").and_then(Value::as_u64) == Some(1) => "shared",
-        _ => "joiners",
+        Ok(first) => first.get("format").and_then(Value::as_u64).unwrap_or(3),
+        Err(_) => 3,
     }
 }
 
@@ -56,8 +56,8 @@ fn has(record: &Value, names: &[&str]) -> bool {
     }
 }
 
-/// What is wrong with a value that is no record, where settles have this name for how many joined.
-fn record_says(record: &Value, joiners: &str) -> &'static str {
+/// What is wrong with a value that is no record of this format.
+fn record_says(record: &Value, format: u64) -> &'static str {
     match record.get("e").and_then(Value::as_str) {
         Some("lead") if !has(record, &["by", "k", "c", "own"]) => {
             "expected the names e, by, k, c and own"
@@ -68,19 +68,30 @@ fn record_says(record: &Value, joiners: &str) -> &'static str {
         Some("forget") if !has(record, &["by", "k", "closed"]) => {
             "expected the names e, by, k and closed"
         }
-        Some("settle")
-            if !has(record, &["by", "c", "ok", joiners])
-                && !has(record, &["by", "c", "err", joiners]) => {
-            if joiners == "shared" {
-                "expected the names e, by, c, shared, and one of ok and err"
-            } else {
-                "expected the names e, by, c, joiners, and one of ok and err"
-            }
+        Some("forgetcall") if format < 3 => "forgetcall needs {\"format\":3}",
+        Some("forgetcall") if !has(record, &["by", "k", "c", "hit"]) => {
+            "expected the names e, by, k, c and hit"
         }
+        Some("settle") => settle_says(record, format),
         Some("handed") if !has(record, &["by", "c"]) => "expected the names e, by and c",
-        Some("lead") | Some("enter") | Some("forget") | Some("settle") | Some("handed") => {
-            "a value has another type or is out of range; callers are 1 to 65535, generations 1 to 4294967295, joiners 0 to 4294967295, keys at most 250 bytes"
-        }
-        _ => "expected an object whose e is lead, enter, forget, settle or handed",
+        Some("lead") | Some("enter") | Some("forget") | Some("forgetcall") | Some("handed") =>
+            VALUES,
+        _ if format < 3 => "expected an object whose e is lead, enter, forget, settle or handed",
+        _ => "expected an object whose e is lead, enter, forget, forgetcall, settle or handed",
     }
 }
+
+/// What is wrong with a settle that is no record of this format.
+fn settle_says(record: &Value, format: u64) -> &'static str {
+    let joiners = if format == 1 { "shared" } else { "joiners" };
+    if has(record, &["by", "c", "ok", joiners]) || has(record, &["by", "c", "err", joiners]) {
+        VALUES
+    } else if format == 1 {
+        "expected the names e, by, c, shared, and one of ok and err"
+    } else {
+        "expected the names e, by, c, joiners, and one of ok and err"
+    }
+}
+
+const VALUES: &str =
+    "a value has another type or is out of range; callers are 1 to 65535, generations 1 to 4294967295, joiners 0 to 4294967295, hits closed, cleared or missed, keys at most 250 bytes";

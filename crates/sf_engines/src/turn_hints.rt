@@ -32,11 +32,13 @@ fn is_number(word: &str, greatest: u32) -> bool {
 /// Whether the words say an operation.
 fn is_operation(words: &[&str]) -> bool {
     match *words {
-        ["ask", place] | ["forget", place] => is_number(place, 64),
+        ["ask", place] | ["forget", place] | ["named", place] => is_number(place, 64),
         ["chan", second, place] => is_number(second, 64) && is_number(place, 64),
         ["settle", kind, text] => (kind == "ok" || kind == "err") && is_token(text),
         ["poll"] => true,
-        ["current", place, named] => is_number(place, 64) && call(named).is_some(),
+        ["current", place, named] | ["forgetcall", place, named] => {
+            is_number(place, 64) && call(named).is_some()
+        }
         _ => false,
     }
 }
@@ -47,7 +49,7 @@ fn turn_says(alloc: Global, words: &[&str], before: &[&[u8]]) -> Result<&'static
         ["do", caller, ref operation @ ..] => {
             if !is_number(caller, 64) || !is_operation(operation) {
                 return Ok(
-                    "expected `do CALLER` and one of `ask PLACE`, `chan SECOND PLACE`, `settle ok TEXT`, `settle err TEXT`, `forget PLACE`, `poll`, `current PLACE CALL`; callers and places are 1 to 64",
+                    "expected `do CALLER` and one of `ask PLACE`, `chan SECOND PLACE`, `settle ok TEXT`, `settle err TEXT`, `forget PLACE`, `forgetcall PLACE CALL`, `poll`, `current PLACE CALL`, `named PLACE`; callers and places are 1 to 64",
                 );
             }
             if may_step(alloc, before, caller)? {
@@ -86,9 +88,10 @@ fn may_step(alloc: Global, before: &[&[u8]], caller: &str) -> Result<bool, Alloc
 fn condition(operation: &[&str]) -> &'static str {
     match *operation {
         ["settle", ..] => "a settling needs a caller that leads",
-        ["forget", ..] => "a forget needs a free caller",
+        ["forget", ..] | ["forgetcall", ..] => "a forget needs a free caller",
         ["poll"] => "a poll needs a caller that holds a ticket",
         ["current", ..] => "a question needs a free caller, and a call that was led on the place",
+        ["named", ..] => "a question needs a free caller",
         _ => "an asking needs callers that are free, different and not spent",
     }
 }
