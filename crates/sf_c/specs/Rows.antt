@@ -6,8 +6,8 @@ use Rattle.sf_calls.specs.Begins.{HasLed, HasJoined, IsRefusedSpent, HasLedChan,
 use Rattle.sf_calls.specs.Finishes.{IsDone, IsHeld, IsDoneAtLast, IsHeldStill, IsReady, IsPending}
 use Rattle.sf_calls.specs.Forgets.{HasForgot}
 use Rattle.sf_calls.specs.Currents.{HasQuestioned}
-use Rattle.sf_calls.specs.declared.limits.TheConstants.{MOST_PLACES, MOST_CALLERS}
-use Rattle.sf_words.specs.declared.limits.TheConstants.{LONGEST_KEY}
+use Rattle.sf_calls.specs.declared.limits.TheConstants.{MOST_CALLERS}
+use Rattle.sf_words.specs.declared.limits.TheConstants.{LARGEST_PLACE, LONGEST_KEY}
 use Rattle.sf_calls.specs.Notes.{HasLearnt, HasLearntLeading}
 use Rattle.sf_calls.specs.Making.{IsNewCaller}
 use Rattle.sf_calls.specs.declared.outcomes.NotBegun.TheVariants.{Busy}
@@ -372,7 +372,7 @@ HasQuestionedPart Gone a q b code = IsOther Gone q code × (b ≡ a)
 -- a group may be so large
 pub record AreSizes (keys key_bytes callers : ℕ) : Type 0 where
   pub some_key : 1 ≤ keys
-  pub most_keys : keys ≤ MOST_PLACES
+  pub most_keys : keys ≤ LARGEST_PLACE
   pub most_bytes : key_bytes ≤ LONGEST_KEY
   pub some_caller : 1 ≤ callers
   pub most_callers : callers ≤ MOST_CALLERS

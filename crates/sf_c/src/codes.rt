@@ -30,3 +30,6 @@ pub(crate) const BAD_NUMBER: u32 = 8;
 
 /// There is no memory, or no caller left.
 pub(crate) const NOTHING_LEFT: u32 = 9;
+
+/// The call was current and not open, and is current no more.
+pub(crate) const CLEARED: u32 = 10;

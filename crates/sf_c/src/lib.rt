@@ -17,6 +17,7 @@ mod loose;
 mod note_handle;
 mod note_slot;
 mod note_state;
+mod one_call;
 mod part;
 mod slot;
 mod state;
@@ -26,8 +27,10 @@ use codes::{BAD_NUMBER, DONE, NOT_OPEN, NOTHING_LEFT, WRONG_STATE};
 pub use handle::Handle;
 pub use note_handle::NoteHandle;
 pub use note_slot::NoteSlot;
+pub use one_call::{sf_call, sf_forget_call, sf_named};
 use sf_dir::LONGEST_KEY;
-use sf_group::{MOST_CALLERS, MOST_PLACES};
+use sf_group::MOST_CALLERS;
+use sf_words::LARGEST_PLACE;
 pub use slot::Slot;
 use state::State;
 use std::alloc::Global;
@@ -37,7 +40,7 @@ fn are_sizes(keys: u32, key_bytes: u32, callers: u32) -> bool
     ensures { result ≡ true ↔ AreSizes keys key_bytes callers }
 {
     1 <= keys
-        && keys <= MOST_PLACES
+        && keys <= LARGEST_PLACE
         && key_bytes <= LONGEST_KEY
         && 1 <= callers
         && callers <= MOST_CALLERS

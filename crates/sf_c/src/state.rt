@@ -10,7 +10,8 @@ use crate::note_state::NoteState;
 use crate::part::Part;
 use crate::word::Word;
 use sf_dir::{Desk, Directory, LONGEST_KEY, Refusal};
-use sf_group::{Caller, Group, Letter, MOST_CALLERS, MOST_PLACES, MOST_TRIES, Memory};
+use sf_group::{Caller, Group, Letter, MOST_CALLERS, MOST_TRIES, Memory};
+use sf_words::LARGEST_PLACE;
 use std::alloc::Global;
 use std::marker::Model;
 use std::mem::replace;
@@ -59,7 +60,7 @@ fn first_desk(
     key_bytes: u32,
     desks: u32,
 ) -> Result<(Directory, Desk, Vec<Desk>), Memory>
-    requires keys { (1 ≤ keys) × (keys ≤ MOST_PLACES) }
+    requires keys { (1 ≤ keys) × (keys ≤ LARGEST_PLACE) }
     requires key_bytes { key_bytes ≤ LONGEST_KEY }
     requires desks { (1 ≤ desks) × (desks ≤ MOST_CALLERS) }
     ensures sizes { IfOk result (λ made. (made.0.keys ≡ keys) × (made.0.key_bytes ≡ key_bytes)) }
@@ -79,7 +80,7 @@ fn first_caller(
     places: u32,
     callers: u32,
 ) -> Result<(Group<Word>, Caller<Word>, Vec<Caller<Word>>), Memory>
-    requires places { (1 ≤ places) × (places ≤ MOST_PLACES) }
+    requires places { (1 ≤ places) × (places ≤ LARGEST_PLACE) }
     requires callers { (1 ≤ callers) × (callers ≤ MOST_CALLERS) }
     ensures sizes { IfOk result (λ made. (made.0.sizes.places ≡ places) × (made.0.sizes.callers ≡ callers)) }
     ensures first { IfOk result (λ made. IsNewCaller made.0 made.1) }
@@ -93,7 +94,7 @@ fn first_caller(
 }
 
 // The key's place, or the code of its refusal.
-fn place_of(directory: &Directory, desk: &mut Desk, key: &[u8]) -> Result<u32, u32>
+pub(crate) fn place_of(directory: &Directory, desk: &mut Desk, key: &[u8]) -> Result<u32, u32>
     requires own { desk.old.directory ≡ directory.now }
     ensures place { IfOk result (λ place. HasPlace desk.old key.now desk.new place) }
     ensures range { IfOk result (λ place. (0 < place) × (place ≤ directory.now.keys)) }
@@ -114,7 +115,7 @@ impl State {
         key_bytes: u32,
         callers: u32,
     ) -> Result<State, Memory>
-        requires keys { (1 ≤ keys) × (keys ≤ MOST_PLACES) }
+        requires keys { (1 ≤ keys) × (keys ≤ LARGEST_PLACE) }
         requires key_bytes { key_bytes ≤ LONGEST_KEY }
         requires callers { (1 ≤ callers) × (callers ≤ MOST_CALLERS) }
         ensures { IfOk result (HasOpened keys key_bytes callers) }

@@ -1,0 +1,94 @@
+-- How the calls end that speak of one call: its Forget, which call a key names, and which call a slot has.
+use Rattle.std.specs.Prelude.{◌≡◌, ◌⊎◌, ℕ, List, Option, Some, None}
+use Rattle.sf_history.specs.declared.call.CallId.{CallId}
+use Rattle.sf_history.specs.declared.event.Hit.{Hit}
+use Rattle.sf_history.specs.declared.event.Hit.TheVariants as hit
+use Rattle.sf_calls.specs.Tokens.{CallerValue, LetterValue}
+use Rattle.sf_calls.specs.Forgets.{HasForgotCall, HasNamed}
+use Rattle.sf_c.specs.declared.part.Part.{Part}
+use Rattle.sf_c.specs.declared.part.Part.TheVariants.{Free, Leads, Waits, Owes, Gone}
+use Rattle.sf_c.specs.declared.codes.TheConstants.{DONE, OTHERWISE, CLEARED, NOTHING_LEFT, WRONG_STATE}
+use Rattle.sf_c.specs.Rows.{Seat, IsOther, IsForgetBusy, IsFree, IsNotFree, AreTries, HasPlace, HasNoPlace, HasNotCalled}
+
+-- the code of what a Forget of one call found
+abbrev pub code_of_hit : Hit → ℕ
+code_of_hit hit.Closed = DONE
+code_of_hit hit.Cleared = CLEARED
+code_of_hit hit.Missed = OTHERWISE
+
+-- how a Forget of one call by a free caller ends: it found that, or all tries failed
+pub record HasHitCall (c : CallerValue ℕ) (k : ℕ) (x : CallId) (d : CallerValue ℕ) (code : ℕ) : Type 0 where
+  pub found : Hit
+  pub code_is : code ≡ code_of_hit found
+  pub row : HasForgotCall c k x found d
+
+abbrev pub HasForgotCallPart : Part → ℕ → CallId → ℕ → Part → ℕ → Type 0
+HasForgotCallPart (Free c) k x tries (Free d) code = HasHitCall c k x d code ⊎ IsForgetBusy c k tries d code
+HasForgotCallPart (Free c) k x tries (Leads f) code = ⊥
+HasForgotCallPart (Free c) k x tries (Waits t) code = ⊥
+HasForgotCallPart (Free c) k x tries (Owes s) code = ⊥
+HasForgotCallPart (Free c) k x tries Gone code = ⊥
+HasForgotCallPart (Leads f) k x tries q code = IsOther (Leads f) q code
+HasForgotCallPart (Waits t) k x tries q code = IsOther (Waits t) q code
+HasForgotCallPart (Owes s) k x tries q code = IsOther (Owes s) q code
+HasForgotCallPart Gone k x tries q code = IsOther Gone q code
+
+-- by key
+pub record HasForgotCallPlace (s : Seat) (key : List ℕ) (x : CallId) (tries : ℕ) (t : Seat) (code : ℕ) : Type 0 where
+  pub tries_are : AreTries tries
+  pub free : IsFree s.part
+  pub place : ℕ
+  pub resolved : HasPlace s.desk key t.desk place
+  pub row : HasForgotCallPart s.part place x tries t.part code
+
+abbrev pub HasForgotCallKey : Seat → List ℕ → CallId → ℕ → Seat → ℕ → Type 0
+HasForgotCallKey s key x tries t code = HasForgotCallPlace s key x tries t code ⊎ HasNotCalled s key tries t code
+
+-- what is written of a call that may be absent: its two numbers, before and after, and the code where there is none
+abbrev pub IsWritten : Option CallId → ℕ → CallId → CallId → ℕ → Type 0
+IsWritten None none old new code = (code ≡ none) × (new ≡ old)
+IsWritten (Some x) none old new code = (code ≡ DONE) × (new ≡ x)
+
+-- how the question of a free caller ends which call a place names
+pub record HasNamedCall (c : CallerValue ℕ) (k : ℕ) (d : CallerValue ℕ) (old new : CallId) (code : ℕ) : Type 0 where
+  pub found : Option CallId
+  pub written : IsWritten found OTHERWISE old new code
+  pub row : HasNamed c k found d
+
+abbrev pub HasNamedPart : Part → ℕ → Part → CallId → CallId → ℕ → Type 0
+HasNamedPart (Free c) k (Free d) old new code = HasNamedCall c k d old new code
+HasNamedPart (Free c) k (Leads f) old new code = ⊥
+HasNamedPart (Free c) k (Waits t) old new code = ⊥
+HasNamedPart (Free c) k (Owes s) old new code = ⊥
+HasNamedPart (Free c) k Gone old new code = ⊥
+HasNamedPart (Leads f) k q old new code = IsOther (Leads f) q code × (new ≡ old)
+HasNamedPart (Waits t) k q old new code = IsOther (Waits t) q code × (new ≡ old)
+HasNamedPart (Owes s) k q old new code = IsOther (Owes s) q code × (new ≡ old)
+HasNamedPart Gone k q old new code = IsOther Gone q code × (new ≡ old)
+
+-- by key; a caller that is not free names nothing, nor does one whose key has no place
+pub record HasNamedPlace (s : Seat) (key : List ℕ) (t : Seat) (old new : CallId) (code : ℕ) : Type 0 where
+  pub free : IsFree s.part
+  pub place : ℕ
+  pub resolved : HasPlace s.desk key t.desk place
+  pub row : HasNamedPart s.part place t.part old new code
+
+pub record HasNamedNone (s : Seat) (key : List ℕ) (t : Seat) (old new : CallId) (code : ℕ) : Type 0 where
+  pub part : t.part ≡ s.part
+  pub why : (IsNotFree s.part × (t.desk ≡ s.desk) × (code ≡ WRONG_STATE)) ⊎ (IsFree s.part × HasNoPlace s.desk key t.desk code)
+  pub unwritten : new ≡ old
+
+abbrev pub HasNamedKey : Seat → List ℕ → Seat → CallId → CallId → ℕ → Type 0
+HasNamedKey s key t old new code = HasNamedPlace s key t old new code ⊎ HasNamedNone s key t old new code
+
+-- the call that a slot leads or waits for; of a free caller that of the letter it had last
+abbrev pub call_at : Part → Option (LetterValue ℕ) → Option CallId
+call_at (Leads f) last = Some f.call
+call_at (Waits t) last = Some t.call
+call_at (Free c) None = None
+call_at (Free c) (Some l) = Some l.call
+call_at (Owes s) last = None
+call_at Gone last = None
+
+abbrev pub HasCall : Part → Option (LetterValue ℕ) → CallId → CallId → ℕ → Type 0
+HasCall p last old new code = IsWritten (call_at p last) NOTHING_LEFT old new code
