@@ -5,7 +5,7 @@ use std::test::Fail;
 
 #[test]
 fn refused_lines_have_hints(rt: HostRuntime) -> Result<(), Fail> {
-    let rows: [(Engine, &[u8], &str); 17] = [
+    let rows: [(Engine, &[u8], &str); 25] = [
         (
             Engine::Run,
             b"ask 1 k\nask 2\n",
@@ -14,7 +14,7 @@ fn refused_lines_have_hints(rt: HostRuntime) -> Result<(), Fail> {
         (
             Engine::Run,
             b"\xff\n",
-            "hint: line 1: expected ask, chan, settle, forget, take or current",
+            "hint: line 1: expected ask, chan, settle, forget, forgetcall, take or current",
         ),
         (
             Engine::Run,
@@ -22,9 +22,29 @@ fn refused_lines_have_hints(rt: HostRuntime) -> Result<(), Fail> {
             "hint: line 1: expected `take CALLER`; callers are 1 to 65535",
         ),
         (
+            Engine::Run,
+            b"forgetcall 2 k 1\n",
+            "hint: line 1: expected `forgetcall CALLER KEY CALLER.GENERATION`; callers are 1 to 65535, keys 1 to 250 bytes, generations 1 to 4294967295",
+        ),
+        (
             Engine::Steps,
             b"\n",
             "hint: line 1: expected do, step or drop",
+        ),
+        (
+            Engine::Steps,
+            b"do 1 forgetcall 65 1.1\n",
+            "hint: line 1: expected `do CALLER` and one of `ask PLACE`, `chan SECOND PLACE`, `settle ok TEXT`, `settle err TEXT`, `forget PLACE`, `forgetcall PLACE CALL`, `poll`, `current PLACE CALL`, `named PLACE`; callers and places are 1 to 64",
+        ),
+        (
+            Engine::Steps,
+            b"do 1 ask 1\nstep 1 3\ndo 1 forgetcall 1 1.1\n",
+            "hint: line 3: a forget needs a free caller",
+        ),
+        (
+            Engine::Steps,
+            b"do 1 ask 1\nstep 1 3\ndo 1 named 1\n",
+            "hint: line 3: a question needs a free caller",
         ),
         (
             Engine::Steps,
@@ -59,7 +79,7 @@ fn refused_lines_have_hints(rt: HostRuntime) -> Result<(), Fail> {
         (
             Engine::Check,
             b"{\"format\":9}\n",
-            "hint: line 1: expected {\"format\":2} or {\"format\":1}",
+            "hint: line 1: expected {\"format\":3}, {\"format\":2} or {\"format\":1}",
         ),
         (
             Engine::Check,
@@ -70,6 +90,26 @@ fn refused_lines_have_hints(rt: HostRuntime) -> Result<(), Fail> {
             Engine::Check,
             b"{\"format\":1}\n{\"e\":\"leave\"}\n",
             "hint: line 2: expected an object whose e is lead, enter, forget, settle or handed",
+        ),
+        (
+            Engine::Check,
+            b"{\"format\":3}\n{\"e\":\"leave\"}\n",
+            "hint: line 2: expected an object whose e is lead, enter, forget, forgetcall, settle or handed",
+        ),
+        (
+            Engine::Check,
+            b"{\"format\":2}\n{\"e\":\"forgetcall\",\"by\":2,\"k\":\"k\",\"c\":[1,1],\"hit\":\"missed\"}\n",
+            "hint: line 2: forgetcall needs {\"format\":3}",
+        ),
+        (
+            Engine::Check,
+            b"{\"format\":3}\n{\"e\":\"forgetcall\",\"by\":2,\"k\":\"k\",\"closed\":[1,1]}\n",
+            "hint: line 2: expected the names e, by, k, c and hit",
+        ),
+        (
+            Engine::Check,
+            b"{\"format\":3}\n{\"e\":\"forgetcall\",\"by\":2,\"k\":\"k\",\"c\":[1,1],\"hit\":\"lost\"}\n",
+            "hint: line 2: a value has another type or is out of range; callers are 1 to 65535, generations 1 to 4294967295, joiners 0 to 4294967295, hits closed, cleared or missed, keys at most 250 bytes",
         ),
         (
             Engine::Check,
@@ -89,7 +129,7 @@ fn refused_lines_have_hints(rt: HostRuntime) -> Result<(), Fail> {
         (
             Engine::Check,
             b"{\"format\":1}\n{\"e\":\"handed\",\"by\":1,\"c\":[1,0]}\n",
-            "hint: line 2: a value has another type or is out of range; callers are 1 to 65535, generations 1 to 4294967295, joiners 0 to 4294967295, keys at most 250 bytes",
+            "hint: line 2: a value has another type or is out of range; callers are 1 to 65535, generations 1 to 4294967295, joiners 0 to 4294967295, hits closed, cleared or missed, keys at most 250 bytes",
         ),
     ];
     for (engine, input, expected) in rows {

@@ -84,14 +84,18 @@ fn settles(
     records.push_str("{\"e\":\"settle\",\"by\":1,\"c\":[1,1],\"ok\":\"v\",")?;
     records.push_str(joiners)?;
     records.push_str("}\n")?;
-    let ending = if line.starts_with("legal") {
+    judges(rt, alloc, records.as_str(), line, ending_of(line))
+}
+
+/// How it ends where this line is said.
+fn ending_of(line: &str) -> Ending {
+    if line.starts_with("legal") {
         Ending::Answered
     } else if line.starts_with("event") {
         Ending::Illegal
     } else {
         Ending::Refused
-    };
-    judges(rt, alloc, records.as_str(), line, ending)
+    }
 }
 
 /// The number of joiners is that of the enters on the call.
@@ -139,7 +143,9 @@ fn joiner_counts_in_records(rt: HostRuntime) -> Result<(), Fail> {
         ),
     ];
     for (before, joiners, line) in rows {
-        settles(&rt, rt.alloc(), 2, before, joiners, line)?;
+        for format in [2, 3] {
+            settles(&rt, rt.alloc(), format, before, joiners, line)?;
+        }
     }
     Ok(())
 }
@@ -188,8 +194,120 @@ fn first_format_is_still_read(rt: HostRuntime) -> Result<(), Fail> {
     Ok(())
 }
 
+const SETTLE: &str = "{\"e\":\"settle\",\"by\":1,\"c\":[1,1],\"ok\":\"v\",\"joiners\":0}\n";
+
+const CLOSED: &str = "{\"e\":\"forgetcall\",\"by\":2,\"k\":\"k\",\"c\":[1,1],\"hit\":\"closed\"}\n";
+
+const CLEARED: &str =
+    "{\"e\":\"forgetcall\",\"by\":2,\"k\":\"k\",\"c\":[1,1],\"hit\":\"cleared\"}\n";
+
+const MISSED: &str = "{\"e\":\"forgetcall\",\"by\":2,\"k\":\"k\",\"c\":[1,1],\"hit\":\"missed\"}\n";
+
+/// Checks records of a format.
+fn says(
+    rt: &impl Abort,
+    alloc: Global,
+    format: u32,
+    records: &[&str],
+    line: &str,
+) -> Result<(), Fail> {
+    let mut text = format!(in alloc; "{{\"format\":{format}}}\n")?;
+    for record in records {
+        text.push_str(record)?;
+    }
+    judges(rt, alloc, text.as_str(), line, ending_of(line))
+}
+
+/// An open call is closed, one that is current and not open is cleared, and one that is not current is missed.
+#[test]
+fn hits_in_records(rt: HostRuntime) -> Result<(), Fail> {
+    let forget = "{\"e\":\"forget\",\"by\":3,\"k\":\"k\",\"closed\":[1,1]}\n";
+    let idle = "{\"e\":\"forget\",\"by\":3,\"k\":\"k\",\"closed\":null}\n";
+    let newer = "{\"e\":\"lead\",\"by\":3,\"k\":\"k\",\"c\":[3,1],\"own\":null}\n";
+    let other = "{\"e\":\"lead\",\"by\":1,\"k\":\"j\",\"c\":[1,1],\"own\":null}\n";
+    let handed = "{\"e\":\"handed\",\"by\":1,\"c\":[1,1]}\n";
+    let rows: [(&[&str], &str); 26] = [
+        // A call that nobody led is missed, and stays new.
+        (&[MISSED, LEAD], "legal: 2 events\n"),
+        (&[CLOSED], "event 1: hit is wrong\n"),
+        (&[CLEARED], "event 1: hit is wrong\n"),
+        // An open call.
+        (&[LEAD, CLOSED], "legal: 2 events\n"),
+        (&[LEAD, CLEARED], "event 2: hit is wrong\n"),
+        (&[LEAD, MISSED], "event 2: hit is wrong\n"),
+        (&[LEAD, CLOSED, SETTLE, handed], "legal: 4 events\n"),
+        (&[LEAD, CLOSED, newer], "legal: 3 events\n"),
+        (
+            &[LEAD, CLOSED, ENTER],
+            "event 3: call is not the open one\n",
+        ),
+        // A settled call.
+        (&[LEAD, SETTLE, CLEARED, handed], "legal: 4 events\n"),
+        (&[LEAD, SETTLE, CLOSED], "event 3: hit is wrong\n"),
+        (&[LEAD, SETTLE, MISSED], "event 3: hit is wrong\n"),
+        (&[LEAD, SETTLE, CLEARED, idle], "legal: 4 events\n"),
+        // A call that a Forget ended, of the key or of that call.
+        (&[LEAD, forget, MISSED], "legal: 3 events\n"),
+        (&[LEAD, forget, CLOSED], "event 3: hit is wrong\n"),
+        (&[LEAD, forget, CLEARED], "event 3: hit is wrong\n"),
+        (&[LEAD, CLOSED, MISSED], "legal: 3 events\n"),
+        (&[LEAD, CLOSED, SETTLE, CLEARED], "event 4: hit is wrong\n"),
+        (&[LEAD, SETTLE, CLEARED, MISSED], "legal: 4 events\n"),
+        (&[LEAD, SETTLE, CLEARED, CLEARED], "event 4: hit is wrong\n"),
+        (&[LEAD, SETTLE, idle, MISSED], "legal: 4 events\n"),
+        // Beside a newer call of its key.
+        (&[LEAD, SETTLE, newer, MISSED], "legal: 4 events\n"),
+        (&[LEAD, SETTLE, newer, CLOSED], "event 4: hit is wrong\n"),
+        (&[LEAD, SETTLE, newer, CLEARED], "event 4: hit is wrong\n"),
+        // An open call of another key.
+        (&[other, MISSED], "legal: 2 events\n"),
+        (&[other, CLOSED], "event 2: hit is wrong\n"),
+    ];
+    for (records, line) in rows {
+        says(&rt, rt.alloc(), 3, records, line)?;
+    }
+    Ok(())
+}
+
+#[test]
+fn second_format_has_no_forgetcall(rt: HostRuntime) -> Result<(), Fail> {
+    for format in [1, 2] {
+        let records = [LEAD, CLOSED];
+        says(&rt, rt.alloc(), format, &records, "line 3: not a record\n")?;
+        let records = [MISSED];
+        says(&rt, rt.alloc(), format, &records, "line 2: not a record\n")?;
+    }
+    Ok(())
+}
+
+/// Its names are four, its call is no null, and its hit is one of three texts.
+#[test]
+fn hostile_forgets_of_one_call(rt: HostRuntime) -> Result<(), Fail> {
+    for record in [
+        "{\"e\":\"forgetcall\",\"by\":2,\"k\":\"k\",\"c\":[1,1],\"hit\":\"lost\"}\n",
+        "{\"e\":\"forgetcall\",\"by\":2,\"k\":\"k\",\"c\":[1,1],\"hit\":\"Missed\"}\n",
+        "{\"e\":\"forgetcall\",\"by\":2,\"k\":\"k\",\"c\":[1,1],\"hit\":\"missed \"}\n",
+        "{\"e\":\"forgetcall\",\"by\":2,\"k\":\"k\",\"c\":[1,1],\"hit\":\"\"}\n",
+        "{\"e\":\"forgetcall\",\"by\":2,\"k\":\"k\",\"c\":[1,1],\"hit\":null}\n",
+        "{\"e\":\"forgetcall\",\"by\":2,\"k\":\"k\",\"c\":[1,1],\"hit\":2}\n",
+        "{\"e\":\"forgetcall\",\"by\":2,\"k\":\"k\",\"c\":[1,1]}\n",
+        "{\"e\":\"forgetcall\",\"by\":2,\"k\":\"k\",\"c\":null,\"hit\":\"missed\"}\n",
+        "{\"e\":\"forgetcall\",\"by\":2,\"k\":\"k\",\"c\":[1,0],\"hit\":\"missed\"}\n",
+        "{\"e\":\"forgetcall\",\"by\":2,\"k\":\"k\",\"c\":[65536,1],\"hit\":\"missed\"}\n",
+        "{\"e\":\"forgetcall\",\"by\":0,\"k\":\"k\",\"c\":[1,1],\"hit\":\"missed\"}\n",
+        "{\"e\":\"forgetcall\",\"by\":2,\"k\":null,\"c\":[1,1],\"hit\":\"missed\"}\n",
+        "{\"e\":\"forgetcall\",\"by\":2,\"k\":\"k\",\"c\":[1,1],\"hit\":\"missed\",\"m\":[2,1]}\n",
+        "{\"e\":\"forget\",\"by\":2,\"k\":\"k\",\"c\":[1,1],\"hit\":\"missed\"}\n",
+        "{\"e\":\"forgetcall\",\"by\":2,\"k\":\"k\",\"closed\":[1,1]}\n",
+    ] {
+        let records = [record, MISSED];
+        says(&rt, rt.alloc(), 3, &records, "line 2: not a record\n")?;
+    }
+    Ok(())
+}
+
 /// A history of four events in each format, a record a line.
-const FOUR_EVENTS: [[&str; 5]; 2] = [
+const FOUR_EVENTS: [[&str; 5]; 3] = [
     [
         "{\"format\":1}",
         "{\"e\":\"lead\",\"by\":1,\"k\":\"k\",\"c\":[1,1],\"own\":null}",
@@ -203,6 +321,13 @@ const FOUR_EVENTS: [[&str; 5]; 2] = [
         "{\"e\":\"enter\",\"by\":2,\"k\":\"k\",\"c\":[1,1],\"m\":[2,1]}",
         "{\"e\":\"settle\",\"by\":1,\"c\":[1,1],\"err\":\"down\",\"joiners\":1}",
         "{\"e\":\"handed\",\"by\":1,\"c\":[1,1]}",
+    ],
+    [
+        "{\"format\":3}",
+        "{\"e\":\"lead\",\"by\":1,\"k\":\"k\",\"c\":[1,1],\"own\":null}",
+        "{\"e\":\"enter\",\"by\":2,\"k\":\"k\",\"c\":[1,1],\"m\":[2,1]}",
+        "{\"e\":\"forgetcall\",\"by\":3,\"k\":\"k\",\"c\":[1,1],\"hit\":\"closed\"}",
+        "{\"e\":\"settle\",\"by\":1,\"c\":[1,1],\"err\":\"down\",\"joiners\":1}",
     ],
 ];
 
@@ -266,13 +391,16 @@ fn hostile_records(rt: HostRuntime) -> Result<(), Fail> {
             Ending::Refused,
         )?;
     }
-    judges(
-        &rt,
-        rt.alloc(),
-        "{\"format\":9}\n",
-        "line 1: not a record\n",
-        Ending::Refused,
-    )
+    for first in ["{\"format\":4}\n", "{\"format\":9}\n"] {
+        judges(
+            &rt,
+            rt.alloc(),
+            first,
+            "line 1: not a record\n",
+            Ending::Refused,
+        )?;
+    }
+    Ok(())
 }
 
 #[test]

@@ -4,11 +4,11 @@ use sf_engines::{Ending, Engine};
 use std::test::Fail;
 
 /// An engine, its input, and its answer: each record but the first is an event.
-const ROWS: [(Engine, &[u8], &[u8]); 3] = [
+const ROWS: [(Engine, &[u8], &[u8]); 5] = [
     (
         Engine::RunHistory,
         b"ask 1 k\nask 2 k\nsettle 1 ok v\ntake 2\n",
-        b"{\"format\":2}
+        b"{\"format\":3}
 {\"e\":\"lead\",\"by\":1,\"k\":\"k\",\"c\":[1,1],\"own\":null}
 {\"e\":\"enter\",\"by\":2,\"k\":\"k\",\"c\":[1,1],\"m\":[2,1]}
 {\"e\":\"settle\",\"by\":1,\"c\":[1,1],\"ok\":\"v\",\"joiners\":1}
@@ -18,7 +18,7 @@ const ROWS: [(Engine, &[u8], &[u8]); 3] = [
     (
         Engine::RunHistory,
         b"chan 1 2 k\nforget 3 k\nforget 3 j\nsettle 1 err down\n",
-        b"{\"format\":2}
+        b"{\"format\":3}
 {\"e\":\"lead\",\"by\":1,\"k\":\"k\",\"c\":[1,1],\"own\":[2,1]}
 {\"e\":\"forget\",\"by\":3,\"k\":\"k\",\"closed\":[1,1]}
 {\"e\":\"forget\",\"by\":3,\"k\":\"j\",\"closed\":null}
@@ -27,9 +27,35 @@ const ROWS: [(Engine, &[u8], &[u8]); 3] = [
 ",
     ),
     (
+        Engine::RunHistory,
+        b"ask 1 k\nforgetcall 2 k 1.1\nask 3 k\nforgetcall 2 k 1.1\nsettle 3 ok n\nforgetcall 2 k 3.1\ncurrent k 3.1\nsettle 1 ok o\n",
+        b"{\"format\":3}
+{\"e\":\"lead\",\"by\":1,\"k\":\"k\",\"c\":[1,1],\"own\":null}
+{\"e\":\"forgetcall\",\"by\":2,\"k\":\"k\",\"c\":[1,1],\"hit\":\"closed\"}
+{\"e\":\"lead\",\"by\":3,\"k\":\"k\",\"c\":[3,1],\"own\":null}
+{\"e\":\"forgetcall\",\"by\":2,\"k\":\"k\",\"c\":[1,1],\"hit\":\"missed\"}
+{\"e\":\"settle\",\"by\":3,\"c\":[3,1],\"ok\":\"n\",\"joiners\":0}
+{\"e\":\"handed\",\"by\":3,\"c\":[3,1]}
+{\"e\":\"forgetcall\",\"by\":2,\"k\":\"k\",\"c\":[3,1],\"hit\":\"cleared\"}
+{\"e\":\"settle\",\"by\":1,\"c\":[1,1],\"ok\":\"o\",\"joiners\":0}
+{\"e\":\"handed\",\"by\":1,\"c\":[1,1]}
+",
+    ),
+    (
+        Engine::StepsHistory,
+        b"do 1 ask 20\nstep 1 3\ndo 1 settle ok v\nstep 1 2\ndo 3 forgetcall 20 1.1\nstep 3 3\ndo 3 forgetcall 20 2.1\nstep 3\ndo 3 named 20\nstep 3\n",
+        b"{\"format\":3}
+{\"e\":\"lead\",\"by\":1,\"k\":\"20\",\"c\":[1,1],\"own\":null}
+{\"e\":\"settle\",\"by\":1,\"c\":[1,1],\"ok\":\"v\",\"joiners\":0}
+{\"e\":\"handed\",\"by\":1,\"c\":[1,1]}
+{\"e\":\"forgetcall\",\"by\":3,\"k\":\"20\",\"c\":[1,1],\"hit\":\"cleared\"}
+{\"e\":\"forgetcall\",\"by\":3,\"k\":\"20\",\"c\":[2,1],\"hit\":\"missed\"}
+",
+    ),
+    (
         Engine::StepsHistory,
         b"do 1 ask 20\nstep 1 3\ndo 3 forget 20\nstep 3 3\ndo 1 settle ok v\nstep 1 2\nstep 3\n",
-        b"{\"format\":2}
+        b"{\"format\":3}
 {\"e\":\"lead\",\"by\":1,\"k\":\"20\",\"c\":[1,1],\"own\":null}
 {\"e\":\"forget\",\"by\":3,\"k\":\"20\",\"closed\":[1,1]}
 {\"e\":\"settle\",\"by\":1,\"c\":[1,1],\"ok\":\"v\",\"joiners\":0}

@@ -68,8 +68,68 @@ fn schedules(rt: HostRuntime) -> Result<(), Fail> {
 }
 
 #[test]
+fn forgets_of_one_call(rt: HostRuntime) -> Result<(), Fail> {
+    let rows: [(&[u8], &str); 10] = [
+        // closes_and_clears
+        (
+            b"do 1 ask 1\nstep 1 3\ndo 2 forgetcall 1 1.1\nstep 2 4\ndo 1 settle ok v\nstep 1 2\n",
+            "1 look 1 0\n1 ready 1.1 open\n1 lead 1 1.1 yes\n= lead 1 1.1\n2 look 1 1.1\n2 peek 1.1 open 0\n2 close 1.1 forgot yes\n= forgetcall 1 1.1 closed\n2 clear 1 1.1 yes\n1 peek 1.1 forgot 0\n= settle 1.1 v joiners=0\n= handed 1.1\n1 clear 1 1.1 no\n",
+        ),
+        // leader_clears_for_it
+        (
+            b"do 1 ask 1\nstep 1 3\ndo 2 forgetcall 1 1.1\nstep 2 3\ndo 1 settle ok v\nstep 1 2\nstep 2\n",
+            "1 look 1 0\n1 ready 1.1 open\n1 lead 1 1.1 yes\n= lead 1 1.1\n2 look 1 1.1\n2 peek 1.1 open 0\n2 close 1.1 forgot yes\n= forgetcall 1 1.1 closed\n1 peek 1.1 forgot 0\n= settle 1.1 v joiners=0\n= handed 1.1\n1 clear 1 1.1 yes\n2 clear 1 1.1 no\n",
+        ),
+        // clears_a_settled_call: its event comes with the first clear
+        (
+            b"do 1 ask 1\nstep 1 3\ndo 1 settle ok v\nstep 1 2\ndo 2 forgetcall 1 1.1\nstep 2 3\ndo 3 current 1 1.1\nstep 3 2\n",
+            "1 look 1 0\n1 ready 1.1 open\n1 lead 1 1.1 yes\n= lead 1 1.1\n1 peek 1.1 open 0\n1 close 1.1 done yes\n= settle 1.1 v joiners=0\n= handed 1.1\n2 look 1 1.1\n2 peek 1.1 done 0\n2 clear 1 1.1 yes\n= forgetcall 1 1.1 cleared\n3 peek 1.1 done 0\n3 look 1 1.1 cleared\n> no\n",
+        ),
+        // clears_while_the_leader_leads_elsewhere
+        (
+            b"do 1 ask 1\nstep 1 3\ndo 2 forgetcall 1 1.1\nstep 2\ndo 1 settle ok v\nstep 1 2\ndo 1 ask 2\nstep 1 3\nstep 2 2\n",
+            "1 look 1 0\n1 ready 1.1 open\n1 lead 1 1.1 yes\n= lead 1 1.1\n2 look 1 1.1\n1 peek 1.1 open 0\n1 close 1.1 done yes\n= settle 1.1 v joiners=0\n= handed 1.1\n1 look 2 0\n1 ready 1.2 open\n1 lead 2 1.2 yes\n= lead 2 1.2\n2 peek 1.2 open 0\n2 clear 1 1.1 yes\n= forgetcall 1 1.1 cleared\n",
+        ),
+        // misses_at_its_look
+        (
+            b"do 2 forgetcall 1 5.1\nstep 2\ndo 5 ask 1\nstep 5 3\ndo 2 forgetcall 1 5.2\nstep 2\ndo 2 forgetcall 2 5.1\nstep 2\ndo 2 forgetcall 1 65535.4294967295\nstep 2\ndo 2 forget 1\nstep 2 4\ndo 2 forgetcall 1 5.1\nstep 2\n",
+            "2 look 1 0\n= forgetcall 1 5.1 missed\n5 look 1 0\n5 ready 5.1 open\n5 lead 1 5.1 yes\n= lead 1 5.1\n2 look 1 5.1\n= forgetcall 1 5.2 missed\n2 look 2 0\n= forgetcall 2 5.1 missed\n2 look 1 5.1\n= forgetcall 1 65535.4294967295 missed\n2 look 1 5.1\n2 peek 5.1 open 0\n2 close 5.1 forgot yes\n= forget 1 closed 5.1\n2 clear 1 5.1 yes\n2 look 1 5.1 cleared\n= forgetcall 1 5.1 missed\n",
+        ),
+        // misses_a_forgotten_call_at_its_peek
+        (
+            b"do 1 ask 1\nstep 1 3\ndo 2 forget 1\nstep 2 3\ndo 3 forgetcall 1 1.1\nstep 3 2\nstep 2\n",
+            "1 look 1 0\n1 ready 1.1 open\n1 lead 1 1.1 yes\n= lead 1 1.1\n2 look 1 1.1\n2 peek 1.1 open 0\n2 close 1.1 forgot yes\n= forget 1 closed 1.1\n3 look 1 1.1\n3 peek 1.1 forgot 0\n= forgetcall 1 1.1 missed\n2 clear 1 1.1 yes\n",
+        ),
+        // failed_close_is_dropped, and made again
+        (
+            b"do 1 ask 1\nstep 1 3\ndo 2 forgetcall 1 1.1\nstep 2 2\ndo 3 ask 1\nstep 3 5\nstep 2\ndrop 2\ndo 2 forgetcall 1 1.1\nstep 2 4\n",
+            "1 look 1 0\n1 ready 1.1 open\n1 lead 1 1.1 yes\n= lead 1 1.1\n2 look 1 1.1\n2 peek 1.1 open 0\n3 look 1 1.1\n3 peek 1.1 open 0\n3 ready 3.1 listed\n3 link 0\n3 enter 1.1 yes\n= enter 1 1.1 3.1\n2 close 1.1 forgot no\n2 look 1 1.1\n2 peek 1.1 open 3\n2 close 1.1 forgot yes\n= forgetcall 1 1.1 closed\n2 clear 1 1.1 yes\n",
+        ),
+        // failed_clear_leaves_a_newer_call
+        (
+            b"do 1 ask 1\nstep 1 3\ndo 1 settle ok v\nstep 1 2\ndo 2 forgetcall 1 1.1\nstep 2 2\ndo 3 ask 1\nstep 3 4\nstep 2 2\ndo 4 ask 1\nstep 4 5\n",
+            "1 look 1 0\n1 ready 1.1 open\n1 lead 1 1.1 yes\n= lead 1 1.1\n1 peek 1.1 open 0\n1 close 1.1 done yes\n= settle 1.1 v joiners=0\n= handed 1.1\n2 look 1 1.1\n2 peek 1.1 done 0\n3 look 1 1.1\n3 peek 1.1 done 0\n3 ready 3.1 open\n3 lead 1 3.1 yes\n= lead 1 3.1\n2 clear 1 1.1 no\n2 look 1 3.1\n= forgetcall 1 1.1 missed\n4 look 1 3.1\n4 peek 3.1 open 0\n4 ready 4.1 listed\n4 link 0\n4 enter 3.1 yes\n= enter 1 3.1 4.1\n",
+        ),
+        // failed_clear_is_dropped
+        (
+            b"do 1 ask 1\nstep 1 3\ndo 1 settle ok v\nstep 1 2\ndo 2 forgetcall 1 1.1\nstep 2 2\ndo 3 forgetcall 1 1.1\nstep 3 3\nstep 2\ndrop 2\n",
+            "1 look 1 0\n1 ready 1.1 open\n1 lead 1 1.1 yes\n= lead 1 1.1\n1 peek 1.1 open 0\n1 close 1.1 done yes\n= settle 1.1 v joiners=0\n= handed 1.1\n2 look 1 1.1\n2 peek 1.1 done 0\n3 look 1 1.1\n3 peek 1.1 done 0\n3 clear 1 1.1 yes\n= forgetcall 1 1.1 cleared\n2 clear 1 1.1 no\n",
+        ),
+        // named_call: none, an open one, a closed one before its clear, and a cleared one
+        (
+            b"do 2 named 1\nstep 2\ndo 1 ask 1\nstep 1 3\ndo 2 named 1\nstep 2\ndo 2 named 2\nstep 2\ndo 3 forget 1\nstep 3 3\ndo 2 named 1\nstep 2\nstep 3\ndo 2 named 1\nstep 2\n",
+            "2 look 1 0\n1 look 1 0\n1 ready 1.1 open\n1 lead 1 1.1 yes\n= lead 1 1.1\n2 look 1 1.1\n2 look 2 0\n3 look 1 1.1\n3 peek 1.1 open 0\n3 close 1.1 forgot yes\n= forget 1 closed 1.1\n2 look 1 1.1\n3 clear 1 1.1 yes\n2 look 1 1.1 cleared\n",
+        ),
+    ];
+    for (schedule, printed) in rows {
+        prints(&rt, rt.alloc(), schedule, printed, Ending::Answered)?;
+    }
+    Ok(())
+}
+
+#[test]
 fn hostile_schedules(rt: HostRuntime) -> Result<(), Fail> {
-    let rows: [(&[u8], u32); 18] = [
+    let rows: [(&[u8], u32); 35] = [
         (b"do 1 ask 1\nstep 1 1001\n", 2),
         (b"do 1 ask 1\ndrop 1\n", 2),
         (b"do 1 ask 65\n", 1),
@@ -92,6 +152,28 @@ fn hostile_schedules(rt: HostRuntime) -> Result<(), Fail> {
         // A poll is made by one that holds a ticket.
         (b"do 1 poll\n", 1),
         (b"do 1 ask 1\nstep 1 3\ndo 1 poll\n", 3),
+        // A forget of one call, and what the key word names, are for free callers.
+        (b"do 1 ask 1\nstep 1 3\ndo 1 forgetcall 1 1.1\n", 3),
+        (b"do 1 ask 1\nstep 1 3\ndo 1 named 1\n", 3),
+        (b"do 1 forgetcall 65 1.1\n", 1),
+        (b"do 1 forgetcall 0 1.1\n", 1),
+        (b"do 65 forgetcall 1 1.1\n", 1),
+        (b"do 1 forgetcall 1\n", 1),
+        (b"do 1 forgetcall 1 1\n", 1),
+        (b"do 1 forgetcall 1 1.0\n", 1),
+        (b"do 1 forgetcall 1 65536.1\n", 1),
+        (b"do 1 forgetcall 1 1.4294967296\n", 1),
+        (b"do 1 forgetcall 1 1.1\ndrop 1\n", 2),
+        (b"do 1 forgetcall 1 1.1\nstep 1 2\n", 2),
+        // A forget that has closed its call is not dropped, though its clear is still to come.
+        (
+            b"do 1 ask 1\nstep 1 3\ndo 2 forgetcall 1 1.1\nstep 2 3\ndrop 2\n",
+            5,
+        ),
+        (b"do 1 named 65\n", 1),
+        (b"do 1 named 1 1.1\n", 1),
+        (b"do 1 named 1\ndrop 1\n", 2),
+        (b"do 1 named 1\nstep 1 2\n", 2),
     ];
     for (schedule, line) in rows {
         let refusal = format!(in rt.alloc(); "line {line}: not a turn of this schedule\n")?;

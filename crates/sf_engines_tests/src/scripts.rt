@@ -81,6 +81,21 @@ fn scripts(rt: HostRuntime) -> Result<(), Fail> {
             "ask 1 k\nsettle 1 ok v\ncurrent k 1.1\nforget 2 k\ncurrent k 1.1\n",
             "1 lead 1.1\n1 settled 1.1 v joiners=0\nk 1.1 current\n2 forgot nothing\nk 1.1 not current\n",
         ),
+        // forgotten_call_by_name
+        (
+            "ask 1 k\nforgetcall 2 k 1.1\nask 3 k\nforgetcall 2 k 1.1\nsettle 3 ok n\nforgetcall 2 k 3.1\ncurrent k 3.1\nsettle 1 ok o\n",
+            "1 lead 1.1\n2 forgot 1.1\n3 lead 3.1\n2 missed 1.1\n3 settled 3.1 n joiners=0\n2 cleared 3.1\nk 3.1 not current\n1 settled 1.1 o joiners=0\n",
+        ),
+        // missed_call_stays_new
+        (
+            "forgetcall 2 k 5.1\nask 5 k\n",
+            "2 missed 5.1\n5 lead 5.1\n",
+        ),
+        // missed_call_of_another_key_stays_open
+        (
+            "ask 1 k\nforgetcall 2 j 1.1\nask 3 k\nforgetcall 65535 k 65535.4294967295\ncurrent k 1.1\n",
+            "1 lead 1.1\n2 missed 1.1\n3 join 1.1\n65535 missed 65535.4294967295\nk 1.1 current\n",
+        ),
     ];
     for (script, answer) in rows {
         answers(&rt, rt.alloc(), script, answer, Ending::Answered)?;
@@ -98,6 +113,14 @@ fn refused_scripts(rt: HostRuntime) -> Result<(), Fail> {
         ("chan 1 1 k\n", "line 1: caller 1 is not free\n"),
         ("ask 2 k\nchan 1 2 j\n", "line 2: caller 2 is not free\n"),
         ("ask 1 k\nforget 1 k\n", "line 2: caller 1 is not free\n"),
+        (
+            "ask 1 k\nforgetcall 1 k 1.1\n",
+            "line 2: caller 1 is not free\n",
+        ),
+        (
+            "ask 1 k\nask 2 k\nforgetcall 2 k 5.1\n",
+            "line 3: caller 2 is not free\n",
+        ),
         // A bad form is found before any other cause.
         ("ask 1 k\nask 1 j\nfoo\n", "line 3: not a command\n"),
         ("ask 01 k\n", "line 1: not a command\n"),
@@ -107,6 +130,17 @@ fn refused_scripts(rt: HostRuntime) -> Result<(), Fail> {
         ("ask 1  k\n", "line 1: not a command\n"),
         ("ask 1 k \n", "line 1: not a command\n"),
         ("settle 1 yes v\n", "line 1: not a command\n"),
+        ("forgetcall 0 k 1.1\n", "line 1: not a command\n"),
+        ("forgetcall 65536 k 1.1\n", "line 1: not a command\n"),
+        ("forgetcall 2 k\n", "line 1: not a command\n"),
+        ("forgetcall 2 k 1\n", "line 1: not a command\n"),
+        ("forgetcall 2 k 1.0\n", "line 1: not a command\n"),
+        ("forgetcall 2 k 0.1\n", "line 1: not a command\n"),
+        ("forgetcall 2 k 65536.1\n", "line 1: not a command\n"),
+        ("forgetcall 2 k 1.4294967296\n", "line 1: not a command\n"),
+        ("forgetcall 2  1.1\n", "line 1: not a command\n"),
+        ("forgetcall 2 k 1.1 1.1\n", "line 1: not a command\n"),
+        ("forget 2 k 1.1\n", "line 1: not a command\n"),
         ("current k 1.0\n", "line 1: not a command\n"),
         ("current k 1.1.1\n", "line 1: not a command\n"),
         ("current k 1.4294967296\n", "line 1: not a command\n"),
