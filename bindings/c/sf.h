@@ -50,11 +50,12 @@ enum {
     SF_WRONG_STATE = 6,  /* a slot is not in a state for this call: nothing is changed */
     SF_NOT_OPEN = 7,     /* the slot is not open: nothing is changed */
     SF_BAD_NUMBER = 8,   /* a size, or a number of tries, is out of range: nothing is changed */
-    SF_NOTHING_LEFT = 9  /* no memory, or no caller is left to split off, or there is no letter to ask about */
+    SF_NOTHING_LEFT = 9, /* no memory, or no caller is left to split off, or there is no letter to ask about */
+    SF_CLEARED = 10      /* in sf_forget_call: the call was settled and current, and is current no more */
 };
 
 /* Other names of the first two, as they read after the call that they answer. */
-enum { SF_LEADS = 0, SF_JOINED = 1, SF_NOT_YET = 1, SF_NONE_OPEN = 1, SF_OWES = 1, SF_YES = 0, SF_NO = 1 };
+enum { SF_LEADS = 0, SF_JOINED = 1, SF_NOT_YET = 1, SF_NONE_OPEN = 1, SF_OWES = 1, SF_YES = 0, SF_NO = 1, SF_CLOSED = 0, SF_MISSED = 1, SF_NONE_NAMED = 1 };
 
 #define SF_MOST_KEYS 1048576u
 #define SF_MOST_KEY_BYTES 250u
@@ -99,6 +100,20 @@ uint32_t sf_poll(sf_slot *slot, uint64_t *value, uint32_t *joiners);
  * its answer still. SF_DONE: a call was closed; SF_NONE_OPEN; SF_BUSY, SF_TOO_LONG, SF_FULL; SF_WRONG_STATE where the caller
  * is not free; SF_BAD_NUMBER; SF_NOT_OPEN. */
 uint32_t sf_forget(sf_slot *slot, const uint8_t *key, size_t len, uint32_t tries);
+
+/* A free caller forgets one call of the key, the one of these two numbers, and leaves a newer one as it is: so of two that throw one
+ * stale answer away the later does not close the call that the first made. Any numbers may be named. SF_CLOSED: the call was open, and
+ * takes no more callers; SF_CLEARED: it was settled and current, and is current no more; SF_MISSED: it was not current; nothing changed.
+ * SF_BUSY, SF_TOO_LONG, SF_FULL; SF_WRONG_STATE where the caller is not free; SF_BAD_NUMBER; SF_NOT_OPEN. */
+uint32_t sf_forget_call(sf_slot *slot, const uint8_t *key, size_t len, uint32_t caller, uint32_t generation, uint32_t tries);
+
+/* Which call the key names, as a free caller sees it: the one that was led last, unless a Forget has cleared it. SF_DONE: its numbers are
+ * written; SF_NONE_NAMED: the key has no current call; SF_TOO_LONG, SF_FULL; SF_WRONG_STATE; SF_NOT_OPEN. But for SF_DONE nothing is written. */
+uint32_t sf_named(sf_slot *slot, const uint8_t *key, size_t len, uint32_t *caller, uint32_t *generation);
+
+/* The call that the slot's caller leads or waits for; of a free caller that of the letter it had last. SF_DONE: its numbers are written;
+ * SF_NOTHING_LEFT: there is none; SF_NOT_OPEN. But for SF_DONE nothing is written. */
+uint32_t sf_call(sf_slot *slot, uint32_t *caller, uint32_t *generation);
 
 /* Whether the call of the letter that a free caller had last, by sf_poll or sf_finish, is its key's current one: no Forget has
  * closed it, and no later call was led. So an answer that was stored is right still. SF_YES, SF_NO; SF_NOTHING_LEFT where there

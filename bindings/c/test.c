@@ -64,6 +64,51 @@ static void not_open(void) {
     check(!none.live, "close not open");
 }
 
+static uint32_t forget_call(sf_slot *slot, const char *key, uint32_t caller, uint32_t generation, uint32_t tries) {
+    return sf_forget_call(slot, (const uint8_t *)key, strlen(key), caller, generation, tries);
+}
+
+static uint32_t named(sf_slot *slot, const char *key, uint32_t *caller, uint32_t *generation) {
+    return sf_named(slot, (const uint8_t *)key, strlen(key), caller, generation);
+}
+
+/* Whether the key names the call that the slot has. */
+static bool names_call_of(sf_slot *asker, const char *key, sf_slot *slot) {
+    uint32_t caller = 0, generation = 0, of_caller = 1, of_generation = 1;
+    return named(asker, key, &caller, &generation) == SF_DONE && sf_call(slot, &of_caller, &of_generation) == SF_DONE
+        && caller == of_caller && generation == of_generation;
+}
+
+/* Two reload one stale answer: the later one leaves the call of the first. */
+static void forgotten_by_name(void) {
+    sf_slot a = SF_SLOT_NONE, b = SF_SLOT_NONE, c = SF_SLOT_NONE;
+    uint64_t value = 0;
+    uint32_t joiners = 9, caller = 7, generation = 7, stale = 0, of_stale = 0;
+    check(forget_call(&a, "k", 1, 1, 1) == SF_NOT_OPEN, "forget call not open");
+    check(named(&a, "k", &caller, &generation) == SF_NOT_OPEN && caller == 7 && generation == 7, "named not open");
+    check(sf_call(&a, &caller, &generation) == SF_NOT_OPEN && caller == 7 && generation == 7, "call not open");
+    check(sf_open(&a, 1, 4, 3) == SF_DONE && sf_split(&a, &b) == SF_DONE && sf_split(&a, &c) == SF_DONE, "open");
+    check(sf_call(&a, &caller, &generation) == SF_NOTHING_LEFT && caller == 7 && generation == 7, "no call yet");
+    check(named(&a, "k", &caller, &generation) == SF_NONE_NAMED && caller == 7 && generation == 7, "no call is named");
+    check(named(&a, "long!", &caller, &generation) == SF_TOO_LONG && forget_call(&a, "long!", 1, 1, 1) == SF_TOO_LONG, "too long");
+    check(named(&a, "l", &caller, &generation) == SF_FULL && forget_call(&a, "l", 1, 1, 1) == SF_FULL, "full");
+    check(forget_call(&a, "k", 1, 1, 0) == SF_BAD_NUMBER && forget_call(&a, "k", 1, 1, SF_MOST_TRIES + 1) == SF_BAD_NUMBER, "bad tries");
+    check(ask(&a, "k", 1) == SF_LEADS && names_call_of(&b, "k", &a), "the key names the open call");
+    check(forget_call(&a, "k", 1, 1, 1) == SF_WRONG_STATE && named(&a, "k", &caller, &generation) == SF_WRONG_STATE && caller == 7, "a leader");
+    check(sf_finish(&a, 5, &joiners) == SF_DONE && joiners == 0 && names_call_of(&b, "k", &a), "it is named when it is settled");
+    check(sf_call(&a, &stale, &of_stale) == SF_DONE, "the stale call");
+    check(forget_call(&b, "k", stale, of_stale, 1) == SF_CLEARED && sf_is_current(&a) == SF_NO, "the first clears it");
+    check(ask(&b, "k", 1) == SF_LEADS && forget_call(&a, "k", stale, of_stale, 1) == SF_MISSED, "the second misses it");
+    check(ask(&a, "k", 1) == SF_JOINED && sf_finish(&b, 6, &joiners) == SF_DONE && joiners == 1, "and joins the first's call");
+    check(sf_poll(&a, &value, &joiners) == SF_DONE && value == 6 && joiners == 1, "one further run");
+    check(ask(&c, "k", 1) == SF_LEADS && sf_call(&c, &caller, &generation) == SF_DONE, "a call that is open");
+    check(forget_call(&a, "k", caller, generation, 1) == SF_CLOSED, "it is closed");
+    check(forget_call(&a, "k", 65535, 4294967295u, 1) == SF_MISSED && forget_call(&a, "k", 0, 0, 1) == SF_MISSED, "calls of nobody");
+    sf_close(&a);
+    sf_close(&b);
+    sf_close(&c);
+}
+
 static void one_call(void) {
     sf_slot a = SF_SLOT_NONE, b = SF_SLOT_NONE, c = SF_SLOT_NONE, d = SF_SLOT_NONE;
     uint64_t value = 7, count = 7;
@@ -299,6 +344,7 @@ int main(void) {
     sizes();
     not_open();
     one_call();
+    forgotten_by_name();
     two_callers();
     notes();
     threads();
