@@ -16,7 +16,7 @@ use Rattle.sf_history.proofs.Currents.{open_is_current}
 use Rattle.sf_history.specs.Legal.{IsLegal}
 use Rattle.sf_history.proofs.LegalHistories.{same_call_self, fold_push}
 use Rattle.sf_lists.proofs.Lists.{by_push}
-use Rattle.sf_calls.specs.Seen.{StartsWith}
+use Rattle.sf_calls.specs.Seen.{StartsWith, Stands}
 use Rattle.sf_calls.specs.Unforgotten.{forgets, IsUnforgotten}
 
 -- one list split at two elements: at the same place, or at one earlier
@@ -132,3 +132,22 @@ module _ {V : Type 0} where
       let is : h ≡ before ++ Enter by k c m ∷ within.0 = within.1 ∙ append_assoc before (Enter by k c m ∷ []) within.0 in
       fold_push (keeps_current nat_eq k) None before (Enter by k c m)
           ∙ open_is_current nat_eq nat_eq_equiv before k c (legal_before h before legal (Enter by k c m ∷ within.0, is)) (legal before within.0 (Enter by k c m) is).2
+
+  -- what stands in a list stands in each that begins with it
+  pub stands_more : (e : Event ℕ V) (p h : List (Event ℕ V)) → StartsWith h p → Stands e p → Stands e h
+  stands_more e p h w s = (s.0, s.1 ++ w.0, w.1 ∙ (ap (λ l. l ++ w.0) s.2 ∙ append_assoc s.0 (e ∷ s.1) w.0))
+
+  -- what stands in a history goes on to stand
+  pub stands_longer : (e : Event ℕ V) (h more : List (Event ℕ V)) → Stands e h → Stands e (h ++ more)
+  stands_longer e h more is = (is.0, is.1 ++ more, ap (λ q. q ++ more) is.2 ∙ append_assoc is.0 (e ∷ is.1) more)
+
+  -- an event that a caller made stands in the history
+  pub stands_own : (a : ℕ) (h p q : List (Event ℕ V)) (e : Event ℕ V) → own_events a h ≡ p ++ e ∷ q → Stands e h
+  stands_own a [] [] q e is = cc
+  stands_own a [] (d ∷ p) q e is = cc
+  stands_own a (d ∷ h) p q e is = at (maker d == a) p is (stands_own a h p q e) (λ r. stands_own a h r q e)
+    where
+      at : (b : Bool) (p : List (Event ℕ V)) → cond b (d ∷ own_events a h) (own_events a h) ≡ p ++ e ∷ q → (own_events a h ≡ p ++ e ∷ q → Stands e h) → ((r : List (Event ℕ V)) → own_events a h ≡ r ++ e ∷ q → Stands e h) → Stands e (d ∷ h)
+      at true [] is same later = ([], h, let head : d ≡ e = cc in ap (λ (y : Event ℕ V). y ∷ h) head)
+      at true (y ∷ r) is same later = let rest = later r (let tail : own_events a h ≡ r ++ e ∷ q = cc in tail) in (d ∷ rest.0, rest.1, ap (λ (ys : List (Event ℕ V)). d ∷ ys) rest.2)
+      at false p is same later = let rest = same is in (d ∷ rest.0, rest.1, ap (λ (ys : List (Event ℕ V)). d ∷ ys) rest.2)

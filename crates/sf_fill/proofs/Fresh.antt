@@ -44,7 +44,7 @@ use Rattle.sf_fill.specs.Reloads.{HasForgotNamed, ForgetsNamed, ReloadsFrom, Has
 use Rattle.sf_calls.specs.Unforgotten.{IsUnforgotten}
 use Rattle.sf_fill.specs.Settled.{IsSettled}
 use Rattle.sf_fill.proofs.Outdated.{outdated}
-use Rattle.sf_calls.proofs.Moments.{first_added, led_current, entered_current}
+use Rattle.sf_calls.proofs.Moments.{first_added, led_current, entered_current, stands_more}
 use Rattle.sf_fill.proofs.Rooting.{root_unforgotten}
 
 abbrev Seen : Type 0
@@ -113,9 +113,6 @@ added_more s m t x y n first none second count =
           (grows_again (group_of s) (number_of s) (seen_of s) (seen_of m) (seen_of t) x y (cond (has_asking x) 1 0) n first.grows adds.grows);
       lawful = inr adds.lawful;
     }
-
-stands_more : (e : Event ℕ Filled) (p h : Seen) → StartsWith h p → Stands e p → Stands e h
-stands_more e p h w s = (s.0, s.1 ++ w.0, w.1 ∙ (ap (λ l. l ++ w.0) s.2 ∙ append_assoc s.0 (e ∷ s.1) w.0))
 
 fits_more : (k : ℕ) (c : CallId) (v : Filled) (p h : Seen) → StartsWith h p → FitsFill k c v p → FitsFill k c v h
 fits_more k c v p h w f = subst (λ (l : Seen). FitsFill k c v l) (sym w.1) (fill_lasts k c v p w.0 f)

@@ -7,3 +7,4 @@ pub mod Outdated
 pub mod Popped
 pub mod Rooting
 pub mod Sums
+pub mod Told

@@ -31,16 +31,16 @@ Seen = List (Event ℕ Filled)
 led_names : (p q : Seen) (by k : ℕ) (c : CallId) (own : Option CallId) → list_any (names c) (p ++ Lead by k c own ∷ q) ≡ true
 led_names p q by k c own = list_any-append (names c) p (Lead by k c own ∷ q) ∙ or_right (list_any (names c) p) _ (or_left _ _ (or_left (same_call c c) (holds_call own c) (same_call_self c)))
 
-current_names : (p : Seen) (k : ℕ) (c : CallId) → current_call nat_eq p k ≡ Some c → list_any (names c) p ≡ true
+pub current_names : (p : Seen) (k : ℕ) (c : CallId) → current_call nat_eq p k ≡ Some c → list_any (names c) p ≡ true
 current_names p k c is =
     let u = current_unforgotten p k c is in
     subst (λ (l : Seen). list_any (names c) l ≡ true) (sym u.led) (led_names u.before u.after u.by k c u.own)
 
-names_more : (h p : Seen) (c : CallId) → StartsWith h p → list_any (names c) p ≡ true → list_any (names c) h ≡ true
+pub names_more : (h p : Seen) (c : CallId) → StartsWith h p → list_any (names c) p ≡ true → list_any (names c) h ≡ true
 names_more h p c begins named = subst (λ (l : Seen). list_any (names c) l ≡ true) (sym begins.1) (list_any-append (names c) p begins.0 ∙ or_left (list_any (names c) p) _ named)
 
 -- a named call that is not current never is again
-past_after : (h p : Seen) (k : ℕ) (c : CallId) → IsLegal nat_eq h → StartsWith h p → list_any (names c) p ≡ true → current_call nat_eq p k ≢ Some c → current_call nat_eq h k ≢ Some c
+pub past_after : (h p : Seen) (k : ℕ) (c : CallId) → IsLegal nat_eq h → StartsWith h p → list_any (names c) p ≡ true → current_call nat_eq p k ≢ Some c → current_call nat_eq h k ≢ Some c
 past_after h p k c legal begins named isnt = subst (λ (l : Seen). current_call nat_eq l k ≢ Some c) (sym begins.1)
     (current_past_longer nat_eq p begins.0 k c (subst (λ (l : Seen). IsLegal nat_eq l) begins.1 legal) named isnt)
 

@@ -16,3 +16,4 @@ pub mod Gets
 pub mod Reloads
 pub mod Counted
 pub mod Fresh
+pub mod Notes

@@ -29,6 +29,7 @@ mod log;
 mod looking;
 mod making;
 mod naming;
+mod notes;
 mod owing;
 mod reloading;
 mod standing;

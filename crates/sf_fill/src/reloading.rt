@@ -79,10 +79,7 @@ impl<'d, D: Naming, N: Naming, O: Origin> Fill<'d, D, N, O> {
         rt: &R,
         getter: Getter<'d, D, N, O, P, F, L, C>,
         key: &[u8],
-    ) -> (
-        Getter<'d, D, N, O, P, F, L, C>,
-        Result<Forgot, LoadFault>,
-    )
+    ) -> (Getter<'d, D, N, O, P, F, L, C>, Result<Forgot, LoadFault>)
         ensures reloaded { HasReloaded N.directory key.now getter.entry result.0 result.1 }
         ensures adds { IsReloading N.directory key.now getter.entry result.0 result.1 }
     {

@@ -19,7 +19,7 @@ use Rattle.sf_word_steps.proofs.Trying.{goes_none}
 use Rattle.sf_group.specs.Known.{group_of, caller_of, flight_of, ticket_of}
 use Rattle.sf_group.specs.Calls.{HaveSeenChanges}
 use Rattle.sf_group.proofs.Rows.{next_is, sizes_are, group_is, added, nothing_row}
-use Rattle.sf_word_steps.proofs.Answered.{stands_own}
+use Rattle.sf_calls.proofs.Moments.{stands_own}
 
 -- the call or member of this caller and generation
 abbrev id : ℕ → ℕ → CallId

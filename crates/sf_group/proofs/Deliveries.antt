@@ -25,7 +25,7 @@ use Rattle.sf_word_steps.specs.View.{setting_of, sizes_of, history_of}
 use Rattle.sf_word_steps.specs.Stands.{Sits, next_in, Goes}
 use Rattle.sf_word_steps.specs.Delivers.{IsOwed, handed_later}
 use Rattle.sf_word_steps.specs.Collects.{IsAnswer}
-use Rattle.sf_word_steps.proofs.Answered.{stands_longer, stands_own}
+use Rattle.sf_calls.proofs.Moments.{stands_longer, stands_own}
 use Rattle.sf_word_steps.proofs.Trying.{adds_again}
 use Rattle.sf_group.specs.Known.{caller_of, settled_of, ticket_of, letter_of}
 use Rattle.sf_group.specs.Calls.{ClosesSeldom, HasClosed, KnowsSince, HasKnown}

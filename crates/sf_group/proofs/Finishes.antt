@@ -22,7 +22,7 @@ use Rattle.sf_word_steps.specs.View.{setting_of, sizes_of, history_of}
 use Rattle.sf_word_steps.specs.Stands.{Goes}
 use Rattle.sf_word_steps.specs.Settles.{IsJoined}
 use Rattle.sf_word_steps.specs.Delivers.{IsOwed}
-use Rattle.sf_word_steps.proofs.Answered.{stands_own}
+use Rattle.sf_calls.proofs.Moments.{stands_own}
 use Rattle.sf_group.specs.Known.{caller_of, flight_of, settled_of, letter_of}
 use Rattle.sf_group.specs.Calls.{ClosesSeldom}
 use Rattle.sf_group.proofs.Rows.{group_is, added}

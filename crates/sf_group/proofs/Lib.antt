@@ -1,6 +1,7 @@
 pub mod Rows
 pub mod Finishes
 pub mod NoteRows
+pub mod OwingNotes
 pub mod Dealing
 pub mod Deliveries
 pub mod ChanRows

@@ -44,7 +44,7 @@ module _ {V : Type 0} where
   }
 
   -- what was shown begins what is known then
-  heard_shown : (z : Sizes) (a : ℕ) (v n w : View V) (p : Stage V) → sizes_of n ≡ z → Sits z a w p → HasHeard z v n.known.turns w → StartsWith (history_of (sizes_of w) w.known.turns) (history_of (sizes_of n) n.known.turns)
+  pub heard_shown : (z : Sizes) (a : ℕ) (v n w : View V) (p : Stage V) → sizes_of n ≡ z → Sits z a w p → HasHeard z v n.known.turns w → StartsWith (history_of (sizes_of w) w.known.turns) (history_of (sizes_of n) n.known.turns)
   heard_shown z a v n w p noted sits h = subst (λ (y : Sizes). StartsWith (history_of y w.known.turns) (history_of (sizes_of n) n.known.turns)) (sym (sizes_are z a w p sits))
       (subst (λ (y : Sizes). StartsWith (history_of z w.known.turns) (history_of y n.known.turns)) (sym noted) (events_begin z n.known.turns w.known.turns h.begins))
 

@@ -2,6 +2,7 @@
 //! copy.
 ghost use Rattle.std.specs.Prelude.{◌≡◌, IfOk, IfErr};
 ghost use Rattle.sf_calls.specs.Seen.{StartsWith};
+ghost use Rattle.sf_calls.specs.Finishes.{IsHeldStill};
 ghost use Rattle.sf_calls.specs.Notes.{HasTold, HasLearnt, HasLearntLeading, HasGrown, HasMet, HasLent, HasCopied};
 
 use crate::caller::Caller;
@@ -9,6 +10,7 @@ use crate::flight::Flight;
 use crate::group::Group;
 use crate::letter::Letter;
 use crate::note::Note;
+use crate::settled::Settled;
 use sf_calls::Fit;
 use sf_history::Memory;
 use sf_word_steps::{Tells, hear_note};
@@ -86,6 +88,34 @@ impl<V: Fit> Flight<V> {
         requires own { self.old.group ≡ group.now }
         requires note { note.old.group ≡ group.now }
         ensures learnt { HasLearntLeading self.old note.old.seen self.new }
+        ensures note { HasGrown note.old note.new }
+    {
+        hear_note(
+            &group.table.shared,
+            &mut self.seat,
+            &mut note.seat,
+            group.sizes,
+            self.number,
+        );
+    }
+}
+
+impl<V: Fit> Settled<V> {
+    /// A note that shows what the caller has seen.
+    pub fn tell(&mut self, group: &Group<V>) -> Note<V>
+        requires { self.old.group ≡ group.now }
+        ensures same { self.new ≡ self.old }
+        ensures told { (result.group ≡ self.old.group) × (result.seen ≡ self.old.seen) }
+    {
+        let seat = group.table.shared.split_seat::<Tells>(&mut self.seat);
+        Note { seat }
+    }
+
+    /// The caller has then seen what the note shows, and owes what it owed.
+    pub fn learn(&mut self, group: &Group<V>, note: &mut Note<V>)
+        requires own { self.old.group ≡ group.now }
+        requires note { note.old.group ≡ group.now }
+        ensures learnt { IsHeldStill self.old self.new × StartsWith self.new.seen note.old.seen }
         ensures note { HasGrown note.old note.new }
     {
         hear_note(

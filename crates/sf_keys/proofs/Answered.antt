@@ -13,14 +13,10 @@ use Rattle.sf_calls.specs.Finishes.{IsDone, IsLetter}
 use Rattle.sf_calls.proofs.AddsAgain.{starts_again}
 use Rattle.sf_wait.specs.Doing.{HasLoaded, HasWaited, OwesLoaded}
 use Rattle.sf_keys.specs.Answers.{IsFresh, HasMissed, HasLetter, IsAlone, IsSpentAsking, OwesLetters}
-use Rattle.sf_calls.proofs.Moments.{first_added, led_current, entered_current}
+use Rattle.sf_calls.proofs.Moments.{first_added, led_current, entered_current, stands_more}
 use Rattle.sf_keys.proofs.Newer.{newer}
 
 module _ {V : Type 0} where
-  -- what stands in a list stands in each that begins with it
-  stands_more : (e : Event ℕ V) (p h : List (Event ℕ V)) → StartsWith h p → Stands e p → Stands e h
-  stands_more e p h w s = (s.0, s.1 ++ w.0, w.1 ∙ (ap (λ l. l ++ w.0) s.2 ∙ append_assoc s.0 (e ∷ s.1) w.0))
-
   -- a letter's own Settle
   settled_so : (g : GroupValue) (k : ℕ) (c : CallId) (v : V) (l : LetterValue V) → IsLetter g k c v l.joiners l → Stands (Settle l.call.caller l.call l.value l.joiners) l.seen
   settled_so g k c v l is = subst (λ (i : CallId). Stands (Settle i.caller i l.value l.joiners) l.seen) (sym is.call)

@@ -169,18 +169,3 @@ module _ {V : Type 0} where
       let value : Some (one.0) ≡ Some x = sym (ap result_in one.1) ∙ found.2 in
       let same : one.0 ≡ x = cc in
       found_stands (settles c) h (Settle c.caller c x joiners) (found.1 ∙ ap (λ e. Some e) (one.1 ∙ (ap (λ v. Settle c.caller c v (joined h c)) same ∙ ap (Settle c.caller c x) parts.1)))
-
-  -- what stands in a history goes on to stand
-  pub stands_longer : (e : Event ℕ V) (h more : List (Event ℕ V)) → Stands e h → Stands e (h ++ more)
-  stands_longer e h more is = (is.0, is.1 ++ more, ap (λ q. q ++ more) is.2 ∙ append_assoc is.0 (e ∷ is.1) more)
-
-  -- an event that a caller made stands in the history
-  pub stands_own : (a : ℕ) (h p q : List (Event ℕ V)) (e : Event ℕ V) → own_events a h ≡ p ++ e ∷ q → Stands e h
-  stands_own a [] [] q e is = cc
-  stands_own a [] (d ∷ p) q e is = cc
-  stands_own a (d ∷ h) p q e is = at (maker d == a) p is (stands_own a h p q e) (λ r. stands_own a h r q e)
-    where
-      at : (b : Bool) (p : List (Event ℕ V)) → cond b (d ∷ own_events a h) (own_events a h) ≡ p ++ e ∷ q → (own_events a h ≡ p ++ e ∷ q → Stands e h) → ((r : List (Event ℕ V)) → own_events a h ≡ r ++ e ∷ q → Stands e h) → Stands e (d ∷ h)
-      at true [] is same later = ([], h, let head : d ≡ e = cc in ap (λ (y : Event ℕ V). y ∷ h) head)
-      at true (y ∷ r) is same later = let rest = later r (let tail : own_events a h ≡ r ++ e ∷ q = cc in tail) in (d ∷ rest.0, rest.1, ap (λ (ys : List (Event ℕ V)). d ∷ ys) rest.2)
-      at false p is same later = let rest = same is in (d ∷ rest.0, rest.1, ap (λ (ys : List (Event ℕ V)). d ∷ ys) rest.2)

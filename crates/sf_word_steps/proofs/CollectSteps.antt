@@ -39,7 +39,8 @@ use Rattle.sf_word_steps.specs.Collects.{collects, IsAnswer, HasFound}
 use Rattle.sf_word_steps.proofs.Ways.{Ran, ran_then, step_ran, writes_none, all_alone, stands, goes_with}
 use Rattle.sf_word_steps.proofs.LookSteps.{free_alone}
 use Rattle.sf_word_steps.proofs.DeliverSteps.{DoesCell, handles_by}
-use Rattle.sf_word_steps.proofs.Answered.{answer_stands, stands_longer}
+use Rattle.sf_calls.proofs.Moments.{stands_longer}
+use Rattle.sf_word_steps.proofs.Answered.{answer_stands}
 
 -- a listed word is no full one
 listed_full : (g : ℕ) → (call_code (word.Listed g) == call_code (word.Full g)) ≡ false

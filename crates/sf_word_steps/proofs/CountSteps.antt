@@ -28,7 +28,7 @@ use Rattle.sf_word_steps.specs.Settles.{call_of}
 use Rattle.sf_word_steps.specs.Stands.{Sits, Goes}
 use Rattle.sf_word_steps.proofs.DeliverSteps.{quiet_move, quiet_told}
 use Rattle.sf_word_steps.proofs.Forgets.{goes_still}
-use Rattle.sf_word_steps.proofs.Answered.{stands_own}
+use Rattle.sf_calls.proofs.Moments.{stands_own}
 
 -- a member more is counted, where there is room for it
 counted_more : (callers n : ℕ) → n < callers → one_more callers n ≡ n + 1
