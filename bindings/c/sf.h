@@ -111,10 +111,6 @@ uint32_t sf_forget_call(sf_slot *slot, const uint8_t *key, size_t len, uint32_t 
  * written; SF_NONE_NAMED: the key has no current call; SF_TOO_LONG, SF_FULL; SF_WRONG_STATE; SF_NOT_OPEN. But for SF_DONE nothing is written. */
 uint32_t sf_named(sf_slot *slot, const uint8_t *key, size_t len, uint32_t *caller, uint32_t *generation);
 
-/* The call that the slot's caller leads or waits for; of a free caller that of the letter it had last. SF_DONE: its numbers are written;
- * SF_NOTHING_LEFT: there is none; SF_NOT_OPEN. But for SF_DONE nothing is written. */
-uint32_t sf_call(sf_slot *slot, uint32_t *caller, uint32_t *generation);
-
 /* Whether the call of the letter that a free caller had last, by sf_poll or sf_finish, is its key's current one: no Forget has
  * closed it, and no later call was led. So an answer that was stored is right still. SF_YES, SF_NO; SF_NOTHING_LEFT where there
  * was no letter yet; SF_WRONG_STATE where the caller is not free; SF_NOT_OPEN. */

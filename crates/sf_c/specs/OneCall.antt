@@ -1,13 +1,13 @@
--- How the calls end that speak of one call: its Forget, which call a key names, and which call a slot has.
+-- How Forgets of one call end, and the question which call a key names.
 use Rattle.std.specs.Prelude.{◌≡◌, ◌⊎◌, ℕ, List, Option, Some, None}
 use Rattle.sf_history.specs.declared.call.CallId.{CallId}
 use Rattle.sf_history.specs.declared.event.Hit.{Hit}
 use Rattle.sf_history.specs.declared.event.Hit.TheVariants as hit
-use Rattle.sf_calls.specs.Tokens.{CallerValue, LetterValue}
+use Rattle.sf_calls.specs.Tokens.{CallerValue}
 use Rattle.sf_calls.specs.Forgets.{HasForgotCall, HasNamed}
 use Rattle.sf_c.specs.declared.part.Part.{Part}
 use Rattle.sf_c.specs.declared.part.Part.TheVariants.{Free, Leads, Waits, Owes, Gone}
-use Rattle.sf_c.specs.declared.codes.TheConstants.{DONE, OTHERWISE, CLEARED, NOTHING_LEFT, WRONG_STATE}
+use Rattle.sf_c.specs.declared.codes.TheConstants.{DONE, OTHERWISE, CLEARED, WRONG_STATE}
 use Rattle.sf_c.specs.Rows.{Seat, IsOther, IsForgetBusy, IsFree, IsNotFree, AreTries, HasPlace, HasNoPlace, HasNotCalled}
 
 -- the code of what a Forget of one call found
@@ -80,15 +80,3 @@ pub record HasNamedNone (s : Seat) (key : List ℕ) (t : Seat) (old new : CallId
 
 abbrev pub HasNamedKey : Seat → List ℕ → Seat → CallId → CallId → ℕ → Type 0
 HasNamedKey s key t old new code = HasNamedPlace s key t old new code ⊎ HasNamedNone s key t old new code
-
--- the call that a slot leads or waits for; of a free caller that of the letter it had last
-abbrev pub call_at : Part → Option (LetterValue ℕ) → Option CallId
-call_at (Leads f) last = Some f.call
-call_at (Waits t) last = Some t.call
-call_at (Free c) None = None
-call_at (Free c) (Some l) = Some l.call
-call_at (Owes s) last = None
-call_at Gone last = None
-
-abbrev pub HasCall : Part → Option (LetterValue ℕ) → CallId → CallId → ℕ → Type 0
-HasCall p last old new code = IsWritten (call_at p last) NOTHING_LEFT old new code

@@ -27,7 +27,7 @@ use codes::{BAD_NUMBER, DONE, NOT_OPEN, NOTHING_LEFT, WRONG_STATE};
 pub use handle::Handle;
 pub use note_handle::NoteHandle;
 pub use note_slot::NoteSlot;
-pub use one_call::{sf_call, sf_forget_call, sf_named};
+pub use one_call::{sf_forget_call, sf_named};
 use sf_dir::LONGEST_KEY;
 use sf_group::MOST_CALLERS;
 use sf_words::LARGEST_PLACE;

@@ -1,8 +1,8 @@
-//! The exports that speak of one call: its Forget, which call a key names, and which call a slot has.
+//! The exports for Forgets of one call, and which call a key names.
 ghost use Rattle.std.specs.Prelude.{◌≡◌, ◌≢◌, ◌↔◌, ◌≤◌, true, false};
 ghost use Rattle.sf_calls.specs.Same.{IsPlaceOf};
-ghost use Rattle.sf_c.specs.OneCall.{HasForgotCallPart, HasForgotCallKey, HasNamedPart, HasNamedKey, HasCall};
-ghost use Rattle.sf_c.specs.Rows.{IsOf, IsFree, KeepsLetter};
+ghost use Rattle.sf_c.specs.OneCall.{HasForgotCallPart, HasForgotCallKey, HasNamedPart, HasNamedKey};
+ghost use Rattle.sf_c.specs.Rows.{IsOf, KeepsLetter};
 
 use crate::codes::{
     BAD_NUMBER, BUSY, CLEARED, DONE, NOT_OPEN, NOTHING_LEFT, OTHERWISE, WRONG_STATE,
@@ -92,21 +92,6 @@ impl State {
         };
         self.part.names(&self.group, place, call)
     }
-
-    // The call that its caller leads or waits for, or that of the letter it had last.
-    fn call(&self, call: &mut CallId) -> u32
-        ensures row { HasCall self.now.part self.now.last call.old call.new result }
-        ensures open { result ≢ NOT_OPEN }
-    {
-        let found = match (&self.part, &self.last) {
-            (Part::Leads(flight), _) => flight.call(),
-            (Part::Waits(ticket), _) => ticket.call(),
-            (Part::Free(_), Some(letter)) => letter.call(),
-            _ => return NOTHING_LEFT,
-        };
-        *call = found;
-        DONE
-    }
 }
 
 /// The slot's caller, which is free, forgets this call of the key, and leaves a newer one as it is.
@@ -155,34 +140,6 @@ pub extern "C" fn sf_named(
         generation: *generation,
     };
     let code = state.named(key, &mut call);
-    slot.put(state);
-    *caller = call.caller;
-    *generation = call.generation;
-    code
-}
-
-/// The call that the slot's caller leads or waits for; of a free caller that of the letter it had last.
-#[unsafe(no_mangle)]
-pub extern "C" fn sf_call(
-    slot: &mut Slot,
-    alloc: Global,
-    caller: &mut u32,
-    generation: &mut u32,
-) -> u32
-    ensures kept { slot.new.live ≡ slot.old.live }
-    ensures closed { result ≡ NOT_OPEN ↔ slot.old.live ≡ false }
-    ensures unwritten { result ≡ NOT_OPEN → (caller.new ≡ caller.old) × (generation.new ≡ generation.old) }
-    ensures state { slot.old.live ≡ true → slot.new.handle.state ≡ slot.old.handle.state }
-    ensures row { slot.old.live ≡ true → HasCall slot.old.handle.state.part slot.old.handle.state.last (record { caller = caller.old; generation = generation.old }) (record { caller = caller.new; generation = generation.new }) result }
-{
-    let Some(state) = slot.take(alloc) else {
-        return NOT_OPEN;
-    };
-    let mut call = CallId {
-        caller: *caller,
-        generation: *generation,
-    };
-    let code = state.call(&mut call);
     slot.put(state);
     *caller = call.caller;
     *generation = call.generation;
