@@ -122,6 +122,15 @@ uint32_t sf_is_current(sf_slot *slot);
  * SF_DONE *count is not written. */
 uint32_t sf_joined(sf_slot *slot, uint64_t *count);
 
+/* Which call the slot's caller leads or waits for, by its leader's number and generation; or where the caller is free, the call of
+ * the letter that it had last. No two calls of a group have both numbers the same. SF_DONE; SF_NOTHING_LEFT where there is none;
+ * SF_NOT_OPEN. But for SF_DONE nothing is written. */
+uint32_t sf_call(sf_slot *slot, uint32_t *caller, uint32_t *generation);
+
+/* The number of the slot's caller, which is free: each caller of a group has its own, from 1 to as many as there are. SF_DONE;
+ * SF_WRONG_STATE; SF_NOT_OPEN. But for SF_DONE *number is not written. */
+uint32_t sf_number(sf_slot *slot, uint32_t *number);
+
 /* Puts what the slot's caller, which is free, has seen into the note, in place of what that showed. A note may carry it to
  * another thread. SF_DONE; SF_NOTHING_LEFT and SF_WRONG_STATE, where the note is as it was; SF_NOT_OPEN where the slot is not open. */
 uint32_t sf_tell(sf_slot *slot, sf_note *note);

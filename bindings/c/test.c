@@ -54,6 +54,8 @@ static void not_open(void) {
     check(sf_poll(&none, &value, &joiners) == SF_NOT_OPEN && value == 5 && joiners == 5, "poll not open");
     check(sf_is_current(&none) == SF_NOT_OPEN, "is current not open");
     check(sf_joined(&none, &value) == SF_NOT_OPEN && value == 5, "joined not open");
+    check(sf_call(&none, &joiners, &joiners) == SF_NOT_OPEN && joiners == 5, "call not open");
+    check(sf_number(&none, &joiners) == SF_NOT_OPEN && joiners == 5, "number not open");
     check(sf_tell(&none, &note) == SF_NOT_OPEN && !note.live, "tell not open");
     check(sf_learn(&none, &note) == SF_NOT_OPEN, "learn not open");
     check(ask_chan(&none, &other, "k", 1) == SF_NOT_OPEN, "ask with a second not open");
@@ -340,6 +342,25 @@ static void threads(void) {
     check(atomic_load(&forgets) > 0 && atomic_load(&loads) + 1 == atomic_load(&clock_now), "threads forget, and loads are counted");
 }
 
+/* Which call: of a leader, of who joined, and of a last letter. */
+static void calls(void) {
+    sf_slot a = SF_SLOT_NONE, b = SF_SLOT_NONE;
+    uint64_t value = 7;
+    uint32_t joiners = 9, first = 0, second = 0, caller = 0, generation = 0;
+    check(sf_open(&a, 2, 4, 2) == SF_DONE && sf_split(&a, &b) == SF_DONE, "open for calls");
+    check(sf_number(&a, &first) == SF_DONE && sf_number(&b, &second) == SF_DONE && first + second == 3 && first * second == 2, "numbers");
+    check(sf_call(&a, &caller, &generation) == SF_NOTHING_LEFT && caller == 0 && generation == 0, "no call yet");
+    check(ask(&a, "k", 1) == SF_LEADS && sf_call(&a, &caller, &generation) == SF_DONE && caller == first && generation == 1, "the leader's");
+    check(sf_number(&a, &caller) == SF_WRONG_STATE && caller == first, "a leader tells no number");
+    check(ask(&b, "k", 1) == SF_JOINED && sf_call(&b, &caller, &generation) == SF_DONE && caller == first && generation == 1, "the call that it joined");
+    check(sf_finish(&a, 1, &joiners) == SF_DONE && sf_poll(&b, &value, &joiners) == SF_DONE, "settled");
+    check(ask(&a, "k", 1) == SF_LEADS && sf_call(&a, &caller, &generation) == SF_DONE && caller == first && generation == 2, "the next one");
+    check(sf_call(&b, &caller, &generation) == SF_DONE && caller == first && generation == 1, "that of the last letter");
+    check(sf_give_up(&a) == SF_DONE && sf_call(&a, &caller, &generation) == SF_NOTHING_LEFT, "none that was given up");
+    sf_close(&a);
+    sf_close(&b);
+}
+
 int main(void) {
     sizes();
     not_open();
@@ -347,6 +368,7 @@ int main(void) {
     forgotten_by_name();
     two_callers();
     notes();
+    calls();
     threads();
     printf("%d passed, %d failed\n", passed, failed);
     return failed != 0;

@@ -12,7 +12,7 @@ import (
 )
 
 func open(t *testing.T, keys, callers uint32) *Group {
-	g, err := New(keys, 16, callers)
+	g, err := New(Options{Keys: keys, KeyBytes: 16, Callers: callers})
 	if err != nil {
 		t.Fatal(err)
 	}
@@ -20,15 +20,8 @@ func open(t *testing.T, keys, callers uint32) *Group {
 	return g
 }
 
-// How many answers not all have yet.
-func kept(g *Group) (count int) {
-	for _, s := range g.seats {
-		if s.val != nil || s.err != nil {
-			count++
-		}
-	}
-	return count
-}
+// How many callers are in use.
+func kept(g *Group) uint32 { return g.Stats().InUse }
 
 func TestDo(t *testing.T) {
 	g := open(t, 4, 2)
@@ -40,14 +33,13 @@ func TestDo(t *testing.T) {
 	if v, err, _ := g.Do("key", func() (interface{}, error) { return nil, failed }); err != failed || v != nil {
 		t.Error("an error", v, err)
 	}
-	if v, err, shared := g.Do(strings.Repeat("k", 17), func() (interface{}, error) { return "alone", nil }); v != "alone" || err != nil || shared || g.Alone() != 1 {
-		t.Error("a key that is too long", v, err, shared, g.Alone())
+	if v, err, shared := g.Do(strings.Repeat("k", 17), func() (interface{}, error) { return "alone", nil }); v != "alone" || err != nil || shared || g.Stats().Alone != 1 {
+		t.Error("a key that is too long", v, err, shared, g.Stats().Alone)
 	}
-	if _, err := New(0, 16, 1); err != ErrSize {
-		t.Error("no key")
-	}
-	if _, err := New(1, 16, 0); err != ErrSize {
-		t.Error("no caller")
+	for _, o := range []Options{{Keys: 1<<20 + 1}, {KeyBytes: 251}, {Callers: 65535}} {
+		if _, err := New(o); err != ErrSize {
+			t.Error("a size out of range", o)
+		}
 	}
 }
 
@@ -148,11 +140,11 @@ func TestAlone(t *testing.T) {
 		}
 		return v, err
 	})
-	if v != 5 || g.Alone() != 1 {
-		t.Error("one inside the other", v, g.Alone())
+	if v != 5 || g.Stats().Alone != 1 {
+		t.Error("one inside the other", v, g.Stats().Alone)
 	}
-	if r := <-g.DoChan("full", func() (interface{}, error) { return 6, nil }); r.Val != 6 || r.Shared || g.Alone() != 2 {
-		t.Error("no room for a second key", r, g.Alone())
+	if r := <-g.DoChan("full", func() (interface{}, error) { return 6, nil }); r.Val != 6 || r.Shared || g.Stats().Alone != 2 {
+		t.Error("no room for a second key", r, g.Stats().Alone)
 	}
 }
 
@@ -201,7 +193,7 @@ func TestMany(t *testing.T) {
 		}(i + 1)
 	}
 	all.Wait()
-	if kept(g) != 0 || g.Alone() != 0 {
-		t.Error("answers are kept, or a call was alone", kept(g), g.Alone())
+	if kept(g) != 0 || g.Stats().Alone != 0 {
+		t.Error("answers are kept, or a call was alone", kept(g), g.Stats().Alone)
 	}
 }

@@ -7,7 +7,7 @@ import (
 	"time"
 
 	theirs "golang.org/x/sync/singleflight"
-	ours "singleflight"
+	ours "sf.example/singleflight"
 )
 
 const gets = 300000
@@ -48,7 +48,7 @@ func main() {
 		for _, goroutines := range []int{1, 4} {
 			best, other := 1e9, 1e9
 			for round := 0; round < 7; round++ {
-				g, err := ours.New(1024, 16, 16)
+				g, err := ours.New(ours.Options{Keys: 1024, KeyBytes: 16, Callers: 16})
 				if err != nil {
 					panic(err)
 				}

@@ -1,5 +1,5 @@
 //! Times of a get by this crate, and by a map behind a mutex with a condition variable a call. By hand:
-//! `cargo run --release --example figures`, with the paths that `bindings/check` sets.
+//! `cargo run --release --example figures`, once `bindings/library` has been run.
 use singleflight::Group;
 use std::collections::HashMap;
 use std::sync::atomic::{AtomicU64, Ordering::Relaxed};

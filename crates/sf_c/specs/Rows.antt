@@ -369,6 +369,28 @@ HasQuestionedPart (Waits t) a q b code = IsOther (Waits t) q code × (b ≡ a)
 HasQuestionedPart (Owes s) a q b code = IsOther (Owes s) q code × (b ≡ a)
 HasQuestionedPart Gone a q b code = IsOther Gone q code × (b ≡ a)
 
+-- the call that is led or waited for, or that of a free caller's last letter, if there is one
+abbrev pub call_in : Part → Option (LetterValue ℕ) → Option CallId
+call_in (Leads f) last = Some f.call
+call_in (Waits t) last = Some t.call
+call_in (Free c) (Some l) = Some l.call
+call_in (Free c) None = None
+call_in (Owes s) last = None
+call_in Gone last = None
+
+-- how the question for that call ends: its two numbers before and after
+abbrev pub HasCalled : Option CallId → ℕ → ℕ → ℕ → ℕ → ℕ → Type 0
+HasCalled (Some c) code a b g h = (code ≡ DONE) × (b ≡ c.caller) × (h ≡ c.generation)
+HasCalled None code a b g h = (code ≡ NOTHING_LEFT) × (b ≡ a) × (h ≡ g)
+
+-- how the question for a free caller's number ends
+abbrev pub HasNumbered : Part → ℕ → ℕ → ℕ → Type 0
+HasNumbered (Free c) code m n = (code ≡ DONE) × (n ≡ c.number)
+HasNumbered (Leads f) code m n = (code ≡ WRONG_STATE) × (n ≡ m)
+HasNumbered (Waits t) code m n = (code ≡ WRONG_STATE) × (n ≡ m)
+HasNumbered (Owes s) code m n = (code ≡ WRONG_STATE) × (n ≡ m)
+HasNumbered Gone code m n = (code ≡ WRONG_STATE) × (n ≡ m)
+
 -- a group may be so large
 pub record AreSizes (keys key_bytes callers : ℕ) : Type 0 where
   pub some_key : 1 ≤ keys

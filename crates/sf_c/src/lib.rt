@@ -9,7 +9,7 @@
 
 ghost use Rattle.std.specs.Prelude.{◌≡◌, ◌≢◌, ◌↔◌, ◌<◌, ◌≤◌, ◌⊎◌, true, false};
 ghost use Rattle.sf_calls.specs.Notes.{HasGrown};
-ghost use Rattle.sf_c.specs.Rows.{AreSizes, HasOpened, IsNewSeat, HasAskedKey, HasAskedChanKey, HasForgotKey, HasFinishedPart, HasGoneOnPart, HasPolledPart, HasQuestionedPart, HasToldPart, HasNotTold, HasLearntPart, HasGivenUp, HasCounted, MarksOwn, KeepsDesk, KeepsLetter};
+ghost use Rattle.sf_c.specs.Rows.{AreSizes, HasOpened, IsNewSeat, HasAskedKey, HasAskedChanKey, HasForgotKey, HasFinishedPart, HasGoneOnPart, HasPolledPart, HasQuestionedPart, HasToldPart, HasNotTold, HasLearntPart, HasGivenUp, HasCounted, HasCalled, HasNumbered, MarksOwn, KeepsDesk, KeepsLetter, call_in};
 
 mod codes;
 mod handle;
@@ -255,6 +255,46 @@ pub extern "C" fn sf_joined(slot: &mut Slot, alloc: Global, count: &mut u64) -> 
         return NOT_OPEN;
     };
     let code = state.joined(count);
+    slot.put(state);
+    code
+}
+
+/// Which call the slot's caller leads or waits for, by its leader's number and generation; or where the caller is free, the
+/// call of the letter that it had last.
+#[unsafe(no_mangle)]
+pub extern "C" fn sf_call(
+    slot: &mut Slot,
+    alloc: Global,
+    caller: &mut u32,
+    generation: &mut u32,
+) -> u32
+    ensures kept { slot.new.live ≡ slot.old.live }
+    ensures closed { result ≡ NOT_OPEN ↔ slot.old.live ≡ false }
+    ensures state { slot.old.live ≡ true → slot.new.handle.state ≡ slot.old.handle.state }
+    ensures unwritten { result ≡ NOT_OPEN → (caller.new ≡ caller.old) × (generation.new ≡ generation.old) }
+    ensures row { slot.old.live ≡ true → HasCalled (call_in slot.old.handle.state.part slot.old.handle.state.last) result caller.old caller.new generation.old generation.new }
+{
+    let Some(state) = slot.take(alloc) else {
+        return NOT_OPEN;
+    };
+    let code = state.call(caller, generation);
+    slot.put(state);
+    code
+}
+
+/// The number of the slot's caller, which is free: each caller of a group has its own.
+#[unsafe(no_mangle)]
+pub extern "C" fn sf_number(slot: &mut Slot, alloc: Global, number: &mut u32) -> u32
+    ensures kept { slot.new.live ≡ slot.old.live }
+    ensures closed { result ≡ NOT_OPEN ↔ slot.old.live ≡ false }
+    ensures state { slot.old.live ≡ true → slot.new.handle.state ≡ slot.old.handle.state }
+    ensures unwritten { result ≡ NOT_OPEN → number.new ≡ number.old }
+    ensures row { slot.old.live ≡ true → HasNumbered slot.old.handle.state.part result number.old number.new }
+{
+    let Some(state) = slot.take(alloc) else {
+        return NOT_OPEN;
+    };
+    let code = state.number(number);
     slot.put(state);
     code
 }

@@ -3,7 +3,7 @@
 ghost use Rattle.std.specs.Prelude.{◌≡◌, ◌≢◌, ◌≤◌, IsTrue, IsFalse, IfSome, IfNone};
 ghost use Rattle.sf_calls.specs.Same.{IsPlaceOf};
 ghost use Rattle.sf_calls.specs.Notes.{HasGrown};
-ghost use Rattle.sf_c.specs.Rows.{IsOf, IsLetterOf, HasAsked, HasAskedBoth, HasAskedChan, HasFinishedPart, HasGoneOnPart, HasPolledPart, HasForgotPart, HasGivenUp, HasQuestionedPart, HasToldPart, HasLearntPart, IsFree, IsNotFree};
+ghost use Rattle.sf_c.specs.Rows.{IsOf, IsLetterOf, HasAsked, HasAskedBoth, HasAskedChan, HasFinishedPart, HasGoneOnPart, HasPolledPart, HasForgotPart, HasGivenUp, HasQuestionedPart, HasToldPart, HasLearntPart, HasNumbered, IsFree, IsNotFree, call_in};
 ghost use Rattle.sf_c.specs.declared.part.Part.TheVariants.{Free};
 
 use crate::codes::{BUSY, DONE, NOT_OPEN, NOTHING_LEFT, OTHERWISE, SPENT, WRONG_STATE};
@@ -12,6 +12,7 @@ use sf_group::{
     Begun, Caller, ChanBegun, Finished, Flight, Forgotten, Group, Letter, MOST_TRIES, NotBegun,
     Note, Polled, Settled, Ticket,
 };
+use sf_history::CallId;
 
 /// What a slot's caller does. `Gone` is one that gave up what it had open.
 pub(crate) enum Part {
@@ -282,6 +283,33 @@ impl Part {
         } else {
             OTHERWISE
         }
+    }
+
+    /// The call that it leads or waits for; or where its caller is free, that of the letter it had last.
+    pub(crate) fn call(&self, last: &Option<Letter<Word>>) -> Option<CallId>
+        ensures { result ≡ call_in self.now last.now }
+    {
+        match self {
+            Part::Leads(flight) => Some(flight.call()),
+            Part::Waits(ticket) => Some(ticket.call()),
+            Part::Free(_) => match last {
+                Some(letter) => Some(letter.call()),
+                None => None,
+            },
+            Part::Owes(_) | Part::Gone => None,
+        }
+    }
+
+    /// The number of its caller, which is free.
+    pub(crate) fn number(&self, number: &mut u32) -> u32
+        ensures row { HasNumbered self.now result number.old number.new }
+        ensures open { result ≢ NOT_OPEN }
+    {
+        let Part::Free(caller) = self else {
+            return WRONG_STATE;
+        };
+        *number = caller.number();
+        DONE
     }
 
     /// A note that shows what its caller has seen. None where that is not free.

@@ -3,7 +3,7 @@ ghost use Rattle.std.specs.Prelude.{◌≡◌, ◌≢◌, ◌↔◌, ◌<◌, �
 ghost use Rattle.sf_calls.specs.Making.{IsNewCaller};
 ghost use Rattle.sf_calls.specs.Notes.{HasGrown};
 ghost use Rattle.sf_dir.specs.Known.{IsNewDesk};
-ghost use Rattle.sf_c.specs.Rows.{HasOpened, IsNewSeat, HasPlace, HasNoPlace, HasAskedKey, HasAskedChanKey, HasForgotKey, HasFinishedPart, HasGoneOnPart, HasPolledPart, HasQuestionedPart, HasToldPart, HasNotTold, HasLearntPart, HasGivenUp, HasCounted, MarksOwn, KeepsDesk, KeepsLetter};
+ghost use Rattle.sf_c.specs.Rows.{HasOpened, IsNewSeat, HasPlace, HasNoPlace, HasAskedKey, HasAskedChanKey, HasForgotKey, HasFinishedPart, HasGoneOnPart, HasPolledPart, HasQuestionedPart, HasToldPart, HasNotTold, HasLearntPart, HasGivenUp, HasCounted, HasCalled, HasNumbered, MarksOwn, call_in, KeepsDesk, KeepsLetter};
 
 use crate::codes::{BAD_NUMBER, DONE, FULL, NOT_OPEN, NOTHING_LEFT, TOO_LONG, WRONG_STATE};
 use crate::note_state::NoteState;
@@ -307,6 +307,27 @@ impl State {
         };
         *count = u64::from(letter.joiners()) + u64::from(self.own);
         DONE
+    }
+
+    /// Which call its caller leads or waits for; or where that is free, the call of the letter it had last.
+    pub(crate) fn call(&self, caller: &mut u32, generation: &mut u32) -> u32
+        ensures row { HasCalled (call_in self.now.part self.now.last) result caller.old caller.new generation.old generation.new }
+        ensures open { result ≢ NOT_OPEN }
+    {
+        let Some(call) = self.part.call(&self.last) else {
+            return NOTHING_LEFT;
+        };
+        *caller = call.caller;
+        *generation = call.generation;
+        DONE
+    }
+
+    /// The number of its caller, which is free.
+    pub(crate) fn number(&self, number: &mut u32) -> u32
+        ensures row { HasNumbered self.now.part result number.old number.new }
+        ensures open { result ≢ NOT_OPEN }
+    {
+        self.part.number(number)
     }
 
     /// A note that shows what its caller has seen; or the code of its refusal.

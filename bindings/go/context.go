@@ -1,0 +1,68 @@
+package singleflight
+
+import (
+	"context"
+	"time"
+)
+
+// The values of a context without its end.
+type detached struct{ context.Context }
+
+func (detached) Deadline() (time.Time, bool) { return time.Time{}, false }
+func (detached) Done() <-chan struct{}       { return nil }
+func (detached) Err() error                  { return nil }
+
+// DoContext is Do for a caller that waits no longer than its context: then it returns the context's error at once. The function
+// gets a context of its own, with the values of the leader's, which ends when nobody waits for the call any more; the key is
+// forgotten then, and who had joined nevertheless asks again.
+func (g *Group) DoContext(ctx context.Context, key string, fn func(context.Context) (interface{}, error)) (v interface{}, err error, shared bool) {
+	p := g.pool()
+	for {
+		if err := ctx.Err(); err != nil {
+			return nil, err, false
+		}
+		a := p.ask(key)
+		if a.leads {
+			return p.leadContext(ctx, a, key, fn)
+		}
+		v, err, ended, settled := p.join(a, ctx.Done())
+		if !settled {
+			if ended {
+				p.forget(key)
+			}
+			return nil, ctx.Err(), false
+		}
+		if !ended || err == nil {
+			end(err)
+			return v, err, true
+		}
+	}
+}
+
+func (p *pool) leadContext(ctx context.Context, a asking, key string, fn func(context.Context) (interface{}, error)) (interface{}, error, bool) {
+	if ctx.Done() == nil {
+		return p.lead(a, func() (interface{}, error) { return fn(ctx) }, nil)
+	}
+	own, cancel := context.WithCancel(detached{ctx})
+	w := p.watch(a, cancel)
+	go func() {
+		defer cancel()
+		p.lead(a, func() (interface{}, error) { return fn(own) }, w)
+	}()
+	select {
+	case r := <-w.result:
+		end(r.Err)
+		return r.Val, r.Err, r.Shared
+	case <-ctx.Done():
+	}
+	left, last := w.leave(true, nil)
+	if !left {
+		r := <-w.result
+		end(r.Err)
+		return r.Val, r.Err, r.Shared
+	}
+	if last {
+		p.forget(key)
+	}
+	return nil, ctx.Err(), false
+}

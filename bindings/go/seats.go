@@ -1,0 +1,452 @@
+package singleflight
+
+/*
+#include <stdlib.h>
+#include <string.h>
+#include "sf.h"
+
+// Each slot has a cache line of its own.
+static sf_slot *new_slot(void) {
+	void *slot = aligned_alloc(128, 128);
+	return slot ? memset(slot, 0, 128) : slot;
+}
+
+static uint32_t number(sf_slot *slot) {
+	uint32_t number = 0;
+	sf_number(slot, &number);
+	return number;
+}
+
+// A slot comes as its address, and a key as Go has it, so that a call allocates nothing and is checked for no pointers. Where
+// the slot joined, the number of the leader stands above the code.
+static uint64_t ask(uintptr_t slot, _GoString_ key) {
+	uint32_t code, leader = 0, generation = 0;
+	do {
+		code = sf_ask((sf_slot *)slot, (const uint8_t *)_GoStringPtr(key), _GoStringLen(key), SF_MOST_TRIES);
+	} while (code == SF_BUSY);
+	if (code == SF_JOINED) sf_call((sf_slot *)slot, &leader, &generation);
+	return (uint64_t)leader << 32 | code;
+}
+
+static uint32_t forget(sf_slot *slot, _GoString_ key) {
+	uint32_t code;
+	do {
+		code = sf_forget(slot, (const uint8_t *)_GoStringPtr(key), _GoStringLen(key), SF_MOST_TRIES);
+	} while (code == SF_BUSY);
+	return code;
+}
+
+// Settles a call, and returns how many joined it.
+static uint32_t finish(uintptr_t slot) {
+	uint32_t joiners = 0;
+	if (sf_finish((sf_slot *)slot, 0, &joiners) == SF_OWES) {
+		while (sf_go_on((sf_slot *)slot, &joiners) == SF_OWES) {}
+	}
+	return joiners;
+}
+
+// Whether the call is settled that the slot joined.
+static bool poll(uintptr_t slot) {
+	uint32_t joiners;
+	uint64_t value;
+	return sf_poll((sf_slot *)slot, &value, &joiners) == SF_DONE;
+}
+*/
+import "C"
+
+import (
+	"context"
+	"hash/maphash"
+	"sync"
+	"sync/atomic"
+	"unsafe"
+)
+
+const (
+	mostKeys    = C.SF_MOST_KEYS
+	mostBytes   = C.SF_MOST_KEY_BYTES
+	mostCallers = C.SF_MOST_CALLERS - 1
+)
+
+// Who waits for a call. It is made by the first who does.
+type wait struct {
+	lock    *sync.Mutex   // protects the rest
+	settled bool          // whether the call is
+	done    chan struct{} // closed then
+	waiting int
+	left    []*seat            // of those who have left, and whose letters will come
+	cancel  context.CancelFunc // ends the load when nobody waits, or nil
+	ended   bool               // whether it did
+	alone   bool               // whether the leader has left
+	result  chan Result        // for the leader, where the load has a goroutine of its own
+}
+
+// One who waits leaves: the leader, or who joined, by a seat that comes back with its letter or by none. Whether it has left, as
+// the call was not settled; and whether it was the last, so that the load was ended.
+func (w *wait) leave(leader bool, joined *seat) (left, last bool) {
+	w.lock.Lock()
+	defer w.lock.Unlock()
+	if w.settled {
+		return false, false
+	}
+	w.alone = w.alone || leader
+	if joined != nil {
+		w.left = append(w.left, joined)
+	}
+	w.waiting--
+	if w.waiting == 0 && w.cancel != nil && !w.ended {
+		w.ended = true
+		w.cancel()
+		return true, true
+	}
+	return true, false
+}
+
+// A caller's slot, and what the call came to that it led, until all who joined have that.
+type seat struct {
+	slot  *C.sf_slot
+	at    C.uintptr_t
+	val   interface{}
+	err   error
+	ended bool // whether nobody waited for it
+	owed  atomic.Int64
+	leads atomic.Uint64
+	joins atomic.Uint64
+	mu    sync.Mutex // protects wait
+	waits *wait
+	_     [64]byte
+}
+
+// The wait of the call that it leads. Its lock is held.
+func (s *seat) wait() *wait {
+	if s.waits == nil {
+		s.waits = &wait{lock: &s.mu, done: make(chan struct{})}
+	}
+	return s.waits
+}
+
+func (s *seat) close() {
+	C.sf_close(s.slot)
+	C.free(unsafe.Pointer(s.slot))
+	s.slot = nil
+}
+
+// A seat that is taken first for keys of one shard.
+type hotSeat struct {
+	seat atomic.Pointer[seat]
+	_    [56]byte
+}
+
+func (h *hotSeat) take() *seat {
+	if h.seat.Load() == nil {
+		return nil
+	}
+	return h.seat.Swap(nil)
+}
+
+const (
+	shardCount = 32
+	chunkSize  = 256
+)
+
+type chunk [chunkSize]atomic.Pointer[seat]
+
+// The callers of a group. Seats are split off as they are needed, and go back when their calls have ended. A pool that is closed
+// frees each seat as it comes back.
+type pool struct {
+	seed   maphash.Seed
+	closed atomic.Bool
+	beside beside
+	closes atomic.Uint64
+	idles  atomic.Uint64
+	hot    [shardCount]hotSeat
+	chunks [mostCallers/chunkSize + 2]atomic.Pointer[chunk] // seats by their numbers
+	mu     sync.Mutex                                       // protects the rest
+	root   *seat                                            // splits seats off, and makes Forgets
+	free   []*seat
+	most   uint32
+	made   uint32
+	gone   uint32
+}
+
+// None where a size is out of range, or there is no memory.
+func newPool(o Options) *pool {
+	slot := C.new_slot()
+	if slot == nil {
+		return nil
+	}
+	if C.sf_open(slot, C.uint32_t(o.Keys), C.uint32_t(o.KeyBytes), C.uint32_t(o.Callers)+1) != C.SF_DONE {
+		C.free(unsafe.Pointer(slot))
+		return nil
+	}
+	return &pool{seed: maphash.MakeSeed(), root: &seat{slot: slot}, most: o.Callers}
+}
+
+func (p *pool) shardOf(key string) int {
+	return int(maphash.String(p.seed, key) % shardCount)
+}
+
+// Another seat, if there may be one. The lock is held.
+func (p *pool) grow() *seat {
+	if p.made == p.most || p.root.slot == nil {
+		return nil
+	}
+	slot := C.new_slot()
+	if slot == nil {
+		return nil
+	}
+	if C.sf_split(p.root.slot, slot) != C.SF_DONE {
+		C.free(unsafe.Pointer(slot))
+		return nil
+	}
+	p.made++
+	s := &seat{slot: slot, at: C.uintptr_t(uintptr(unsafe.Pointer(slot)))}
+	number := uint32(C.number(slot))
+	at := &p.chunks[number/chunkSize]
+	if at.Load() == nil {
+		at.Store(new(chunk))
+	}
+	at.Load()[number%chunkSize].Store(s)
+	return s
+}
+
+// The seat of the caller with this number.
+func (p *pool) numbered(number uint32) *seat {
+	return p.chunks[number/chunkSize].Load()[number%chunkSize].Load()
+}
+
+// A free seat. None where all are taken.
+func (p *pool) take(shard int) *seat {
+	if s := p.hot[shard].take(); s != nil {
+		return s
+	}
+	p.mu.Lock()
+	last := len(p.free) - 1
+	var s *seat
+	if last >= 0 {
+		s, p.free = p.free[last], p.free[:last]
+	} else {
+		s = p.grow()
+	}
+	p.mu.Unlock()
+	for i := 0; s == nil && i < shardCount; i++ {
+		s = p.hot[i].take()
+	}
+	return s
+}
+
+func (p *pool) put(shard int, s *seat) {
+	if !p.hot[shard].seat.CompareAndSwap(nil, s) {
+		p.mu.Lock()
+		p.free = append(p.free, s)
+		p.mu.Unlock()
+	}
+	if p.closed.Load() {
+		p.drain()
+	}
+}
+
+// Frees the seats that are free.
+func (p *pool) drain() {
+	p.mu.Lock()
+	defer p.mu.Unlock()
+	for i := range p.hot {
+		if s := p.hot[i].take(); s != nil {
+			p.free = append(p.free, s)
+		}
+	}
+	for _, s := range p.free {
+		s.close()
+		p.gone++
+	}
+	p.free = nil
+}
+
+// No call begins any more, and each seat is freed once it is free.
+func (p *pool) close() {
+	if p.closed.Swap(true) {
+		return
+	}
+	p.mu.Lock()
+	if p.root.slot != nil {
+		p.root.close()
+	}
+	p.mu.Unlock()
+	p.drain()
+}
+
+func (p *pool) retire(s *seat) {
+	p.mu.Lock()
+	s.close()
+	p.gone++
+	p.mu.Unlock()
+}
+
+// An asking: by a seat, which leads or waits for the call of the leader; or beside the library.
+type asking struct {
+	shard  int
+	seat   *seat
+	leader *seat
+	beside *besideCall
+	leads  bool
+}
+
+// Asks for the key by a free seat, or beside the library where there is none, or no room for the key.
+func (p *pool) ask(key string) asking {
+	shard := p.shardOf(key)
+	for !p.closed.Load() {
+		s := p.take(shard)
+		if s == nil {
+			break
+		}
+		asked := uint64(C.ask(s.at, key))
+		switch uint32(asked) {
+		case C.SF_LEADS:
+			s.leads.Add(1)
+			return asking{shard: shard, seat: s, leads: true}
+		case C.SF_JOINED:
+			s.joins.Add(1)
+			return asking{shard: shard, seat: s, leader: p.numbered(uint32(asked >> 32))}
+		case C.SF_SPENT:
+			p.retire(s)
+			continue
+		}
+		p.put(shard, s)
+		break
+	}
+	return p.beside.ask(key)
+}
+
+// Whether that closed a call.
+func (p *pool) forget(key string) bool {
+	beside := p.beside.forget(key)
+	p.mu.Lock()
+	defer p.mu.Unlock()
+	return p.root.slot != nil && C.forget(p.root.slot, key) == C.SF_DONE || beside
+}
+
+// Settles the call that the seat leads, and wakes who waits for it. How many joined.
+func (p *pool) settle(a asking, v interface{}, err error, watched *wait) int64 {
+	if a.beside != nil {
+		return p.beside.settle(a.beside, v, err)
+	}
+	shard, s := a.shard, a.seat
+	s.val, s.err, s.ended = v, err, false
+	if watched != nil {
+		s.mu.Lock()
+		s.ended = watched.ended
+		s.mu.Unlock()
+	}
+	s.owed.Store(0)
+	joined := int64(C.finish(s.at))
+	owed := joined
+	if joined > 0 || watched != nil {
+		// Who looked too early holds the lock until it is among those who wait.
+		s.mu.Lock()
+		w := s.waits
+		s.waits = nil
+		if w != nil {
+			w.settled = true
+			close(w.done)
+		}
+		s.mu.Unlock()
+		if w != nil {
+			for _, left := range w.left {
+				C.poll(left.at)
+				p.put(shard, left)
+			}
+			owed -= int64(len(w.left))
+		}
+	}
+	p.release(shard, s, owed)
+	return joined
+}
+
+// So many more have to take what the seat's call came to; or by -1 one has. The seat is free when all have.
+func (p *pool) release(shard int, s *seat, more int64) {
+	if s.owed.Add(more) == 0 {
+		s.val, s.err = nil, nil
+		p.put(shard, s)
+	}
+}
+
+// Waits until the call is settled that it joined, or until stop is closed. Where it is settled, what it came to, and whether its load
+// was ended since nobody waited; else it has left, and whether the load was ended by that.
+func (p *pool) join(a asking, stop <-chan struct{}) (v interface{}, err error, ended, settled bool) {
+	if a.beside != nil {
+		return a.beside.join(stop)
+	}
+	s, led := a.seat, a.leader
+	for !bool(C.poll(s.at)) {
+		led.mu.Lock()
+		if bool(C.poll(s.at)) {
+			led.mu.Unlock()
+			break
+		}
+		w := led.wait()
+		w.waiting++
+		led.mu.Unlock()
+		select {
+		case <-w.done:
+		case <-stop:
+			if left, last := w.leave(false, s); left {
+				return nil, nil, last, false
+			}
+			<-w.done
+		}
+	}
+	p.put(a.shard, s)
+	// The leader has stored this after the rest, so that Go knows of the order, too.
+	led.owed.Load()
+	v, err, ended = led.val, led.err, led.ended
+	p.release(a.shard, led, -1)
+	return v, err, ended, true
+}
+
+// The wait of a call that it leads, whose load has a goroutine of its own.
+func (p *pool) watch(a asking, cancel context.CancelFunc) *wait {
+	lock := &p.beside.mu
+	if a.seat != nil {
+		lock = &a.seat.mu
+	}
+	lock.Lock()
+	defer lock.Unlock()
+	var w *wait
+	if a.seat != nil {
+		w = a.seat.wait()
+	} else {
+		w = &a.beside.wait
+	}
+	w.waiting++
+	w.cancel = cancel
+	w.result = make(chan Result, 1)
+	return w
+}
+
+func (p *pool) stats() (st Stats) {
+	p.mu.Lock()
+	defer p.mu.Unlock()
+	for i := range p.chunks {
+		if at := p.chunks[i].Load(); at != nil {
+			for j := range at {
+				if s := at[j].Load(); s != nil {
+					st.Leads += s.leads.Load()
+					st.Joins += s.joins.Load()
+				}
+			}
+		}
+	}
+	st.Joins += p.beside.joins.Load()
+	st.Alone, st.Closed, st.Idle = p.beside.leads.Load(), p.closes.Load(), p.idles.Load()
+	st.Made = p.made
+	free := p.gone + uint32(len(p.free))
+	for i := range p.hot {
+		if p.hot[i].seat.Load() != nil {
+			free++
+		}
+	}
+	if free < p.made {
+		st.InUse = p.made - free
+	}
+	return st
+}
