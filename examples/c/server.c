@@ -2,7 +2,6 @@
  * and after an update nobody gets the old value. Built and run by bindings/check. */
 #include "sf.h"
 #include <pthread.h>
-#include <sched.h>
 #include <stdatomic.h>
 #include <stdio.h>
 #include <stdlib.h>
@@ -21,6 +20,12 @@ static uint64_t load(unsigned key) {
     return (uint64_t)key << 32 | version;
 }
 
+/* Where those sleep who wait for a key's value. */
+static struct room {
+    pthread_mutex_t lock;
+    pthread_cond_t settled;
+} rooms[KEYS];
+
 static size_t name_of(unsigned key, char name[16]) {
     return (size_t)snprintf(name, 16, "item-%u", key);
 }
@@ -29,6 +34,7 @@ static size_t name_of(unsigned key, char name[16]) {
 static uint64_t get(sf_slot *caller, unsigned key) {
     char name[16];
     size_t len = name_of(key, name);
+    struct room *room = &rooms[key];
     uint64_t value = 0;
     uint32_t joiners = 0;
     for (;;) {
@@ -36,9 +42,17 @@ static uint64_t get(sf_slot *caller, unsigned key) {
         case SF_LEADS:
             value = load(key);
             while (sf_finish(caller, value, &joiners) == SF_OWES && sf_go_on(caller, &joiners) == SF_OWES) {}
+            if (joiners > 0) {
+                /* Who looked too early holds the lock until it sleeps. */
+                pthread_mutex_lock(&room->lock);
+                pthread_mutex_unlock(&room->lock);
+                pthread_cond_broadcast(&room->settled);
+            }
             return value;
         case SF_JOINED:
-            while (sf_poll(caller, &value, &joiners) == SF_NOT_YET) sched_yield();
+            pthread_mutex_lock(&room->lock);
+            while (sf_poll(caller, &value, &joiners) == SF_NOT_YET) pthread_cond_wait(&room->settled, &room->lock);
+            pthread_mutex_unlock(&room->lock);
             atomic_fetch_add(&joined, 1);
             return value;
         case SF_BUSY:
@@ -75,6 +89,9 @@ int main(void) {
     static sf_slot callers[WORKERS];
     pthread_t threads[WORKERS];
     size_t stale = 0;
+    for (int i = 0; i < KEYS; i++) {
+        if (pthread_mutex_init(&rooms[i].lock, NULL) || pthread_cond_init(&rooms[i].settled, NULL)) return 1;
+    }
     if (sf_open(&callers[0], KEYS, 15, WORKERS) != SF_DONE) return 1;
     for (int i = 1; i < WORKERS; i++) if (sf_split(&callers[0], &callers[i]) != SF_DONE) return 1;
     for (int i = 0; i < WORKERS; i++) if (pthread_create(&threads[i], NULL, serve, &callers[i])) return 1;

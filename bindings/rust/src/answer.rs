@@ -1,5 +1,6 @@
 //! Answers: values that all members of a call share, with a count of who has them.
 
+use std::fmt;
 use std::marker::PhantomData;
 use std::ops::Deref;
 use std::ptr::NonNull;
@@ -69,6 +70,12 @@ impl<T> Deref for Answer<T> {
 
     fn deref(&self) -> &T {
         &self.inner().value
+    }
+}
+
+impl<T: fmt::Debug> fmt::Debug for Answer<T> {
+    fn fmt(&self, f: &mut fmt::Formatter<'_>) -> fmt::Result {
+        (**self).fmt(f)
     }
 }
 

@@ -1,9 +1,9 @@
 //! Askings for a second caller, who waits elsewhere.
 
-use crate::raw::{self, Slot};
-use crate::{Caller, Error, Got, Leading, lock, poll, refusal, shard_of};
-use std::mem::replace;
+use crate::{Caller, Error, Got, Leading, got, raw, refusal};
+use std::fmt;
 use std::sync::Arc;
+use std::sync::atomic::Ordering::Relaxed;
 use std::sync::mpsc::{RecvError, TryRecvError};
 
 /// A call that its caller leads, and for which it has to load. Where it is dropped, it is settled with nothing.
@@ -17,30 +17,44 @@ impl<T> Job<'_, T> {
     }
 }
 
-/// The end of a call where its answer comes, once.
+impl<T> fmt::Debug for Job<'_, T> {
+    fn fmt(&self, f: &mut fmt::Formatter<'_>) -> fmt::Result {
+        f.debug_struct("Job").finish_non_exhaustive()
+    }
+}
+
+/// The end of a call where its answer comes, once. Where it is dropped before, its caller goes back to the group when the answer
+/// has come.
+#[derive(Debug)]
 #[must_use]
 pub struct Receiver<T> {
     // None once the answer is there, and the caller is free.
     waits: Option<Caller<T>>,
     free: Option<Caller<T>>,
-    shard: usize,
 }
 
 impl<T: Send + Sync> Receiver<T> {
     /// The answer, if it is there. `Disconnected` where the leader's load panicked, or the answer was taken before.
     pub fn try_recv(&mut self) -> Result<Got<T>, TryRecvError> {
         let caller = self.waits.as_mut().ok_or(TryRecvError::Disconnected)?;
-        let (number, joiners) = poll(&mut caller.slot).ok_or(TryRecvError::Empty)?;
-        self.free = self.waits.take();
-        Caller::got(number, joiners).ok_or(TryRecvError::Disconnected)
+        let letter = caller.seat.as_mut().and_then(|seat| seat.poll()).ok_or(TryRecvError::Empty)?;
+        self.take(letter).ok_or(TryRecvError::Disconnected)
     }
 
     /// Waits for the answer. An error where the leader's load panicked, or the answer was taken before.
     pub fn recv(&mut self) -> Result<Got<T>, RecvError> {
         let caller = self.waits.as_mut().ok_or(RecvError)?;
-        let got = caller.wait(self.shard);
+        let seat = caller.seat.as_mut().ok_or(RecvError)?;
+        let letter = caller.pool.wait(seat, None).ok_or(RecvError)?;
+        self.take(letter).ok_or(RecvError)
+    }
+
+    fn take(&mut self, letter: (u64, u32)) -> Option<Got<T>> {
         self.free = self.waits.take();
-        got.ok_or(RecvError)
+        if let Some(caller) = &mut self.free {
+            caller.has_letter = true;
+        }
+        got(letter)
     }
 
     /// The caller that waited, which is free once its answer was there; else the receiver.
@@ -53,8 +67,9 @@ impl<T> Drop for Receiver<T> {
     fn drop(&mut self) {
         // The leader gives it a count of its answer, which somebody has to take.
         if let Some(mut caller) = self.waits.take() {
-            let slot = replace(&mut caller.slot, Slot::NONE);
-            lock(&caller.shared.dropped).push(slot);
+            if let Some(seat) = caller.seat.take() {
+                caller.pool.leave(seat);
+            }
         }
     }
 }
@@ -63,31 +78,41 @@ impl<T: Send + Sync> Caller<T> {
     /// Asks for the key for the other caller, whose answer comes by the receiver, to whichever thread has that. Where no call is
     /// open, this caller leads a new one, and has to run the job; else it has nothing to do.
     pub fn do_chan(&mut self, other: Caller<T>, key: &[u8]) -> Result<(Receiver<T>, Option<Job<'_, T>>), (Error, Caller<T>)> {
-        if !Arc::ptr_eq(&self.shared, &other.shared) {
+        if !Arc::ptr_eq(&self.pool, &other.pool) {
             return Err((Error::OtherGroup, other));
         }
         let mut other = other;
+        let pool = &*self.pool;
+        let (seat, second) = match (Self::seat(pool, &mut self.seat), Self::seat(pool, &mut other.seat)) {
+            (Ok(seat), Ok(second)) => (seat, second),
+            _ => return Err((Error::NothingLeft, other)),
+        };
         let code = loop {
-            let (slot, second) = (&mut self.slot, &mut other.slot);
-            let code = unsafe { raw::sf_ask_chan(slot, second, key.as_ptr(), key.len(), raw::MOST_TRIES) };
+            let code = unsafe { raw::sf_ask_chan(&mut seat.slot, &mut second.slot, key.as_ptr(), key.len(), raw::MOST_TRIES) };
             if code != raw::BUSY {
                 break code;
             }
             std::hint::spin_loop();
         };
-        if code != raw::DONE && code != raw::OTHERWISE {
-            return Err((refusal(code), other));
-        }
-        let shard = shard_of(key);
-        let job = (code == raw::DONE).then_some(Job(Leading {
-            caller: self,
-            shard,
-            has_receiver: true,
-        }));
+        let job = match code {
+            raw::DONE => {
+                pool.post(seat.number).leads.fetch_add(1, Relaxed);
+                self.has_letter = true;
+                Some(Job(Leading {
+                    pool,
+                    seat,
+                    has_receiver: true,
+                }))
+            }
+            raw::OTHERWISE => {
+                pool.post(second.number).joins.fetch_add(1, Relaxed);
+                None
+            }
+            code => return Err((refusal(code), other)),
+        };
         let receiver = Receiver {
             waits: Some(other),
             free: None,
-            shard,
         };
         Ok((receiver, job))
     }

@@ -17,22 +17,22 @@
 //! });
 //! ```
 //!
-//! Each thread has a [`Caller`] of its own. Asking, settling and forgetting take no lock; who joins a call parks until its
-//! leader, which looks whether anybody joined, wakes it.
+//! Each thread has a [`Caller`] of its own, which goes back to its group when it is dropped. Asking, settling and forgetting take
+//! no lock; who joins a call parks until its leader, which looks whether anybody joined, wakes it.
 
 mod answer;
 mod chan;
+mod pool;
 mod raw;
 
 pub use answer::Answer;
 pub use chan::{Job, Receiver};
-use raw::Slot;
+pub use pool::Stats;
+use pool::{Pool, Seat};
 use std::fmt;
-use std::marker::PhantomData;
-use std::sync::{Arc, Condvar, Mutex, MutexGuard, PoisonError};
-
-// As many places to park as a group has: keys are spread over them.
-const SHARDS: usize = 64;
+use std::sync::Arc;
+use std::sync::atomic::Ordering::Relaxed;
+use std::time::{Duration, Instant};
 
 /// Why a call made nothing.
 #[derive(Clone, Copy, Debug, PartialEq, Eq)]
@@ -47,6 +47,8 @@ pub enum Error {
     Full,
     /// The caller has had all its calls.
     Spent,
+    /// The answer did not come in time.
+    TimedOut,
     /// The other caller, or the note, is of another group.
     OtherGroup,
 }
@@ -59,6 +61,7 @@ impl fmt::Display for Error {
             Error::KeyTooLong => "key too long",
             Error::Full => "group full",
             Error::Spent => "caller spent",
+            Error::TimedOut => "timed out",
             Error::OtherGroup => "of another group",
         })
     }
@@ -66,39 +69,29 @@ impl fmt::Display for Error {
 
 impl std::error::Error for Error {}
 
-#[derive(Default)]
-struct Shard {
-    lock: Mutex<()>,
-    settled: Condvar,
-}
-
-// What the callers of a group share: where to park, and the slots of receivers that were dropped before their answers came.
-struct Shared<T> {
-    shards: [Shard; SHARDS],
-    dropped: Mutex<Vec<Slot>>,
-    value: PhantomData<fn(T) -> T>,
-}
-
 /// A group of callers. It is `Sync`: each thread takes its caller from it.
 pub struct Group<T> {
-    source: Mutex<Slot>,
-    shared: Arc<Shared<T>>,
+    pool: Arc<Pool<T>>,
 }
 
-/// One who asks, in one thread at a time.
+/// One who asks, in one thread at a time. Where it is dropped it goes back to its group.
 pub struct Caller<T> {
-    slot: Slot,
-    shared: Arc<Shared<T>>,
+    pool: Arc<Pool<T>>,
+    // None after a wait that took too long, until the next call.
+    seat: Option<Seat>,
+    has_letter: bool,
 }
 
 /// What a caller has seen, for another thread's caller to learn.
 pub struct Note<T> {
     note: raw::Note,
-    shared: Arc<Shared<T>>,
+    pool: Arc<Pool<T>>,
 }
 
 /// What an asking got.
+#[derive(Debug)]
 pub struct Got<T> {
+    /// What the call was settled with.
     pub answer: Answer<T>,
     /// How many joined the call.
     pub joiners: u32,
@@ -123,64 +116,44 @@ fn refusal(code: u32) -> Error {
     }
 }
 
-// A lock that guards nothing is as good after a panic as before.
-fn lock<T>(mutex: &Mutex<T>) -> MutexGuard<'_, T> {
-    mutex.lock().unwrap_or_else(PoisonError::into_inner)
-}
-
-fn shard_of(key: &[u8]) -> usize {
-    let hash = key.iter().fold(0xcbf2_9ce4_8422_2325u64, |hash, byte| {
-        (hash ^ u64::from(*byte)).wrapping_mul(0x100_0000_01b3)
-    });
-    (hash >> 32) as usize % SHARDS
-}
-
 impl<T: Send + Sync> Group<T> {
-    /// A group for 1 to 1,048,576 keys of at most 0 to 250 bytes, and 1 to 65,534 callers.
+    /// A group for 1 to 1,048,576 keys of at most 0 to 250 bytes, and 1 to 65,534 callers at one time.
     pub fn open(keys: u32, key_bytes: u32, callers: u32) -> Result<Self, Error> {
-        // The slot from which the callers are split off has one of its own.
-        let callers = callers.checked_add(1).filter(|callers| *callers > 1).ok_or(Error::Size)?;
-        let mut slot = Slot::NONE;
-        match unsafe { raw::sf_open(&mut slot, keys, key_bytes, callers) } {
-            raw::DONE => Ok(Group {
-                source: Mutex::new(slot),
-                shared: Arc::new(Shared {
-                    shards: std::array::from_fn(|_| Shard::default()),
-                    dropped: Mutex::default(),
-                    value: PhantomData,
-                }),
-            }),
-            code => Err(refusal(code)),
-        }
+        let pool = Arc::new(Pool::open(keys, key_bytes, callers)?);
+        Ok(Group { pool })
     }
 
-    /// Another caller. None where all have been taken, as a caller that is dropped does not come back.
+    /// A caller, that of one that was dropped or a new one. None where all are taken, or there is no memory.
     pub fn caller(&self) -> Option<Caller<T>> {
-        let mut slot = Slot::NONE;
-        let code = unsafe { raw::sf_split(&mut lock(&self.source), &mut slot) };
-        (code == raw::DONE).then(|| Caller {
-            slot,
-            shared: self.shared.clone(),
+        let seat = self.pool.take()?;
+        Some(Caller {
+            pool: self.pool.clone(),
+            seat: Some(seat),
+            has_letter: false,
         })
     }
-}
 
-impl<T> Drop for Group<T> {
-    fn drop(&mut self) {
-        unsafe { raw::sf_close(&mut lock(&self.source)) }
+    /// The numbers of the group's calls. It costs a look at each caller that was made.
+    pub fn stats(&self) -> Stats {
+        self.pool.stats()
     }
 }
 
-impl<T> Drop for Shared<T> {
-    fn drop(&mut self) {
-        // No caller is left, so each call is settled that ever will be.
-        for mut slot in std::mem::take(&mut *lock(&self.dropped)) {
-            if let Some((number, _)) = poll(&mut slot) {
-                // SAFETY: the leader counted the receiver, which did not take its letter.
-                drop(unsafe { Answer::<T>::of_number(number) });
-            }
-            unsafe { raw::sf_close(&mut slot) }
-        }
+impl<T> fmt::Debug for Group<T> {
+    fn fmt(&self, f: &mut fmt::Formatter<'_>) -> fmt::Result {
+        f.debug_struct("Group").field("stats", &self.pool.stats()).finish()
+    }
+}
+
+impl<T> fmt::Debug for Caller<T> {
+    fn fmt(&self, f: &mut fmt::Formatter<'_>) -> fmt::Result {
+        f.debug_struct("Caller").field("number", &self.seat.as_ref().map(|seat| seat.number)).finish()
+    }
+}
+
+impl<T> fmt::Debug for Note<T> {
+    fn fmt(&self, f: &mut fmt::Formatter<'_>) -> fmt::Result {
+        f.debug_struct("Note").finish_non_exhaustive()
     }
 }
 
@@ -192,14 +165,21 @@ impl<T> Drop for Note<T> {
 
 impl<T> Drop for Caller<T> {
     fn drop(&mut self) {
-        unsafe { raw::sf_close(&mut self.slot) }
+        if let Some(mut seat) = self.seat.take() {
+            // One whose job was forgotten leads still.
+            if seat.is_free() {
+                self.pool.put(seat);
+            } else {
+                self.pool.retire(seat);
+            }
+        }
     }
 }
 
 // A leader whose load panics settles its call with nothing, so that who joined asks again.
 struct Leading<'a, T> {
-    caller: &'a mut Caller<T>,
-    shard: usize,
+    pool: &'a Pool<T>,
+    seat: &'a mut Seat,
     // Whether a receiver waits for the call from its beginning, who is not counted as one who joined.
     has_receiver: bool,
 }
@@ -207,7 +187,7 @@ struct Leading<'a, T> {
 impl<T> Leading<'_, T> {
     // How many joined.
     fn settle(&mut self, number: u64) -> u32 {
-        let slot = &mut self.caller.slot;
+        let slot = &mut self.seat.slot;
         let mut joiners = 0;
         unsafe {
             let mut code = raw::sf_finish(slot, number, &mut joiners);
@@ -216,10 +196,7 @@ impl<T> Leading<'_, T> {
             }
         }
         if joiners > 0 || self.has_receiver {
-            let shard = &self.caller.shared.shards[self.shard];
-            // Who looked before the letters were there holds the lock until it sleeps.
-            drop(lock(&shard.lock));
-            shard.settled.notify_all();
+            self.pool.settled(self.seat.number);
         }
         joiners
     }
@@ -243,33 +220,73 @@ impl<T> Drop for Leading<'_, T> {
     }
 }
 
-// The number that the call was settled with, and how many joined it, where the letter is there.
-fn poll(slot: &mut Slot) -> Option<(u64, u32)> {
-    let (mut number, mut joiners) = (0, 0);
-    let code = unsafe { raw::sf_poll(slot, &mut number, &mut joiners) };
-    (code == raw::DONE).then_some((number, joiners))
+// What a letter brings to one who waited. None where the leader's load panicked.
+fn got<T>((number, joiners): (u64, u32)) -> Option<Got<T>> {
+    // SAFETY: the leader counts each who joined, and each takes its letter once.
+    unsafe { Answer::of_number(number) }.map(|answer| Got {
+        answer,
+        joiners,
+        led: false,
+    })
 }
 
 impl<T: Send + Sync> Caller<T> {
+    // Its seat: a new one where it has none, since it waited too long before.
+    fn seat<'a>(pool: &Pool<T>, seat: &'a mut Option<Seat>) -> Result<&'a mut Seat, Error> {
+        if seat.is_none() {
+            *seat = pool.take();
+        }
+        seat.as_mut().ok_or(Error::NothingLeft)
+    }
+
     /// The answer of the key's open call; or where there is none, of a new one, for which `load` is called.
     pub fn do_with(&mut self, key: &[u8], load: impl FnOnce() -> T) -> Result<Got<T>, Error> {
+        self.do_until(key, None, load)
+    }
+
+    /// The same, but waits no longer than the timeout for the answer of a call that another leads: `TimedOut` then, and the call goes
+    /// on. A load of its own takes as long as it takes.
+    pub fn do_with_timeout(&mut self, key: &[u8], timeout: Duration, load: impl FnOnce() -> T) -> Result<Got<T>, Error> {
+        self.do_until(key, Instant::now().checked_add(timeout), load)
+    }
+
+    fn do_until(&mut self, key: &[u8], deadline: Option<Instant>, load: impl FnOnce() -> T) -> Result<Got<T>, Error> {
+        let pool = &*self.pool;
         loop {
-            let code = unsafe { raw::sf_ask(&mut self.slot, key.as_ptr(), key.len(), raw::MOST_TRIES) };
-            match code {
+            let seat = Self::seat(pool, &mut self.seat)?;
+            let post = pool.post(seat.number);
+            match unsafe { raw::sf_ask(&mut seat.slot, key.as_ptr(), key.len(), raw::MOST_TRIES) } {
                 raw::DONE => {
+                    post.leads.fetch_add(1, Relaxed);
+                    self.has_letter = true;
                     let leading = Leading {
-                        caller: self,
-                        shard: shard_of(key),
+                        pool,
+                        seat,
                         has_receiver: false,
                     };
                     return Ok(leading.load(load));
                 }
                 raw::OTHERWISE => {
-                    if let Some(got) = self.wait(shard_of(key)) {
+                    post.joins.fetch_add(1, Relaxed);
+                    let Some(letter) = pool.wait(seat, deadline) else {
+                        self.has_letter = false;
+                        if let Some(seat) = self.seat.take() {
+                            pool.leave(seat);
+                        }
+                        return Err(Error::TimedOut);
+                    };
+                    self.has_letter = true;
+                    if let Some(got) = got(letter) {
                         return Ok(got);
                     }
                 }
                 raw::BUSY => std::hint::spin_loop(),
+                raw::SPENT => {
+                    self.has_letter = false;
+                    if let Some(seat) = self.seat.take() {
+                        pool.retire(seat);
+                    }
+                }
                 code => return Err(refusal(code)),
             }
         }
@@ -277,19 +294,29 @@ impl<T: Send + Sync> Caller<T> {
 
     /// Closes the key's open call, if there is one: who asks from now on gets a later one's answer. Whether there was one.
     pub fn forget(&mut self, key: &[u8]) -> Result<bool, Error> {
+        let seat = Self::seat(&self.pool, &mut self.seat)?;
+        let post = self.pool.post(seat.number);
         loop {
-            match unsafe { raw::sf_forget(&mut self.slot, key.as_ptr(), key.len(), raw::MOST_TRIES) } {
-                raw::DONE => return Ok(true),
-                raw::OTHERWISE => return Ok(false),
+            match unsafe { raw::sf_forget(&mut seat.slot, key.as_ptr(), key.len(), raw::MOST_TRIES) } {
+                raw::DONE => {
+                    post.closed.fetch_add(1, Relaxed);
+                    return Ok(true);
+                }
+                raw::OTHERWISE => {
+                    post.idle.fetch_add(1, Relaxed);
+                    return Ok(false);
+                }
                 raw::BUSY => std::hint::spin_loop(),
                 code => return Err(refusal(code)),
             }
         }
     }
 
-    /// Whether the call of the answer that this caller got last is its key's current one still. None before the first.
+    /// Whether the call of the answer that this caller got last is its key's current one still. None before the first, and after a
+    /// wait that took too long.
     pub fn is_current(&mut self) -> Option<bool> {
-        match unsafe { raw::sf_is_current(&mut self.slot) } {
+        let seat = self.seat.as_mut().filter(|_| self.has_letter)?;
+        match unsafe { raw::sf_is_current(&mut seat.slot) } {
             raw::DONE => Some(true),
             raw::OTHERWISE => Some(false),
             _ => None,
@@ -298,11 +325,12 @@ impl<T: Send + Sync> Caller<T> {
 
     /// A note of what this caller has seen.
     pub fn tell(&mut self) -> Result<Note<T>, Error> {
+        let seat = Self::seat(&self.pool, &mut self.seat)?;
         let mut note = raw::Note::NONE;
-        match unsafe { raw::sf_tell(&mut self.slot, &mut note) } {
+        match unsafe { raw::sf_tell(&mut seat.slot, &mut note) } {
             raw::DONE => Ok(Note {
                 note,
-                shared: self.shared.clone(),
+                pool: self.pool.clone(),
             }),
             code => Err(refusal(code)),
         }
@@ -311,39 +339,13 @@ impl<T: Send + Sync> Caller<T> {
     /// This caller has then seen what the note tells: nothing that it asks from now on has an answer from before a Forget of
     /// which the note tells.
     pub fn learn(&mut self, note: &mut Note<T>) -> Result<(), Error> {
-        if !Arc::ptr_eq(&self.shared, &note.shared) {
+        if !Arc::ptr_eq(&self.pool, &note.pool) {
             return Err(Error::OtherGroup);
         }
-        match unsafe { raw::sf_learn(&mut self.slot, &mut note.note) } {
+        let seat = Self::seat(&self.pool, &mut self.seat)?;
+        match unsafe { raw::sf_learn(&mut seat.slot, &mut note.note) } {
             raw::DONE => Ok(()),
             code => Err(refusal(code)),
-        }
-    }
-
-    // What the letter that is there brings. None where the leader's load panicked.
-    fn got(number: u64, joiners: u32) -> Option<Got<T>> {
-        // SAFETY: the leader counts each who joined, and each takes its letter once.
-        unsafe { Answer::of_number(number) }.map(|answer| Got {
-            answer,
-            joiners,
-            led: false,
-        })
-    }
-
-    fn wait(&mut self, shard: usize) -> Option<Got<T>> {
-        for _ in 0..64 {
-            if let Some((number, joiners)) = poll(&mut self.slot) {
-                return Self::got(number, joiners);
-            }
-            std::hint::spin_loop();
-        }
-        let shard = &self.shared.shards[shard];
-        let mut guard = lock(&shard.lock);
-        loop {
-            if let Some((number, joiners)) = poll(&mut self.slot) {
-                return Self::got(number, joiners);
-            }
-            guard = shard.settled.wait(guard).unwrap_or_else(PoisonError::into_inner);
         }
     }
 }

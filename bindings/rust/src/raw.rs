@@ -47,6 +47,8 @@ extern "C" {
     pub fn sf_finish(slot: &mut Slot, value: u64, joiners: &mut u32) -> u32;
     pub fn sf_go_on(slot: &mut Slot, joiners: &mut u32) -> u32;
     pub fn sf_poll(slot: &mut Slot, value: &mut u64, joiners: &mut u32) -> u32;
+    pub fn sf_call(slot: &mut Slot, caller: &mut u32, generation: &mut u32) -> u32;
+    pub fn sf_number(slot: &mut Slot, number: &mut u32) -> u32;
     pub fn sf_forget(slot: &mut Slot, key: *const u8, len: usize, tries: u32) -> u32;
     pub fn sf_is_current(slot: &mut Slot) -> u32;
     pub fn sf_tell(slot: &mut Slot, note: &mut Note) -> u32;

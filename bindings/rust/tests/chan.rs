@@ -67,12 +67,14 @@ fn receivers_that_are_dropped_leak_nothing() {
     let weak: Weak<u32> = Arc::downgrade(&value);
     let (receiver, job) = first.do_chan(second, b"k").ok().unwrap();
     drop(receiver);
+    assert!(group.stats().in_use == 3 && group.caller().is_none(), "its letter has not come");
     drop(job.unwrap().run(|| value));
-    assert!(weak.upgrade().is_some(), "the receiver has a count");
+    assert!(weak.upgrade().is_none(), "the leader took the count of the receiver that was dropped");
+    assert!(group.stats().in_use == 2 && group.caller().is_some(), "and its caller is back");
     let (receiver, job) = first.do_chan(third, b"k").ok().unwrap();
     drop((receiver, job));
-    drop((group, first));
-    assert!(weak.upgrade().is_none(), "the group gave it back");
+    drop(first);
+    assert!(group.stats().in_use == 0, "all are back");
 }
 
 #[test]

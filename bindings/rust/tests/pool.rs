@@ -1,0 +1,152 @@
+//! Callers that come back, waits that take too long, and the numbers of a group.
+use singleflight::{Error, Group, Stats};
+use std::sync::atomic::{AtomicU64, Ordering::SeqCst};
+use std::sync::{Arc, Barrier};
+use std::time::{Duration, Instant};
+
+// Waits until it holds, which it does soon.
+fn until(what: &str, holds: impl Fn() -> bool) {
+    let from = Instant::now();
+    while !holds() {
+        assert!(from.elapsed() < Duration::from_secs(20), "{what}");
+        std::thread::sleep(Duration::from_millis(1));
+    }
+}
+
+#[test]
+fn callers_that_are_dropped_are_dealt_again() {
+    let group = Group::<u32>::open(1, 4, 1).unwrap();
+    for round in 0..100 {
+        let mut caller = group.caller().unwrap();
+        assert!(group.caller().is_none(), "there is one");
+        assert!(caller.is_current().is_none(), "the letter of one who had it before is not this one's");
+        assert!(*caller.do_with(b"k", || round).unwrap().answer == round && caller.is_current() == Some(true), "it asks");
+    }
+    assert!(group.stats() == Stats { leads: 100, made: 1, ..Stats::default() }, "its numbers");
+    let mut caller = group.caller().unwrap();
+    drop(group);
+    assert!(*caller.do_with(b"k", || 9).unwrap().answer == 9, "a caller keeps its group");
+}
+
+#[test]
+fn a_caller_with_a_call_that_nobody_settles_is_not_dealt_again() {
+    let group = Group::<u32>::open(2, 4, 3).unwrap();
+    let (mut first, second) = (group.caller().unwrap(), group.caller().unwrap());
+    let (receiver, job) = first.do_chan(second, b"k").unwrap();
+    std::mem::forget(job);
+    drop((receiver, first));
+    let mut third = group.caller().unwrap();
+    assert!(group.caller().is_none() && *third.do_with(b"m", || 1).unwrap().answer == 1, "the third is a new one");
+}
+
+#[test]
+fn a_wait_that_takes_too_long() {
+    let group = Group::<Arc<u32>>::open(2, 4, 3).unwrap();
+    let (mut leader, mut waiter) = (group.caller().unwrap(), group.caller().unwrap());
+    let (started, release) = (Arc::new(Barrier::new(2)), Arc::new(Barrier::new(2)));
+    let value = Arc::new(7);
+    let weak = Arc::downgrade(&value);
+    let thread = {
+        let (started, release) = (started.clone(), release.clone());
+        std::thread::spawn(move || {
+            let got = leader.do_with(b"k", || {
+                started.wait();
+                release.wait();
+                value
+            });
+            (got.unwrap().joiners, leader)
+        })
+    };
+    started.wait();
+    let refused = waiter.do_with_timeout(b"k", Duration::from_millis(20), || unreachable!());
+    assert!(refused.err() == Some(Error::TimedOut) && waiter.is_current().is_none(), "it leaves");
+    assert!(group.stats().in_use == 2, "its letter has not come");
+    // By a new caller it goes on.
+    assert!(**waiter.do_with(b"m", || Arc::new(8)).unwrap().answer == 8, "another key");
+    assert!(group.stats().in_use == 3 && group.caller().is_none(), "three are in use");
+    release.wait();
+    let (joiners, leader) = thread.join().unwrap();
+    assert!(joiners == 1, "one joined");
+    assert!(group.stats().in_use == 2 && group.caller().is_some(), "the caller of the one who left is back");
+    assert!(weak.upgrade().is_none(), "so is its count of the answer");
+    drop((leader, waiter));
+    let got = group.caller().unwrap().do_with_timeout(b"k", Duration::MAX, || Arc::new(9)).unwrap();
+    assert!(**got.answer == 9 && got.led && group.stats().in_use == 0, "who leads waits for its own load");
+}
+
+#[test]
+fn many_on_some_keys() {
+    const THREADS: usize = 200;
+    let group = Group::<u32>::open(64, 8, 65_534).unwrap();
+    for keys in [1, 40, THREADS] {
+        let before = group.stats();
+        let (loads, release) = (AtomicU64::new(0), AtomicU64::new(0));
+        std::thread::scope(|scope| {
+            for thread in 0..THREADS {
+                let (group, loads, release) = (&group, &loads, &release);
+                scope.spawn(move || {
+                    let key = format!("k{}", thread % keys.min(64));
+                    let got = group.caller().unwrap().do_with(key.as_bytes(), || {
+                        loads.fetch_add(1, SeqCst);
+                        until("all ask", || release.load(SeqCst) == 1);
+                        5
+                    });
+                    assert!(*got.unwrap().answer == 5, "the answer");
+                });
+            }
+            let asked = || group.stats().leads + group.stats().joins - before.leads - before.joins;
+            until("all ask", || asked() == THREADS as u64);
+            assert!(group.stats().in_use == THREADS as u32 && group.stats().made == THREADS as u32, "each has a caller");
+            release.store(1, SeqCst);
+        });
+        assert!(loads.load(SeqCst) == keys.min(64) as u64, "one load a key");
+        assert!(group.stats().in_use == 0, "all are back");
+    }
+}
+
+#[test]
+fn random_waits() {
+    let group = Group::<Arc<u32>>::open(4, 4, 64).unwrap();
+    let live = Arc::new(0);
+    let timed_out = AtomicU64::new(0);
+    std::thread::scope(|scope| {
+        for thread in 0..8u64 {
+            let (group, live, timed_out) = (&group, &live, &timed_out);
+            scope.spawn(move || {
+                let mut caller = group.caller().unwrap();
+                for round in 0..500 {
+                    let key = [b'a' + ((thread + round) % 3) as u8];
+                    let load = || {
+                        std::thread::sleep(Duration::from_micros(200));
+                        live.clone()
+                    };
+                    match caller.do_with_timeout(&key, Duration::from_micros(100 + round % 200), load) {
+                        Ok(got) => assert!(**got.answer == 0, "the answer"),
+                        Err(why) => {
+                            assert!(why == Error::TimedOut, "{why}");
+                            timed_out.fetch_add(1, SeqCst);
+                        }
+                    }
+                    if round % 7 == 0 {
+                        caller.forget(&key).unwrap();
+                    }
+                }
+            });
+        }
+    });
+    let stats = group.stats();
+    assert!(stats.in_use == 0 && stats.leads + stats.joins == 4000, "all are back: {stats:?}");
+    assert!(stats.closed + stats.idle == 8 * 72 && timed_out.load(SeqCst) > 0, "forgets and waits: {stats:?}");
+    assert!(Arc::strong_count(&live) == 1, "no answer is kept");
+}
+
+#[test]
+fn all_can_be_shown() {
+    let group = Group::<u32>::open(1, 4, 2).unwrap();
+    let (mut first, second) = (group.caller().unwrap(), group.caller().unwrap());
+    let (receiver, job) = first.do_chan(second, b"k").unwrap();
+    let shown = format!("{job:?} {receiver:?} {group:?}");
+    let got = job.unwrap().run(|| 3);
+    let shown = format!("{shown} {got:?} {first:?} {:?}", first.tell());
+    assert!(shown.contains("answer: 3") && shown.contains("Stats") && shown.contains("Note"), "{shown}");
+}
