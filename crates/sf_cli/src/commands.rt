@@ -14,14 +14,16 @@ pub const STATUSES: &str = "Example:
 0 where the input is answered, 1 for an illegal history, 2 for refused input.";
 
 const RUN: &str = "Commands, one a line:
-  ask CALLER KEY                 leads a call of the key, or joins the open one
-  chan CALLER SECOND KEY         the same with a channel, which SECOND holds
-  settle CALLER ok TEXT          settles the call that the caller leads
-  settle CALLER err TEXT         .. with an error
-  forget CALLER KEY              closes the key's open call
-  take CALLER                    takes the letter that the caller waits for
-  current KEY CALLER.GENERATION  whether this is the key's current call
-Callers are 1 to 65535; keys and texts are 1 to 250 bytes without spaces.
+  ask CALLER KEY              leads a call of the key, or joins the open one
+  chan CALLER SECOND KEY      the same with a channel, which SECOND holds
+  settle CALLER ok TEXT       settles the call that the caller leads
+  settle CALLER err TEXT      .. with an error
+  forget CALLER KEY           closes the key's open call
+  forgetcall CALLER KEY CALL  ends this call of the key, and no newer one
+  take CALLER                 takes the letter that the caller waits for
+  current KEY CALL            whether this is the key's current call
+Callers are 1 to 65535, a CALL is CALLER.GENERATION; keys and texts are 1 to 250
+bytes without spaces.
 
 Example:
   printf 'ask 1 k\\nask 2 k\\nsettle 1 ok v\\ntake 2\\n' | sfctl run
@@ -30,16 +32,18 @@ Exit status: 0 where all commands are obeyed, 2 for a refused script, usage,
 want of memory, and a failing read or write.";
 
 const STEPS: &str = "Turns, one line each:
-  do CALLER ask PLACE                        begins to ask for the place's key
-  do CALLER chan SECOND PLACE                .. with a channel, which SECOND holds
-  do CALLER settle ok TEXT                   begins to settle the call it leads
-  do CALLER settle err TEXT                  .. with an error
-  do CALLER forget PLACE                     begins to forget the place's key
-  do CALLER poll                             begins to look for its letter
-  do CALLER current PLACE CALLER.GENERATION  begins to ask if a call is current
-  step CALLER [COUNT]                        makes 1, or 1 to 1000, atomic steps
-  drop CALLER                                leaves after a failed exchange
-Callers and places are 1 to 64.
+  do CALLER ask PLACE              begins to ask for the place's key
+  do CALLER chan SECOND PLACE      .. with a channel, which SECOND holds
+  do CALLER settle ok TEXT         begins to settle the call it leads
+  do CALLER settle err TEXT        .. with an error
+  do CALLER forget PLACE           begins to forget the place's key
+  do CALLER forgetcall PLACE CALL  begins to forget this call, and no newer one
+  do CALLER poll                   begins to look for its letter
+  do CALLER current PLACE CALL     begins to ask if a call is current
+  do CALLER named PLACE            begins to ask which call the key word names
+  step CALLER [COUNT]              makes 1, or 1 to 1000, atomic steps
+  drop CALLER                      leaves after a failed exchange
+Callers and places are 1 to 64; a CALL is CALLER.GENERATION.
 
 Example:
   printf 'do 1 ask 1\\nstep 1 3\\n' | sfctl steps
@@ -47,14 +51,17 @@ Example:
 Exit status: 0 where all turns are played, 2 for a refused schedule, usage,
 want of memory, and a failing read or write.";
 
-const CHECK: &str = "Records, one JSON object a line; the first is {\"format\":1}:
+const CHECK: &str = "Records, one JSON object a line; the first is {\"format\":3}:
   {\"e\":\"lead\",\"by\":1,\"k\":\"k\",\"c\":[1,1],\"own\":null}
   {\"e\":\"enter\",\"by\":2,\"k\":\"k\",\"c\":[1,1],\"m\":[2,1]}
   {\"e\":\"forget\",\"by\":3,\"k\":\"k\",\"closed\":[1,1]}
-  {\"e\":\"settle\",\"by\":1,\"c\":[1,1],\"ok\":\"v\",\"shared\":true}
+  {\"e\":\"forgetcall\",\"by\":3,\"k\":\"k\",\"c\":[1,1],\"hit\":\"missed\"}
+  {\"e\":\"settle\",\"by\":1,\"c\":[1,1],\"ok\":\"v\",\"joiners\":1}
   {\"e\":\"handed\",\"by\":1,\"c\":[1,1]}
-`own` and `closed` may be null, and `err` may stand in place of `ok`. Calls and
-members are [CALLER,GENERATION].
+`own` and `closed` may be null, `err` may stand in place of `ok`, and a hit is
+closed, cleared or missed. Calls and members are [CALLER,GENERATION]. Formats 1
+and 2 are read too: they have no forgetcall, and in format 1 a settle has
+`shared`, true or false, in place of `joiners`.
 
 Example:
   sfctl steps --history < schedule | sfctl check
