@@ -442,23 +442,24 @@ func manyContexts(t *testing.T, callers uint32) {
 
 // More clients than callers, in rounds: those who find none free have one load together.
 func TestRounds(t *testing.T) {
+	const clients = 200
 	g := open(t, 4, 64)
-	for round := 0; round < 20; round++ {
+	for round := uint64(1); round <= 20; round++ {
 		var loads atomic.Int64
 		var all sync.WaitGroup
-		start := make(chan struct{})
-		for i := 0; i < 200; i++ {
+		release := make(chan struct{})
+		for i := 0; i < clients; i++ {
 			all.Add(1)
 			go func() {
 				defer all.Done()
-				<-start
-				g.Do("page", func() (interface{}, error) { loads.Add(1); time.Sleep(50 * time.Millisecond); return 1, nil })
+				g.Do("page", func() (interface{}, error) { loads.Add(1); <-release; return 1, nil })
 			}()
 		}
-		close(start)
+		until(t, "all ask", func() bool { st := g.Stats(); return st.Leads+st.Joins+st.Alone == clients*round })
+		close(release)
 		all.Wait()
-		if loads.Load() > 2 {
-			t.Error("loads of a round", loads.Load())
+		if loads.Load() != 2 {
+			t.Error("one load by the callers, and one beside them", loads.Load())
 		}
 	}
 }
