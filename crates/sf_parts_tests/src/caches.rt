@@ -42,6 +42,28 @@ fn nothing_is_kept_without_a_limit(rt: HostRuntime) -> Result<(), AllocError> {
     Ok(())
 }
 
+/// A peek reads an entry and leaves it the oldest, where a look makes it the newest.
+#[test]
+fn peeked_entry_stays_the_oldest(rt: HostRuntime) -> Result<(), AllocError> {
+    for is_looked_at in [false, true] {
+        let mut caches: Caches<u8> = Caches::new(rt.alloc(), 8, 3)?;
+        caches.put(Which::Main, 1, 1, 3, 7)?;
+        caches.put(Which::Main, 2, 1, 3, 8)?;
+        let peeked = caches.peek(Which::Main, 1).copied();
+        assert!(rt; peeked == Some(7), "another item");
+        assert!(rt; caches.peek(Which::Hot, 1).is_none(), "it is hot");
+        if is_looked_at {
+            assert!(rt; caches.look(Which::Main, 1).is_some(), "it is gone");
+        }
+        caches.put(Which::Main, 3, 1, 3, 9)?;
+        let is_kept = caches.peek(Which::Main, 1).is_some();
+        assert!(rt; is_kept == is_looked_at, "the first is kept otherwise");
+        let second = caches.peek(Which::Main, 2).is_some();
+        assert!(rt; second != is_looked_at, "the second is kept otherwise");
+    }
+    Ok(())
+}
+
 #[test]
 fn replaced_entry_weighs_no_more(rt: HostRuntime) -> Result<(), AllocError> {
     let mut caches: Caches<u8> = Caches::new(rt.alloc(), 10, 2)?;

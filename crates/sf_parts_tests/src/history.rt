@@ -1,7 +1,8 @@
 //! The sequential group: each call once with ample memory, and the last generation.
 
 use sf_history::{
-    Asked, CallId, ChanAsked, Event, Forgotten, History, ModelRefusal, SeqGroup, Share, Taken,
+    Asked, CallId, ChanAsked, Event, Forgotten, History, Hit, ModelRefusal, SeqGroup, Share, Taken,
+    laws, walk,
 };
 use sf_text::{Outcome, Text};
 use std::alloc::Global;
@@ -106,6 +107,60 @@ fn a_forgotten_call_is_still_answered(rt: HostRuntime) -> Result<(), Fail> {
         "a letter is taken twice"
     );
     Ok(())
+}
+
+#[test]
+fn one_call_is_forgotten(rt: HostRuntime) -> Result<(), Fail> {
+    let alloc = rt.alloc();
+    let mut group: SeqGroup<Text, Outcome> = SeqGroup::new(alloc, 5, 1);
+    let key = text(alloc, "k")?;
+    let (caller, generation) = (1, 1);
+    let one = CallId { caller, generation };
+    let three = CallId {
+        caller: 3,
+        generation,
+    };
+    group.ask(1, text(alloc, "k")?)?;
+    let hit = group.forget_call(2, text(alloc, "j")?, one)?;
+    assert!(rt; hit == Hit::Missed, "{hit} at another key");
+    let hit = group.forget_call(2, text(alloc, "k")?, one)?;
+    assert!(rt; hit == Hit::Closed, "{hit} where it is open");
+    group.ask(3, text(alloc, "k")?)?;
+    let hit = group.forget_call(2, text(alloc, "k")?, one)?;
+    assert!(rt; hit == Hit::Missed, "{hit} where a newer one is open");
+    let refused = group.forget_call(3, text(alloc, "k")?, one);
+    assert!(rt;
+        refused == Err(ModelRefusal::NotFree(3)),
+        "a leader forgets"
+    );
+    assert!(rt;
+        group.is_current(&key, three),
+        "the newer call is not current"
+    );
+    group
+        .settle(3, Ok(text(alloc, "v")?))
+        .map_err(|(refusal, _)| refusal)?;
+    let found = walk::hit(group.history().events(), &key, three);
+    assert!(rt; found == Hit::Cleared, "{found} is found");
+    let hit = group.forget_call(2, text(alloc, "k")?, three)?;
+    assert!(rt; hit == Hit::Cleared, "{hit} where it is settled");
+    assert!(rt;
+        !group.is_current(&key, three),
+        "a forgotten call is current"
+    );
+    let events = group.history().len();
+    assert!(rt; events == 8, "{events} events in place of 8");
+    Ok(())
+}
+
+#[test]
+fn laws_of_histories(_rt: HostRuntime) {
+    laws::open_call_is_last_lead::<Text, Outcome>();
+    laws::current_call_is_last_lead::<Text, Outcome>();
+    laws::past_calls_stay_past::<Text, Outcome>();
+    laws::current_call_is_last_led::<Text, Outcome>();
+    laws::forgotten_calls_are_past::<Text, Outcome>();
+    laws::open_call_is_current::<Text, Outcome>();
 }
 
 #[test]

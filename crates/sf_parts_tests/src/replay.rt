@@ -1,7 +1,7 @@
 //! The rows of the records, and what is written for a history.
 
 use sf_checker::{Verdict, check, check_indexed};
-use sf_history::{CallId, Event, History};
+use sf_history::{CallId, Event, History, Hit};
 use sf_replay::{RecordRefusal, merge, read, write};
 use std::alloc::{AllocError, Global};
 use std::process::Abort;
@@ -137,7 +137,66 @@ fn joiner_counts_in_records(rt: HostRuntime) -> Result<(), Fail> {
         ),
     ];
     for (records, due) in rows {
-        assert_answer(&rt, rt.alloc(), 2, records, due)?;
+        for format in [2, 3] {
+            assert_answer(&rt, rt.alloc(), format, records, due)?;
+        }
+    }
+    Ok(())
+}
+
+const CLOSED: &str = "{\"e\":\"forgetcall\",\"by\":3,\"k\":\"k\",\"c\":[1,1],\"hit\":\"closed\"}\n";
+
+const CLEARED: &str =
+    "{\"e\":\"forgetcall\",\"by\":3,\"k\":\"k\",\"c\":[1,1],\"hit\":\"cleared\"}\n";
+
+const MISSED: &str = "{\"e\":\"forgetcall\",\"by\":3,\"k\":\"k\",\"c\":[1,1],\"hit\":\"missed\"}\n";
+
+/// Both checkers look at what a Forget of one call found.
+#[test]
+fn hits_in_records(rt: HostRuntime) -> Result<(), Fail> {
+    let newer = "{\"e\":\"lead\",\"by\":4,\"k\":\"k\",\"c\":[4,1],\"own\":null}\n";
+    let rows: [(&[&str], &str); 12] = [
+        (&[MISSED, LEAD, ENTER], "legal: 3 events"),
+        (&[CLEARED], "event 1: hit is wrong"),
+        (
+            &[LEAD, ENTER, CLOSED, SETTLE_ERROR, HANDED],
+            "legal: 5 events",
+        ),
+        (&[LEAD, ENTER, CLEARED], "event 3: hit is wrong"),
+        (&[LEAD, ENTER, MISSED], "event 3: hit is wrong"),
+        (&[LEAD, CLOSED, newer, MISSED], "legal: 4 events"),
+        (&[LEAD, CLOSED, newer, CLOSED], "event 4: hit is wrong"),
+        (&[LEAD, CLOSED, newer, CLEARED], "event 4: hit is wrong"),
+        (
+            &[LEAD, ENTER, SETTLE_ERROR, CLEARED, newer],
+            "legal: 5 events",
+        ),
+        (
+            &[LEAD, ENTER, SETTLE_ERROR, CLOSED],
+            "event 4: hit is wrong",
+        ),
+        (
+            &[LEAD, ENTER, SETTLE_ERROR, newer, CLEARED],
+            "event 5: hit is wrong",
+        ),
+        (
+            &[LEAD, ENTER, SETTLE_ERROR, CLEARED, CLEARED],
+            "event 5: hit is wrong",
+        ),
+    ];
+    for (records, due) in rows {
+        assert_answer(&rt, rt.alloc(), 3, records, due)?;
+    }
+    Ok(())
+}
+
+#[test]
+fn second_format_has_no_forgetcall(rt: HostRuntime) -> Result<(), Fail> {
+    for hit in [CLOSED, CLEARED, MISSED] {
+        for format in [1, 2] {
+            let due = "line 3: not a record";
+            assert_answer(&rt, rt.alloc(), format, &[LEAD, hit, HANDED], due)?;
+        }
     }
     Ok(())
 }
@@ -151,7 +210,7 @@ fn assert_written(
 ) -> Result<(), Fail> {
     let history = read(alloc, after_format(alloc, 1, records)?.as_bytes())?;
     let written = write(alloc, &history)?;
-    let due = after_format(alloc, 2, due)?;
+    let due = after_format(alloc, 3, due)?;
     assert!(rt; written.as_str() == due.as_str(), "{written}");
     Ok(())
 }
@@ -184,12 +243,16 @@ fn first_format_is_still_read(rt: HostRuntime) -> Result<(), Fail> {
 #[test]
 fn written_records_read_back(rt: HostRuntime) -> Result<(), Fail> {
     let alloc = rt.alloc();
-    let text = after_format(alloc, 2, &[LEAD, ENTER, SETTLE_ERROR, HANDED])?;
+    let text = after_format(
+        alloc,
+        3,
+        &[MISSED, LEAD, ENTER, CLOSED, SETTLE_ERROR, HANDED, CLEARED],
+    )?;
     let history = read(alloc, text.as_bytes())?;
     let written = write(alloc, &history)?;
-    assert!(rt; written.as_str() == text.as_str());
+    assert!(rt; written.as_str() == text.as_str(), "{written}");
     let again = read(alloc, written.as_bytes())?;
-    assert!(rt; again.len() == 4);
+    assert!(rt; again.len() == 7);
     assert!(rt; write(alloc, &again)?.as_str() == text.as_str());
     Ok(())
 }
@@ -202,7 +265,13 @@ fn other_spellings_of_records(rt: HostRuntime) -> Result<(), Fail> {
         " {\t\"format\" : 1 } \r\n{\"own\":[65535,4294967295],\"k\":\"\\u00e9\\n\",\"by\":9,\"c\":[1,1],\"by\":1,\"e\":\"lead\"}";
     let history = read(alloc, text.as_bytes())?;
     let line =
-        "{\"format\":2}\n{\"e\":\"lead\",\"by\":1,\"k\":\"é\\n\",\"c\":[1,1],\"own\":[65535,4294967295]}\n";
+        "{\"format\":3}\n{\"e\":\"lead\",\"by\":1,\"k\":\"é\\n\",\"c\":[1,1],\"own\":[65535,4294967295]}\n";
+    assert!(rt; write(alloc, &history)?.as_str() == line);
+    let text =
+        "{\"format\":3}\n{\"hit\":\"lost\", \"c\":[65535,4294967295],\"k\":\"\",\"by\":65535,\"e\":\"forgetcall\",\"hit\":\"\\u006dissed\"}";
+    let history = read(alloc, text.as_bytes())?;
+    let line =
+        "{\"format\":3}\n{\"e\":\"forgetcall\",\"by\":65535,\"k\":\"\",\"c\":[65535,4294967295],\"hit\":\"missed\"}\n";
     assert!(rt; write(alloc, &history)?.as_str() == line);
     Ok(())
 }
@@ -228,8 +297,13 @@ fn bad_records(rt: HostRuntime) -> Result<(), Fail> {
         "{\"e\":\"settle\",\"by\":1,\"c\":[1,1],\"shared\":true}",
         "{\"e\":\"settle\",\"by\":1,\"c\":[1,1],\"joiners\":1}",
         "{\"e\":\"forget\",\"by\":1,\"k\":\"k\"}",
+        "{\"e\":\"forgetcall\",\"by\":1,\"k\":\"k\",\"c\":[1,1]}",
+        "{\"e\":\"forgetcall\",\"by\":1,\"k\":\"k\",\"c\":null,\"hit\":\"missed\"}",
+        "{\"e\":\"forgetcall\",\"by\":1,\"k\":\"k\",\"c\":[1,1],\"hit\":\"idle\"}",
+        "{\"e\":\"forgetcall\",\"by\":1,\"c\":[1,1],\"hit\":\"missed\"}",
+        "{\"e\":\"forgetcall\",\"by\":1,\"k\":\"k\",\"c\":[1,1],\"hit\":\"missed\",\"closed\":null}",
     ] {
-        for format in [1, 2] {
+        for format in [1, 2, 3] {
             assert_answer(
                 &rt,
                 alloc,
@@ -241,6 +315,7 @@ fn bad_records(rt: HostRuntime) -> Result<(), Fail> {
     }
     for first in [
         "\n",
+        "{\"format\":4}",
         "{\"format\":9}",
         "{\"format\":0}",
         "{\"format\":\"1\"}",
@@ -290,6 +365,12 @@ fn numbers_as_keys(rt: HostRuntime) -> Result<(), Fail> {
         return Err(Fail::new("legal"));
     };
     assert!(rt; index == 3, "event {index}");
+    let mut events = history.into_vec();
+    drop(events.pop());
+    events.push(forget_call(2, 5, call, Hit::Cleared))?;
+    events.push(forget_call(2, 5, call, Hit::Missed))?;
+    let history = History::from_vec(events);
+    assert!(rt; check(&history) == Verdict::Legal && history.len() == 4);
     Ok(())
 }
 
@@ -302,6 +383,14 @@ fn code_of(event: &Event<u32, ()>) -> [u32; 4] {
             Some(call) => [3, *by, call.caller, call.generation],
             None => [3, *by, 0, 0],
         },
+        Event::ForgetCall { by, call, hit, .. } => {
+            let code = match hit {
+                Hit::Closed => 6,
+                Hit::Cleared => 7,
+                Hit::Missed => 8,
+            };
+            [code, *by, call.caller, call.generation]
+        }
         Event::Settle { by, call, .. } => [4, *by, call.caller, call.generation],
         Event::Handed { by, call } => [5, *by, call.caller, call.generation],
     }
@@ -340,6 +429,22 @@ fn handed(by: u32, call: CallId) -> Event<u32, ()> {
     Event::Handed { by, call }
 }
 
+fn forget_call(by: u32, key: u32, call: CallId, hit: Hit) -> Event<u32, ()> {
+    Event::ForgetCall { by, key, call, hit }
+}
+
+// The events of a history are compared so.
+fn are_events(rt: &impl Abort, history: &History<u32, ()>, due: &[[u32; 4]]) {
+    let events = history.len();
+    assert!(rt; events == due.len(), "{events} events");
+    for (index, event) in history.events().iter().enumerate() {
+        assert!(rt;
+            due.get(index).copied() == Some(code_of(event)),
+            "event {index}"
+        );
+    }
+}
+
 /// By keys: forgets that closed nothing, then each call with its parts in order; what nobody led comes last.
 #[test]
 fn logs_merge_by_keys_and_calls(rt: HostRuntime) -> Result<(), Fail> {
@@ -370,13 +475,59 @@ fn logs_merge_by_keys_and_calls(rt: HostRuntime) -> Result<(), Fail> {
         [5, 1, 1, 1],
         [5, 3, 9, 9],
     ];
-    assert!(rt; merged.len() == due.len());
-    for (index, event) in merged.events().iter().enumerate() {
-        assert!(rt;
-            due.get(index).copied() == Some(code_of(event)),
-            "event {index}"
-        );
-    }
+    are_events(&rt, &merged, &due);
+    Ok(())
+}
+
+/// Forgets of one call that missed it stand with those that closed nothing, those that closed it with its Forgets, and those
+/// that cleared it at its end, also where it was never handed out.
+#[test]
+fn forgets_of_one_call_are_merged(rt: HostRuntime) -> Result<(), Fail> {
+    let alloc = rt.alloc();
+    let (one, two) = (call(1, 1), call(2, 2));
+    let idle = Event::Forget {
+        by: 1,
+        key: 5,
+        closed: None,
+    };
+    let closed = Event::Forget {
+        by: 3,
+        key: 7,
+        closed: Some(one),
+    };
+    let missed = forget_call(1, 5, call(8, 8), Hit::Missed);
+    let first = vec![in alloc; handed(1, one), settle(one, 1), lead(7, one), missed, idle]?;
+    let cleared_handed = forget_call(2, 7, one, Hit::Cleared);
+    let cleared_settled = forget_call(2, 5, two, Hit::Cleared);
+    let second = vec![in alloc;
+        cleared_handed,
+        lead(5, two),
+        enter(7, one, call(2, 1)),
+        cleared_settled,
+        settle(two, 0),
+    ]?;
+    let cleared_unled = forget_call(3, 5, call(9, 9), Hit::Cleared);
+    let closed_alone = forget_call(3, 7, one, Hit::Closed);
+    let missed_led = forget_call(3, 5, two, Hit::Missed);
+    let third = vec![in alloc; cleared_unled, closed_alone, missed_led, closed]?;
+    let merged = merge(alloc, vec![in alloc; first, second, third]?)?;
+    let due = [
+        [8, 1, 8, 8],
+        [3, 1, 0, 0],
+        [8, 3, 2, 2],
+        [1, 2, 2, 2],
+        [4, 2, 2, 2],
+        [7, 2, 2, 2],
+        [1, 1, 1, 1],
+        [2, 2, 1, 1],
+        [6, 3, 1, 1],
+        [3, 3, 1, 1],
+        [4, 1, 1, 1],
+        [5, 1, 1, 1],
+        [7, 2, 1, 1],
+        [7, 3, 9, 9],
+    ];
+    are_events(&rt, &merged, &due);
     Ok(())
 }
 
@@ -389,6 +540,16 @@ fn merged_logs_of_a_group_are_legal(rt: HostRuntime) -> Result<(), Fail> {
     let second = vec![in alloc; enter(7, one, call(2, 1))]?;
     let merged = merge(alloc, vec![in alloc; second, first]?)?;
     assert!(rt; merged.len() == 4 && check(&merged) == Verdict::Legal);
+    let three = call(3, 1);
+    let first = vec![in alloc; lead(7, one), settle(one, 0), handed(1, one)]?;
+    let second = vec![in alloc;
+        forget_call(2, 7, one, Hit::Closed),
+        forget_call(2, 7, one, Hit::Missed),
+        forget_call(2, 7, three, Hit::Cleared),
+    ]?;
+    let third = vec![in alloc; lead(7, three), settle(three, 0), handed(3, three)]?;
+    let merged = merge(alloc, vec![in alloc; third, second, first]?)?;
+    assert!(rt; merged.len() == 9 && check(&merged) == Verdict::Legal);
     let no_logs: Vec<Vec<Event<u32, ()>>> = Vec::new(alloc);
     assert!(rt; merge(alloc, no_logs)?.is_empty());
     Ok(())

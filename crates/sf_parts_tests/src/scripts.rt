@@ -1,6 +1,6 @@
 //! Commands obeyed in turn, and whole inputs and answers.
 
-use sf_history::{Command, SeqGroup};
+use sf_history::{CallId, Command, SeqGroup};
 use sf_model::obey_all;
 use sf_text::{Outcome, Text, read_all, write_all};
 use std::test::Fail;
@@ -18,10 +18,18 @@ fn commands_are_obeyed_in_turn(rt: HostRuntime) -> Result<(), Fail> {
             caller: 8,
             key: Text::copied(alloc, "k")?,
         },
+        Command::ForgetCall {
+            caller: 9,
+            key: Text::copied(alloc, "k")?,
+            call: CallId {
+                caller: 7,
+                generation: 1,
+            },
+        },
     ];
     let lines = obey_all(alloc, &mut group, &commands)?;
     assert!(rt;
-        lines.as_str() == "7 lead 7.1\n8 forgot 7.1\n",
+        lines.as_str() == "7 lead 7.1\n8 forgot 7.1\n9 missed 7.1\n",
         "it replies {lines}"
     );
     Ok(())

@@ -1,5 +1,6 @@
 //! The world step by step, and a schedule that is played.
 
+use sf_history::CallId;
 use sf_steps::{Op, ScheduleRefusal, Step, World, laws, play, step_text, trace_text};
 use sf_text::{Outcome, Text};
 use std::alloc::Global;
@@ -173,6 +174,45 @@ fn idle_forget_clears_a_settled_call(rt: HostRuntime) -> Result<(), Fail> {
     Ok(())
 }
 
+/// Two callers forget one call: the one whose close fails leaves, and finds it cleared then.
+#[test]
+fn one_call_is_forgotten(rt: HostRuntime) -> Result<(), Fail> {
+    let alloc = rt.alloc();
+    let mut world: World<Outcome> = World::new(alloc, 3, 1)?;
+    let place = 1;
+    let call = CallId {
+        caller: 1,
+        generation: 1,
+    };
+    start(&rt, &mut world, 1, Op::Ask { place });
+    prints(&rt, alloc, &mut world, 1, "1 look 1 0\n")?;
+    prints(&rt, alloc, &mut world, 1, "1 ready 1.1 open\n")?;
+    let led = "1 lead 1 1.1 yes\n= lead 1 1.1\n";
+    prints(&rt, alloc, &mut world, 1, led)?;
+    assert!(rt; !world.may_start(1, &Op::Named { place }));
+    assert!(rt; !world.may_start(2, &Op::Named { place: 2 }));
+    assert!(rt; !world.may_start(1, &Op::ForgetCall { place, call }));
+    start(&rt, &mut world, 2, Op::ForgetCall { place, call });
+    start(&rt, &mut world, 3, Op::ForgetCall { place, call });
+    prints(&rt, alloc, &mut world, 2, "2 look 1 1.1\n")?;
+    prints(&rt, alloc, &mut world, 2, "2 peek 1.1 open 0\n")?;
+    prints(&rt, alloc, &mut world, 3, "3 look 1 1.1\n")?;
+    prints(&rt, alloc, &mut world, 3, "3 peek 1.1 open 0\n")?;
+    let closed = "3 close 1.1 forgot yes\n= forgetcall 1 1.1 closed\n";
+    prints(&rt, alloc, &mut world, 3, closed)?;
+    assert!(rt; !world.may_leave(2) && !world.may_leave(3));
+    prints(&rt, alloc, &mut world, 2, "2 close 1.1 forgot no\n")?;
+    leave(&rt, &mut world, 2);
+    prints(&rt, alloc, &mut world, 3, "3 clear 1 1.1 yes\n")?;
+    start(&rt, &mut world, 2, Op::Named { place });
+    prints(&rt, alloc, &mut world, 2, "2 look 1 1.1 cleared\n")?;
+    start(&rt, &mut world, 2, Op::ForgetCall { place, call });
+    let missed = "2 look 1 1.1 cleared\n= forgetcall 1 1.1 missed\n";
+    prints(&rt, alloc, &mut world, 2, missed)?;
+    assert!(rt; !world.may_step(2) && !world.may_step(3));
+    Ok(())
+}
+
 #[test]
 fn line_with_no_turn_is_refused(rt: HostRuntime) {
     let refused = play(rt.alloc(), b"do 1 ask 1\ndrop 1\n");
@@ -195,4 +235,7 @@ fn laws_of_schedules(_rt: HostRuntime) {
     laws::words_are_in_range::<Outcome>();
     laws::words_change_by_turns::<Outcome>();
     laws::closes_fail_seldom::<Outcome>();
+    laws::key_words_name_the_last_lead::<Outcome>();
+    laws::hits_are_right::<Outcome>();
+    laws::past_calls_stay_past::<Outcome>();
 }
