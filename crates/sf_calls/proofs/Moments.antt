@@ -1,5 +1,5 @@
 -- moments of a legal history: a call's Lead stands once in it, and a call is current when it has been led or entered
-use Rattle.std.proofs.Common.{◌≡◌, ℕ, nat_eq, ◌==◌, Bool, cond, eq-eqb, true, false, ◌&&◌, List, [], ◌∷◌, ◌++◌, ◌⊎◌, inl, inr, Option, Some, None, refl, sym, ap, ◌∙◌, subst, append_assoc}
+use Rattle.std.proofs.Common.{◌≡◌, ℕ, nat_eq, ◌==◌, Bool, cond, eq-eqb, true, false, ◌&&◌, List, [], ◌∷◌, ◌++◌, ◌⊎◌, inl, inr, Option, Some, None, refl, sym, ap, ◌∙◌, append_assoc}
 use Rattle.std.proofs.lemmas.Cmp.{nat_eq_equiv}
 use Rattle.std.proofs.lemmas.Bool.{or_left, or_right, or_from, eqb-true}
 use Rattle.std.proofs.lemmas.List.{append_cancel_left}
@@ -131,7 +131,7 @@ module _ {V : Type 0} where
   entered_current h before by k c m legal within =
       let is : h ≡ before ++ Enter by k c m ∷ within.0 = within.1 ∙ append_assoc before (Enter by k c m ∷ []) within.0 in
       fold_push (keeps_current nat_eq k) None before (Enter by k c m)
-          ∙ open_is_current nat_eq nat_eq_equiv before k c (legal_before h before legal (Enter by k c m ∷ within.0, is)) (legal before within.0 (Enter by k c m) is).2
+      ∙ open_is_current nat_eq nat_eq_equiv before k c (legal_before h before legal (Enter by k c m ∷ within.0, is)) (legal before within.0 (Enter by k c m) is).2
 
   -- what stands in a list stands in each that begins with it
   pub stands_more : (e : Event ℕ V) (p h : List (Event ℕ V)) → StartsWith h p → Stands e p → Stands e h

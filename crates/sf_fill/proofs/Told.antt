@@ -10,16 +10,14 @@ use Rattle.sf_history.specs.declared.event.Hit.TheVariants as hit
 use Rattle.sf_history.specs.History.{own_events, current_call}
 use Rattle.sf_history.specs.Legal.{IsLegal}
 use Rattle.sf_calls.specs.Seen.{StartsWith, Stands}
-use Rattle.sf_calls.specs.Tokens.{NoteValue, LetterValue}
 use Rattle.sf_calls.specs.Unforgotten.{forgets, IsUnforgotten}
 use Rattle.sf_calls.proofs.AddsAgain.{starts_again}
 use Rattle.sf_calls.proofs.Moments.{legal_before, stands_more, stands_own}
-use Rattle.sf_dir.specs.Known.{DirectoryId}
 use Rattle.sf_fill.specs.declared.forgot.Forgot.{Forgot}
 use Rattle.sf_fill.specs.declared.forgot.Forgot.TheVariants as forgot
 use Rattle.sf_fill.specs.FillValue.{Filled}
-use Rattle.sf_fill.specs.Fresh.{IsFresh, IsForgetOf, handed_by, forgot_by}
-use Rattle.sf_fill.specs.GetterValue.{GetterValue, number_of, seen_of}
+use Rattle.sf_fill.specs.Fresh.{handed_by, forgot_by}
+use Rattle.sf_fill.specs.GetterValue.{number_of, seen_of}
 use Rattle.sf_fill.specs.Notes.{IsLedAfter, IsLoadedAfter, NotesCarryReloads}
 use Rattle.sf_fill.proofs.Outdated.{current_names, names_more, past_after}
 

@@ -3,7 +3,6 @@ use Rattle.std.specs.Prelude.{◌≡◌, ◌≢◌, ℕ, nat_eq, Bool, List, [],
 use Rattle.sf_history.specs.declared.call.CallId.{CallId}
 use Rattle.sf_history.specs.declared.event.Event.{Event}
 use Rattle.sf_history.specs.declared.event.Event.TheVariants.{Lead, ForgetCall}
-use Rattle.sf_history.specs.declared.event.Hit.{Hit}
 use Rattle.sf_history.specs.declared.event.Hit.TheVariants as hit
 use Rattle.sf_history.specs.History.{current_call}
 use Rattle.sf_history.specs.Legal.{IsLegal}

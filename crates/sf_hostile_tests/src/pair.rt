@@ -258,7 +258,10 @@ fn take_letter<'d, D: Naming, N: Naming>(
     let call = ticket.call();
     match fill.group().poll(ticket) {
         Polled::Ready(_, letter) => {
-            assert!(rt; letter.call() == call && letter.joiners() == 1, "another letter")
+            assert!(rt;
+                letter.call() == call && letter.joiners() == 1,
+                "another letter"
+            )
         }
         Polled::Pending(ticket) => {
             ticket.abandon();

@@ -49,7 +49,8 @@ returns-clause-learnt g c =
     let noted : sizes_of n ≡ c.group.inside.sizes = ap (λ (x : NoteValue _). x.group.sizes) c.note.view_is ∙ ap (λ (x : GroupValue). x.sizes) (c.requires.note ∙ sym c.group.view_is) in
     let heard = subst (λ (z : Sizes). HasHeard z v n.known.turns w) (sym same) c.hear_note.ensures.heard in
     let goes = owes_still s.number s.place s.call.generation s.own s.value s.joiners s.top n.known.turns v w was.0 heard in
-    subst (λ (x : NoteValue _). IsHeldStill c.args.self.now (settled_of t w s.number s.place s.call s.value s.joiners) × StartsWith (history_of (sizes_of w) w.known.turns) x.seen) c.note.view_is
-    (subst (λ (x : SettledValue _). IsHeldStill x (settled_of t w s.number s.place s.call s.value s.joiners)) c.self.view_is
-    (still_row s.seat.table_id t s.number s.place s.call s.value s.joiners v w p c.hear_note.ensures.own.0 goes),
-    heard_shown (sizes_of v) s.number v n w p (noted ∙ sym same) goes.sits heard)
+    subst (λ (x : NoteValue _). IsHeldStill c.args.self.now (settled_of t w s.number s.place s.call s.value s.joiners) × StartsWith (history_of (sizes_of w) w.known.turns) x.seen) c.note.view_is (
+      subst (λ (x : SettledValue _). IsHeldStill x (settled_of t w s.number s.place s.call s.value s.joiners)) c.self.view_is
+          (still_row s.seat.table_id t s.number s.place s.call s.value s.joiners v w p c.hear_note.ensures.own.0 goes),
+      heard_shown (sizes_of v) s.number v n w p (noted ∙ sym same) goes.sits heard,
+    )

@@ -26,7 +26,8 @@ returns-clause-same g c =
 pub returns-clause-told : goal.returns-clause-told
 returns-clause-told g c =
     let s = c.self.inside in
-    let done = c.split_seat-seat.ensures in
-    (ap (λ (x : TableId). group_of x c.split_seat-seat.result.me.0) done.3
-    ∙ (ap (λ (m : Me (Option (Letter _)) (View _)). group_of s.seat.table_id m.0) done.4 ∙ ap (λ (x : SettledValue _). x.group) c.self.view_is),
-    ap (λ (m : Me (Option (Letter _)) (View _)). history_of (sizes_of m.0) m.0.known.turns) done.4 ∙ ap (λ (x : SettledValue _). x.seen) c.self.view_is)
+    let done = c.split_seat-seat.ensures in (
+      ap (λ (x : TableId). group_of x c.split_seat-seat.result.me.0) done.3
+          ∙ (ap (λ (m : Me (Option (Letter _)) (View _)). group_of s.seat.table_id m.0) done.4 ∙ ap (λ (x : SettledValue _). x.group) c.self.view_is),
+      ap (λ (m : Me (Option (Letter _)) (View _)). history_of (sizes_of m.0) m.0.known.turns) done.4 ∙ ap (λ (x : SettledValue _). x.seen) c.self.view_is,
+    )
