@@ -1,5 +1,5 @@
 -- a call that is current after all that had been seen was led after each Forget of the place that had been seen
-use Rattle.std.proofs.Common.{◌≡◌, ℕ, nat_eq, true, false, List, ◌∷◌, ◌++◌, Option, Some, sym, ap, ◌∙◌, append_assoc}
+use Rattle.std.proofs.Common.{◌≡◌, ℕ, nat_eq, true, false, List, ◌∷◌, ◌++◌, Some, sym, ap, ◌∙◌, append_assoc}
 use Rattle.std.proofs.lemmas.Bool.{or_left, or_right}
 use Rattle.std.proofs.lemmas.List.Folds.{list_any-append}
 use Rattle.std.specs.List.{list_any}
