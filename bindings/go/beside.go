@@ -52,11 +52,22 @@ func (b *beside) settle(c *besideCall, v interface{}, err error) int64 {
 	defer b.mu.Unlock()
 	c.val, c.err = v, err
 	c.settled = true
+	b.drop(c)
+	close(c.done)
+	return c.joined
+}
+
+func (b *beside) forgetCall(c *besideCall) {
+	b.mu.Lock()
+	defer b.mu.Unlock()
+	b.drop(c)
+}
+
+// Nobody joins it any more. The lock is held.
+func (b *beside) drop(c *besideCall) {
 	if b.open[c.key] == c {
 		delete(b.open, c.key)
 	}
-	close(c.done)
-	return c.joined
 }
 
 func (c *besideCall) join(stop <-chan struct{}) (v interface{}, err error, ended, settled bool) {

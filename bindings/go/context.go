@@ -13,7 +13,7 @@ func (detached) Done() <-chan struct{}       { return nil }
 func (detached) Err() error                  { return nil }
 
 // DoContext is Do for a caller that waits no longer than its context: then it returns the context's error at once. The function
-// gets a context of its own, with the values of the leader's, which ends when nobody waits for the call any more; the key is
+// gets a context of its own, with the values of the leader's, which ends when nobody waits for the call any more; that call is
 // forgotten then, and who had joined nevertheless asks again.
 func (g *Group) DoContext(ctx context.Context, key string, fn func(context.Context) (interface{}, error)) (v interface{}, err error, shared bool) {
 	p := g.pool()
@@ -28,7 +28,7 @@ func (g *Group) DoContext(ctx context.Context, key string, fn func(context.Conte
 		v, err, ended, settled := p.join(a, ctx.Done())
 		if !settled {
 			if ended {
-				p.forget(key)
+				p.forgetAsked(a, key)
 			}
 			return nil, ctx.Err(), false
 		}
@@ -62,7 +62,7 @@ func (p *pool) leadContext(ctx context.Context, a asking, key string, fn func(co
 		return r.Val, r.Err, r.Shared
 	}
 	if last {
-		p.forget(key)
+		p.forgetAsked(a, key)
 	}
 	return nil, ctx.Err(), false
 }

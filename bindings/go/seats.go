@@ -18,20 +18,28 @@ static uint32_t number(sf_slot *slot) {
 }
 
 // A slot comes as its address, and a key as Go has it, so that a call allocates nothing and is checked for no pointers. Where
-// the slot joined, the number of the leader stands above the code.
+// the slot leads or joined, the number of the leader stands above the code, in 16 bits from bit 8 on, and the generation in the upper half.
 static uint64_t ask(uintptr_t slot, _GoString_ key) {
 	uint32_t code, leader = 0, generation = 0;
 	do {
 		code = sf_ask((sf_slot *)slot, (const uint8_t *)_GoStringPtr(key), _GoStringLen(key), SF_MOST_TRIES);
 	} while (code == SF_BUSY);
-	if (code == SF_JOINED) sf_call((sf_slot *)slot, &leader, &generation);
-	return (uint64_t)leader << 32 | code;
+	if (code == SF_LEADS || code == SF_JOINED) sf_call((sf_slot *)slot, &leader, &generation);
+	return (uint64_t)generation << 32 | leader << 8 | code;
 }
 
 static uint32_t forget(sf_slot *slot, _GoString_ key) {
 	uint32_t code;
 	do {
 		code = sf_forget(slot, (const uint8_t *)_GoStringPtr(key), _GoStringLen(key), SF_MOST_TRIES);
+	} while (code == SF_BUSY);
+	return code;
+}
+
+static uint32_t forget_call(sf_slot *slot, _GoString_ key, uint32_t caller, uint32_t generation) {
+	uint32_t code;
+	do {
+		code = sf_forget_call(slot, (const uint8_t *)_GoStringPtr(key), _GoStringLen(key), caller, generation, SF_MOST_TRIES);
 	} while (code == SF_BUSY);
 	return code;
 }
@@ -287,6 +295,7 @@ type asking struct {
 	shard  int
 	seat   *seat
 	leader *seat
+	call   Call
 	beside *besideCall
 	leads  bool
 }
@@ -300,13 +309,14 @@ func (p *pool) ask(key string) asking {
 			break
 		}
 		asked := uint64(C.ask(s.at, key))
-		switch uint32(asked) {
+		call := Call{uint32(asked) >> 8, uint32(asked >> 32)}
+		switch uint8(asked) {
 		case C.SF_LEADS:
 			s.leads.Add(1)
-			return asking{shard: shard, seat: s, leads: true}
+			return asking{shard: shard, seat: s, call: call, leads: true}
 		case C.SF_JOINED:
 			s.joins.Add(1)
-			return asking{shard: shard, seat: s, leader: p.numbered(uint32(asked >> 32))}
+			return asking{shard: shard, seat: s, call: call, leader: p.numbered(call.caller)}
 		case C.SF_SPENT:
 			p.retire(s)
 			continue
@@ -323,6 +333,31 @@ func (p *pool) forget(key string) bool {
 	p.mu.Lock()
 	defer p.mu.Unlock()
 	return p.root.slot != nil && C.forget(p.root.slot, key) == C.SF_DONE || beside
+}
+
+// Forgets one call of the library. One that stood beside it, which the zero Call names, has none.
+func (p *pool) forgetCall(key string, call Call) Hit {
+	p.mu.Lock()
+	defer p.mu.Unlock()
+	if p.root.slot == nil || call == (Call{}) {
+		return Missed
+	}
+	switch C.forget_call(p.root.slot, key, C.uint32_t(call.caller), C.uint32_t(call.generation)) {
+	case C.SF_CLOSED:
+		return Closed
+	case C.SF_CLEARED:
+		return Cleared
+	}
+	return Missed
+}
+
+// Forgets the call of an asking, and no newer one.
+func (p *pool) forgetAsked(a asking, key string) {
+	if a.beside != nil {
+		p.beside.forgetCall(a.beside)
+	} else {
+		p.forgetCall(key, a.call)
+	}
 }
 
 // Settles the call that the seat leads, and wakes who waits for it. How many joined.

@@ -18,11 +18,39 @@ import (
 	"sync/atomic"
 )
 
-// Result is what Do returns, for DoChan.
+// Result is what DoCall returns, for DoChan.
 type Result struct {
 	Val    interface{}
 	Err    error
 	Shared bool
+	Call   Call
+}
+
+// Call names a call of a group, for ForgetCall: no two calls of one are the same. The zero Call is that of each that stood beside
+// the library.
+type Call struct{ caller, generation uint32 }
+
+// Hit is what a Forget of one call found.
+type Hit uint8
+
+// What ForgetCall returns.
+const (
+	Missed  Hit = iota // it was not current, and nothing changed
+	Closed             // it was open, and nobody joins it any more
+	Cleared            // it had ended and was current, and is current no more
+)
+
+// String returns the name of the Hit.
+func (h Hit) String() string {
+	switch h {
+	case Missed:
+		return "Missed"
+	case Closed:
+		return "Closed"
+	case Cleared:
+		return "Cleared"
+	}
+	return fmt.Sprintf("Hit(%d)", uint8(h))
 }
 
 // ErrSize is that of New: a size is out of range, or there is no memory.
@@ -72,7 +100,7 @@ type Stats struct {
 	Joins  uint64 // askings that joined another's call
 	Alone  uint64 // functions that were called beside the library, as no caller was free, or no room for the key
 	Closed uint64 // Forgets that closed a call
-	Idle   uint64 // Forgets that found none open
+	Idle   uint64 // Forgets that closed none
 	Made   uint32 // callers that were made so far
 	InUse  uint32 // callers that lead or wait, or whose answers not all have yet
 }
@@ -153,20 +181,27 @@ func (g *Group) Stats() Stats {
 // Do returns what fn returns: of the key's open call, or where there is none, of a new one, for which it calls fn. Where that
 // panics or ends its goroutine, so do all who joined.
 func (g *Group) Do(key string, fn func() (interface{}, error)) (v interface{}, err error, shared bool) {
+	v, err, shared, _ = g.DoCall(key, fn)
+	return v, err, shared
+}
+
+// DoCall is Do, and tells from which call the result came.
+func (g *Group) DoCall(key string, fn func() (interface{}, error)) (v interface{}, err error, shared bool, call Call) {
 	p := g.pool()
 	return p.do(p.ask(key), key, fn)
 }
 
-func (p *pool) do(a asking, key string, fn func() (interface{}, error)) (v interface{}, err error, shared bool) {
+func (p *pool) do(a asking, key string, fn func() (interface{}, error)) (v interface{}, err error, shared bool, call Call) {
 	for ; !a.leads; a = p.ask(key) {
 		v, err, ended, _ := p.join(a, nil)
 		if !ended || err == nil {
 			end(err)
-			return v, err, true
+			return v, err, true, a.call
 		}
 		// All who waited before had left, so that the load was told to end.
 	}
-	return p.lead(a, fn, nil)
+	v, err, shared = p.lead(a, fn, nil)
+	return v, err, shared, a.call
 }
 
 // Ends the goroutine as the function did whose error this is.
@@ -178,14 +213,14 @@ func end(err error) {
 	}
 }
 
-// DoChan is Do, whose result comes by a channel. The channel is not closed.
+// DoChan is DoCall, whose result comes by a channel. The channel is not closed.
 func (g *Group) DoChan(key string, fn func() (interface{}, error)) <-chan Result {
 	ch := make(chan Result, 1)
 	p := g.pool()
 	a := p.ask(key)
 	go func() {
 		var r Result
-		r.Val, r.Err, r.Shared = p.do(a, key, fn)
+		r.Val, r.Err, r.Shared, r.Call = p.do(a, key, fn)
 		ch <- r
 	}()
 	return ch
@@ -204,6 +239,22 @@ func (g *Group) Forget(key string) {
 	}
 }
 
+// ForgetCall forgets this call of the key alone, and leaves a newer one as it is: so of two that throw one stale result away the
+// later does not end the call that the first made. The zero Call is missed.
+func (g *Group) ForgetCall(key string, call Call) Hit {
+	p := g.made.Load()
+	if p == nil {
+		return Missed
+	}
+	hit := p.forgetCall(key, call)
+	if hit == Closed {
+		p.closes.Add(1)
+	} else {
+		p.idles.Add(1)
+	}
+	return hit
+}
+
 // Calls fn, and settles the call that was led, also where fn panics or ends its goroutine. A watched call has a goroutine of
 // its own, and its panic goes on in the leader's, unless that has left.
 func (p *pool) lead(a asking, fn func() (interface{}, error), watched *wait) (v interface{}, err error, shared bool) {
@@ -215,7 +266,7 @@ func (p *pool) lead(a asking, fn func() (interface{}, error), watched *wait) (v 
 		}
 		shared = p.settle(a, v, err, watched) > 0
 		if watched != nil && !watched.alone {
-			watched.result <- Result{v, err, shared}
+			watched.result <- Result{v, err, shared, a.call}
 		} else if e, ok := err.(*panicError); ok {
 			panic(e)
 		}

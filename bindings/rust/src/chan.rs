@@ -51,10 +51,9 @@ impl<T: Send + Sync> Receiver<T> {
 
     fn take(&mut self, letter: (u64, u32)) -> Option<Got<T>> {
         self.free = self.waits.take();
-        if let Some(caller) = &mut self.free {
-            caller.has_letter = true;
-        }
-        got(letter)
+        let caller = self.free.as_mut()?;
+        caller.has_letter = true;
+        got(letter, caller.seat.as_mut()?.call())
     }
 
     /// The caller that waited, which is free once its answer was there; else the receiver.

@@ -97,12 +97,52 @@ pub struct Got<T> {
     pub joiners: u32,
     /// Whether this caller led it.
     pub led: bool,
+    call: Call,
+}
+
+/// A call of a group: no two calls of one have both numbers the same.
+///
+/// ```
+/// # let group = singleflight::Group::<u32>::open(1, 1, 1).unwrap();
+/// # let mut caller = group.caller().unwrap();
+/// let first = caller.do_with(b"k", || 1).unwrap().call();
+/// assert_ne!(caller.do_with(b"k", || 2).unwrap().call(), first);
+/// ```
+#[derive(Clone, Copy, Debug, PartialEq, Eq, Hash)]
+pub struct Call {
+    /// The number of its leader.
+    pub caller: u32,
+    /// Which call of its leader it is.
+    pub generation: u32,
+}
+
+/// What a Forget of one call found.
+#[derive(Clone, Copy, Debug, PartialEq, Eq)]
+pub enum Hit {
+    /// It was open, and takes no more callers.
+    Closed,
+    /// It was settled and current, and is current no more.
+    Cleared,
+    /// It was not current, and nothing changed.
+    Missed,
 }
 
 impl<T> Got<T> {
     /// Whether somebody joined the call.
     pub fn shared(&self) -> bool {
         self.joiners > 0
+    }
+
+    /// The call that the answer came from, for [`Caller::forget_call`].
+    ///
+    /// ```
+    /// # let group = singleflight::Group::<u32>::open(1, 1, 1).unwrap();
+    /// # let mut caller = group.caller().unwrap();
+    /// let got = caller.do_with(b"k", || 1).unwrap();
+    /// assert_eq!(caller.named(b"k").unwrap(), Some(got.call()));
+    /// ```
+    pub fn call(&self) -> Call {
+        self.call
     }
 }
 
@@ -205,11 +245,13 @@ impl<T> Leading<'_, T> {
         let answer = Answer::lent(load());
         let joiners = self.settle(answer.number());
         answer.settle(u64::from(joiners) + u64::from(self.has_receiver));
+        let call = self.seat.call();
         std::mem::forget(self);
         Got {
             answer,
             joiners,
             led: true,
+            call,
         }
     }
 }
@@ -221,12 +263,13 @@ impl<T> Drop for Leading<'_, T> {
 }
 
 // What a letter brings to one who waited. None where the leader's load panicked.
-fn got<T>((number, joiners): (u64, u32)) -> Option<Got<T>> {
+fn got<T>((number, joiners): (u64, u32), call: Call) -> Option<Got<T>> {
     // SAFETY: the leader counts each who joined, and each takes its letter once.
     unsafe { Answer::of_number(number) }.map(|answer| Got {
         answer,
         joiners,
         led: false,
+        call,
     })
 }
 
@@ -276,7 +319,7 @@ impl<T: Send + Sync> Caller<T> {
                         return Err(Error::TimedOut);
                     };
                     self.has_letter = true;
-                    if let Some(got) = got(letter) {
+                    if let Some(got) = got(letter, seat.call()) {
                         return Ok(got);
                     }
                 }
@@ -309,6 +352,52 @@ impl<T: Send + Sync> Caller<T> {
                 raw::BUSY => std::hint::spin_loop(),
                 code => return Err(refusal(code)),
             }
+        }
+    }
+
+    /// Forgets this call of the key alone, and leaves a newer one as it is: of two that reload one stale answer the later does not
+    /// end the call that the first made.
+    ///
+    /// ```
+    /// # use singleflight::{Group, Hit};
+    /// # let group = Group::<u32>::open(1, 1, 1).unwrap();
+    /// # let mut caller = group.caller().unwrap();
+    /// let stale = caller.do_with(b"k", || 1).unwrap().call();
+    /// assert_eq!(caller.forget_call(b"k", stale), Ok(Hit::Cleared));
+    /// assert_eq!(caller.forget_call(b"k", stale), Ok(Hit::Missed));
+    /// ```
+    pub fn forget_call(&mut self, key: &[u8], call: Call) -> Result<Hit, Error> {
+        let seat = Self::seat(&self.pool, &mut self.seat)?;
+        let post = self.pool.post(seat.number);
+        let Call { caller, generation } = call;
+        let hit = loop {
+            match unsafe { raw::sf_forget_call(&mut seat.slot, key.as_ptr(), key.len(), caller, generation, raw::MOST_TRIES) } {
+                raw::DONE => break Hit::Closed,
+                raw::CLEARED => break Hit::Cleared,
+                raw::OTHERWISE => break Hit::Missed,
+                raw::BUSY => std::hint::spin_loop(),
+                code => return Err(refusal(code)),
+            }
+        };
+        let count = if hit == Hit::Closed { &post.closed } else { &post.idle };
+        count.fetch_add(1, Relaxed);
+        Ok(hit)
+    }
+
+    /// Which call the key names: the one that was led last, unless a Forget has ended it.
+    ///
+    /// ```
+    /// # let group = singleflight::Group::<u32>::open(1, 1, 1).unwrap();
+    /// # let mut caller = group.caller().unwrap();
+    /// assert_eq!(caller.named(b"k"), Ok(None));
+    /// ```
+    pub fn named(&mut self, key: &[u8]) -> Result<Option<Call>, Error> {
+        let seat = Self::seat(&self.pool, &mut self.seat)?;
+        let (mut caller, mut generation) = (0, 0);
+        match unsafe { raw::sf_named(&mut seat.slot, key.as_ptr(), key.len(), &mut caller, &mut generation) } {
+            raw::DONE => Ok(Some(Call { caller, generation })),
+            raw::OTHERWISE => Ok(None),
+            code => Err(refusal(code)),
         }
     }
 

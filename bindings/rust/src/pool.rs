@@ -2,7 +2,7 @@
 
 use crate::answer::Answer;
 use crate::raw::{self, Slot};
-use crate::{Error, refusal};
+use crate::{Call, Error, refusal};
 use std::marker::PhantomData;
 use std::sync::atomic::{AtomicU64, Ordering::Relaxed};
 use std::sync::{Condvar, Mutex, MutexGuard, OnceLock, PoisonError};
@@ -34,11 +34,11 @@ impl Seat {
         unsafe { raw::sf_number(&mut self.slot, &mut number) == raw::DONE }
     }
 
-    // The number of the leader that it waits for.
-    pub(crate) fn leader(&mut self) -> u32 {
-        let (mut leader, mut generation) = (0, 0);
-        unsafe { raw::sf_call(&mut self.slot, &mut leader, &mut generation) };
-        leader
+    // The call that it waits for, or that of the letter that it had last.
+    pub(crate) fn call(&mut self) -> Call {
+        let (mut caller, mut generation) = (0, 0);
+        unsafe { raw::sf_call(&mut self.slot, &mut caller, &mut generation) };
+        Call { caller, generation }
     }
 }
 
@@ -77,7 +77,7 @@ pub struct Stats {
     pub joins: u64,
     /// Forgets that closed a call.
     pub closed: u64,
-    /// Forgets that found none open.
+    /// Forgets that closed none.
     pub idle: u64,
     /// Callers that were made so far.
     pub made: u32,
@@ -170,7 +170,7 @@ impl<T> Pool<T> {
             }
             std::hint::spin_loop();
         }
-        let post = self.post(seat.leader());
+        let post = self.post(seat.call().caller);
         let mut guard = lock(&post.left);
         loop {
             if let Some(letter) = seat.poll() {
@@ -188,7 +188,7 @@ impl<T> Pool<T> {
 
     // The seat, which waits, goes back when its letter has come.
     pub(crate) fn leave(&self, mut seat: Seat) {
-        let post = self.post(seat.leader());
+        let post = self.post(seat.call().caller);
         let mut left = lock(&post.left);
         match seat.poll() {
             None => left.push(seat),

@@ -37,6 +37,7 @@ pub const BUSY: u32 = 3;
 pub const TOO_LONG: u32 = 4;
 pub const FULL: u32 = 5;
 pub const BAD_NUMBER: u32 = 8;
+pub const CLEARED: u32 = 10;
 pub const MOST_TRIES: u32 = 65_536;
 
 extern "C" {
@@ -50,6 +51,8 @@ extern "C" {
     pub fn sf_call(slot: &mut Slot, caller: &mut u32, generation: &mut u32) -> u32;
     pub fn sf_number(slot: &mut Slot, number: &mut u32) -> u32;
     pub fn sf_forget(slot: &mut Slot, key: *const u8, len: usize, tries: u32) -> u32;
+    pub fn sf_forget_call(slot: &mut Slot, key: *const u8, len: usize, caller: u32, generation: u32, tries: u32) -> u32;
+    pub fn sf_named(slot: &mut Slot, key: *const u8, len: usize, caller: &mut u32, generation: &mut u32) -> u32;
     pub fn sf_is_current(slot: &mut Slot) -> u32;
     pub fn sf_tell(slot: &mut Slot, note: &mut Note) -> u32;
     pub fn sf_learn(slot: &mut Slot, note: &mut Note) -> u32;
