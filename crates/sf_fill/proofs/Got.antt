@@ -1,7 +1,8 @@
 -- gets and reloads, over the parts of their getters
 use Rattle.std.proofs.Common.{◌≡◌, ℕ, List, Result, ap, sym, ◌∙◌, subst, refl}
 use Rattle.sf_history.specs.declared.call.CallId.{CallId}
-use Rattle.sf_dir.specs.Known.{DirectoryId, DeskState}
+use Rattle.sf_spots.specs.declared.key_space.KeyDesk.{KeyDesk}
+use Rattle.sf_spots.specs.Spaces.{SpaceId}
 use Rattle.sf_loaders.specs.LoadPath.{LoadAnswer}
 use Rattle.sf_loaders.specs.declared.load_path.Loaders.{Loaders}
 use Rattle.sf_fill.specs.declared.fault.LoadFault.{LoadFault}
@@ -16,12 +17,12 @@ use Rattle.sf_fill.specs.Reloads.{ReloadsFrom, HasReloaded}
 use Rattle.sf_fill.specs.Totals.{with_counts}
 
 module _ {P F L C : Type 0} where
-  pub got : (path : CallId → Loaders P F L C → LoadAnswer → Loaders P F L C → Type 0) (draws : C → C → Type 0) (d : DirectoryId) (key : List ℕ)
-      (old middle : GetterValue P F L C) (desk after : DeskState) (standing : Standing Filled) (loaders new : Loaders P F L C) (tallies counted : Totals) (reply : Reply)
+  pub got : (path : CallId → Loaders P F L C → LoadAnswer → Loaders P F L C → Type 0) (draws : C → C → Type 0) (space : SpaceId) (key : List ℕ)
+      (old middle : GetterValue P F L C) (desk after : KeyDesk) (standing : Standing Filled) (loaders new : Loaders P F L C) (tallies counted : Totals) (reply : Reply)
       → HasSettledUp old middle → record { desk = desk; standing = standing; loaders = loaders; counted = tallies } ≡ middle
-      → GetsFrom path draws d key standing desk after loaders new reply → counted ≡ with_counts tallies reply.1
-      → HasGot path draws d key old (record { desk = after; standing = reply.0; loaders = new; counted = counted }) reply.2
-  got path draws d key old middle desk after standing loaders new tallies counted reply h is g t =
+      → GetsFrom path draws space key standing desk after loaders new reply → counted ≡ with_counts tallies reply.1
+      → HasGot path draws space key old (record { desk = after; standing = reply.0; loaders = new; counted = counted }) reply.2
+  got path draws space key old middle desk after standing loaders new tallies counted reply h is g t =
       let from : HasSettledUp old (record { desk = desk; standing = standing; loaders = loaders; counted = tallies }) = subst (HasSettledUp old) (sym is) h in
       record {
         middle = record { desk = desk; standing = standing; loaders = loaders; counted = tallies };
@@ -31,12 +32,12 @@ module _ {P F L C : Type 0} where
         counted = t ∙ ap (λ (m : GetterValue P F L C). with_counts m.counted reply.1) from.rest;
       }
 
-  pub reloaded : (d : DirectoryId) (key : List ℕ) (old middle : GetterValue P F L C) (desk after : DeskState) (standing back : Standing Filled) (loaders : Loaders P F L C)
+  pub reloaded : (space : SpaceId) (key : List ℕ) (old middle : GetterValue P F L C) (desk after : KeyDesk) (standing back : Standing Filled) (loaders : Loaders P F L C)
       (tallies : Totals) (answer : Result Forgot LoadFault)
       → HasSettledUp old middle → record { desk = desk; standing = standing; loaders = loaders; counted = tallies } ≡ middle
-      → ReloadsFrom d key standing desk after back answer
-      → HasReloaded d key old (record { desk = after; standing = back; loaders = loaders; counted = tallies }) answer
-  reloaded d key old middle desk after standing back loaders tallies answer h is r = record {
+      → ReloadsFrom space key standing desk after back answer
+      → HasReloaded space key old (record { desk = after; standing = back; loaders = loaders; counted = tallies }) answer
+  reloaded space key old middle desk after standing back loaders tallies answer h is r = record {
     middle = record { desk = desk; standing = standing; loaders = loaders; counted = tallies };
     settled = subst (HasSettledUp old) (sym is) h;
     reloaded = r;

@@ -1,3 +1,4 @@
+pub mod Asks
 pub mod Crew
 pub mod Dealt
 pub mod Fresh
@@ -6,5 +7,6 @@ pub mod Looks
 pub mod Outdated
 pub mod Popped
 pub mod Rooting
+pub mod Spots
 pub mod Sums
 pub mod Told

@@ -1,17 +1,17 @@
 -- looks at letters, one after another
-use Rattle.std.proofs.Common.{◌≡◌, ℕ, Bool, true, List, [], ◌++◌, Some, None, Result, Ok, Err, IfOk, refl, sym, ◌∙◌, subst}
+use Rattle.std.proofs.Common.{◌≡◌, ℕ, Bool, true, List, [], ◌++◌, Some, None, Result, Ok, Err, IfOk, inl, inr, refl, sym, ◌∙◌, subst}
 use Rattle.sf_history.specs.declared.call.CallId.{CallId}
 use Rattle.sf_history.specs.declared.event.Event.{Event}
 use Rattle.sf_calls.specs.Tokens.{GroupValue, CallerValue, FlightValue, LetterValue}
-use Rattle.sf_calls.specs.Seen.{IsLawful, Grows}
-use Rattle.sf_calls.specs.Same.{IsStill, IsSameFlight, call_of}
+use Rattle.sf_calls.specs.Seen.{IsLawful, Adds}
+use Rattle.sf_calls.specs.Same.{HasNothing, IsStill, IsSameFlight, call_of}
 use Rattle.sf_calls.specs.Begins.{HasLed}
 use Rattle.sf_calls.specs.Notes.{HasLent, HasCopied, HasLearntLeading}
 use Rattle.sf_calls.specs.Currents.{WasCurrent, HasQuestioned}
-use Rattle.sf_calls.proofs.AddsAgain.{starts_again, grows_again, grows_none}
+use Rattle.sf_calls.proofs.AddsAgain.{starts_again, grows_none, adds_again, still}
 use Rattle.sf_fill.specs.FillValue.{Filled, FitsFill, fill_lasts}
 use Rattle.sf_fill.specs.Rooted.{IsRooted}
-use Rattle.sf_fill.specs.Settled.{IsKeptLetter, IsCurrentLetter, IsFollowed, HasLooked}
+use Rattle.sf_fill.specs.Settled.{HasOnlyLooked, IsKeptLetter, IsCurrentLetter, IsFollowed, HasLooked}
 use Rattle.sf_calls.proofs.Moments.{first_added}
 use Rattle.sf_fill.proofs.Rooting.{rooted_itself, rooted_after}
 
@@ -25,14 +25,25 @@ lent_again l m n first second = record {
   shows = starts_again l.seen m.seen n.seen first.shows second.shows;
 }
 
-pub still_again : (c d e : CallerValue Filled) → IsStill c d → IsStill d e → IsStill c e
-still_again c d e first second =
-    let on : Grows c.group c.number d.seen e.seen [] 0 = subst (λ (i : ℕ). Grows c.group i d.seen e.seen [] 0) first.number (subst (λ (g : GroupValue). Grows g d.number d.seen e.seen [] 0) first.group second.grows) in
-    record { group = second.group ∙ first.group; number = second.number ∙ first.number; grows = grows_again c.group c.number c.seen d.seen e.seen [] [] 0 0 first.grows on }
+nothing_again : (c d e : CallerValue Filled) → HasNothing c d → HasNothing d e → HasNothing c e
+nothing_again c d e first second =
+    let on : Adds c.group c.number d.seen e.seen [] 0 = subst (λ (i : ℕ). Adds c.group i d.seen e.seen [] 0) first.number (subst (λ (g : GroupValue). Adds g d.number d.seen e.seen [] 0) first.group second.adds) in
+    record { group = second.group ∙ first.group; number = second.number ∙ first.number; adds = adds_again c.group c.number c.seen d.seen e.seen [] [] 0 0 first.adds on }
+
+pub looked_again : (c d e : CallerValue Filled) → HasOnlyLooked c d → HasOnlyLooked d e → HasOnlyLooked c e
+looked_again c d e (inl is) (inl also) = inl (also ∙ is)
+looked_again c d e (inl is) (inr n) = inr (subst (λ (x : CallerValue Filled). HasNothing x e) is n)
+looked_again c d e (inr n) (inl also) = inr (subst (λ (x : CallerValue Filled). HasNothing c x) (sym also) n)
+looked_again c d e (inr n) (inr m) = inr (nothing_again c d e n m)
 
 -- two looks that found none
-pub still_twice : (c d : CallerValue Filled) → (u : CallerValue Filled) × IsStill c u × IsStill u d → IsStill c d
-still_twice c d h = still_again c h.0 d h.1 h.2
+pub looked_twice : (c d : CallerValue Filled) → (u : CallerValue Filled) × HasOnlyLooked c u × HasOnlyLooked u d → HasOnlyLooked c d
+looked_twice c d h = looked_again c h.0 d h.1 h.2
+
+-- so the caller is still the same
+pub still_looked : (c d : CallerValue Filled) → HasOnlyLooked c d → IsStill c d
+still_looked c d (inl is) = subst (λ (x : CallerValue Filled). IsStill c x) (sym is) (still c)
+still_looked c d (inr n) = record { group = n.group; number = n.number; grows = n.adds.grows }
 
 -- a letter that was asked about, and is current
 pub current_letter : (g : GroupValue) (c d : CallerValue Filled) (place : ℕ) (l m : LetterValue Filled) (told : Bool) → c.group ≡ g → l.place ≡ place → IsKeptLetter g l.place l → HasQuestioned c l told d m → told ≡ true

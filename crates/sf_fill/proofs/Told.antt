@@ -17,6 +17,7 @@ use Rattle.sf_fill.specs.declared.forgot.Forgot.{Forgot}
 use Rattle.sf_fill.specs.declared.forgot.Forgot.TheVariants as forgot
 use Rattle.sf_fill.specs.FillValue.{Filled}
 use Rattle.sf_fill.specs.Fresh.{handed_by, forgot_by}
+use Rattle.sf_spots.specs.Spots.{spot_place}
 use Rattle.sf_fill.specs.GetterValue.{number_of, seen_of}
 use Rattle.sf_fill.specs.Notes.{IsLedAfter, IsLoadedAfter, NotesCarryReloads}
 use Rattle.sf_fill.proofs.Outdated.{current_names, names_more, past_after}
@@ -78,7 +79,7 @@ other_call k old new moment c legal first then ended now was =
 
 pub notes_carry_reloads : (P F L C P' F' L' C' : Type 0) → NotesCarryReloads P F L C P' F' L' C'
 notes_carry_reloads P F L C P' F' L' C' d key old new after delivered came_to r n told other learnt has then l legal fresh =
-    let k = r.place.number in
+    let k = spot_place r.spot in
     let shown : StartsWith (seen_of learnt.standing) (seen_of new.standing) = subst (λ (h : Seen). StartsWith (seen_of learnt.standing) h) told.shown has.shows in
     let begins : StartsWith fresh.moment (seen_of new.standing) = starts_again (seen_of new.standing) (seen_of learnt.standing) fresh.moment shown fresh.begins in
     record {

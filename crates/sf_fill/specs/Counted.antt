@@ -1,6 +1,6 @@
 -- what a get counts, by what it added to the history
-use Rattle.std.specs.Prelude.{◌≡◌, ℕ, ◌+◌, Bool, true, false, List, ◌++◌, IsOk}
-use Rattle.std.specs.List.{list_any}
+use Rattle.std.specs.Prelude.{◌≡◌, ℕ, ◌+◌, Bool, true, false, cond, List, ◌++◌, IsOk}
+use Rattle.std.specs.List.{list_any, sum_by}
 use Rattle.sf_history.specs.declared.event.Event.{Event}
 use Rattle.sf_history.specs.declared.event.Event.TheVariants.{Lead, Enter, Forget, ForgetCall, Settle, Handed}
 use Rattle.sf_history.specs.History.{own_events}
@@ -21,6 +21,10 @@ module _ {V : Type 0} where
 
   abbrev pub has_asking : List (Event ℕ V) → Bool
   has_asking added = list_any is_asking added
+
+  -- how many of the events ask
+  abbrev pub askings_in : List (Event ℕ V) → ℕ
+  askings_in added = sum_by (λ e. cond (is_asking e) 1 0) added
 
   -- a caller that stays the same has seen more, in which it made these events
   pub record HasMade (a b : ℕ) (old new added : List (Event ℕ V)) : Type 0 where

@@ -4,18 +4,19 @@ use Rattle.sf_history.specs.declared.call.CallId.{CallId}
 use Rattle.sf_history.specs.declared.event.Event.{Event}
 use Rattle.sf_history.specs.declared.event.Event.TheVariants.{Lead}
 use Rattle.sf_loaders.specs.declared.faults.LocalFault.{LocalFault}
-use Rattle.sf_dir.specs.Known.{PlaceState}
+use Rattle.sf_spots.specs.declared.spot.Spot.{Spot}
+use Rattle.sf_spots.specs.Spots.{spot_place}
 use Rattle.sf_fill.specs.Rooted.{IsRooted}
 
--- a value: the place, which shows the key, the call whose run loaded the bytes, and the bytes or the fault
+-- a value: the key with its place, the call whose run loaded the bytes, and the bytes or the fault
 pub record Filled : Type 0 where
-  pub place : PlaceState
+  pub spot : Spot
   pub root : CallId
   pub result : Result (List ℕ) LocalFault
 
 -- the value is of the call's place, and the call is rooted in the one whose run loaded the bytes
 abbrev pub FitsFill : ℕ → CallId → Filled → List (Event ℕ Filled) → Type 0
-FitsFill k call v h = (v.place.number ≡ k) × IsRooted k v.root call h
+FitsFill k call v h = (spot_place v.spot ≡ k) × IsRooted k v.root call h
 
 pub fill_lasts : (k : ℕ) (call : CallId) (v : Filled) (h more : List (Event ℕ Filled)) → FitsFill k call v h → FitsFill k call v (h ++ more)
 fill_lasts k call v h more f =

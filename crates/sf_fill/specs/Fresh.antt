@@ -1,5 +1,5 @@
 -- what getters add to the history, and how fresh their answers are
-use Rattle.std.specs.Prelude.{◌≡◌, ◌≢◌, ℕ, nat_eq, Bool, true, false, cond, not, ◌⊎◌, List, [], ◌∷◌, ◌++◌, Some, None, Result, Ok, Err}
+use Rattle.std.proofs.Common.{◌≡◌, ◌≢◌, ℕ, inl, inr, All, nat_eq, Bool, true, false, cond, not, ◌⊎◌, List, [], ◌∷◌, ◌++◌, Some, None, Result, Ok, Err}
 use Rattle.sf_history.specs.declared.call.CallId.{CallId}
 use Rattle.sf_history.specs.declared.event.Event.{Event}
 use Rattle.sf_history.specs.declared.event.Event.TheVariants.{Lead, Enter, ForgetCall, Settle, Handed}
@@ -7,7 +7,9 @@ use Rattle.sf_history.specs.declared.event.Hit.TheVariants as hit
 use Rattle.sf_history.specs.History.{current_call}
 use Rattle.sf_calls.specs.Tokens.{LetterValue}
 use Rattle.sf_calls.specs.Seen.{StartsWith, Stands, IsLawful, Grows}
-use Rattle.sf_dir.specs.Known.{DirectoryId, PlaceState}
+use Rattle.sf_spots.specs.declared.spot.Spot.{Spot}
+use Rattle.sf_spots.specs.Spaces.{SpaceId}
+use Rattle.sf_spots.specs.Spots.{IsOther, IsSpotOfKey, spot_place}
 use Rattle.sf_loaders.specs.declared.faults.LocalFault.TheVariants as local
 use Rattle.sf_fill.specs.declared.fault.LoadFault.{LoadFault}
 use Rattle.sf_fill.specs.declared.fault.LoadFault.TheVariants as fault
@@ -15,19 +17,18 @@ use Rattle.sf_fill.specs.declared.forgot.Forgot.{Forgot}
 use Rattle.sf_fill.specs.declared.forgot.Forgot.TheVariants as forgot
 use Rattle.sf_fill.specs.declared.standing.Standing.{Standing}
 use Rattle.sf_fill.specs.declared.standing.Standing.TheVariants.{Free, Owing}
-use Rattle.sf_fill.specs.Counted.{has_asking}
+use Rattle.sf_fill.specs.Counted.{askings_in}
 use Rattle.sf_fill.specs.FillValue.{Filled}
 use Rattle.sf_fill.specs.Gets.{GetAnswer}
 use Rattle.sf_fill.specs.GetterValue.{GetterValue, number_of, group_of, seen_of, is_owing}
-use Rattle.sf_fill.specs.Resolving.{IsPlaceOfKey}
 use Rattle.sf_calls.specs.Unforgotten.{IsUnforgotten}
 
--- A caller that stays the same has seen more, in which it made these events, with a generation for an asking among them. All
+-- A caller that stays the same has seen more, in which it made these events, with a generation for each asking among them. All
 -- that it has seen is a legal history of the group's callers, or what it was.
 pub record HasAdded (old new : Standing Filled) (added : List (Event ℕ Filled)) : Type 0 where
   pub group : group_of new ≡ group_of old
   pub number : number_of new ≡ number_of old
-  pub grows : Grows (group_of old) (number_of old) (seen_of old) (seen_of new) added (cond (has_asking added) 1 0)
+  pub grows : Grows (group_of old) (number_of old) (seen_of old) (seen_of new) added (askings_in added)
   pub lawful : (seen_of new ≡ seen_of old) ⊎ IsLawful (group_of old).sizes (seen_of new)
 
 -- the letters that were owed are handed out, if that is so
@@ -60,6 +61,21 @@ pub record IsRun (by k : ℕ) (call : CallId) (owes : Bool) (added : List (Event
 abbrev pub IsAsking : ℕ → ℕ → CallId → Bool → List (Event ℕ Filled) → Type 0
 IsAsking by k call owes added = (added ≡ []) ⊎ (((member : CallId) × (added ≡ Enter by k call member ∷ [])) ⊎ IsRun by k call owes added)
 
+-- an Enter of a call of another key of the place, which stands settled so
+pub record IsMissedEnter (by k : ℕ) (key : List ℕ) (seen : List (Event ℕ Filled)) (e : Event ℕ Filled) : Type 0 where
+  pub call : CallId
+  pub member : CallId
+  pub is : e ≡ Enter by k call member
+  pub value : Filled
+  pub joiners : ℕ
+  pub settled : Stands (Settle call.caller call value joiners) seen
+  pub other : IsOther value.spot key
+
+-- the askings that met other keys' calls: none where each place is of one key
+abbrev pub AreMissed : SpaceId → ℕ → ℕ → List ℕ → List (Event ℕ Filled) → List (Event ℕ Filled) → Type 0
+AreMissed (inl directory) by k key seen missed = missed ≡ []
+AreMissed (inr places) by k key seen missed = All (IsMissedEnter by k key seen) missed
+
 -- what a get answers with this call: a fresh letter of it, or the text of one; a refusal adds nothing
 abbrev pub IsAnswer : ℕ → CallId → List (Event ℕ Filled) → List (Event ℕ Filled) → List (Event ℕ Filled) → GetAnswer → Type 0
 IsAnswer k call old new added (Ok l) = (l.call ≡ call) × IsFresh k old new l
@@ -85,14 +101,18 @@ forgot_by by k forgot.Idle = []
 abbrev pub IsOutdated : ℕ → List (Event ℕ Filled) → List (Event ℕ Filled) → Type 0
 IsOutdated k old new = (c : CallId) → current_call nat_eq old k ≡ Some c → current_call nat_eq new k ≢ Some c
 
-module _ {P F L C : Type 0} (d : DirectoryId) (key : List ℕ) where
-  -- the key has a place, of which this call was asked for or found
+module _ {P F L C : Type 0} (space : SpaceId) (key : List ℕ) where
+  -- the key has a place, of which this call was asked for or found, after calls of other keys of the place that were joined
   pub record IsAnswered (old new : GetterValue P F L C) (added : List (Event ℕ Filled)) (answer : GetAnswer) : Type 0 where
-    pub place : PlaceState
-    pub resolved : IsPlaceOfKey d key old.desk new.desk place
+    pub spot : Spot
+    pub resolved : IsSpotOfKey space key old.desk new.desk spot
+    pub missed : List (Event ℕ Filled)
+    pub others : AreMissed space (number_of old.standing) (spot_place spot) key (seen_of new.standing) missed
+    pub asking : List (Event ℕ Filled)
+    pub parts : added ≡ missed ++ asking
     pub call : CallId
-    pub asked : IsAsking (number_of old.standing) place.number call (is_owing new.standing) added
-    pub answered : IsAnswer place.number call (seen_of old.standing) (seen_of new.standing) added answer
+    pub asked : IsAsking (number_of old.standing) (spot_place spot) call (is_owing new.standing) asking
+    pub answered : IsAnswer (spot_place spot) call (seen_of old.standing) (seen_of new.standing) asking answer
 
   -- what was owed is handed out first, or nothing further is done
   pub record IsFreshGet (old new : GetterValue P F L C) (answer : GetAnswer) : Type 0 where
@@ -104,10 +124,10 @@ module _ {P F L C : Type 0} (d : DirectoryId) (key : List ℕ) where
 
   -- a reload adds one Forget of the call that it names, after what was owed; where it names none or is refused, none
   pub record IsForgetOf (old new : GetterValue P F L C) (delivered : Bool) (came_to : Forgot) : Type 0 where
-    pub place : PlaceState
-    pub resolved : IsPlaceOfKey d key old.desk new.desk place
-    pub adds : HasAdded old.standing new.standing (handed_by old.standing delivered ++ forgot_by (number_of old.standing) place.number came_to)
-    pub outdated : IsOutdated place.number (seen_of old.standing) (seen_of new.standing)
+    pub spot : Spot
+    pub resolved : IsSpotOfKey space key old.desk new.desk spot
+    pub adds : HasAdded old.standing new.standing (handed_by old.standing delivered ++ forgot_by (number_of old.standing) (spot_place spot) came_to)
+    pub outdated : IsOutdated (spot_place spot) (seen_of old.standing) (seen_of new.standing)
 
   abbrev pub ForgetsOnce : GetterValue P F L C → GetterValue P F L C → Bool → Result Forgot LoadFault → Type 0
   ForgetsOnce old new delivered (Ok came_to) = (delivered ≡ true) × IsForgetOf old new delivered came_to

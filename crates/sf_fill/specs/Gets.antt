@@ -3,7 +3,10 @@ use Rattle.std.specs.Prelude.{◌≡◌, ℕ, ◌⊎◌, List, Result, Ok, Err, 
 use Rattle.sf_history.specs.declared.call.CallId.{CallId}
 use Rattle.sf_calls.specs.declared.outcomes.Finished.TheVariants.{Done, Held}
 use Rattle.sf_calls.specs.Tokens.{CallerValue, LetterValue}
-use Rattle.sf_dir.specs.Known.{DirectoryId, DeskState, PlaceState}
+use Rattle.sf_spots.specs.declared.key_space.KeyDesk.{KeyDesk}
+use Rattle.sf_spots.specs.declared.spot.Spot.{Spot}
+use Rattle.sf_spots.specs.Spaces.{SpaceId}
+use Rattle.sf_spots.specs.Spots.{IsSpotOfKey, IsRefusedSpot, IsSeeingSpace, MayBe, spot_place}
 use Rattle.sf_dir.specs.declared.refusal.Refusal.{Refusal}
 use Rattle.sf_dir.specs.declared.refusal.Refusal.TheVariants as refusal
 use Rattle.sf_loaders.specs.LoadPath.{LoadAnswer}
@@ -14,7 +17,7 @@ use Rattle.sf_fill.specs.declared.fault.LoadFault.{LoadFault}
 use Rattle.sf_fill.specs.declared.fault.LoadFault.TheVariants as fault
 use Rattle.sf_fill.specs.declared.fault.GetRefusal.TheVariants as refused
 use Rattle.sf_fill.specs.declared.found.Found.{Found}
-use Rattle.sf_fill.specs.declared.found.Found.TheVariants.{Kept, Uncopied, Spent, Joined, Led}
+use Rattle.sf_fill.specs.declared.found.Found.TheVariants.{Kept, Uncopied, Unmade, Spent, Joined, Led}
 use Rattle.sf_fill.specs.declared.standing.Standing.{Standing}
 use Rattle.sf_fill.specs.declared.standing.Standing.TheVariants.{Free, Owing}
 use Rattle.sf_fill.specs.declared.totals.GetCounts.{GetCounts}
@@ -22,7 +25,6 @@ use Rattle.sf_fill.specs.FillValue.{Filled}
 use Rattle.sf_fill.specs.Found.{HasFound, hit_counts, load_counts, get_alone, no_run}
 use Rattle.sf_fill.specs.GetterValue.{GetterValue}
 use Rattle.sf_fill.specs.Owing.{HasSettledUp}
-use Rattle.sf_fill.specs.Resolving.{IsSeeing, IsPlaceOfKey, IsRefusedKey}
 use Rattle.sf_fill.specs.Totals.{with_counts}
 
 abbrev pub GetAnswer : Type 0
@@ -52,6 +54,7 @@ Reply = Standing Filled × GetCounts × GetAnswer
 abbrev pub reply_of : Found Filled → Reply
 reply_of (Kept c l) = (Free c, hit_counts, answer_in l)
 reply_of (Uncopied c) = (Free c, hit_counts, Err fault.Memory)
+reply_of (Unmade c) = (Free c, get_alone, Err fault.Memory)
 reply_of (Spent c) = (Free c, load_counts no_run, Err (fault.Refused refused.Spent))
 reply_of (Joined c l) = (Free c, load_counts no_run, answer_in l)
 reply_of (Led (Done c l) n) = (Free c, n, answer_in l)
@@ -65,35 +68,46 @@ counts_of found = (reply_of found).1
 abbrev pub IsOfPlace : ℕ → Found Filled → Type 0
 IsOfPlace k (Kept c l) = l.place ≡ k
 IsOfPlace k (Uncopied c) = Unit {0}
+IsOfPlace k (Unmade c) = Unit {0}
 IsOfPlace k (Spent c) = Unit {0}
 IsOfPlace k (Joined c l) = l.place ≡ k
 IsOfPlace k (Led (Done c l) n) = l.place ≡ k
 IsOfPlace k (Led (Held s) n) = Unit {0}
 
-module _ {P F L C : Type 0} (path : CallId → Loaders P F L C → LoadAnswer → Loaders P F L C → Type 0) (draws : C → C → Type 0) (d : DirectoryId) (key : List ℕ) where
+-- and its value may be of the key
+abbrev pub IsOfKey : List ℕ → Found Filled → Type 0
+IsOfKey key (Kept c l) = MayBe l.value.spot key
+IsOfKey key (Uncopied c) = Unit {0}
+IsOfKey key (Unmade c) = Unit {0}
+IsOfKey key (Spent c) = Unit {0}
+IsOfKey key (Joined c l) = MayBe l.value.spot key
+IsOfKey key (Led (Done c l) n) = MayBe l.value.spot key
+IsOfKey key (Led (Held s) n) = Unit {0}
+
+module _ {P F L C : Type 0} (path : CallId → Loaders P F L C → LoadAnswer → Loaders P F L C → Type 0) (draws : C → C → Type 0) (space : SpaceId) (key : List ℕ) where
   -- the key is refused, and nothing else is done
-  pub record IsRefusedGet (c : CallerValue Filled) (desk after : DeskState) (old new : Loaders P F L C) (reply : Reply) : Type 0 where
+  pub record IsRefusedGet (c : CallerValue Filled) (desk after : KeyDesk) (old new : Loaders P F L C) (reply : Reply) : Type 0 where
     pub refusal : Refusal
-    pub cause : IsRefusedKey d key desk after refusal
+    pub cause : IsRefusedSpot space key desk after refusal
     pub unasked : new ≡ old
     pub reply_is : reply ≡ (Free c, get_alone, Err (refusal_of refusal))
 
   -- the key has a place, for which this was found
-  pub record IsFoundGet (c : CallerValue Filled) (desk after : DeskState) (old new : Loaders P F L C) (reply : Reply) : Type 0 where
-    pub place : PlaceState
-    pub resolved : IsPlaceOfKey d key desk after place
+  pub record IsFoundGet (c : CallerValue Filled) (desk after : KeyDesk) (old new : Loaders P F L C) (reply : Reply) : Type 0 where
+    pub spot : Spot
+    pub resolved : IsSpotOfKey space key desk after spot
     pub found : Found Filled
-    pub found_so : HasFound path draws place c old new found
+    pub found_so : HasFound space key path draws spot c old new found
     pub reply_is : reply ≡ reply_of found
 
   -- a get of a free caller
-  abbrev pub HasReplied : CallerValue Filled → DeskState → DeskState → Loaders P F L C → Loaders P F L C → Reply → Type 0
+  abbrev pub HasReplied : CallerValue Filled → KeyDesk → KeyDesk → Loaders P F L C → Loaders P F L C → Reply → Type 0
   HasReplied c desk after old new reply = IsRefusedGet c desk after old new reply ⊎ IsFoundGet c desk after old new reply
 
   -- the get of a caller that has settled up; where it owes letters still, the get is counted alone
-  abbrev pub GetsFrom : Standing Filled → DeskState → DeskState → Loaders P F L C → Loaders P F L C → Reply → Type 0
+  abbrev pub GetsFrom : Standing Filled → KeyDesk → KeyDesk → Loaders P F L C → Loaders P F L C → Reply → Type 0
   GetsFrom (Owing s) desk after old new reply = (after ≡ desk) × (new ≡ old) × (reply ≡ (Owing s, get_alone, Err fault.Memory))
-  GetsFrom (Free c) desk after old new reply = IsSeeing d desk after × HasReplied c desk after old new reply
+  GetsFrom (Free c) desk after old new reply = IsSeeingSpace space desk after × HasReplied c desk after old new reply
 
   -- what was owed is delivered first, if it can be
   pub record HasGot (old new : GetterValue P F L C) (answer : GetAnswer) : Type 0 where

@@ -9,7 +9,6 @@ pub mod Totals
 pub mod Settled
 pub mod GetterValue
 pub mod Made
-pub mod Resolving
 pub mod Owing
 pub mod Found
 pub mod Gets

@@ -8,7 +8,8 @@ use Rattle.sf_history.specs.History.{current_call}
 use Rattle.sf_history.specs.Legal.{IsLegal}
 use Rattle.sf_calls.specs.Tokens.{NoteValue, LetterValue}
 use Rattle.sf_calls.specs.Seen.{StartsWith, Stands}
-use Rattle.sf_dir.specs.Known.{DirectoryId}
+use Rattle.sf_spots.specs.Spaces.{SpaceId}
+use Rattle.sf_spots.specs.Spots.{spot_place}
 use Rattle.sf_fill.specs.declared.forgot.Forgot.{Forgot}
 use Rattle.sf_fill.specs.declared.forgot.Forgot.TheVariants as forgot
 use Rattle.sf_fill.specs.FillValue.{Filled}
@@ -55,8 +56,8 @@ pub record IsAfterReload (by k : ℕ) (came_to : Forgot) (old moment : List (Eve
 
 -- A getter reloads a key and tells a note, which another one learns. What that gets fresh from the place then is after the reload.
 abbrev pub NotesCarryReloads : (P F L C P' F' L' C' : Type 0) → Type 0
-NotesCarryReloads P F L C P' F' L' C' = (d : DirectoryId) (key : List ℕ) (old new after : GetterValue P F L C) (delivered : Bool) (came_to : Forgot)
-    (r : IsForgetOf d key old new delivered came_to) (n : NoteValue Filled) → HasToldNote new after n
+NotesCarryReloads P F L C P' F' L' C' = (space : SpaceId) (key : List ℕ) (old new after : GetterValue P F L C) (delivered : Bool) (came_to : Forgot)
+    (r : IsForgetOf space key old new delivered came_to) (n : NoteValue Filled) → HasToldNote new after n
     → (other learnt : GetterValue P' F' L' C') → HasLearntNote other n.seen learnt
-    → (then : List (Event ℕ Filled)) (l : LetterValue Filled) → IsLegal nat_eq then → (fresh : IsFresh r.place.number (seen_of learnt.standing) then l)
-    → IsAfterReload (number_of old.standing) r.place.number came_to (seen_of old.standing) fresh.moment l
+    → (then : List (Event ℕ Filled)) (l : LetterValue Filled) → IsLegal nat_eq then → (fresh : IsFresh (spot_place r.spot) (seen_of learnt.standing) then l)
+    → IsAfterReload (number_of old.standing) (spot_place r.spot) came_to (seen_of old.standing) fresh.moment l

@@ -1,15 +1,15 @@
--- names that no directory and no group has: what a pick replaces
-use Rattle.std.specs.Prelude.{[]}
+-- names that no key space and no group has: what a pick replaces
+use Rattle.std.proofs.Common.{[], inl}
 use Rattle.atomic_table.specs.Seated.{TableId}
 use Rattle.sf_calls.specs.Tokens.{GroupValue}
-use Rattle.sf_dir.specs.Known.{DirectoryId}
+use Rattle.sf_spots.specs.Spaces.{SpaceId}
 use Rattle.sf_fill.specs.Names.{LedgerNames}
 
 abbrev pub no_table : TableId
 no_table = record { words = 0; slots = 0; views_name = 0; atom = 0; block = 0; offset = 0; slot_names = [] }
 
-abbrev pub no_directory : DirectoryId
-no_directory = record { table = no_table; keys = 0; key_bytes = 0; desks = 0 }
+abbrev pub no_space : SpaceId
+no_space = inl (record { table = no_table; keys = 0; key_bytes = 0; desks = 0 })
 
 abbrev pub no_group : GroupValue
 no_group = record { table = no_table; sizes = record { places = 0; callers = 0; first = 0 } }

@@ -5,7 +5,10 @@ use Rattle.sf_history.specs.declared.event.Hit.{Hit}
 use Rattle.sf_history.specs.declared.event.Hit.TheVariants as hit
 use Rattle.sf_calls.specs.Tokens.{CallerValue}
 use Rattle.sf_calls.specs.Forgets.{HasForgotCall, HasNamed}
-use Rattle.sf_dir.specs.Known.{DirectoryId, DeskState, PlaceState}
+use Rattle.sf_spots.specs.declared.key_space.KeyDesk.{KeyDesk}
+use Rattle.sf_spots.specs.declared.spot.Spot.{Spot}
+use Rattle.sf_spots.specs.Spaces.{SpaceId}
+use Rattle.sf_spots.specs.Spots.{IsSpotOfKey, IsRefusedSpot, IsSeeingSpace, spot_place}
 use Rattle.sf_dir.specs.declared.refusal.Refusal.{Refusal}
 use Rattle.sf_fill.specs.declared.fault.LoadFault.{LoadFault}
 use Rattle.sf_fill.specs.declared.fault.LoadFault.TheVariants as fault
@@ -17,7 +20,6 @@ use Rattle.sf_fill.specs.FillValue.{Filled}
 use Rattle.sf_fill.specs.Gets.{refusal_of}
 use Rattle.sf_fill.specs.GetterValue.{GetterValue}
 use Rattle.sf_fill.specs.Owing.{HasSettledUp}
-use Rattle.sf_fill.specs.Resolving.{IsSeeing, IsPlaceOfKey, IsRefusedKey}
 
 -- what a Forget of this call came to
 abbrev pub forgot_of : CallId → Hit → Forgot
@@ -36,34 +38,34 @@ ForgetsNamed c k (forgot.Cleared x) d = HasForgotNamed c k x hit.Cleared d
 ForgetsNamed c k (forgot.Missed x) d = HasForgotNamed c k x hit.Missed d
 ForgetsNamed c k forgot.Idle d = HasNamed c k None d
 
-module _ (d : DirectoryId) (key : List ℕ) where
+module _ (space : SpaceId) (key : List ℕ) where
   -- the key is refused, and nothing is forgotten
-  pub record IsRefusedReload (c : CallerValue Filled) (desk after : DeskState) (standing : Standing Filled) (answer : Result Forgot LoadFault) : Type 0 where
+  pub record IsRefusedReload (c : CallerValue Filled) (desk after : KeyDesk) (standing : Standing Filled) (answer : Result Forgot LoadFault) : Type 0 where
     pub refusal : Refusal
-    pub cause : IsRefusedKey d key desk after refusal
+    pub cause : IsRefusedSpot space key desk after refusal
     pub still : standing ≡ Free c
     pub answer_is : answer ≡ Err (refusal_of refusal)
 
   -- the caller forgot the call that the key's place names
-  pub record HasForgottenKey (c : CallerValue Filled) (desk after : DeskState) (standing : Standing Filled) (answer : Result Forgot LoadFault) : Type 0 where
-    pub place : PlaceState
-    pub resolved : IsPlaceOfKey d key desk after place
+  pub record HasForgottenKey (c : CallerValue Filled) (desk after : KeyDesk) (standing : Standing Filled) (answer : Result Forgot LoadFault) : Type 0 where
+    pub spot : Spot
+    pub resolved : IsSpotOfKey space key desk after spot
     pub back : CallerValue Filled
     pub came_to : Forgot
-    pub forgot : ForgetsNamed c place.number came_to back
+    pub forgot : ForgetsNamed c (spot_place spot) came_to back
     pub free : standing ≡ Free back
     pub answer_is : answer ≡ Ok came_to
 
   -- the reload of a caller that has settled up; where it owes letters still, it is refused
-  abbrev pub ReloadsFrom : Standing Filled → DeskState → DeskState → Standing Filled → Result Forgot LoadFault → Type 0
+  abbrev pub ReloadsFrom : Standing Filled → KeyDesk → KeyDesk → Standing Filled → Result Forgot LoadFault → Type 0
   ReloadsFrom (Owing s) desk after standing answer = (after ≡ desk) × (standing ≡ Owing s) × (answer ≡ Err fault.Memory)
   ReloadsFrom (Free c) desk after standing answer =
-      IsSeeing d desk after × (IsRefusedReload c desk after standing answer ⊎ HasForgottenKey c desk after standing answer)
+      IsSeeingSpace space desk after × (IsRefusedReload c desk after standing answer ⊎ HasForgottenKey c desk after standing answer)
 
-module _ {P F L C : Type 0} (d : DirectoryId) (key : List ℕ) where
+module _ {P F L C : Type 0} (space : SpaceId) (key : List ℕ) where
   -- what was owed is delivered first, if it can be; nothing is counted
   pub record HasReloaded (old new : GetterValue P F L C) (answer : Result Forgot LoadFault) : Type 0 where
     pub middle : GetterValue P F L C
     pub settled : HasSettledUp old middle
-    pub reloaded : ReloadsFrom d key middle.standing middle.desk new.desk new.standing answer
+    pub reloaded : ReloadsFrom space key middle.standing middle.desk new.desk new.standing answer
     pub rest : new ≡ record middle { desk = new.desk; standing = new.standing }

@@ -1,10 +1,10 @@
 -- letters that a fill keeps
-use Rattle.std.specs.Prelude.{◌≡◌, ℕ, Option, Some, None, Result, Ok, Err}
+use Rattle.std.specs.Prelude.{◌≡◌, ℕ, ◌⊎◌, Option, Some, None, Result, Ok, Err}
 use Rattle.sf_history.specs.declared.call.CallId.{CallId}
 use Rattle.sf_history.specs.declared.event.Event.TheVariants.{Settle}
 use Rattle.sf_calls.specs.Tokens.{GroupValue, CallerValue, FlightValue, LetterValue}
 use Rattle.sf_calls.specs.Seen.{Stands}
-use Rattle.sf_calls.specs.Same.{HasNothing, IsStill}
+use Rattle.sf_calls.specs.Same.{HasNothing}
 use Rattle.sf_calls.specs.Finishes.{FitsLetter}
 use Rattle.sf_calls.specs.Notes.{HasLent}
 use Rattle.sf_calls.specs.Currents.{WasCurrent}
@@ -28,16 +28,20 @@ pub record IsCurrentLetter (c : CallerValue Filled) (place : ℕ) (l : LetterVal
   pub nothing : HasNothing c d
   pub current : WasCurrent place l.call c.seen l.seen d.seen
 
+-- the caller as it was, or after questions that made nothing
+abbrev pub HasOnlyLooked : CallerValue Filled → CallerValue Filled → Type 0
+HasOnlyLooked c d = (d ≡ c) ⊎ HasNothing c d
+
 module _ {E : Type 0} where
   -- a copy of a letter that was current; one whose copy was refused; or none, and the caller may have seen more
   abbrev pub HasLooked : CallerValue Filled → ℕ → Option (Result (LetterValue Filled) E) → CallerValue Filled → Type 0
   HasLooked c place (Some (Ok m)) d = (l : LetterValue Filled) × IsCurrentLetter c place l d × HasLent l m
   HasLooked c place (Some (Err e)) d = (l : LetterValue Filled) × IsCurrentLetter c place l d
-  HasLooked c place None d = IsStill c d
+  HasLooked c place None d = HasOnlyLooked c d
 
   -- the same after a look that found none
   abbrev pub HasLookedOn : CallerValue Filled → ℕ → Option (Result (LetterValue Filled) E) → CallerValue Filled → Type 0
-  HasLookedOn c place found d = (u : CallerValue Filled) × IsStill c u × HasLooked u place found d
+  HasLookedOn c place found d = (u : CallerValue Filled) × HasOnlyLooked c u × HasLooked u place found d
 
   -- a copy of a letter that a cache has for the place, of this call
   abbrev pub IsCopyOf : GroupValue → ℕ → CallId → Result (LetterValue Filled) E → Type 0

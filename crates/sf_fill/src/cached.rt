@@ -1,5 +1,6 @@
 //! Letters that a cache keeps.
-ghost use Rattle.std.specs.Prelude.{◌≡◌, IfOk};
+ghost use Rattle.std.specs.Prelude.{◌≡◌, ◌↔◌, IfOk, IsTrue};
+ghost use Rattle.sf_spots.specs.Spots.{MayBe};
 ghost use Rattle.sf_calls.specs.Currents.{HasQuestioned};
 ghost use Rattle.sf_calls.specs.Notes.{HasCopied};
 ghost use Rattle.sf_fill.specs.FillValue.{FitsFill};
@@ -57,6 +58,13 @@ impl<'d, D: Naming, N: Naming, O: Origin> Cached<'d, D, N, O> {
         ensures { result ≡ self.now.call }
     {
         self.letter.call()
+    }
+
+    // Whether it may be of the key, whose place is the letter's.
+    pub(crate) fn is_of(&self, key: &[u8]) -> bool
+        ensures { IsTrue result ↔ MayBe self.now.value.spot key.now }
+    {
+        self.letter.value().is_of(key)
     }
 
     // What is known of it.

@@ -9,9 +9,10 @@ use crate::naming::Naming;
 use crate::totals::{Accounts, AllParts, Totals};
 use crate::value::FillValue;
 use sf_caches::Caches;
-use sf_dir::Directory;
 use sf_group::Group;
 use sf_loaders::Origin;
+use sf_spots::KeySpace;
+use std::alloc::Global;
 use std::marker::Model;
 use std::sync::{Mutex, Wait};
 
@@ -37,22 +38,25 @@ impl<'d, D: Naming, N: Naming, O: Origin> Model for Kept<'d, D, N, O> {
 /// and never while a getter loads or waits for a letter.
 #[derive(Drop)]
 pub struct Fill<'d, D: Naming, N: Naming, O: Origin> {
-    pub(crate) directory: &'d Directory,
+    pub(crate) space: KeySpace<'d>,
     pub(crate) group: Group<FillValue<'d, D, O>>,
     pub(crate) kept: Mutex<Kept<'d, D, N, O>>,
     pub(crate) limit: i64,
+    pub(crate) alloc: Global,
 }
 
 impl<'d, D: Naming, N: Naming, O: Origin> Model for Fill<'d, D, N, O> {
-    ghost use Rattle.std.specs.Prelude.{◌≡◌};
+    ghost use Rattle.std.specs.Prelude.{◌≡◌, ◌≤◌};
+    ghost use Rattle.sf_words.specs.declared.limits.TheConstants.{LARGEST_PLACE};
     ghost use Rattle.sf_calls.specs.Tokens.{GroupValue};
+    ghost use Rattle.sf_spots.specs.Spaces.{places_in, space_of};
 
     ghost Value = { GroupValue };
 
     ghost view = { λ f. f.group };
 
-    // It has a place for each key of its directory.
-    ghost invariant = { λ f. (f.group ≡ N.group) × (f.directory.now ≡ N.directory) × (D.directory ≡ N.directory) × (N.group.sizes.places ≡ N.directory.keys) };
+    // Its group has the places of its key space.
+    ghost invariant = { λ f. (f.group ≡ N.group) × (space_of f.space ≡ N.space) × (D.space ≡ N.space) × (N.group.sizes.places ≡ places_in N.space) × (places_in N.space ≤ LARGEST_PLACE) };
 }
 
 impl<'d, D: Naming, N: Naming, O: Origin> Fill<'d, D, N, O> {

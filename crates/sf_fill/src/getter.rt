@@ -7,15 +7,15 @@ use crate::naming::Naming;
 use crate::standing::Standing;
 use crate::totals::Tallies;
 use crate::value::FillValue;
-use sf_dir::Desk;
 use sf_group::Event;
 use sf_loaders::{Loaders, Origin};
+use sf_spots::KeyDesk;
 use sf_words::PlaceNo;
 use std::marker::Model;
 
 /// One who gets keys of a fill, in one thread at a time. It has to be spent.
 pub struct Getter<'d, D: Naming, N: Naming, O: Origin, P, F, L, C> {
-    pub(crate) desk: Desk,
+    pub(crate) desk: KeyDesk,
     pub(crate) standing: Standing<FillValue<'d, D, O>>,
     pub(crate) loaders: Loaders<P, F, L, C>,
     pub(crate) tallies: Tallies<N>,
@@ -23,14 +23,14 @@ pub struct Getter<'d, D: Naming, N: Naming, O: Origin, P, F, L, C> {
 }
 
 impl<'d, D: Naming, N: Naming, O: Origin, P, F, L, C> Model for Getter<'d, D, N, O, P, F, L, C> {
-    ghost use Rattle.std.specs.Prelude.{◌≡◌};
+    ghost use Rattle.sf_spots.specs.Spaces.{IsDeskOf};
     ghost use Rattle.sf_fill.specs.GetterValue.{GetterValue, IsOfGroup};
 
     ghost Value = { GetterValue P F L C };
 
     ghost view = { λ g. record { desk = g.desk; standing = g.standing; loaders = g.loaders; counted = g.tallies } };
 
-    ghost invariant = { λ g. (g.desk.directory ≡ N.directory) × IsOfGroup N.group g.standing };
+    ghost invariant = { λ g. IsDeskOf N.space g.desk × IsOfGroup N.group g.standing };
 }
 
 impl<'d, D: Naming, N: Naming, O: Origin, P, F, L, C> Getter<'d, D, N, O, P, F, L, C> {

@@ -1,15 +1,18 @@
 //! Gets.
 ghost use Rattle.std.specs.Prelude.{◌≡◌, ◌<◌, ◌-◌, ◌^◌, Err, IfOk};
 ghost use Rattle.sf_calls.specs.Same.{IsPlaceOf};
+ghost use Rattle.sf_calls.specs.Seen.{IsLawful};
 ghost use Rattle.sf_loaders.specs.LoadPath.{IsLoadOf};
+ghost use Rattle.sf_spots.specs.Spaces.{IsDeskOf};
+ghost use Rattle.sf_spots.specs.Spots.{IsInSpace, IsSeeingSpace, MayBe, place_at, spot_at, spot_key, spot_place};
 ghost use Rattle.sf_fill.specs.declared.fault.LoadFault.{LoadFault};
 ghost use Rattle.sf_fill.specs.declared.fault.GetRefusal.{GetRefusal};
-ghost use Rattle.sf_fill.specs.Found.{HasFound, HasFoundFrom, IsDraw};
+ghost use Rattle.sf_fill.specs.Found.{HasFound, HasFoundFrom, HasRunFrom, IfDone, IsDraw};
 ghost use Rattle.sf_fill.specs.Counted.{IsCounted};
 ghost use Rattle.sf_fill.specs.Fresh.{IsFreshGet};
-ghost use Rattle.sf_fill.specs.Gets.{GetsFrom, HasReplied, HasGot, IsLoadedFor, IsOfPlace, counts_of, reply_of};
+ghost use Rattle.sf_fill.specs.Gets.{GetsFrom, HasReplied, HasGot, IsLoadedFor, IsOfKey, IsOfPlace, counts_of, reply_of};
 ghost use Rattle.sf_fill.specs.GetterValue.{IsOfGroup};
-ghost use Rattle.sf_fill.specs.Resolving.{IsSeeing};
+ghost use Rattle.sf_fill.specs.Rooted.{IsRooted};
 ghost use Rattle.sf_fill.specs.Totals.{IsOfOneGet};
 
 use crate::fault::{GetRefusal, LoadFault, of_key};
@@ -23,9 +26,9 @@ use crate::standing::Standing;
 use crate::totals::GetCounts;
 use crate::value::FillValue;
 use crate::view::{View, show};
-use sf_dir::{Desk, Place};
-use sf_group::{Begun, Caller, Event, Finished, Spent};
+use sf_group::{Begun, Caller, Event, Finished, Flight, Spent};
 use sf_loaders::{Chance, Loaders, Local, Origin, Peer, Picker};
+use sf_spots::{KeyDesk, KeyPlace, Spot};
 use sf_wait::{begin_wait, wait};
 use std::sync::Wait;
 
@@ -56,26 +59,29 @@ type Reply<'d, D, O> = (
 // What a get answers that found this.
 fn reply<'d, D: Naming, O: Origin>(
     found: Found<FillValue<'d, D, O>>,
-    place: &mut Place<'d>,
+    at: &mut KeyPlace<'d>,
+    key: &[u8],
 ) -> Reply<'d, D, O>
-    requires directory { place.old.directory ≡ D.directory }
-    requires of_place { IsOfPlace place.old.number found }
+    requires space { IsInSpace D.space (spot_at key.now at.old) }
+    requires of_place { IsOfPlace (place_at at.old) found }
+    requires of_key { IsOfKey key.now found }
     ensures reply { result ≡ reply_of found.entry }
-    ensures keyed { IfOk result.2 (λ view. view.value.place ≡ place.old) }
-    ensures loaded { IfOk result.2 (IsLoadedFor O.loaded place.old.key) }
+    ensures keyed { IfOk result.2 (λ view. spot_key view.value.spot ≡ spot_key (spot_at key.now at.old)) }
+    ensures loaded { IfOk result.2 (IsLoadedFor O.loaded (spot_key (spot_at key.now at.old))) }
 {
     match found {
-        Found::Kept(caller, letter) => (Standing::Free(caller), HIT, show(letter, place)),
+        Found::Kept(caller, letter) => (Standing::Free(caller), HIT, show(letter, at, key)),
         Found::Uncopied(caller) => (Standing::Free(caller), HIT, Err(LoadFault::Memory)),
+        Found::Unmade(caller) => (Standing::Free(caller), GET_ALONE, Err(LoadFault::Memory)),
         Found::Spent(caller) => (
             Standing::Free(caller),
             LOAD,
             Err(LoadFault::Refused(GetRefusal::Spent)),
         ),
-        Found::Joined(caller, letter) => (Standing::Free(caller), LOAD, show(letter, place)),
+        Found::Joined(caller, letter) => (Standing::Free(caller), LOAD, show(letter, at, key)),
         Found::Led(finished, counts) => match finished {
             Finished::Done(caller, letter) => {
-                (Standing::Free(caller), counts, show(letter, place))
+                (Standing::Free(caller), counts, show(letter, at, key))
             }
             Finished::Held(settled) => (Standing::Owing(settled), counts, Err(LoadFault::Memory)),
         },
@@ -83,12 +89,12 @@ fn reply<'d, D: Naming, O: Origin>(
 }
 
 impl<'d, D: Naming, N: Naming, O: Origin> Fill<'d, D, N, O> {
-    // Looks for the place's letter in the caches, and else asks the group.
+    // Looks for the key's letter in the caches, and else asks the group.
     fn find<R: Wait, P, F, L, C>(
         &self,
         rt: &R,
         caller: Caller<FillValue<'d, D, O>>,
-        place: &mut Place<'d>,
+        at: &mut KeyPlace<'d>,
         key: &[u8],
         loaders: &mut Loaders<P, F, L, C>,
         log: &mut Log,
@@ -99,26 +105,33 @@ impl<'d, D: Naming, N: Naming, O: Origin> Fill<'d, D, N, O> {
         L: Local<Origin = O>,
         C: Chance,
         requires caller { caller.group ≡ N.group }
-        requires place { (place.old.directory ≡ D.directory) × (place.old.key ≡ key.now) × IsPlaceOf N.group place.old.number }
-        ensures found { HasFound (IsLoadOf P.pick_gives F.fetch_gives L.load_gives key.now) (IsDraw C.draw_gives) place.old caller.entry loaders.old loaders.new result }
-        ensures of_place { IsOfPlace place.old.number result }
+        requires space { IsInSpace D.space (spot_at key.now at.old) }
+        requires keyed { spot_key (spot_at key.now at.old) ≡ key.now }
+        requires place { IsPlaceOf N.group (place_at at.old) }
+        ensures found { HasFound N.space key.now (IsLoadOf P.pick_gives F.fetch_gives L.load_gives key.now) (IsDraw C.draw_gives) (spot_at key.now at.old) caller.entry loaders.old loaders.new result }
+        ensures of_place { IsOfPlace (place_at at.old) result }
+        ensures of_key { IsOfKey key.now result }
         ensures one { IsOfOneGet (counts_of result) }
-        ensures same { place.new ≡ place.old }
+        ensures same { at.new ≡ at.old }
     {
         let mut caller = caller;
-        match self.look(rt, place.number().number(), &mut caller) {
+        match self.look(rt, at.number().number(), key, &mut caller) {
             Some(Ok(letter)) => Found::Kept(caller, letter),
             Some(Err(_)) => Found::Uncopied(caller),
-            None => self.ask(rt, caller, place, key, loaders, log),
+            None => match at.spot(self.alloc, key) {
+                Ok(spot) => self.ask(rt, caller, spot, key, loaders, log),
+                Err(_) => Found::Unmade(caller),
+            },
         }
     }
 
-    // Asks the group: loads the key where the caller leads, and else waits for the letter.
+    // Asks the group: loads the key where the caller leads, and else waits for the letter. Where that is of another key, it asks
+    // again.
     fn ask<R: Wait, P, F, L, C>(
         &self,
         rt: &R,
         caller: Caller<FillValue<'d, D, O>>,
-        place: &mut Place<'d>,
+        spot: Spot<'d>,
         key: &[u8],
         loaders: &mut Loaders<P, F, L, C>,
         log: &mut Log,
@@ -129,43 +142,78 @@ impl<'d, D: Naming, N: Naming, O: Origin> Fill<'d, D, N, O> {
         L: Local<Origin = O>,
         C: Chance,
         requires caller { caller.group ≡ N.group }
-        requires place { (place.old.directory ≡ D.directory) × (place.old.key ≡ key.now) × IsPlaceOf N.group place.old.number }
-        ensures found { HasFoundFrom (IsLoadOf P.pick_gives F.fetch_gives L.load_gives key.now) (IsDraw C.draw_gives) place.old caller.entry loaders.old loaders.new result }
-        ensures of_place { IsOfPlace place.old.number result }
+        requires spot { IsInSpace D.space spot × (spot_key spot ≡ key.now) × IsPlaceOf N.group (spot_place spot) }
+        ensures found { HasFoundFrom N.space key.now (IsLoadOf P.pick_gives F.fetch_gives L.load_gives key.now) (IsDraw C.draw_gives) spot.entry caller.entry loaders.old loaders.new result }
+        ensures of_place { IsOfPlace (spot_place spot.entry) result }
+        ensures of_key { IsOfKey key.now result }
         ensures one { IsOfOneGet (counts_of result) }
-        ensures same { place.new ≡ place.old }
     {
-        let number = place.number();
-        match begin_wait(rt, &self.group, caller, number.number()) {
-            Ok(Begun::Lead(mut flight)) => {
-                let call = flight.call();
-                log.add(Event::Lead {
-                    by: call.caller,
-                    key: number,
-                    call,
-                    own: None,
-                });
-                let Sourced {
-                    value,
-                    keep,
-                    counts,
-                } = self.source(rt, &mut flight, place.again(), key, loaders);
-                let finished = self.settle(rt, flight, value, keep, key.len());
-                log.add_finished(call, &finished);
-                Found::Led(finished, counts)
+        let number = spot.number();
+        let mut asking = caller;
+        for _ in rt.forever() {
+            match begin_wait(rt, &self.group, asking, number.number()) {
+                Ok(Begun::Lead(flight)) => {
+                    log.add(Event::Lead {
+                        by: flight.call().caller,
+                        key: number,
+                        call: flight.call(),
+                        own: None,
+                    });
+                    let (finished, counts) = self.lead(rt, flight, spot, key, loaders, log);
+                    return Found::Led(finished, counts);
+                }
+                Ok(Begun::Join(ticket)) => {
+                    log.add(Event::Enter {
+                        by: ticket.member().caller,
+                        key: number,
+                        call: ticket.call(),
+                        member: ticket.member(),
+                    });
+                    let (caller, letter) = wait(rt, &self.group, ticket);
+                    if letter.value().is_of(key) {
+                        return Found::Joined(caller, letter);
+                    }
+                    asking = caller;
+                }
+                Err(Spent { back }) => return Found::Spent(back),
             }
-            Ok(Begun::Join(ticket)) => {
-                log.add(Event::Enter {
-                    by: ticket.member().caller,
-                    key: number,
-                    call: ticket.call(),
-                    member: ticket.member(),
-                });
-                let (caller, letter) = wait(rt, &self.group, ticket);
-                Found::Joined(caller, letter)
-            }
-            Err(Spent { back }) => Found::Spent(back),
         }
+        unreachable!()
+    }
+
+    // Settles the call that is led, with what its source gives.
+    fn lead<R: Wait, P, F, L, C>(
+        &self,
+        rt: &R,
+        flight: Flight<FillValue<'d, D, O>>,
+        spot: Spot<'d>,
+        key: &[u8],
+        loaders: &mut Loaders<P, F, L, C>,
+        log: &mut Log,
+    ) -> (Finished<FillValue<'d, D, O>>, GetCounts)
+    where
+        P: Picker,
+        F: Peer<Origin = O>,
+        L: Local<Origin = O>,
+        C: Chance,
+        requires flight { (flight.group ≡ N.group) × IsLawful N.group.sizes flight.seen × IsPlaceOf N.group flight.place }
+        requires led { IsRooted flight.place flight.call flight.call flight.seen }
+        requires spot { IsInSpace D.space spot × (spot_key spot ≡ key.now) × (spot_place spot ≡ flight.place) }
+        ensures run { HasRunFrom (IsLoadOf P.pick_gives F.fetch_gives L.load_gives key.now) (IsDraw C.draw_gives) spot.entry flight.entry loaders.old loaders.new result.0 result.1 }
+        ensures of_place { IfDone (λ letter. letter.place ≡ flight.entry.place) result.0 }
+        ensures of_key { IfDone (λ letter. MayBe letter.value.spot key.now) result.0 }
+        ensures one { IsOfOneGet result.1 }
+    {
+        let mut flight = flight;
+        let call = flight.call();
+        let Sourced {
+            value,
+            keep,
+            counts,
+        } = self.source(rt, &mut flight, spot, key, loaders);
+        let finished = self.settle(rt, flight, value, keep, key.len());
+        log.add_finished(call, &finished);
+        (finished, counts)
     }
 
     // Gets the key's value for a free caller.
@@ -173,7 +221,7 @@ impl<'d, D: Naming, N: Naming, O: Origin> Fill<'d, D, N, O> {
         &self,
         rt: &R,
         caller: Caller<FillValue<'d, D, O>>,
-        desk: &mut Desk,
+        desk: &mut KeyDesk,
         key: &[u8],
         loaders: &mut Loaders<P, F, L, C>,
         log: &mut Log,
@@ -184,18 +232,20 @@ impl<'d, D: Naming, N: Naming, O: Origin> Fill<'d, D, N, O> {
         L: Local<Origin = O>,
         C: Chance,
         requires caller { caller.group ≡ N.group }
-        requires desk { desk.old.directory ≡ N.directory }
-        ensures reply { HasReplied (IsLoadOf P.pick_gives F.fetch_gives L.load_gives key.now) (IsDraw C.draw_gives) N.directory key.now caller.entry desk.old desk.new loaders.old loaders.new result }
-        ensures desk { IsSeeing N.directory desk.old desk.new }
-        ensures keyed { IfOk result.2 (λ view. view.value.place.key ≡ key.now) }
+        requires desk { IsDeskOf N.space desk.old }
+        ensures reply { HasReplied (IsLoadOf P.pick_gives F.fetch_gives L.load_gives key.now) (IsDraw C.draw_gives) N.space key.now caller.entry desk.old desk.new loaders.old loaders.new result }
+        ensures group { IsOfGroup N.group result.0 }
+        ensures desk { IsDeskOf N.space desk.new }
+        ensures seeing { IsSeeingSpace N.space desk.old desk.new }
+        ensures keyed { IfOk result.2 (λ view. spot_key view.value.spot ≡ key.now) }
         ensures loaded { IfOk result.2 (IsLoadedFor O.loaded key.now) }
         ensures one { IsOfOneGet result.1 }
     {
-        match self.directory.resolve(desk, key) {
+        match self.space.find(desk, key) {
             Err(refusal) => (Standing::Free(caller), GET_ALONE, Err(of_key(refusal))),
-            Ok(mut place) => {
-                let found = self.find(rt, caller, &mut place, key, loaders, log);
-                reply(found, &mut place)
+            Ok(mut at) => {
+                let found = self.find(rt, caller, &mut at, key, loaders, log);
+                reply(found, &mut at, key)
             }
         }
     }
@@ -205,7 +255,7 @@ impl<'d, D: Naming, N: Naming, O: Origin> Fill<'d, D, N, O> {
         &self,
         rt: &R,
         standing: Standing<FillValue<'d, D, O>>,
-        desk: &mut Desk,
+        desk: &mut KeyDesk,
         key: &[u8],
         loaders: &mut Loaders<P, F, L, C>,
         log: &mut Log,
@@ -216,11 +266,11 @@ impl<'d, D: Naming, N: Naming, O: Origin> Fill<'d, D, N, O> {
         L: Local<Origin = O>,
         C: Chance,
         requires group { IsOfGroup N.group standing }
-        requires desk { desk.old.directory ≡ N.directory }
-        ensures reply { GetsFrom (IsLoadOf P.pick_gives F.fetch_gives L.load_gives key.now) (IsDraw C.draw_gives) N.directory key.now standing.entry desk.old desk.new loaders.old loaders.new result }
+        requires desk { IsDeskOf N.space desk.old }
+        ensures reply { GetsFrom (IsLoadOf P.pick_gives F.fetch_gives L.load_gives key.now) (IsDraw C.draw_gives) N.space key.now standing.entry desk.old desk.new loaders.old loaders.new result }
         ensures group { IsOfGroup N.group result.0 }
-        ensures desk { desk.new.directory ≡ N.directory }
-        ensures keyed { IfOk result.2 (λ view. view.value.place.key ≡ key.now) }
+        ensures desk { IsDeskOf N.space desk.new }
+        ensures keyed { IfOk result.2 (λ view. spot_key view.value.spot ≡ key.now) }
         ensures loaded { IfOk result.2 (IsLoadedFor O.loaded key.now) }
         ensures one { IsOfOneGet result.1 }
     {
@@ -249,10 +299,10 @@ impl<'d, D: Naming, N: Naming, O: Origin> Fill<'d, D, N, O> {
         F: Peer<Origin = O>,
         L: Local<Origin = O>,
         C: Chance,
-        ensures got { getter.entry.counted.gets < 2 ^ 64 - 1 → HasGot (IsLoadOf P.pick_gives F.fetch_gives L.load_gives key.now) (IsDraw C.draw_gives) N.directory key.now getter.entry result.0 result.1 }
+        ensures got { getter.entry.counted.gets < 2 ^ 64 - 1 → HasGot (IsLoadOf P.pick_gives F.fetch_gives L.load_gives key.now) (IsDraw C.draw_gives) N.space key.now getter.entry result.0 result.1 }
         ensures counted { getter.entry.counted.gets < 2 ^ 64 - 1 → IsCounted getter.entry result.0 result.1 }
-        ensures fresh { getter.entry.counted.gets < 2 ^ 64 - 1 → IsFreshGet N.directory key.now getter.entry result.0 result.1 }
-        ensures keyed { IfOk result.1 (λ view. view.value.place.key ≡ key.now) }
+        ensures fresh { getter.entry.counted.gets < 2 ^ 64 - 1 → IsFreshGet N.space key.now getter.entry result.0 result.1 }
+        ensures keyed { IfOk result.1 (λ view. spot_key view.value.spot ≡ key.now) }
         ensures loaded { IfOk result.1 (IsLoadedFor O.loaded key.now) }
         ensures full { getter.entry.counted.gets ≡ 2 ^ 64 - 1 → (result.0 ≡ getter.entry) × (result.1 ≡ Err (LoadFault.Refused GetRefusal.Spent)) }
     {

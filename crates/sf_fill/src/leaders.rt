@@ -82,10 +82,10 @@ fn with_all<'d, D: Naming, N: Naming, R: Wait>(
     parts: FillParts<'d, D, AnyValue, FixedPicker, Script, Script, RoundChance>,
     forgets: bool,
 ) -> Result<Option<CallId>, Memory>
-    requires directory { (directory.now ≡ N.directory) × (D.directory ≡ N.directory) }
-    requires group { (parts.group ≡ N.group) × (N.group.sizes.places ≡ N.directory.keys) × (1 ≤ N.group.sizes.places) }
+    requires directory { (directory.now ≡ N.space) × (D.directory ≡ N.space) }
+    requires group { (parts.group ≡ N.group) × (N.group.sizes.places ≡ N.space.keys) × (1 ≤ N.group.sizes.places) }
     requires getters { N.getters ≡ 2 }
-    requires desks { (vec_len parts.desks ≡ N.getters) × AreOfDirectory N.directory parts.desks.items }
+    requires desks { (vec_len parts.desks ≡ N.getters) × AreOfDirectory N.space parts.desks.items }
     requires callers { (vec_len parts.callers ≡ N.getters) × AreOfGroup N.group parts.callers.items }
     requires loaders { vec_len parts.loaders ≡ N.getters }
     requires ledgers { AreNamed N.ledgers N.getters parts.ledgers }

@@ -1,9 +1,10 @@
 //! What a getter does once it leads a call.
-ghost use Rattle.std.specs.Prelude.{◌≡◌};
+ghost use Rattle.std.specs.Prelude.{◌≡◌, IfOk};
 ghost use Rattle.sf_calls.specs.Same.{HasNothing, IsPlaceOf, IsSameFlight};
 ghost use Rattle.sf_calls.specs.Seen.{IsLawful};
 ghost use Rattle.sf_calls.specs.Notes.{HasLent};
 ghost use Rattle.sf_loaders.specs.LoadPath.{IsLoadOf};
+ghost use Rattle.sf_spots.specs.Spots.{IsInSpace, MayBe, spot_key, spot_place};
 ghost use Rattle.sf_fill.specs.FillValue.{FitsFill};
 ghost use Rattle.sf_fill.specs.Found.{DrawsFor, HasSettled, IsDraw, IsFromCache, IsLoaded, IsSource, second_look_counts};
 ghost use Rattle.sf_fill.specs.Rooted.{IsRooted};
@@ -16,12 +17,12 @@ use crate::naming::Naming;
 use crate::totals::GetCounts;
 use crate::value::FillValue;
 use sf_caches::Which;
-use sf_dir::Place;
 use sf_group::{Caller, Finished, Flight, Letter};
 use sf_history::CallId;
 use sf_loaders::{
     Chance, Counts, Loaders, Local, LocalFault, Origin, Peer, Picker, Source, load_once,
 };
+use sf_spots::Spot;
 use sf_wait::finish_wait;
 use std::sync::Wait;
 
@@ -67,7 +68,7 @@ impl<'d, D: Naming, N: Naming, O: Origin> Fill<'d, D, N, O> {
         &self,
         rt: &R,
         flight: &mut Flight<FillValue<'d, D, O>>,
-        place: Place<'d>,
+        spot: Spot<'d>,
         key: &[u8],
         loaders: &mut Loaders<P, F, L, C>,
     ) -> Sourced<'d, D, O>
@@ -78,15 +79,16 @@ impl<'d, D: Naming, N: Naming, O: Origin> Fill<'d, D, N, O> {
         C: Chance,
         requires flight { (flight.old.group ≡ N.group) × IsLawful N.group.sizes flight.old.seen }
         requires led { IsRooted flight.old.place flight.old.call flight.old.call flight.old.seen }
-        requires place { (place.directory ≡ D.directory) × (place.key ≡ key.now) × (place.number ≡ flight.old.place) }
-        ensures source { IsSource (IsLoadOf P.pick_gives F.fetch_gives L.load_gives key.now) (IsDraw C.draw_gives) place.entry flight.old loaders.old loaders.new result.value result.counts }
+        requires spot { IsInSpace D.space spot × (spot_key spot ≡ key.now) × (spot_place spot ≡ flight.old.place) }
+        ensures source { IsSource (IsLoadOf P.pick_gives F.fetch_gives L.load_gives key.now) (IsDraw C.draw_gives) spot.entry flight.old loaders.old loaders.new result.value result.counts }
+        ensures of_key { MayBe result.value.spot key.now }
         ensures learnt { IsSameFlight flight.old flight.new }
         ensures fits { FitsFill flight.new.place flight.new.call result.value flight.new.seen }
         ensures one { IsOfOneGet result.counts }
     {
-        match self.second_look(rt, flight) {
-            Some(found) => self.reuse(flight, place, found),
-            None => self.load(flight.call(), place, key, loaders),
+        match self.second_look(rt, flight, key) {
+            Some(found) => self.reuse(flight, spot, found),
+            None => self.load(flight.call(), spot, key, loaders),
         }
     }
 
@@ -94,14 +96,16 @@ impl<'d, D: Naming, N: Naming, O: Origin> Fill<'d, D, N, O> {
     fn reuse(
         &self,
         flight: &mut Flight<FillValue<'d, D, O>>,
-        place: Place<'d>,
+        spot: Spot<'d>,
         found: InCache<FillValue<'d, D, O>>,
     ) -> Sourced<'d, D, O>
         requires flight { (flight.old.group ≡ N.group) × IsLawful N.group.sizes flight.old.seen }
         requires led { IsRooted flight.old.place flight.old.call flight.old.call flight.old.seen }
-        requires place { (place.directory ≡ D.directory) × (place.number ≡ flight.old.place) }
+        requires spot { IsInSpace D.space spot × (spot_place spot ≡ flight.old.place) }
         requires found { CopiesFollowed flight.old found.copy }
-        ensures value { IsFromCache place.entry flight.old result.value }
+        requires of_key { IfOk found.copy (λ letter. MayBe letter.value.spot (spot_key spot)) }
+        ensures value { IsFromCache spot.entry flight.old result.value }
+        ensures of_key { MayBe result.value.spot (spot_key spot.entry) }
         ensures counts { result.counts ≡ second_look_counts }
         ensures learnt { IsSameFlight flight.old flight.new }
         ensures fits { FitsFill flight.new.place flight.new.call result.value flight.new.seen }
@@ -118,7 +122,7 @@ impl<'d, D: Naming, N: Naming, O: Origin> Fill<'d, D, N, O> {
                 }
             }
             Err(_) => Sourced {
-                value: FillValue::of_run(place, flight.call(), Err(LocalFault::Memory)),
+                value: FillValue::of_run(spot, flight.call(), Err(LocalFault::Memory)),
                 keep: None,
                 counts: SECOND_LOOK,
             },
@@ -129,7 +133,7 @@ impl<'d, D: Naming, N: Naming, O: Origin> Fill<'d, D, N, O> {
     fn load<P, F, L, C>(
         &self,
         call: CallId,
-        place: Place<'d>,
+        spot: Spot<'d>,
         key: &[u8],
         loaders: &mut Loaders<P, F, L, C>,
     ) -> Sourced<'d, D, O>
@@ -138,8 +142,9 @@ impl<'d, D: Naming, N: Naming, O: Origin> Fill<'d, D, N, O> {
         F: Peer<Origin = O>,
         L: Local<Origin = O>,
         C: Chance,
-        requires place { (place.directory ≡ D.directory) × (place.key ≡ key.now) }
-        ensures source { IsLoaded (IsLoadOf P.pick_gives F.fetch_gives L.load_gives key.now) (IsDraw C.draw_gives) place.entry call loaders.old loaders.new result.value result.counts }
+        requires spot { IsInSpace D.space spot × (spot_key spot ≡ key.now) }
+        ensures source { IsLoaded (IsLoadOf P.pick_gives F.fetch_gives L.load_gives key.now) (IsDraw C.draw_gives) spot.entry call loaders.old loaders.new result.value result.counts }
+        ensures of_key { MayBe result.value.spot key.now }
         ensures one { IsOfOneGet result.counts }
     {
         let (loaded, run) = load_once(loaders, key, call);
@@ -153,13 +158,13 @@ impl<'d, D: Naming, N: Naming, O: Origin> Fill<'d, D, N, O> {
             Ok((bytes, source)) => {
                 let keep = self.cache_for(source, &mut loaders.chance);
                 Sourced {
-                    value: FillValue::of_run(place, call, Ok(bytes)),
+                    value: FillValue::of_run(spot, call, Ok(bytes)),
                     keep,
                     counts,
                 }
             }
             Err(fault) => Sourced {
-                value: FillValue::of_run(place, call, Err(fault)),
+                value: FillValue::of_run(spot, call, Err(fault)),
                 keep: None,
                 counts,
             },

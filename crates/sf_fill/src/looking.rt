@@ -1,7 +1,8 @@
 //! What getters do under the lock: they look for letters, put them, take them out, and count.
-ghost use Rattle.std.specs.Prelude.{◌≡◌, ◌≤◌, ◌<◌, ◌^◌, ◌-◌, IfSome};
+ghost use Rattle.std.specs.Prelude.{◌≡◌, ◌≤◌, ◌<◌, ◌^◌, ◌-◌, IfSome, IfOk};
 ghost use Rattle.sf_calls.specs.Notes.{HasLent};
 ghost use Rattle.sf_calls.specs.Same.{IsPlaceOf};
+ghost use Rattle.sf_spots.specs.Spots.{MayBe};
 ghost use Rattle.sf_fill.specs.Settled.{IsSettled, IsCopyOf, CopiesFollowed, HasLooked, HasLookedOn};
 ghost use Rattle.sf_fill.specs.Totals.{with_counts, IsOfOneGet};
 
@@ -23,21 +24,23 @@ pub(crate) struct InCache<V: sf_group::Fit> {
 }
 
 impl<'d, D: Naming, N: Naming, O: Origin> Kept<'d, D, N, O> {
-    // A copy of the letter that the cache has for the place, which becomes its most recent, if its call is current. Else the
-    // entry is dropped.
+    // A copy of the letter that the cache has for the key at the place, which becomes its most recent, if its call is current. Else
+    // the entry is dropped, if it is of the key.
     fn copy_current(
         &mut self,
         group: &Group<FillValue<'d, D, O>>,
         which: Which,
         place: u32,
+        key: &[u8],
         caller: &mut Caller<FillValue<'d, D, O>>,
     ) -> Option<Result<Letter<FillValue<'d, D, O>>, Memory>>
         requires group { group.now ≡ N.group }
         requires caller { caller.old.group ≡ N.group }
-        ensures { HasLooked caller.old place result caller.new }
+        ensures looked { HasLooked caller.old place result caller.new }
+        ensures of_key { IfSome result (λ found. IfOk found (λ letter. MayBe letter.value.spot key.now)) }
     {
         let cached = self.caches.look(which, place)?;
-        if cached.place() != place {
+        if cached.place() != place || !cached.is_of(key) {
             return None;
         }
         cached.known();
@@ -48,19 +51,21 @@ impl<'d, D: Naming, N: Naming, O: Origin> Kept<'d, D, N, O> {
         None
     }
 
-    // A copy of the letter that the cache has for the place, which becomes its most recent, if it is of the call.
+    // A copy of the letter that the cache has for the key at the place, which becomes its most recent, if it is of the call.
     fn copy_of(
         &mut self,
         group: &Group<FillValue<'d, D, O>>,
         which: Which,
         place: u32,
+        key: &[u8],
         call: CallId,
     ) -> Option<Result<Letter<FillValue<'d, D, O>>, Memory>>
         requires { group.now ≡ N.group }
-        ensures { IfSome result (IsCopyOf N.group place call) }
+        ensures copy { IfSome result (IsCopyOf N.group place call) }
+        ensures of_key { IfSome result (λ found. IfOk found (λ letter. MayBe letter.value.spot key.now)) }
     {
         let cached = self.caches.look(which, place)?;
-        if cached.place() != place || cached.call() != call {
+        if cached.place() != place || cached.call() != call || !cached.is_of(key) {
             return None;
         }
         cached.known();
@@ -106,35 +111,39 @@ impl<'d, D: Naming, N: Naming, O: Origin> Kept<'d, D, N, O> {
 }
 
 impl<'d, D: Naming, N: Naming, O: Origin> Fill<'d, D, N, O> {
-    // A copy of the current letter that main, or else hot, has for the place; entries that are not current are dropped. A
-    // limit that keeps nothing skips the look.
+    // A copy of the current letter that main, or else hot, has for the key at the place; entries of the key that are not
+    // current are dropped. A limit that keeps nothing skips the look.
     pub(crate) fn look<R: Wait>(
         &self,
         rt: &R,
         place: u32,
+        key: &[u8],
         caller: &mut Caller<FillValue<'d, D, O>>,
     ) -> Option<Result<Letter<FillValue<'d, D, O>>, Memory>>
         requires { caller.old.group ≡ N.group }
-        ensures { HasLookedOn caller.old place result caller.new }
+        ensures looked { HasLookedOn caller.old place result caller.new }
+        ensures of_key { IfSome result (λ found. IfOk found (λ letter. MayBe letter.value.spot key.now)) }
     {
         if self.limit <= 0 {
             return None;
         }
         let mut kept = self.kept.lock(rt);
-        if let Some(copy) = kept.copy_current(&self.group, Which::Main, place, caller) {
+        if let Some(copy) = kept.copy_current(&self.group, Which::Main, place, key, caller) {
             return Some(copy);
         }
-        kept.copy_current(&self.group, Which::Hot, place, caller)
+        kept.copy_current(&self.group, Which::Hot, place, key, caller)
     }
 
-    // A copy of the letter that main, or else hot, has of the call that the flight's follows; other entries stay.
+    // A copy of the letter of the key that main, or else hot, has of the call that the flight's follows; other entries stay.
     pub(crate) fn second_look<R: Wait>(
         &self,
         rt: &R,
         flight: &Flight<FillValue<'d, D, O>>,
+        key: &[u8],
     ) -> Option<InCache<FillValue<'d, D, O>>>
         requires { flight.now.group ≡ N.group }
-        ensures { IfSome result (λ found. CopiesFollowed flight.now found.copy) }
+        ensures follows { IfSome result (λ found. CopiesFollowed flight.now found.copy) }
+        ensures of_key { IfSome result (λ found. IfOk found.copy (λ letter. MayBe letter.value.spot key.now)) }
     {
         let call = flight.after()?;
         if self.limit <= 0 {
@@ -142,7 +151,7 @@ impl<'d, D: Naming, N: Naming, O: Origin> Fill<'d, D, N, O> {
         }
         let mut kept = self.kept.lock(rt);
         for which in [Which::Main, Which::Hot] {
-            if let Some(copy) = kept.copy_of(&self.group, which, flight.place(), call) {
+            if let Some(copy) = kept.copy_of(&self.group, which, flight.place(), key, call) {
                 return Some(InCache { copy, which });
             }
         }

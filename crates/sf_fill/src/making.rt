@@ -1,6 +1,8 @@
 //! How a fill is made.
 ghost use Rattle.std.specs.Prelude.{◌≡◌, ◌≤◌, [], IfOk, IfErr, vec_len, vec_capacity};
-ghost use Rattle.sf_fill.specs.Made.{AreOfDirectory, AreOfGroup, new_getters};
+ghost use Rattle.sf_words.specs.declared.limits.TheConstants.{LARGEST_PLACE};
+ghost use Rattle.sf_spots.specs.Spaces.{AreDesksOf, places_in, space_of};
+ghost use Rattle.sf_fill.specs.Made.{AreOfGroup, new_getters};
 ghost use Rattle.sf_fill.specs.Totals.{AreNamed};
 
 use crate::cached::Cached;
@@ -12,17 +14,17 @@ use crate::standing::Standing;
 use crate::totals::{Accounts, Ledgers};
 use crate::value::FillValue;
 use sf_caches::Caches;
-use sf_dir::{Desk, Directory};
 use sf_group::{Caller, Group, Memory};
 use sf_loaders::{Loaders, Origin};
+use sf_spots::{KeyDesk, KeySpace};
 use std::alloc::Global;
 use std::sync::Mutex;
 
 /// What a fill is made of, which comes back where memory is refused.
 #[derive(Drop)]
 pub struct FillParts<'d, D: Naming, O: Origin, P, F, L, C> {
-    /// Resolve keys, one a getter.
-    pub desks: Vec<Desk>,
+    /// Look keys up, one a getter.
+    pub desks: Vec<KeyDesk>,
     /// Whose letters are kept.
     pub group: Group<FillValue<'d, D, O>>,
     /// Ask the group, one a getter.
@@ -78,12 +80,12 @@ fn reserve<'d, D: Naming, N: Naming, O: Origin, P, F, L, C>(
 }
 
 impl<'d, D: Naming, N: Naming, O: Origin> Fill<'d, D, N, O> {
-    /// A fill of the directory and the group, which have as many places, and its getters, one for each desk, caller and set
+    /// A fill of the key space and the group, which have as many places, at most 1,048,576, and its getters, one for each desk, caller and set
     /// of loaders, 1 to 65,535. What the caches keep is within `limit` bytes, and nothing where that is 0 or less. Each
     /// getter logs `log` events at most. Where memory is refused, all comes back.
     pub fn new<P: Drop, F: Drop, L: Drop, C: Drop>(
         alloc: Global,
-        directory: &'d Directory,
+        space: KeySpace<'d>,
         parts: FillParts<'d, D, O, P, F, L, C>,
         limit: i64,
         log: usize,
@@ -91,10 +93,11 @@ impl<'d, D: Naming, N: Naming, O: Origin> Fill<'d, D, N, O> {
         (Fill<'d, D, N, O>, Vec<Getter<'d, D, N, O, P, F, L, C>>),
         FillParts<'d, D, O, P, F, L, C>,
     >
-        requires directory { (directory.now ≡ N.directory) × (D.directory ≡ N.directory) }
-        requires group { (parts.group ≡ N.group) × (N.group.sizes.places ≡ N.directory.keys) }
+        requires space { (space_of space ≡ N.space) × (D.space ≡ N.space) }
+        requires places { places_in N.space ≤ LARGEST_PLACE }
+        requires group { (parts.group ≡ N.group) × (N.group.sizes.places ≡ places_in N.space) }
         requires getters { (1 ≤ N.getters) × (N.getters ≤ 65535) }
-        requires desks { (vec_len parts.desks ≡ N.getters) × AreOfDirectory N.directory parts.desks.items }
+        requires desks { (vec_len parts.desks ≡ N.getters) × AreDesksOf N.space parts.desks.items }
         requires callers { (vec_len parts.callers ≡ N.getters) × AreOfGroup N.group parts.callers.items }
         requires loaders { vec_len parts.loaders ≡ N.getters }
         requires ledgers { AreNamed N.ledgers N.getters parts.ledgers }
@@ -110,7 +113,7 @@ impl<'d, D: Naming, N: Naming, O: Origin> Fill<'d, D, N, O> {
             ledgers,
         } = parts;
         let count = desks.len();
-        let Ok(rooms) = reserve(alloc, limit, directory.place_count(), count, log) else {
+        let Ok(rooms) = reserve(alloc, limit, space.place_count(), count, log) else {
             return Err(FillParts {
                 desks,
                 group,
@@ -146,10 +149,11 @@ impl<'d, D: Naming, N: Naming, O: Origin> Fill<'d, D, N, O> {
         getters.reverse();
         let kept = Mutex::new(Kept { caches, accounts });
         let fill = Fill {
-            directory,
+            space,
             group,
             kept,
             limit,
+            alloc,
         };
         Ok((fill, getters))
     }

@@ -1,6 +1,6 @@
-//! Which directory, which group and which ledgers the parts of a fill are of.
+//! Which key space, which group and which ledgers the parts of a fill are of.
 ghost use Rattle.std.specs.Prelude.{ℕ};
-ghost use Rattle.sf_dir.specs.Known.{DirectoryId};
+ghost use Rattle.sf_spots.specs.Spaces.{SpaceId};
 ghost use Rattle.sf_calls.specs.Tokens.{GroupValue};
 ghost use Rattle.sf_fill.specs.Names.{LedgerNames};
 
@@ -9,11 +9,11 @@ use std::sync::ledger::Ledger;
 
 /// The names of a fill. A call of a program picks them; nothing of them exists when it runs.
 ///
-/// Two nested calls pick them: the directory's name where the values' type is made, and the others where the group is
+/// Two nested calls pick them: the key space's name where the values' type is made, and the others where the group is
 /// there.
 pub trait Naming {
-    /// The directory whose places its values keep.
-    ghost directory: { DirectoryId };
+    /// The key space whose spots its values keep.
+    ghost space: { SpaceId };
 
     /// The group whose letters its caches keep.
     ghost group: { GroupValue };
@@ -26,9 +26,9 @@ pub trait Naming {
 }
 
 impl Naming for Brand {
-    ghost use Rattle.sf_fill.specs.Nowhere.{no_directory, no_group, no_ledgers};
+    ghost use Rattle.sf_fill.specs.Nowhere.{no_space, no_group, no_ledgers};
 
-    ghost directory = { no_directory };
+    ghost space = { no_space };
 
     ghost group = { no_group };
 

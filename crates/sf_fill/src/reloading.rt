@@ -1,6 +1,7 @@
 //! Reloads.
 ghost use Rattle.std.specs.Prelude.{◌≡◌};
 ghost use Rattle.sf_calls.specs.Same.{IsPlaceOf};
+ghost use Rattle.sf_spots.specs.Spaces.{IsDeskOf};
 ghost use Rattle.sf_fill.specs.Fresh.{IsReloading};
 ghost use Rattle.sf_fill.specs.GetterValue.{IsOfGroup};
 ghost use Rattle.sf_fill.specs.Reloads.{ForgetsNamed, HasReloaded, ReloadsFrom};
@@ -13,9 +14,9 @@ use crate::log::Log;
 use crate::naming::Naming;
 use crate::standing::Standing;
 use crate::value::FillValue;
-use sf_dir::Desk;
 use sf_group::Caller;
 use sf_loaders::Origin;
+use sf_spots::KeyDesk;
 use sf_wait::forget_call_wait;
 use std::sync::Wait;
 
@@ -44,15 +45,15 @@ impl<'d, D: Naming, N: Naming, O: Origin> Fill<'d, D, N, O> {
         &self,
         rt: &R,
         standing: Standing<FillValue<'d, D, O>>,
-        desk: &mut Desk,
+        desk: &mut KeyDesk,
         key: &[u8],
         log: &mut Log,
     ) -> (Standing<FillValue<'d, D, O>>, Result<Forgot, LoadFault>)
         requires group { IsOfGroup N.group standing }
-        requires desk { desk.old.directory ≡ N.directory }
-        ensures reloaded { ReloadsFrom N.directory key.now standing.entry desk.old desk.new result.0 result.1 }
+        requires desk { IsDeskOf N.space desk.old }
+        ensures reloaded { ReloadsFrom N.space key.now standing.entry desk.old desk.new result.0 result.1 }
         ensures group { IsOfGroup N.group result.0 }
-        ensures desk { desk.new.directory ≡ N.directory }
+        ensures desk { IsDeskOf N.space desk.new }
     {
         let mut caller = match standing {
             Standing::Owing(settled) => {
@@ -60,7 +61,7 @@ impl<'d, D: Naming, N: Naming, O: Origin> Fill<'d, D, N, O> {
             }
             Standing::Free(caller) => caller,
         };
-        match self.directory.resolve(desk, key) {
+        match self.space.find(desk, key) {
             Err(refusal) => (Standing::Free(caller), Err(of_key(refusal))),
             Ok(place) => {
                 let number = place.number();
@@ -80,8 +81,8 @@ impl<'d, D: Naming, N: Naming, O: Origin> Fill<'d, D, N, O> {
         getter: Getter<'d, D, N, O, P, F, L, C>,
         key: &[u8],
     ) -> (Getter<'d, D, N, O, P, F, L, C>, Result<Forgot, LoadFault>)
-        ensures reloaded { HasReloaded N.directory key.now getter.entry result.0 result.1 }
-        ensures adds { IsReloading N.directory key.now getter.entry result.0 result.1 }
+        ensures reloaded { HasReloaded N.space key.now getter.entry result.0 result.1 }
+        ensures adds { IsReloading N.space key.now getter.entry result.0 result.1 }
     {
         let (getter, _delivered) = getter.settle_up(rt, self);
         let Getter {

@@ -1,19 +1,20 @@
 //! What a fill settles its calls with.
-ghost use Rattle.std.specs.Prelude.{◌≡◌, IfOk};
+ghost use Rattle.std.specs.Prelude.{◌≡◌, ◌↔◌, IfOk, IsTrue, false};
+ghost use Rattle.sf_spots.specs.Spots.{IsInSpace, IsOther, MayBe, place_at, spot_at, spot_key, spot_place};
 ghost use Rattle.sf_fill.specs.ByteCounts.{count_of};
 
 use crate::naming::Naming;
 use bytes::Bytes;
 use sf_calls::Fit;
-use sf_dir::Place;
 use sf_history::{CallId, Memory, Share};
 use sf_loaders::{LocalFault, Origin};
+use sf_spots::{KeyPlace, Spot};
 use std::marker::{Model, PhantomData};
 
-/// The bytes of a key, or why there are none: with the place, which shows the key, and the call whose run loaded them.
+/// The bytes of a key, or why there are none: with the key and its place, and the call whose run loaded them.
 #[derive(Drop)]
 pub struct FillValue<'d, D: Naming, O: Origin> {
-    place: Place<'d>,
+    spot: Spot<'d>,
     root: CallId,
     result: Result<Bytes, LocalFault>,
     of: PhantomData<D>,
@@ -21,25 +22,26 @@ pub struct FillValue<'d, D: Naming, O: Origin> {
 }
 
 impl<'d, D: Naming, O: Origin> Model for FillValue<'d, D, O> {
-    ghost use Rattle.std.specs.Prelude.{◌≡◌, IfOk};
+    ghost use Rattle.std.specs.Prelude.{IfOk};
+    ghost use Rattle.sf_spots.specs.Spots.{IsInSpace, spot_key};
     ghost use Rattle.sf_fill.specs.FillValue.{Filled};
 
     ghost Value = { Filled };
 
-    ghost view = { λ v. record { place = v.place; root = v.root; result = v.result } };
+    ghost view = { λ v. record { spot = v.spot; root = v.root; result = v.result } };
 
-    ghost invariant = { λ v. (v.place.directory ≡ D.directory) × IfOk v.result (λ bytes. O.loaded v.place.key v.root bytes) };
+    ghost invariant = { λ v. IsInSpace D.space v.spot × IfOk v.result (λ bytes. O.loaded (spot_key v.spot) v.root bytes) };
 }
 
 impl<'d, D: Naming, O: Origin> FillValue<'d, D, O> {
-    /// What the run of a call gave for the place's key.
-    pub fn of_run(place: Place<'d>, root: CallId, loaded: Result<Bytes, LocalFault>) -> Self
-        requires directory { place.directory ≡ D.directory }
-        requires loaded { IfOk loaded (λ bytes. O.loaded place.key root bytes) }
-        ensures { result ≡ record { place = place.entry; root = root; result = loaded } }
+    /// What the run of a call gave for the spot's key.
+    pub fn of_run(spot: Spot<'d>, root: CallId, loaded: Result<Bytes, LocalFault>) -> Self
+        requires space { IsInSpace D.space spot }
+        requires loaded { IfOk loaded (λ bytes. O.loaded (spot_key spot) root bytes) }
+        ensures { result ≡ record { spot = spot.entry; root = root; result = loaded } }
     {
         FillValue {
-            place,
+            spot,
             root,
             result: loaded,
             of: PhantomData,
@@ -47,21 +49,21 @@ impl<'d, D: Naming, O: Origin> FillValue<'d, D, O> {
         }
     }
 
-    /// The place, the call whose run loaded the bytes, and the bytes or why there are none.
-    pub fn into_parts(self) -> (Place<'d>, CallId, Result<Bytes, LocalFault>)
-        ensures place { (result.0 ≡ self.entry.place) × (self.entry.place.directory ≡ D.directory) }
+    /// The spot, the call whose run loaded the bytes, and the bytes or why there are none.
+    pub fn into_parts(self) -> (Spot<'d>, CallId, Result<Bytes, LocalFault>)
+        ensures spot { (result.0 ≡ self.entry.spot) × IsInSpace D.space self.entry.spot }
         ensures root { result.1 ≡ self.entry.root }
         ensures result { result.2 ≡ self.entry.result }
-        ensures loaded { IfOk self.entry.result (λ bytes. O.loaded self.entry.place.key self.entry.root bytes) }
+        ensures loaded { IfOk self.entry.result (λ bytes. O.loaded (spot_key self.entry.spot) self.entry.root bytes) }
     {
         let FillValue {
-            place,
+            spot,
             root,
             result,
             of: _,
             from: _,
         } = self;
-        (place, root, result)
+        (spot, root, result)
     }
 
     /// How many bytes there are; none where there is a fault in their place.
@@ -74,15 +76,25 @@ impl<'d, D: Naming, O: Origin> FillValue<'d, D, O> {
         }
     }
 
-    /// Shows that the value is of the place's key, where both are of one number.
-    pub fn agree(&mut self, place: &mut Place<'d>)
-        requires directory { place.old.directory ≡ D.directory }
-        requires number { place.old.number ≡ self.old.place.number }
-        ensures same { self.old.place.key ≡ place.old.key }
-        ensures loaded { IfOk self.old.result (λ bytes. O.loaded place.old.key self.old.root bytes) }
-        ensures kept { (self.new ≡ self.old) × (place.new ≡ place.old) }
+    /// Whether the value may be of the key, whose place is its own: by a directory it is, and by a hash where the bytes are.
+    pub fn is_of(&self, key: &[u8]) -> bool
+        ensures may_be { IsTrue result ↔ MayBe self.now.spot key.now }
+        ensures other { result ≡ false → IsOther self.now.spot key.now }
+        ensures space { IsInSpace D.space self.now.spot }
     {
-        self.place.agree(place);
+        self.spot.is_of(key)
+    }
+
+    /// Shows that the value is of the key that was asked for, where both are of one place and it may be.
+    pub fn agree(&mut self, at: &mut KeyPlace<'d>, key: &[u8])
+        requires space { IsInSpace D.space (spot_at key.now at.old) }
+        requires number { place_at at.old ≡ spot_place self.old.spot }
+        requires may_be { MayBe self.old.spot key.now }
+        ensures same { spot_key self.old.spot ≡ spot_key (spot_at key.now at.old) }
+        ensures loaded { IfOk self.old.result (λ bytes. O.loaded (spot_key (spot_at key.now at.old)) self.old.root bytes) }
+        ensures kept { (self.new ≡ self.old) × (at.new ≡ at.old) }
+    {
+        self.spot.agree(at, key);
     }
 }
 
@@ -94,7 +106,7 @@ impl<'d, D: Naming, O: Origin> Share for FillValue<'d, D, O> {
             Err(LocalFault::Memory) => Err(LocalFault::Memory),
         };
         Ok(FillValue {
-            place: self.place.again(),
+            spot: self.spot.again()?,
             root: self.root,
             result,
             of: PhantomData,

@@ -1,6 +1,7 @@
 //! What a get answers.
 ghost use Rattle.std.specs.Prelude.{◌≡◌, Ok, IfOk, nat_lt};
 ghost use Rattle.sf_calls.specs.Finishes.{FitsLetter};
+ghost use Rattle.sf_spots.specs.Spots.{IsInSpace, MayBe, place_at, spot_at, spot_key};
 ghost use Rattle.sf_fill.specs.FillValue.{FitsFill};
 ghost use Rattle.sf_fill.specs.Gets.{IsLoadedFor, answer_in};
 
@@ -8,16 +9,16 @@ use crate::fault::LoadFault;
 use crate::naming::Naming;
 use crate::value::FillValue;
 use bytes::Bytes;
-use sf_dir::Place;
 use sf_group::{Letter, Note};
 use sf_history::CallId;
 use sf_loaders::{LocalFault, Origin};
+use sf_spots::{KeyPlace, Spot};
 use std::marker::Model;
 
-/// A letter that brings bytes, which are what the origin states of its place's key and its root.
+/// A letter that brings bytes, which are what the origin states of its key and its root.
 #[derive(Drop)]
 pub struct View<'d, D: Naming, O: Origin> {
-    place: Place<'d>,
+    spot: Spot<'d>,
     root: CallId,
     bytes: Bytes,
     call: CallId,
@@ -28,13 +29,14 @@ pub struct View<'d, D: Naming, O: Origin> {
 impl<'d, D: Naming, O: Origin> Model for View<'d, D, O> {
     ghost use Rattle.std.specs.Prelude.{Ok};
     ghost use Rattle.sf_calls.specs.Tokens.{LetterValue};
+    ghost use Rattle.sf_spots.specs.Spots.{spot_key, spot_place};
     ghost use Rattle.sf_fill.specs.FillValue.{Filled};
 
     ghost Value = { LetterValue Filled };
 
-    ghost view = { λ v. record { group = v.note.group; seen = v.note.seen; place = v.place.number; call = v.call; value = record { place = v.place; root = v.root; result = Ok v.bytes }; joiners = v.joiners } };
+    ghost view = { λ v. record { group = v.note.group; seen = v.note.seen; place = spot_place v.spot; call = v.call; value = record { spot = v.spot; root = v.root; result = Ok v.bytes }; joiners = v.joiners } };
 
-    ghost invariant = { λ v. O.loaded v.place.key v.root v.bytes };
+    ghost invariant = { λ v. O.loaded (spot_key v.spot) v.root v.bytes };
 }
 
 impl<'d, D: Naming, O: Origin> View<'d, D, O> {
@@ -74,26 +76,28 @@ impl<'d, D: Naming, O: Origin> View<'d, D, O> {
     }
 }
 
-// What a letter of the place answers: its bytes, or why there are none. The letter's value is of the place's key.
+// What a letter of the place answers: its bytes, or why there are none. The letter's value may be of the key, and is then.
 pub(crate) fn show<'d, D: Naming, O: Origin>(
     letter: Letter<FillValue<'d, D, O>>,
-    place: &mut Place<'d>,
+    at: &mut KeyPlace<'d>,
+    key: &[u8],
 ) -> Result<View<'d, D, O>, LoadFault>
-    requires directory { place.old.directory ≡ D.directory }
-    requires number { place.old.number ≡ letter.place }
+    requires space { IsInSpace D.space (spot_at key.now at.old) }
+    requires number { place_at at.old ≡ letter.place }
+    requires may_be { MayBe letter.value.spot key.now }
     ensures answer { result ≡ answer_in letter.entry }
-    ensures keyed { IfOk result (λ view. view.value.place ≡ place.old) }
-    ensures loaded { IfOk result (IsLoadedFor O.loaded place.old.key) }
-    ensures same { place.new ≡ place.old }
+    ensures keyed { IfOk result (λ view. spot_key view.value.spot ≡ spot_key (spot_at key.now at.old)) }
+    ensures loaded { IfOk result (IsLoadedFor O.loaded (spot_key (spot_at key.now at.old))) }
+    ensures same { at.new ≡ at.old }
 {
     let call = letter.call();
     let joiners = letter.joiners();
     let (mut value, note) = letter.into_parts();
-    value.agree(place);
-    let (own, root, result) = value.into_parts();
+    value.agree(at, key);
+    let (spot, root, result) = value.into_parts();
     match result {
         Ok(bytes) => Ok(View {
-            place: own,
+            spot,
             root,
             bytes,
             call,

@@ -1,5 +1,5 @@
 use Rattle.std.proofs.Common.{◌≡◌, ◌+◌, ap, ◌∙◌, arith, vec_len}
-use Rattle.sf_dir.specs.Known.{DeskState}
+use Rattle.sf_spots.specs.Spaces.{IsDeskOf}
 use Rattle.sf_calls.specs.Tokens.{CallerValue}
 use Rattle.sf_fill.specs.declared.totals.Totals.{Totals}
 use Rattle.sf_fill.specs.declared.standing.Standing.TheVariants.{Free}
@@ -11,14 +11,14 @@ use Rattle.sf_fill.proofs.fill.Fill.new.Goals as goal
 
 pub invariant_of-push_reserved : goal.invariant_of-push_reserved
 invariant_of-push_reserved g c =
-    let desk = popped (λ (d : DeskState). d.directory ≡ g.N.Naming.directory) c.deal.desks.items c.pop.new.self.items c.pop.result c.in-Some.desk c.pop.ensures.items c.in-Some.is c.deal.invariant.desks in
+    let desk = popped (IsDeskOf g.N.Naming.space) c.deal.desks.items c.pop.new.self.items c.pop.result c.in-Some.desk c.pop.ensures.items c.in-Some.is c.deal.invariant.desks in
     let caller = popped (λ (k : CallerValue Filled). k.group ≡ g.N.Naming.group) c.deal.callers.items c.pop-in-Some.new.self.items c.pop-in-Some.result c.in-Some-pop.caller c.pop-in-Some.ensures.items c.in-Some-pop.is c.deal.invariant.callers.1 in
     (desk.0, caller.0)
 
 pub deal-preserved : goal.deal-preserved
 deal-preserved g c =
     let inv = c.deal.invariant in
-    let desk = popped (λ (d : DeskState). d.directory ≡ g.N.Naming.directory) c.deal.desks.items c.pop.new.self.items c.pop.result c.in-Some.desk c.pop.ensures.items c.in-Some.is inv.desks in
+    let desk = popped (IsDeskOf g.N.Naming.space) c.deal.desks.items c.pop.new.self.items c.pop.result c.in-Some.desk c.pop.ensures.items c.in-Some.is inv.desks in
     let caller = popped (λ (k : CallerValue Filled). k.group ≡ g.N.Naming.group) c.deal.callers.items c.pop-in-Some.new.self.items c.pop-in-Some.result c.in-Some-pop.caller c.pop-in-Some.ensures.items c.in-Some-pop.is inv.callers.1 in
     let d : vec_len c.pop.new.self + 1 ≡ vec_len c.deal.desks = rw c.in-Some.is at c.pop.ensures.cases in
     let k : vec_len c.pop-in-Some.new.self + 1 ≡ vec_len c.deal.callers = rw c.in-Some-pop.is at c.pop-in-Some.ensures.cases in

@@ -1,12 +1,13 @@
 use Rattle.std.specs.Prelude.{◌≡◌, ◌+◌, ◌≤◌, ◌++◌, vec_len, vec_capacity, reverse}
+use Rattle.sf_spots.specs.Spaces.{AreDesksOf}
 use Rattle.sf_fill.specs.Ledgers.{nothing_counted}
-use Rattle.sf_fill.specs.Made.{AreOfDirectory, AreOfGroup, new_getters}
+use Rattle.sf_fill.specs.Made.{AreOfGroup, new_getters}
 use Rattle.sf_fill.proofs.fill.Fill.new.Given as goal
 
 abbrev pub invariant-deal : goal.invariant-deal
 invariant-deal g l = record {
   callers : (vec_len l.callers ≡ vec_len l.desks) × AreOfGroup g.N.Naming.group l.callers.items;
-  desks : AreOfDirectory g.N.Naming.directory l.desks.items;
+  desks : AreDesksOf g.N.Naming.space l.desks.items;
   loaders : vec_len l.loaders ≡ vec_len l.desks;
   logs : vec_len l.logs ≡ vec_len l.desks;
   room : vec_len l.getters + vec_len l.desks ≤ vec_capacity l.getters;

@@ -2,6 +2,6 @@ use Rattle.std.proofs.Common.{rules}
 use Rattle.sf_fill.proofs.Looks.{current_letter, looked}
 use Rattle.sf_fill.proofs.fill.Kept.copy_current.Goals as goal
 
-pub returns-then-is_current : goal.returns-then-is_current
-returns-then-is_current g c =
+pub returns-then-is_current-clause-looked : goal.returns-then-is_current-clause-looked
+returns-then-is_current-clause-looked g c =
     looked _ _ _ _ _ _ _ _ (current_letter g.N.Naming.group _ _ c.args.place _ _ _ c.requires.caller (search rules) c.known.ensures c.is_current.ensures c.if-is_current.true) c.is_current.ensures.lent c.copy.ensures.copied

@@ -1,0 +1,30 @@
+use Rattle.std.proofs.Common.{rules, ◌≡◌, suc, ◌∙◌, sym, subst}
+use Rattle.sf_calls.specs.Begins.{HasJoined}
+use Rattle.sf_spots.specs.Spaces.{SpaceId}
+use Rattle.sf_spots.specs.Spots.{IsInSpace, IsOther, spot_place}
+use Rattle.sf_fill.proofs.Asks.{led_counts, missed_again}
+use Rattle.sf_fill.proofs.fill.Fill.ask.Goals as goal
+
+pub returns-in-Ok-Lead-clause-found : goal.returns-in-Ok-Lead-clause-found
+returns-in-Ok-Lead-clause-found g c =
+    let i = c.loop.invariant in
+    (i.5.0, c.loop.asking, i.5.1, record { flight = c.in-Ok-Lead.flight; led = search rules; run = search rules })
+
+pub returns-in-Ok-Lead-clause-one : goal.returns-in-Ok-Lead-clause-one
+returns-in-Ok-Lead-clause-one g c = led_counts c.lead-finished.result.0 c.lead-finished.result.1 c.lead-finished.ensures.one
+
+pub loop-preserved : goal.loop-preserved
+loop-preserved g c =
+    let i = c.loop.invariant in
+    let letter = c.wait-caller.result.1 in
+    let joined : HasJoined c.loop.asking (spot_place c.args.spot) c.in-Ok-Join.ticket = search rules in
+    let within : IsInSpace g.D.Naming.space letter.value.spot = search rules in
+    let other : IsOther letter.value.spot c.args.key.now = search rules in (
+      tt,
+      tt,
+      c.wait-caller.ensures.group ∙ (joined.group ∙ i.2),
+      i.3,
+      i.4,
+      (suc i.5.0, missed_again g.N.Naming.space c.args.key.now (spot_place c.args.spot) i.5.0 c.args.caller c.loop.asking c.wait-caller.result.0 c.in-Ok-Join.ticket letter i.5.1 joined c.wait-caller.ensures
+          (subst (λ (s : SpaceId). IsInSpace s letter.value.spot) c.self.invariant.2 within) other),
+    )
