@@ -1,14 +1,10 @@
--- how many desks and callers a directory and a group have, and whose they are, for those who make fills
-use Rattle.std.proofs.Common.{◌≡◌, ℕ, List, All, length, map, inl, sym, ap, ◌∙◌}
+-- how many callers a group has, and whose they are, for those who make fills
+use Rattle.std.proofs.Common.{◌≡◌, ℕ, List, All, length, map, sym, ap, ◌∙◌}
 use Rattle.std.proofs.lemmas.List.{length-map}
-use Rattle.std.proofs.lemmas.List.Elements.{All-map}
 use Rattle.std.proofs.lemmas.List.FromFn.{length-range_with_len}
 use Rattle.std.specs.List.{range_with_len}
-use Rattle.sf_spots.specs.declared.key_space.KeyDesk.TheVariants as desk
 use Rattle.sf_calls.specs.Making.{IsNewCaller}
 use Rattle.sf_calls.specs.Tokens.{GroupValue, CallerValue}
-use Rattle.sf_dir.specs.Known.{DirectoryId, DeskState, IsNewDesk}
-use Rattle.sf_spots.specs.Spaces.{AreDesksOf, by_directory, IsDeskOf}
 use Rattle.sf_fill.specs.FillValue.{Filled}
 use Rattle.sf_fill.specs.Made.{AreOfGroup}
 
@@ -17,6 +13,3 @@ as_many f xs n numbers = sym (length-map xs f) ∙ ap length numbers ∙ length-
 
 pub callers_of_group : (g : GroupValue) (callers : List (CallerValue Filled)) → All (IsNewCaller g) callers → AreOfGroup g callers
 callers_of_group g callers all = λ k d within. (all k d within).0
-
-pub desks_of_directory : (d : DirectoryId) (desks : List DeskState) → All (IsNewDesk d) desks → AreDesksOf (inl d) (by_directory desks)
-desks_of_directory d desks all = All-map (IsDeskOf (inl d)) desk.Directory desks (λ k e within. (all k e within).0)

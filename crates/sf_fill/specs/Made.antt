@@ -1,8 +1,13 @@
 -- how a fill is made
-use Rattle.std.specs.Prelude.{◌≡◌, List, [], ◌∷◌, All}
+use Rattle.std.specs.Prelude.{◌≡◌, ℕ, ◌≤◌, List, [], ◌∷◌, All, vec_len}
+use Rattle.sf_words.specs.declared.limits.TheConstants.{LARGEST_PLACE}
 use Rattle.sf_calls.specs.Tokens.{GroupValue, CallerValue}
 use Rattle.sf_spots.specs.declared.key_space.KeyDesk.{KeyDesk}
 use Rattle.sf_loaders.specs.declared.load_path.Loaders.{Loaders}
+use Rattle.sf_spots.specs.Spaces.{SpaceId, AreDesksOf, places_in}
+use Rattle.sf_fill.specs.declared.making.FillParts.{FillParts}
+use Rattle.sf_fill.specs.Names.{LedgerNames}
+use Rattle.sf_fill.specs.Totals.{AreNamed}
 use Rattle.sf_fill.specs.FillValue.{Filled}
 use Rattle.sf_fill.specs.GetterValue.{GetterValue, new_getter}
 
@@ -17,3 +22,13 @@ module _ {P F L C : Type 0} where
 -- each caller is of the group
 abbrev pub AreOfGroup : GroupValue → List (CallerValue Filled) → Type 0
 AreOfGroup g callers = All (λ (c : CallerValue Filled). c.group ≡ g) callers
+
+-- the parts of a fill over this key space, with this group, so many getters, and ledgers of these names
+pub record AreParts {D O P F L C : Type 0} (s : SpaceId) (g : GroupValue) (n : ℕ) (names : LedgerNames) (p : FillParts D O P F L C) : Type 0 where
+  pub few : (1 ≤ n) × (n ≤ 65535)
+  pub places : places_in s ≤ LARGEST_PLACE
+  pub group : (p.group ≡ g) × (g.sizes.places ≡ places_in s)
+  pub desks : (vec_len p.desks ≡ n) × AreDesksOf s p.desks.items
+  pub callers : (vec_len p.callers ≡ n) × AreOfGroup g p.callers.items
+  pub loaders : vec_len p.loaders ≡ n
+  pub ledgers : AreNamed names n p.ledgers

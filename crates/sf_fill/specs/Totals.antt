@@ -38,6 +38,10 @@ pub record IsOfOneGet (c : GetCounts) : Type 0 where
 abbrev pub with_counts : Totals → GetCounts → Totals
 with_counts a c = record { gets = a.gets + c.gets; cache_hits = a.cache_hits + c.cache_hits; loads = a.loads + c.loads; loads_deduped = a.loads_deduped + c.run.loads_deduped; peer_loads = a.peer_loads + c.run.peer_loads; peer_errors = a.peer_errors + c.run.peer_errors; local_loads = a.local_loads + c.run.local_loads; local_load_errors = a.local_load_errors + c.run.local_load_errors }
 
+-- the names of these ledgers
+abbrev pub names_of : Ledgers → LedgerNames
+names_of l = record { gets = l.gets.name; cache_hits = l.cache_hits.name; loads = l.loads.name; loads_deduped = l.loads_deduped.name; peer_loads = l.peer_loads.name; peer_errors = l.peer_errors.name; local_loads = l.local_loads.name; local_load_errors = l.local_load_errors.name }
+
 -- the ledgers have these names, and as many parts as there are getters
 pub record AreNamed (names : LedgerNames) (getters : ℕ) (ledgers : Ledgers) : Type 0 where
   pub gets : (ledgers.gets.name ≡ names.gets) × (ledgers.gets.parts ≡ getters)

@@ -1,9 +1,10 @@
 //! How a fill is made.
-ghost use Rattle.std.specs.Prelude.{◌≡◌, ◌≤◌, [], IfOk, IfErr, vec_len, vec_capacity};
+ghost use Rattle.std.specs.Prelude.{◌≡◌, ◌≤◌, [], All, IfOk, IfErr, vec_len, vec_capacity};
+ghost use Rattle.sf_calls.specs.Making.{IsNewCaller};
 ghost use Rattle.sf_words.specs.declared.limits.TheConstants.{LARGEST_PLACE};
 ghost use Rattle.sf_spots.specs.Spaces.{AreDesksOf, places_in, space_of};
-ghost use Rattle.sf_fill.specs.Made.{AreOfGroup, new_getters};
-ghost use Rattle.sf_fill.specs.Totals.{AreNamed};
+ghost use Rattle.sf_fill.specs.Made.{AreParts, new_getters};
+ghost use Rattle.sf_fill.specs.Totals.{names_of};
 
 use crate::cached::Cached;
 use crate::fill::{Fill, Kept};
@@ -79,6 +80,45 @@ fn reserve<'d, D: Naming, N: Naming, O: Origin, P, F, L, C>(
     })
 }
 
+impl<'d, D: Naming, O: Origin, P: Drop, F: Drop, L: Drop, C: Drop>
+    FillParts<'d, D, O, P, F, L, C>
+{
+    /// The parts of a fill over the key space, which has at most 1,048,576 places, with a getter for each set of loaders, 1 to
+    /// 65,535: a group whose callers' first generation is this one, from 1 on, and its ledgers. Refused where there is no memory.
+    pub fn new(
+        alloc: Global,
+        space: KeySpace<'d>,
+        desks: Vec<KeyDesk>,
+        loaders: Vec<Loaders<P, F, L, C>>,
+        first_generation: u32,
+    ) -> Result<Self, Memory>
+        requires space { space_of space ≡ D.space }
+        requires places { places_in D.space ≤ LARGEST_PLACE }
+        requires getters { (1 ≤ vec_len loaders) × (vec_len loaders ≤ 65535) }
+        requires desks { (vec_len desks ≡ vec_len loaders) × AreDesksOf D.space desks.items }
+        requires first_generation { 1 ≤ first_generation }
+        ensures parts { IfOk result (λ parts. AreParts D.space parts.group (vec_len loaders) (names_of parts.ledgers) parts) }
+        ensures callers { IfOk result (λ parts. All (IsNewCaller parts.group) parts.callers.items) }
+        ensures given { IfOk result (λ parts. (parts.desks ≡ desks) × (parts.loaders ≡ loaders)) }
+    {
+        let getters = loaders.len() as u32;
+        let places = space.place_count();
+        let (group, callers) = Group::<FillValue<'d, D, O>>::new(
+            alloc,
+            places,
+            getters,
+            first_generation,
+        )?;
+        Ok(FillParts {
+            desks,
+            group,
+            callers,
+            loaders,
+            ledgers: Ledgers::new(getters as u64),
+        })
+    }
+}
+
 impl<'d, D: Naming, N: Naming, O: Origin> Fill<'d, D, N, O> {
     /// A fill of the key space and the group, which have as many places, at most 1,048,576, and its getters, one for each desk, caller and set
     /// of loaders, 1 to 65,535. What the caches keep is within `limit` bytes, and nothing where that is 0 or less. Each
@@ -94,13 +134,7 @@ impl<'d, D: Naming, N: Naming, O: Origin> Fill<'d, D, N, O> {
         FillParts<'d, D, O, P, F, L, C>,
     >
         requires space { (space_of space ≡ N.space) × (D.space ≡ N.space) }
-        requires places { places_in N.space ≤ LARGEST_PLACE }
-        requires group { (parts.group ≡ N.group) × (N.group.sizes.places ≡ places_in N.space) }
-        requires getters { (1 ≤ N.getters) × (N.getters ≤ 65535) }
-        requires desks { (vec_len parts.desks ≡ N.getters) × AreDesksOf N.space parts.desks.items }
-        requires callers { (vec_len parts.callers ≡ N.getters) × AreOfGroup N.group parts.callers.items }
-        requires loaders { vec_len parts.loaders ≡ N.getters }
-        requires ledgers { AreNamed N.ledgers N.getters parts.ledgers }
+        requires parts { AreParts N.space N.group N.getters N.ledgers parts }
         ensures made { IfOk result (λ made. (made.0 ≡ N.group) × (made.1.items ≡ new_getters parts.entry.desks.items parts.entry.callers.items parts.entry.loaders.items)) }
         ensures count { IfOk result (λ made. vec_len made.1 ≡ N.getters) }
         ensures refused { IfErr result (λ back. back ≡ parts.entry) }

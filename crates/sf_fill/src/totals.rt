@@ -1,7 +1,7 @@
 //! The counters of a fill: what each getter counts, and what all of them count together.
 ghost use Rattle.std.specs.Prelude.{◌≡◌, ◌+◌, ◌-◌, ◌<◌, ◌≤◌, ◌^◌, ◌↔◌, IsTrue};
 ghost use Rattle.sf_fill.specs.Ledgers.{nothing_counted};
-ghost use Rattle.sf_fill.specs.Totals.{plus, with_counts, AreNamed, IsOfOneGet};
+ghost use Rattle.sf_fill.specs.Totals.{plus, with_counts, names_of, AreNamed, IsOfOneGet};
 
 use crate::counting::{Account, Parts, Tally, open};
 use crate::naming::{
@@ -57,6 +57,24 @@ pub struct Ledgers {
     pub peer_errors: Blank,
     pub local_loads: Blank,
     pub local_load_errors: Blank,
+}
+
+impl Ledgers {
+    /// The ledgers of so many getters.
+    pub fn new(getters: u64) -> Ledgers
+        ensures { AreNamed (names_of result) getters result }
+    {
+        Ledgers {
+            gets: Blank::new(getters),
+            cache_hits: Blank::new(getters),
+            loads: Blank::new(getters),
+            loads_deduped: Blank::new(getters),
+            peer_loads: Blank::new(getters),
+            peer_errors: Blank::new(getters),
+            local_loads: Blank::new(getters),
+            local_load_errors: Blank::new(getters),
+        }
+    }
 }
 
 /// What one getter has counted. No counter is above its gets.

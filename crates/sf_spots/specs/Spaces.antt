@@ -1,5 +1,5 @@
 -- where keys have their places, as contracts see it
-use Rattle.std.proofs.Common.{◌≡◌, ℕ, ◌⊎◌, inl, inr, List, All, length, map}
+use Rattle.std.proofs.Common.{◌≡◌, ℕ, ◌⊎◌, inl, inr, List, All, map}
 use Rattle.sf_dir.specs.Known.{DirectoryId, DeskState}
 use Rattle.sf_keys.specs.declared.places.Places.{Places}
 use Rattle.sf_spots.specs.declared.key_space.KeyDesk.{KeyDesk}
@@ -32,7 +32,3 @@ AreDesksOf s desks = All (IsDeskOf s) desks
 -- the directory's desks, in their order
 abbrev pub by_directory : List DeskState → List KeyDesk
 by_directory desks = map desk.Directory desks
-
--- so many desks without a directory
-abbrev pub AreHashDesks : ℕ → List KeyDesk → Type 0
-AreHashDesks n desks = (length desks ≡ n) × All (λ d. d ≡ desk.Hashed) desks

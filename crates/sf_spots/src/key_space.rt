@@ -1,14 +1,13 @@
 //! Key spaces, and what looks keys up in them.
-ghost use Rattle.std.specs.Prelude.{◌<◌, ◌≡◌, ◌≤◌, IfOk, IfErr, map, vec_len};
+ghost use Rattle.std.specs.Prelude.{◌<◌, ◌≡◌, ◌≤◌, IfOk, IfErr};
 ghost use Rattle.sf_words.specs.declared.limits.TheConstants.{LARGEST_PLACE};
-ghost use Rattle.sf_spots.specs.Spaces.{IsDeskOf, AreHashDesks, by_directory, places_in, space_of};
+ghost use Rattle.sf_spots.specs.Spaces.{IsDeskOf, places_in, space_of};
 ghost use Rattle.sf_spots.specs.Spots.{IsInSpace, IsSpotOfKey, IsRefusedSpot, IsSeeingSpace, place_at, spot_at, spot_key};
 
 use crate::key_place::KeyPlace;
-use sf_dir::{Desk, Directory, Memory, Refusal};
+use sf_dir::{Desk, Directory, Refusal};
 use sf_keys::Places;
 use sf_words::{LARGEST_PLACE, PlaceNo};
-use std::alloc::Global;
 
 /// Where keys have their places.
 #[derive(Clone, Copy)]
@@ -66,26 +65,4 @@ impl<'d> KeySpace<'d> {
             }
         }
     }
-}
-
-/// A desk for each of the directory's, in their order.
-pub fn desks_of_directory(alloc: Global, desks: Vec<Desk>) -> Result<Vec<KeyDesk>, Memory>
-    ensures { IfOk result (λ made. made.items ≡ by_directory desks.items) }
-{
-    let mut made = Vec::with_capacity(alloc, desks.len())?;
-    for desk in desks {
-        made.push(KeyDesk::Directory(desk))?;
-    }
-    Ok(made)
-}
-
-/// So many desks where a hash says the places.
-pub fn desks_by_hash(alloc: Global, count: usize) -> Result<Vec<KeyDesk>, Memory>
-    ensures { IfOk result (λ made. AreHashDesks count made.items) }
-{
-    let mut made = Vec::with_capacity(alloc, count)?;
-    for _ in 0..count {
-        made.push(KeyDesk::Hashed)?;
-    }
-    Ok(made)
 }

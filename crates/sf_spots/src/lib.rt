@@ -4,8 +4,10 @@
 
 mod key_place;
 mod key_space;
+mod opening;
 mod spot;
 
 pub use key_place::KeyPlace;
-pub use key_space::{KeyDesk, KeySpace, desks_by_hash, desks_of_directory};
+pub use key_space::{KeyDesk, KeySpace};
+pub use opening::{hash_desks, open_directory};
 pub use spot::{HashedKey, Spot};

@@ -2,7 +2,7 @@ use Rattle.std.proofs.Common.{◌≡◌, ◌++◌}
 use Rattle.std.specs.Vec.Iter.{into_iter_items, into_iter_len}
 use Rattle.std.specs.Prelude.{length}
 use Rattle.sf_spots.specs.Spaces.{by_directory}
-use Rattle.sf_spots.proofs.key_space.desks_of_directory.Given as goal
+use Rattle.sf_spots.proofs.opening.of_directory.Given as goal
 
 -- those that were taken out are in the list
 abbrev pub invariant-loop-desk : goal.invariant-loop-desk

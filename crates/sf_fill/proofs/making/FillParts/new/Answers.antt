@@ -1,0 +1,19 @@
+use Rattle.std.proofs.Common.{rules, refl, ◌∙◌}
+use Rattle.sf_calls.specs.Tokens.{CallerValue}
+use Rattle.sf_fill.specs.FillValue.{Filled}
+use Rattle.sf_fill.proofs.Crew.{as_many, callers_of_group}
+use Rattle.sf_fill.proofs.making.FillParts.new.Goals as goal
+
+pub returns-clause-parts : goal.returns-clause-parts
+returns-clause-parts g c = record {
+  few = c.requires.getters;
+  places = c.requires.places;
+  group = (refl, search rules);
+  desks = c.requires.desks;
+  callers = (
+    c.in_ok-group.callers.ok.0 ∙ as_many (λ (k : CallerValue Filled). k.number) c.in_ok-group.callers.items _ c.in_ok-group.ensures.numbers ∙ c.len-getters.ensures,
+    callers_of_group _ _ c.in_ok-group.ensures.callers,
+  );
+  loaders = refl;
+  ledgers = search rules;
+}
