@@ -24,12 +24,16 @@ pub enum Benchmark {
     Distinct,
     /// To do with a load, all threads on one key.
     Hot,
+    /// The place of a key by a hash.
+    Place,
+    /// To do by key, each thread with a key of its own.
+    Key,
     /// To get a key that a fill's cache has.
     Fill,
 }
 
 /// All of them, in the order in which they run.
-pub const ALL: [Benchmark; 8] = [
+pub const ALL: [Benchmark; 10] = [
     Benchmark::Lookup,
     Benchmark::Lead,
     Benchmark::Join,
@@ -37,6 +41,8 @@ pub const ALL: [Benchmark; 8] = [
     Benchmark::Current,
     Benchmark::Distinct,
     Benchmark::Hot,
+    Benchmark::Place,
+    Benchmark::Key,
     Benchmark::Fill,
 ];
 
@@ -53,6 +59,8 @@ impl Benchmark {
             Benchmark::Current => "current",
             Benchmark::Distinct => "distinct",
             Benchmark::Hot => "hot",
+            Benchmark::Place => "place",
+            Benchmark::Key => "key",
             Benchmark::Fill => "fill",
         }
     }
@@ -69,6 +77,8 @@ impl Benchmark {
             "current" => Some(Benchmark::Current),
             "distinct" => Some(Benchmark::Distinct),
             "hot" => Some(Benchmark::Hot),
+            "place" => Some(Benchmark::Place),
+            "key" => Some(Benchmark::Key),
             "fill" => Some(Benchmark::Fill),
             _ => None,
         }

@@ -1,22 +1,23 @@
 //! Getters of a fill, each on a thread of its own, that get a key which a cache has.
 ghost use Rattle.std.specs.Prelude.{◌≡◌, ◌≤◌, IfOk, vec_len};
-ghost use Rattle.sf_fill.specs.Made.{AreOfDirectory, AreOfGroup};
-ghost use Rattle.sf_fill.specs.Totals.{AreNamed};
+ghost use Rattle.sf_words.specs.declared.limits.TheConstants.{LARGEST_PLACE};
+ghost use Rattle.sf_spots.specs.Spaces.{AreDesksOf, places_in, space_of};
+ghost use Rattle.sf_fill.specs.Made.{AreParts};
 
 use crate::benchmark::Benchmark;
 use crate::fault::Fault;
 use crate::rounds::{Operation, measure};
 use crate::table::{Case, Table};
 use bytes::Bytes;
-use sf_dir::{Desk, Directory};
-use sf_fill::{Fill, FillParts, FillValue, Getter, Ledgers, Naming};
-use sf_group::{CallId, Group, Memory};
+use sf_fill::{Fill, FillParts, Getter, Naming};
+use sf_group::{CallId, Memory};
+use sf_keys::Places;
 use sf_loaders::scripted::{AnyValue, FixedPicker, RoundChance};
 use sf_loaders::{Loaders, Local, LocalFault, Peer, PeerFault};
+use sf_spots::{KeyDesk, KeySpace, hash_desks, open_directory};
 use std::alloc::Global;
 use std::marker::Brand;
 use std::sync::Wait;
-use std::sync::ledger::Blank;
 use std::thread::Threads;
 use std::time::Clock;
 
@@ -130,29 +131,26 @@ fn workers<'a, 'd, D: Naming, N: Naming>(
 fn with_all<'d, D: Naming + Send + Sync, N: Naming + Send + Sync, R>(
     rt: &R,
     table: &Table,
-    directory: &'d Directory,
+    space: KeySpace<'d>,
     parts: PageParts<'d, D>,
     threads: u32,
+    detail: &'static str,
 ) -> Result<(), Fault>
 where
     R: AllocGlobal + Print + Wait + Threads + Clock + Sync,
-    requires directory { (directory.now ≡ N.directory) × (D.directory ≡ N.directory) }
-    requires group { (parts.group ≡ N.group) × (N.group.sizes.places ≡ N.directory.keys) }
+    requires space { (space_of space ≡ N.space) × (D.space ≡ N.space) }
+    requires parts { AreParts N.space N.group N.getters N.ledgers parts }
     requires getters { (N.getters ≡ threads) × (1 ≤ threads) × (threads ≤ 64) }
-    requires desks { (vec_len parts.desks ≡ N.getters) × AreOfDirectory N.directory parts.desks.items }
-    requires callers { (vec_len parts.callers ≡ N.getters) × AreOfGroup N.group parts.callers.items }
-    requires loaders { vec_len parts.loaders ≡ N.getters }
-    requires ledgers { AreNamed N.ledgers N.getters parts.ledgers }
 {
     let alloc = rt.alloc();
-    let made = Fill::<'d, D, N, AnyValue>::new(alloc, directory, parts, LIMIT, 0);
+    let made = Fill::<'d, D, N, AnyValue>::new(alloc, space, parts, LIMIT, 0);
     let Ok((fill, getters)) = made else {
         return Err(Fault::Memory);
     };
     let times = measure(rt, workers(alloc, &fill, getters)?)?;
     let case = Case {
         benchmark: Benchmark::Fill,
-        detail: "get of one cached key",
+        detail,
         threads,
     };
     table.row(rt, case, times)
@@ -178,55 +176,51 @@ fn loaders(
     Ok(sets)
 }
 
-// The directory is named here, and the group made.
-fn with_directory<'d, D: Naming + Send + Sync, R>(
+// The key space is named here, and the group made.
+fn with_space<'d, D: Naming + Send + Sync, R>(
     rt: &R,
     table: &Table,
-    directory: &'d Directory,
-    desks: Vec<Desk>,
+    space: KeySpace<'d>,
+    desks: Vec<KeyDesk>,
     threads: u32,
+    detail: &'static str,
 ) -> Result<(), Fault>
 where
     R: AllocGlobal + Print + Wait + Threads + Clock + Sync,
-    requires directory { directory.now ≡ D.directory }
+    requires space { (space_of space ≡ D.space) × (places_in D.space ≤ LARGEST_PLACE) }
     requires threads { (1 ≤ threads) × (threads ≤ 64) }
-    requires desks { (vec_len desks ≡ threads) × AreOfDirectory directory.now desks.items }
+    requires desks { (vec_len desks ≡ threads) × AreDesksOf D.space desks.items }
 {
     let alloc = rt.alloc();
-    let (group, callers) = Group::<FillValue<'d, D, AnyValue>>::new(
-        alloc,
-        directory.place_count(),
-        threads,
-        1,
-    )?;
-    let getters = threads as u64;
-    let parts = FillParts {
-        desks,
-        group,
-        callers,
-        loaders: loaders(alloc, threads)?,
-        ledgers: Ledgers {
-            gets: Blank::new(getters),
-            cache_hits: Blank::new(getters),
-            loads: Blank::new(getters),
-            loads_deduped: Blank::new(getters),
-            peer_loads: Blank::new(getters),
-            peer_errors: Blank::new(getters),
-            local_loads: Blank::new(getters),
-            local_load_errors: Blank::new(getters),
-        },
-    };
-    with_all::<D, Brand, R>(rt, table, directory, parts, threads)
+    let parts = FillParts::new(alloc, space, desks, loaders(alloc, threads)?, 1)?;
+    with_all::<D, Brand, R>(rt, table, space, parts, threads, detail)
 }
 
-// Measures gets on so many threads. Nothing is named here.
-fn at_threads<R>(rt: &R, table: &Table, threads: u32) -> Result<(), Fault>
+// Measures gets on so many threads, of a fill over a directory. Nothing is named here.
+fn in_directory<R>(rt: &R, table: &Table, threads: u32) -> Result<(), Fault>
 where
     R: AllocGlobal + Print + Wait + Threads + Clock + Sync,
     requires { (1 ≤ threads) × (threads ≤ 64) }
 {
-    let (directory, desks) = Directory::new(rt.alloc(), 16, 16, threads)?;
-    with_directory::<Brand, R>(rt, table, &directory, desks, threads)
+    let (directory, desks) = open_directory(rt.alloc(), 16, 16, threads, 7, 11)?;
+    let space = KeySpace::Directory(&directory);
+    with_space::<Brand, R>(rt, table, space, desks, threads, "get of one cached key")
+}
+
+// The same over hashed places.
+fn in_open<R>(rt: &R, table: &Table, threads: u32) -> Result<(), Fault>
+where
+    R: AllocGlobal + Print + Wait + Threads + Clock + Sync,
+    requires { (1 ≤ threads) × (threads ≤ 64) }
+{
+    let places = Places {
+        count: 16,
+        seed0: 7,
+        seed1: 11,
+    };
+    let desks = hash_desks(rt.alloc(), places, threads)?;
+    let space = KeySpace::Hashed(places);
+    with_space::<Brand, R>(rt, table, space, desks, threads, "get of one cached key, hashed")
 }
 
 /// What a get costs of a key that a cache has: the first get of each fill loads it.
@@ -234,6 +228,8 @@ pub(crate) fn measure_fill<R>(rt: &R, table: &Table) -> Result<(), Fault>
 where
     R: AllocGlobal + Print + Wait + Threads + Clock + Sync,
 {
-    at_threads(rt, table, 1)?;
-    at_threads(rt, table, 4)
+    in_directory(rt, table, 1)?;
+    in_directory(rt, table, 4)?;
+    in_open(rt, table, 1)?;
+    in_open(rt, table, 4)
 }

@@ -89,7 +89,7 @@ where
     requires { (1 ≤ places) × (places ≤ 100000) }
 {
     let alloc = rt.alloc();
-    let (directory, mut desks) = Directory::new(alloc, places, KEY_BYTES, 1)?;
+    let (directory, mut desks) = Directory::new(alloc, places, KEY_BYTES, 1, 7, 11)?;
     let Some(desk) = desks.pop() else {
         return Err(Fault::Refused);
     };

@@ -7,6 +7,7 @@ mod asking;
 mod benchmark;
 mod fault;
 mod filling;
+mod keys;
 mod looking;
 mod rounds;
 mod table;
@@ -48,6 +49,8 @@ where
         Benchmark::Current => asking::measure_current(rt, table),
         Benchmark::Distinct => asking::measure_distinct(rt, table),
         Benchmark::Hot => asking::measure_hot(rt, table),
+        Benchmark::Place => keys::measure_place(rt, table),
+        Benchmark::Key => keys::measure_key(rt, table),
         Benchmark::Fill => filling::measure_fill(rt, table),
     }
 }

@@ -18,7 +18,7 @@ use Rattle.sf_dir.proofs.Publishing.{one_key}
 
 -- a seat of this directory
 pub same_directory : (s t : TableId) (y z : Sizes) → directory_of s y ≡ directory_of t z → (s ≡ t) × (y ≡ z)
-same_directory s t y z e = (ap (λ (d : DirectoryId). d.table) e, ap (λ (d : DirectoryId). record { keys = d.keys; key_bytes = d.key_bytes; desks = d.desks }) e)
+same_directory s t y z e = (ap (λ (d : DirectoryId). d.table) e, ap (λ (d : DirectoryId). record { keys = d.keys; key_bytes = d.key_bytes; desks = d.desks; seed0 = d.seed0; seed1 = d.seed1 }) e)
 
 own_same : (n : ℕ) (v w : View) → v.from ≡ n → v.to ≡ n + 1 → (added : List Name) → Grows v w added → names_by n (names_of w.seen) ≡ names_by n (names_of v.seen) ++ added
 own_same n v w from to added g = ap (own_names n) g.seen ∙ (own_append n v.seen g.more ∙ ap (λ q. own_names n v.seen ++ q) (g.own n (omega arith, omega arith)))

@@ -1,5 +1,5 @@
 -- A publish: one name more, at a place that was empty. Nobody has named the key before, since all walk it in one order.
-use Rattle.std.proofs.Common.{◌≡◌, ◌≢◌, ℕ, ◌+◌, ◌%◌, ◌<◌, ◌≤◌, ◌⊎◌, inl, inr, ⊎_elim, true, false, eqb, List, [], ◌∷◌, ◌++◌, length, get_or, set, refl, sym, ap, ◌∙◌, subst, append_assoc, None, mod-lt, arith}
+use Rattle.std.proofs.Common.{◌≡◌, ◌≢◌, ℕ, ◌+◌, ◌%◌, ◌<◌, ◌≤◌, inl, inr, ⊎_elim, true, false, eqb, List, [], ◌∷◌, ◌++◌, length, get_or, set, refl, sym, ap, ◌∙◌, subst, append_assoc, None, mod-lt, arith}
 use mathlib.Core.Option.{some, none}
 use mathlib.Core.Logic.{dite}
 use native.Mathlib.Decide.{ℕ_discrete}
@@ -34,18 +34,18 @@ pub one_key : (z : Sizes) (h : List Entry) (e f : Entry) → IsSound z h → Con
 one_key z h e f sound he hf same = ap (λ (n : Name). n.key) (pairs_one (λ (n : Name). n.place) (names_of h) (name_of e) (name_of f) (sound.names.distinct_places) (Contains-map name_of h e he) (Contains-map name_of h f hf) same)
 
 -- where the desk has seen another key at each place of the walk before this one, and this one is empty, the key has no name
-pub unnamed_key : (z : Sizes) (h seen rest : List Entry) (key : List ℕ) (passed : ℕ) → h ≡ seen ++ rest → IsSound z h → ¬ (IsNamed h (place_after z.keys key passed))
-    → ((k : ℕ) → k < passed → IsTaken seen (place_after z.keys key k) key) → (f : Entry) → Contains h f → f.key ≢ key
+pub unnamed_key : (z : Sizes) (h seen rest : List Entry) (key : List ℕ) (passed : ℕ) → h ≡ seen ++ rest → IsSound z h → ¬ (IsNamed h (place_after z key passed))
+    → ((k : ℕ) → k < passed → IsTaken seen (place_after z key k) key) → (f : Entry) → Contains h f → f.key ≢ key
 unnamed_key z h seen rest key passed splits sound empty before f hf is =
     let walk = sound.walks f hf in
-    let there : f.place ≡ place_after z.keys key (walk.0) = walk.2 ∙ ap (λ q. place_after z.keys q (walk.0)) is in
+    let there : f.place ≡ place_after z key (walk.0) = walk.2 ∙ ap (λ q. place_after z q (walk.0)) is in
     dite (ℕ_discrete (walk.0) passed)
-    (λ same. empty (f, hf, there ∙ ap (place_after z.keys key) same))
+    (λ same. empty (f, hf, there ∙ ap (place_after z key) same))
     (λ d. ⊎_elim
     (λ (lt : walk.0 < passed).
     let g = before (walk.0) lt in
     g.3 (one_key z h (g.0) f sound (subst (λ q. Contains q (g.0)) (sym splits) (Contains-append_left seen rest (g.0) g.1)) hf (g.2 ∙ sym there) ∙ is))
-    (λ (lt : passed < walk.0). empty (subst (IsNamed h) (ap (λ q. place_after z.keys q passed) is) (walk.3 passed lt)))
+    (λ (lt : passed < walk.0). empty (subst (IsNamed h) (ap (λ q. place_after z q passed) is) (walk.3 passed lt)))
     (sides (walk.0) passed d))
 
 -- a list with one more name is sound
@@ -65,7 +65,7 @@ sound_push z h e sound within empty fresh key row walk = record {
     entry n c = Contains-unmap name_of h n c
 
     longer : (f : Entry) → IsOnWalk z h f → IsOnWalk z (h ++ e ∷ []) f
-    longer f w = (w.0, w.1, w.2, λ k lt. named_longer h (e ∷ []) (place_after z.keys f.key k) (w.3 k lt))
+    longer f w = (w.0, w.1, w.2, λ k lt. named_longer h (e ∷ []) (place_after z f.key k) (w.3 k lt))
 
 -- a place word, with one more name elsewhere
 pub place_word_else : (h : List Entry) (e : Entry) (p n : ℕ) → e.place ≢ p → IsPlaceWord h p n → IsPlaceWord (h ++ e ∷ []) p n
@@ -110,7 +110,7 @@ published_shows z t h sh id v place row key is may zero_there =
     let other : (k : ℕ) → k ≢ place → slice_index ws k ≡ slice_index t.words k = λ k d. get_or-set_other t.words place k (row + 1) 0 d in
     let in_row : (r i : ℕ) → row_at z r + i ≢ place = λ r i q. omega arith in
     let empty : ¬ (IsNamed h place) = empty_place h place (slice_index t.words place) zero_there (sh.places place low high) in
-    let taken : (k : ℕ) → k < may.reached.passed → IsNamed h (place_after z.keys key k) = λ k lt. let g = may.reached.before k lt in (g.0, subst (λ q. Contains q (g.0)) (sym m.splits) (Contains-append_left v.seen m.rest (g.0) g.1), g.2) in
+    let taken : (k : ℕ) → k < may.reached.passed → IsNamed h (place_after z key k) = λ k lt. let g = may.reached.before k lt in (g.0, subst (λ q. Contains q (g.0)) (sym m.splits) (Contains-append_left v.seen m.rest (g.0) g.1), g.2) in
     let fresh = unnamed_key z h v.seen m.rest key may.reached.passed m.splits sh.sound (subst (λ p. ¬ (IsNamed h p)) may.reached.place_is empty) may.reached.before in
     let row_is = may.written.row_is in
     let drawn : row < sh.drawn = let lt = spare.is_drawn in omega arith in

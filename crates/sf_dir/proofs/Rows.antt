@@ -1,5 +1,5 @@
 -- Where the words lie: no two rows overlap, and no row, place and counter do.
-use Rattle.std.proofs.Common.{◌≡◌, ◌≢◌, ℕ, suc, ◌+◌, ◌*◌, ◌<◌, ◌≤◌, ◌⊎◌, ⊎_elim, ap, ◌∙◌, mul-le-mul_right, suc-mul, arith}
+use Rattle.std.proofs.Common.{◌≡◌, ◌≢◌, ℕ, suc, ◌+◌, ◌*◌, ◌<◌, ◌≤◌, ⊎_elim, ap, ◌∙◌, mul-le-mul_right, suc-mul, arith}
 use Rattle.sf_dir.specs.declared.rule.Sizes.{Sizes}
 use Rattle.sf_dir.specs.WordIndex.{row_width, row_count, row_at, word_total}
 use Rattle.sf_lists.proofs.Ends.{sides}

@@ -1,5 +1,5 @@
 -- The table at its start, and seats that are split and joined.
-use Rattle.std.proofs.Common.{◌≡◌, ◌≢◌, ℕ, zero, suc, ◌+◌, ◌<◌, ◌⊎◌, inl, inr, ⊎_elim, Bool, false, cond, List, [], ◌∷◌, ◌++◌, replicate, length, set, refl, sym, ap, ◌∙◌, subst, None, arith}
+use Rattle.std.proofs.Common.{◌≡◌, ◌≢◌, ℕ, zero, suc, ◌+◌, ◌<◌, inl, ⊎_elim, Bool, false, cond, List, [], ◌∷◌, replicate, length, set, refl, sym, ap, ◌∙◌, subst, None, arith}
 use mathlib.Core.Option.{some, some-injective, some-ne-none}
 use lib.ListN.{get_elem?}
 use Rattle.std.specs.Prelude.{slice_index, is_some}

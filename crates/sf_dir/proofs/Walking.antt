@@ -142,7 +142,7 @@ may_write_first z y v start row holds same is =
 
 -- what was reached stays so
 pub reached_more : (z : Sizes) (v w : View) (place : ℕ) (key : List ℕ) → Grows v w [] → IsReached z v place key → IsReached z w place key
-reached_more z v w place key g r = record { passed = r.passed; within = r.within; place_is = r.place_is; before = λ k lt. grows_taken v w [] (place_after z.keys key k) key g (r.before k lt) }
+reached_more z v w place key g r = record { passed = r.passed; within = r.within; place_is = r.place_is; before = λ k lt. grows_taken v w [] (place_after z key k) key g (r.before k lt) }
 
 -- the desk may publish its row where the walk has come
 pub may_publish : (z : Sizes) (v w : View) (place row : ℕ) (key : List ℕ) → IsReached z v place key → Grows v w [] → IsWritten w row key (row_width z) → length key ≤ z.key_bytes → ((i : ℕ) → slice_index key i < 256) → MayPublish z w place row key
@@ -206,9 +206,9 @@ comes_by keys start place lt low high = by (dec_le start (place - 1))
         (place - 1 + keys - start, omega arith, omega arith)
 
 -- where each place that the walk came to is taken, each place is
-pub all_taken : (keys : ℕ) (key : List ℕ) (h : List Entry) (place : ℕ) → first_index (hash_of key) keys < keys → ((k : ℕ) → k < keys → IsTaken h (place_after keys key k) key) → 1 ≤ place → place ≤ keys → IsTaken h place key
-all_taken keys key h place lt taken low high =
-    let there = comes_by keys (first_index (hash_of key) keys) place lt low high in
+pub all_taken : (z : Sizes) (key : List ℕ) (h : List Entry) (place : ℕ) → first_index (hash_of z key) z.keys < z.keys → ((k : ℕ) → k < z.keys → IsTaken h (place_after z key k) key) → 1 ≤ place → place ≤ z.keys → IsTaken h place key
+all_taken z key h place lt taken low high =
+    let there = comes_by z.keys (first_index (hash_of z key) z.keys) place lt low high in
     let t = taken (there.0) there.1 in
     (t.0, t.1, t.2 ∙ there.2, t.3)
 

@@ -8,12 +8,14 @@ use Rattle.sf_dir.specs.Names.{Name, IsNameList, AddsNone, BeginsWith}
 use Rattle.sf_dir.specs.Rule.{IsSound, IsNamed, names_of}
 use Rattle.sf_dir.specs.Walk.{HoldsSpare}
 
--- which directory: its table, how many places it has, how long its keys may be, and how many desks it has
+-- which directory: its table, how many places it has, how long its keys may be, how many desks it has, and the seed of its hash
 pub record DirectoryId : Type 0 where
   pub table : TableId
   pub keys : ℕ
   pub key_bytes : ℕ
   pub desks : ℕ
+  pub seed0 : ℕ
+  pub seed1 : ℕ
 
 pub record DeskState : Type 0 where
   pub directory : DirectoryId
@@ -26,10 +28,10 @@ pub record PlaceState : Type 0 where
   pub key : List ℕ
 
 abbrev pub directory_of : TableId → Sizes → DirectoryId
-directory_of t z = record { table = t; keys = z.keys; key_bytes = z.key_bytes; desks = z.desks }
+directory_of t z = record { table = t; keys = z.keys; key_bytes = z.key_bytes; desks = z.desks; seed0 = z.seed0; seed1 = z.seed1 }
 
 abbrev pub sizes_of : View → Sizes
-sizes_of v = unwrap_or v.sizes (record { keys = 0; key_bytes = 0; desks = 0 })
+sizes_of v = unwrap_or v.sizes (record { keys = 0; key_bytes = 0; desks = 0; seed0 = 0; seed1 = 0 })
 
 -- a desk's seat between its calls: it stands for that desk alone
 pub record IsDesk (number : ℕ) (spare : Option ℕ) (v : View) : Type 0 where

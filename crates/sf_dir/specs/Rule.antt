@@ -62,8 +62,8 @@ IsPlaceWord h place n = ((n ≡ 0) × ¬ (IsNamed h place))
 
 -- the entry's place is on its key's walk, and each place before it there is named
 abbrev pub IsOnWalk : Sizes → List Entry → Entry → Type 0
-IsOnWalk z h e = (passed : ℕ) × (passed < z.keys) × (e.place ≡ place_after z.keys e.key passed)
-    × ((k : ℕ) → k < passed → IsNamed h (place_after z.keys e.key k))
+IsOnWalk z h e = (passed : ℕ) × (passed < z.keys) × (e.place ≡ place_after z e.key passed)
+    × ((k : ℕ) → k < passed → IsNamed h (place_after z e.key k))
 
 abbrev pub IsKey : Sizes → List ℕ → Type 0
 IsKey z key = (length key ≤ z.key_bytes) × ((i : ℕ) → slice_index key i < 256)

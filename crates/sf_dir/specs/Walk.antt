@@ -46,8 +46,8 @@ pub record IsWritten (v : View) (row : ℕ) (key : List ℕ) (n : ℕ) : Type 0 
 pub record IsReached (z : Sizes) (v : View) (place : ℕ) (key : List ℕ) : Type 0 where
   pub passed : ℕ
   pub within : passed < z.keys
-  pub place_is : place ≡ place_after z.keys key passed
-  pub before : (k : ℕ) → k < passed → IsTaken v.seen (place_after z.keys key k) key
+  pub place_is : place ≡ place_after z key passed
+  pub before : (k : ℕ) → k < passed → IsTaken v.seen (place_after z key k) key
 
 -- the words that may be written: the spare row's, up to the first that is not written yet
 abbrev pub MayWrite : Sizes → View → ℕ → Type 0

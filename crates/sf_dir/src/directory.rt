@@ -62,12 +62,15 @@ fn deal(words: &Words, first: &mut DeskSeat, number: u32) -> Desk
 
 impl Directory {
     /// A directory of `keys` places (1 to 1,048,576), for keys of at most `key_bytes` bytes (0 to 250), and its desks
-    /// (1 to 65,535), numbered from 1. Refused where there is no memory.
+    /// (1 to 65,535), numbered from 1. The two halves of the seed are to be drawn at random and kept secret, where strangers choose
+    /// keys. Refused where there is no memory.
     pub fn new(
         alloc: Global,
         keys: u32,
         key_bytes: u32,
         desks: u32,
+        seed0: u64,
+        seed1: u64,
     ) -> Result<(Directory, Vec<Desk>), Memory>
         requires keys { (1 ≤ keys) × (keys ≤ MOST_KEYS) }
         requires key_bytes { key_bytes ≤ LONGEST_KEY }
@@ -81,6 +84,8 @@ impl Directory {
             keys: keys as u64,
             key_bytes: key_bytes as u64,
             desks: desks as u64,
+            seed0,
+            seed1,
         };
         let words = Vec::from_elem(alloc, 0u64, word_total_of(sizes))?;
         let mut list = Vec::with_capacity(alloc, desks as usize)?;

@@ -3,12 +3,14 @@
 use atomic_table::{Join, Play, Split, TableRule};
 use std::collections::LinkedList;
 
-/// How many places there are, how long keys may be, and how many desks there are.
+/// How many places there are, how long keys may be, how many desks there are, and the seed of the hash.
 #[derive(Clone, Copy)]
 pub struct Sizes {
     pub keys: u64,
     pub key_bytes: u64,
     pub desks: u64,
+    pub seed0: u64,
+    pub seed1: u64,
 }
 
 /// A name, with the row that holds its key.

@@ -15,13 +15,12 @@ use crate::steps::{DeskSeat, Words, draw, look, publish};
 use crate::word_index::{EMPTY, counter_of};
 
 // The index of the place at which the key's walk begins: the hash's upper half, scaled down to the places.
-fn start_of(key: &[u8], keys: u64) -> u64
-    requires len { length key.now ≤ 250 }
-    requires keys { (1 ≤ keys) × (keys ≤ 1048576) }
-    ensures is { result ≡ first_index (hash_of key.now) keys }
-    ensures within { result < keys }
+fn start_of(sizes: Sizes, key: &[u8]) -> u64
+    requires { (1 ≤ sizes.keys) × (sizes.keys ≤ 1048576) }
+    ensures is { result ≡ first_index (hash_of sizes key.now) sizes.keys }
+    ensures within { result < sizes.keys }
 {
-    hash(key) / 0x1_0000_0000 * keys / 0x1_0000_0000
+    hash(sizes, key) / 0x1_0000_0000 * sizes.keys / 0x1_0000_0000
 }
 
 // The place that a walk comes to after this many.
@@ -158,7 +157,7 @@ pub(crate) fn find(
         × ((place : ℕ) → 1 ≤ place → place ≤ words.now.key.keys → IsTaken seat.new.me.0.seen place key.now)) }
     ensures spare { HoldsSpare words.now.key seat.new.me.0 spare.new }
 {
-    let start = start_of(key, sizes.keys);
+    let start = start_of(sizes, key);
     for passed in 0..sizes.keys {
         let place = place_of(start, passed, sizes.keys);
         if visit(words, seat, sizes, spare, place, key) {

@@ -5,20 +5,23 @@ ghost use Rattle.sf_drive.specs.declared.report.DriveEnding.{DriveEnding};
 ghost use Rattle.sf_drive.specs.declared.report.Report.{Report};
 ghost use Rattle.sf_drive.specs.Found.{DriveEvent, IsFound, said_text};
 ghost use Rattle.sf_drive.specs.Reports.{ending_of};
-ghost use Rattle.sf_fill.specs.Made.{AreOfDirectory, AreOfGroup};
-ghost use Rattle.sf_fill.specs.Totals.{AreNamed};
+ghost use Rattle.sf_words.specs.declared.limits.TheConstants.{LARGEST_PLACE};
+ghost use Rattle.sf_spots.specs.Spaces.{AreDesksOf, places_in, space_of};
+ghost use Rattle.sf_fill.specs.Made.{AreParts};
 
 use crate::found::{Found, said, verdict};
 use crate::jobs::{DriveGetter, Ended, Entry, Job};
 use crate::line::DriveLine;
 use crate::loaders::{AnyKey, OddPicker, ThirdFails, Values};
 use crate::report::{DriveEnding, Report};
-use sf_dir::{Desk, Directory, LONGEST_KEY};
-use sf_fill::{Fill, FillParts, FillValue, Ledgers, Naming};
-use sf_group::{Event, Group, Memory};
+use sf_dir::LONGEST_KEY;
+use sf_fill::{Fill, FillParts, Naming};
+use sf_group::{Event, Memory};
+use sf_keys::Places;
 use sf_loaders::Loaders;
 use sf_loaders::scripted::RoundChance;
 use sf_replay::merge;
+use sf_spots::{KeyDesk, KeySpace, hash_desks, open_directory};
 use sf_text::{StreamFault, write_all};
 use sf_words::PlaceNo;
 use std::alloc::Global;
@@ -26,12 +29,14 @@ use std::fmt::Write as _;
 use std::io::Write;
 use std::marker::Brand;
 use std::sync::Wait;
-use std::sync::ledger::Blank;
 use std::thread::{Threads, map_vec};
 use std::time::Clock;
 
 /// What the caches of a drive keep, in bytes.
 const LIMIT: i64 = 1_000;
+
+/// How many places an open drive has a key. Its seed is fixed, so that it can be made again.
+const PLACES_A_KEY: u32 = 16;
 
 /// What a drive's getters are made of.
 type DriveParts<'d, D> = FillParts<'d, D, Values, OddPicker, ThirdFails, AnyKey, RoundChance>;
@@ -140,23 +145,20 @@ fn with_all<
 >(
     rt: &R,
     alloc: Global,
-    directory: &'d Directory,
+    space: KeySpace<'d>,
     parts: DriveParts<'d, D>,
     entries: &[Entry],
     line: DriveLine,
 ) -> Result<Found, Memory>
-    requires directory { (directory.now ≡ N.directory) × (D.directory ≡ N.directory) }
-    requires group { (parts.group ≡ N.group) × (N.group.sizes.places ≡ N.directory.keys) }
+    requires space { (space_of space ≡ N.space) × (D.space ≡ N.space) }
+    requires parts { AreParts N.space N.group N.getters N.ledgers parts }
     requires getters { N.getters ≡ line.threads }
-    requires desks { (vec_len parts.desks ≡ N.getters) × AreOfDirectory N.directory parts.desks.items }
-    requires callers { (vec_len parts.callers ≡ N.getters) × AreOfGroup N.group parts.callers.items }
-    requires loaders { vec_len parts.loaders ≡ N.getters }
-    requires ledgers { AreNamed N.ledgers N.getters parts.ledgers }
     ensures { IfOk result (λ found. IsFound (line.threads * line.gets) found.report found.history) }
 {
     let logs = Vec::with_capacity(alloc, line.threads as usize)?;
-    let room = 4 * line.gets as usize;
-    let made = Fill::<'d, D, N, Values>::new(alloc, directory, parts, LIMIT, room);
+    // A get adds three events at most, and one for each call of another key that it met; a reload adds one.
+    let room = 8 * line.gets as usize;
+    let made = Fill::<'d, D, N, Values>::new(alloc, space, parts, LIMIT, room);
     let Ok((fill, getters)) = made else {
         return Err(Memory);
     };
@@ -221,43 +223,21 @@ fn loaders(
     Ok(sets)
 }
 
-// The directory is named here, and the group made.
-fn with_directory<'d, D: Naming + Send + Sync, R: Wait + Threads + Clock + Eprint + Sync>(
+// The key space is named here, and the group made.
+fn with_space<'d, D: Naming + Send + Sync, R: Wait + Threads + Clock + Eprint + Sync>(
     rt: &R,
     alloc: Global,
-    directory: &'d Directory,
-    desks: Vec<Desk>,
+    space: KeySpace<'d>,
+    desks: Vec<KeyDesk>,
     line: DriveLine,
 ) -> Result<Found, Memory>
-    requires directory { (directory.now ≡ D.directory) × (directory.now.keys ≡ line.keys) }
-    requires desks { (vec_len desks ≡ line.threads) × AreOfDirectory directory.now desks.items }
+    requires space { (space_of space ≡ D.space) × (places_in D.space ≤ LARGEST_PLACE) }
+    requires desks { (vec_len desks ≡ line.threads) × AreDesksOf D.space desks.items }
     ensures { IfOk result (λ found. IsFound (line.threads * line.gets) found.report found.history) }
 {
-    let (group, callers) = Group::<FillValue<'d, D, Values>>::new(
-        alloc,
-        line.keys,
-        line.threads,
-        1,
-    )?;
-    let threads = line.threads as u64;
-    let parts = FillParts {
-        desks,
-        group,
-        callers,
-        loaders: loaders(alloc, line.threads)?,
-        ledgers: Ledgers {
-            gets: Blank::new(threads),
-            cache_hits: Blank::new(threads),
-            loads: Blank::new(threads),
-            loads_deduped: Blank::new(threads),
-            peer_loads: Blank::new(threads),
-            peer_errors: Blank::new(threads),
-            local_loads: Blank::new(threads),
-            local_load_errors: Blank::new(threads),
-        },
-    };
+    let parts = FillParts::new(alloc, space, desks, loaders(alloc, line.threads)?, 1)?;
     let entries = entries(alloc, line.keys)?;
-    with_all::<D, Brand, R>(rt, alloc, directory, parts, entries.as_slice(), line)
+    with_all::<D, Brand, R>(rt, alloc, space, parts, entries.as_slice(), line)
 }
 
 // What a drive finds. Nothing is named here.
@@ -268,8 +248,17 @@ fn report<R: Wait + Threads + Clock + Eprint + Sync>(
 ) -> Result<Found, Memory>
     ensures { IfOk result (λ found. IsFound (line.threads * line.gets) found.report found.history) }
 {
-    let (directory, desks) = Directory::new(alloc, line.keys, LONGEST_KEY, line.threads)?;
-    with_directory::<Brand, R>(rt, alloc, &directory, desks, line)
+    if line.open {
+        let places = Places {
+            count: PLACES_A_KEY * line.keys,
+            seed0: 0,
+            seed1: 0,
+        };
+        let desks = hash_desks(alloc, places, line.threads)?;
+        return with_space::<Brand, R>(rt, alloc, KeySpace::Hashed(places), desks, line);
+    }
+    let (directory, desks) = open_directory(alloc, line.keys, LONGEST_KEY, line.threads, 0, 0)?;
+    with_space::<Brand, R>(rt, alloc, KeySpace::Directory(&directory), desks, line)
 }
 
 /// `sfctl drive`: one getter a thread gets keys of one fill, and reloads some. Writes four lines: how many gets there were,

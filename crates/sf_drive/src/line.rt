@@ -14,6 +14,8 @@ pub struct DriveLine {
     pub keys: u32,
     /// Gets of each thread: 1 to 100,000.
     pub gets: u32,
+    /// Whether keys have their places by a hash, and not in a directory.
+    pub open: bool,
     /// Whether the drive shows its history as records, in place of its four lines.
     pub history: bool,
     /// Whether the first thread says on standard error how far it is; no words ask for it.
@@ -77,6 +79,10 @@ fn command<'a>(alloc: Global) -> Result<Command<'a>, Error> {
         .value_name("N")
         .help("Gets of each thread, 1 to 100000 (100)")
         .value_parser(clap::value_parser!(u32).range(1..=100_000));
+    let open = Arg::new(alloc, "open")
+        .long("open")
+        .action(ArgAction::SetTrue)
+        .help("Places by a hash, 16 a key, in place of a directory");
     let history = Arg::new(alloc, "history")
         .long("history")
         .action(ArgAction::SetTrue)
@@ -89,12 +95,13 @@ fn command<'a>(alloc: Global) -> Result<Command<'a>, Error> {
             .arg(threads)?
             .arg(keys)?
             .arg(gets)?
+            .arg(open)?
             .arg(history)?,
     )
 }
 
 /// Reads the words of a drive, the subcommand's name first: `--threads` (4 where it is absent), `--keys` (8), `--gets`
-/// (100) and `--history`. Whatever is no parse is usage.
+/// (100), `--open` and `--history`. Whatever is no parse is usage.
 pub fn drive_line<'a>(alloc: Global, words: &'a [String]) -> Result<DriveLine, NoDrive>
     ensures threads { IfOk result (λ line. (1 ≤ line.threads) × (line.threads ≤ 64)) }
     ensures keys { IfOk result (λ line. (1 ≤ line.keys) × (line.keys ≤ 1000)) }
@@ -115,6 +122,7 @@ pub fn drive_line<'a>(alloc: Global, words: &'a [String]) -> Result<DriveLine, N
         threads,
         keys,
         gets,
+        open: matches.get_flag("open"),
         history: matches.get_flag("history"),
         progress: false,
     })

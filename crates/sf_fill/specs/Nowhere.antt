@@ -9,7 +9,7 @@ abbrev pub no_table : TableId
 no_table = record { words = 0; slots = 0; views_name = 0; atom = 0; block = 0; offset = 0; slot_names = [] }
 
 abbrev pub no_space : SpaceId
-no_space = inl (record { table = no_table; keys = 0; key_bytes = 0; desks = 0 })
+no_space = inl (record { table = no_table; keys = 0; key_bytes = 0; desks = 0; seed0 = 0; seed1 = 0 })
 
 abbrev pub no_group : GroupValue
 no_group = record { table = no_table; sizes = record { places = 0; callers = 0; first = 0 } }

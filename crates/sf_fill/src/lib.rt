@@ -22,8 +22,6 @@ mod forgot;
 mod found;
 mod getter;
 mod getting;
-#[cfg(test)]
-mod leaders;
 mod leading;
 mod log;
 mod looking;

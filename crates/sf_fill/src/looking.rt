@@ -134,6 +134,22 @@ impl<'d, D: Naming, N: Naming, O: Origin> Fill<'d, D, N, O> {
         kept.copy_current(&self.group, Which::Hot, place, key, caller)
     }
 
+    /// A copy of the letter of the key that a cache has of the call that the flight's follows, which was settled after the leader
+    /// had looked, or a refusal of memory for it: a leader's second look, for callers of the group that are no getters.
+    pub fn followed<R: Wait>(
+        &self,
+        rt: &R,
+        flight: &Flight<FillValue<'d, D, O>>,
+        key: &[u8],
+    ) -> Option<Result<Letter<FillValue<'d, D, O>>, Memory>>
+        requires { flight.now.group ≡ N.group }
+        ensures follows { IfSome result (λ found. CopiesFollowed flight.now found) }
+        ensures of_key { IfSome result (λ found. IfOk found (λ letter. MayBe letter.value.spot key.now)) }
+    {
+        let InCache { copy, which: _ } = self.second_look(rt, flight, key)?;
+        Some(copy)
+    }
+
     // A copy of the letter of the key that main, or else hot, has of the call that the flight's follows; other entries stay.
     pub(crate) fn second_look<R: Wait>(
         &self,

@@ -6,6 +6,8 @@
 #[cfg(test)]
 mod drives;
 #[cfg(test)]
+mod leaders;
+#[cfg(test)]
 mod loaders;
 #[cfg(test)]
 mod rows;

@@ -1,5 +1,7 @@
 //! What getters say, and what is counted.
 
+ghost use Rattle.std.specs.Prelude.{◌≤◌};
+
 use crate::steps::Step;
 use crate::steps::Step::{
     AwaitGot, AwaitLoad, Change, Get, Read, Reload, SettleUp, TakeLog, TellAnswered, TellGot,
@@ -11,6 +13,7 @@ use std::test::Fail;
 
 const SETTING: Setting = Setting {
     places: 8,
+    open: false,
     limit: 100,
     peer: Gives::Absent,
     local: Gives::Value,
@@ -189,20 +192,69 @@ fn old_answer_leaves_the_newer_letter(rt: HostRuntime) -> Result<(), Fail> {
     Ok(())
 }
 
-// Two getters read while a third changes what loads give, and reloads.
+// Two keys share the only place of an open fill, and any key has one. Each get answers of its own key: what the other has left in
+// the cache is neither answered, nor taken over by the second look of a leader.
+#[test]
+fn two_keys_on_one_place(rt: HostRuntime) -> Result<(), Fail> {
+    const STEPS: [Step; 7] = [
+        Get("a"),
+        Get("a"),
+        Get("b"),
+        Get("long!"),
+        Reload("long!"),
+        Reload("b"),
+        TakeLog,
+    ];
+    let setting = Setting {
+        places: 1,
+        open: true,
+        steps: [&STEPS, &[], &[]],
+        ..SETTING
+    };
+    let outcome = try_out(&rt, rt.alloc(), setting)?;
+    let said = "a v=true 1.1 root=1.1 joiners=0\n\
+        a v=true 1.1 root=1.1 joiners=0\n\
+        b v=true 1.2 root=1.2 joiners=0\n\
+        long! v=true 1.3 root=1.3 joiners=0\n\
+        reload long! cleared 1.3\n\
+        reload b idle\n\
+        lead 1 1.1; settle 1 1.1 0; handed 1 1.1; lead 1 1.2; settle 1 1.2 0; handed 1 1.2; \
+        lead 1 1.3; settle 1 1.3 0; handed 1 1.3; forgetcall 1 1.3 cleared; log\n";
+    check(&rt, &outcome, [said, ""], [4, 1, 3, 3, 0, 0, 3, 0]);
+    Ok(())
+}
+
 #[test]
 fn no_old_answers_after_a_reload(rt: HostRuntime) -> Result<(), Fail> {
+    read_beside_changes(&rt, SETTING)
+}
+
+// Both keys have one place, so getters of the one join calls of the other, and ask again.
+#[test]
+fn no_old_answers_on_one_place(rt: HostRuntime) -> Result<(), Fail> {
+    let setting = Setting {
+        places: 1,
+        open: true,
+        ..SETTING
+    };
+    read_beside_changes(&rt, setting)
+}
+
+// Two getters read while a third changes what loads give, and reloads.
+fn read_beside_changes(rt: &HostRuntime, setting: Setting) -> Result<(), Fail>
+    requires { (1 ≤ setting.places) × (setting.places ≤ 8) × (setting.key_bytes ≤ 250) }
+{
     let setting = Setting {
         local: Gives::Version,
         steps: [&[Read(1_000)], &[Read(1_000)], &[Change(250)]],
         beside: true,
-        ..SETTING
+        ..setting
     };
-    let outcome = try_out(&rt, rt.alloc(), setting)?;
+    let outcome = try_out(rt, rt.alloc(), setting)?;
     for said in outcome.said.iter().take(2) {
         assert!(rt; said.as_str() == "old=0\n", "{said}");
     }
     assert!(rt; outcome.book.gets == 4_000, "the gets");
-    assert!(rt; outcome.book.cache_hits <= 4_000, "the hits");
+    assert!(rt; outcome.book.cache_hits < 4_000 && outcome.book.loads > 1, "the hits");
     Ok(())
 }

@@ -1,21 +1,22 @@
 //! A fill with two getters, from nothing.
 ghost use Rattle.std.specs.Prelude.{◌≡◌, ◌≤◌, vec_len};
-ghost use Rattle.sf_fill.specs.Made.{AreOfDirectory, AreOfGroup};
-ghost use Rattle.sf_fill.specs.Totals.{AreNamed};
+ghost use Rattle.sf_words.specs.declared.limits.TheConstants.{LARGEST_PLACE};
+ghost use Rattle.sf_spots.specs.Spaces.{AreDesksOf, places_in, space_of};
+ghost use Rattle.sf_fill.specs.Made.{AreParts};
 
 use crate::loaders::{Flags, TestLoaders, TestLocal};
 use crate::steps::{Step, Turns};
 use bytes::{ByteStr, Bytes};
-use sf_dir::{Desk, Directory};
-use sf_fill::{Fill, FillParts, FillValue, Ledgers, Naming, Totals};
-use sf_group::{Group, Memory};
+use sf_fill::{Fill, FillParts, Naming, Totals};
+use sf_group::Memory;
 use sf_loaders::Loaders;
 use sf_loaders::scripted::{Answer, AnyValue, FixedPicker, RoundChance, Script};
+use sf_keys::Places;
+use sf_spots::{KeyDesk, KeySpace, hash_desks, open_directory};
 use std::alloc::Global;
 use std::marker::Brand;
 use std::sync::Wait;
 use std::sync::atomic::Ordering;
-use std::sync::ledger::Blank;
 use std::thread::{Threads, join};
 
 /// What a loader answers where there is one.
@@ -32,6 +33,8 @@ pub enum Gives {
 #[derive(Clone, Copy)]
 pub struct Setting {
     pub places: u32,
+    /// Whether keys have their places by a hash.
+    pub open: bool,
     pub limit: i64,
     pub peer: Gives,
     pub local: Gives,
@@ -57,22 +60,18 @@ pub struct Outcome {
 fn with_all<'d, 'f, D: Naming + Send + Sync, N: Naming + Send + Sync, R: Wait + Threads + Sync>(
     rt: &R,
     alloc: Global,
-    directory: &'d Directory,
+    space: KeySpace<'d>,
     parts: FillParts<'d, D, AnyValue, FixedPicker, Script, TestLocal<'f>, RoundChance>,
     setting: Setting,
     flags: &'f Flags,
 ) -> Result<Outcome, Memory>
-    requires directory { (directory.now ≡ N.directory) × (D.directory ≡ N.directory) }
-    requires group { (parts.group ≡ N.group) × (N.group.sizes.places ≡ N.directory.keys) }
+    requires space { (space_of space ≡ N.space) × (D.space ≡ N.space) }
+    requires parts { AreParts N.space N.group N.getters N.ledgers parts }
     requires getters { N.getters ≡ 3 }
-    requires desks { (vec_len parts.desks ≡ N.getters) × AreOfDirectory N.directory parts.desks.items }
-    requires callers { (vec_len parts.callers ≡ N.getters) × AreOfGroup N.group parts.callers.items }
-    requires loaders { vec_len parts.loaders ≡ N.getters }
-    requires ledgers { AreNamed N.ledgers N.getters parts.ledgers }
 {
     let Ok((fill, mut getters)) = Fill::<'d, D, N, AnyValue>::new(
         alloc,
-        directory,
+        space,
         parts,
         setting.limit,
         64,
@@ -172,45 +171,54 @@ fn loaders<'f>(
     })
 }
 
-// The directory is named here.
-fn with_directory<'d, 'f, D: Naming + Send + Sync, R: Wait + Threads + Sync>(
+// The key space is named here.
+fn with_space<'d, 'f, D: Naming + Send + Sync, R: Wait + Threads + Sync>(
     rt: &R,
     alloc: Global,
-    directory: &'d Directory,
-    desks: Vec<Desk>,
+    space: KeySpace<'d>,
+    desks: Vec<KeyDesk>,
     setting: Setting,
     flags: &'f Flags,
 ) -> Result<Outcome, Memory>
-    requires directory { directory.now ≡ D.directory }
-    requires desks { (vec_len desks ≡ 3) × AreOfDirectory directory.now desks.items }
+    requires space { (space_of space ≡ D.space) × (places_in D.space ≤ LARGEST_PLACE) }
+    requires desks { (vec_len desks ≡ 3) × AreDesksOf D.space desks.items }
 {
-    let (group, callers) = Group::<FillValue<'d, D, AnyValue>>::new(
-        alloc,
-        directory.place_count(),
-        3,
-        1,
-    )?;
     let mut sets = Vec::with_capacity(alloc, 3)?;
     sets.push_reserved(loaders(alloc, setting, flags, setting.beside)?);
     sets.push_reserved(loaders(alloc, setting, flags, false)?);
     sets.push_reserved(loaders(alloc, setting, flags, false)?);
-    let parts = FillParts {
-        desks,
-        group,
-        callers,
-        loaders: sets,
-        ledgers: Ledgers {
-            gets: Blank::new(3),
-            cache_hits: Blank::new(3),
-            loads: Blank::new(3),
-            loads_deduped: Blank::new(3),
-            peer_loads: Blank::new(3),
-            peer_errors: Blank::new(3),
-            local_loads: Blank::new(3),
-            local_load_errors: Blank::new(3),
-        },
+    let parts = FillParts::new(alloc, space, desks, sets, 1)?;
+    with_all::<D, Brand, R>(rt, alloc, space, parts, setting, flags)
+}
+
+fn in_directory<R: Wait + Threads + Sync>(
+    rt: &R,
+    alloc: Global,
+    setting: Setting,
+    flags: &Flags,
+) -> Result<Outcome, Memory>
+    requires { (1 ≤ setting.places) × (setting.places ≤ 8) × (setting.key_bytes ≤ 250) }
+{
+    let (directory, desks) = open_directory(alloc, setting.places, setting.key_bytes, 3, 0, 0)?;
+    let space = KeySpace::Directory(&directory);
+    with_space::<Brand, R>(rt, alloc, space, desks, setting, flags)
+}
+
+fn in_open<R: Wait + Threads + Sync>(
+    rt: &R,
+    alloc: Global,
+    setting: Setting,
+    flags: &Flags,
+) -> Result<Outcome, Memory>
+    requires { (1 ≤ setting.places) × (setting.places ≤ 8) }
+{
+    let places = Places {
+        count: setting.places,
+        seed0: 0,
+        seed1: 0,
     };
-    with_all::<D, Brand, R>(rt, alloc, directory, parts, setting, flags)
+    let desks = hash_desks(alloc, places, 3)?;
+    with_space::<Brand, R>(rt, alloc, KeySpace::Hashed(places), desks, setting, flags)
 }
 
 /// What comes of the setting.
@@ -222,8 +230,11 @@ pub fn try_out<R: Wait + Threads + Sync>(
     requires { (1 ≤ setting.places) × (setting.places ≤ 8) × (setting.key_bytes ≤ 250) }
 {
     let flags = Flags::new();
-    let (directory, desks) = Directory::new(alloc, setting.places, setting.key_bytes, 3)?;
-    let mut outcome = with_directory::<Brand, R>(rt, alloc, &directory, desks, setting, &flags)?;
+    let mut outcome = if setting.open {
+        in_open(rt, alloc, setting, &flags)?
+    } else {
+        in_directory(rt, alloc, setting, &flags)?
+    };
     outcome.failed = flags.failed.load(Ordering::SeqCst);
     Ok(outcome)
 }

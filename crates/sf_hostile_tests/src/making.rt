@@ -15,10 +15,10 @@ use std::test::Fail;
 fn make(alloc: Global) -> Result<(Directory, Vec<Desk>), Memory>
     ensures { IfOk result (λ made. All (λ d. d.directory ≡ made.0) made.1.items) }
 {
-    if let Ok(made) = Directory::new(alloc, 1, 4, 2) {
+    if let Ok(made) = Directory::new(alloc, 1, 4, 2, 0, 0) {
         return Ok(made);
     }
-    Directory::new(alloc, 1, 4, 2)
+    Directory::new(alloc, 1, 4, 2, 0, 0)
 }
 
 #[test]

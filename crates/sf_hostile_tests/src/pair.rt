@@ -2,22 +2,22 @@
 //! answers the value, and one at most the fault for want of memory; what is owed is delivered then.
 ghost use Rattle.std.specs.Prelude.{◌≡◌, ◌≤◌, IfSome, vec_len};
 ghost use Rattle.sf_calls.specs.Same.{IsPlaceOf};
-ghost use Rattle.sf_fill.specs.Made.{AreOfDirectory, AreOfGroup};
-ghost use Rattle.sf_fill.specs.Totals.{AreNamed};
+ghost use Rattle.sf_words.specs.declared.limits.TheConstants.{LARGEST_PLACE};
+ghost use Rattle.sf_spots.specs.Spaces.{AreDesksOf, places_in, space_of};
+ghost use Rattle.sf_fill.specs.Made.{AreParts, AreOfGroup};
 
 use bytes::{ByteStr, Bytes};
-use sf_dir::{Desk, Directory};
 use sf_fill::{Fill, FillParts, FillValue, Getter, Ledgers, LoadFault, Naming};
 use sf_group::{Begun, CallId, Caller, Group, Memory, Polled, Ticket};
 use sf_loaders::scripted::{Answer, AnyValue, FixedPicker, RoundChance, Script};
 use sf_loaders::{Loaders, Local, LocalFault};
+use sf_spots::{KeyDesk, KeySpace, open_directory};
 use sf_wait::begin_wait;
 use std::alloc::Global;
 use std::marker::{Brand, Model};
 use std::process::Abort;
 use std::sync::Wait;
 use std::sync::atomic::{AtomicBool, Ordering};
-use std::sync::ledger::Blank;
 use std::test::Fail;
 use std::thread::{Threads, join, yield_now};
 
@@ -332,26 +332,22 @@ fn with_all<
 >(
     rt: &R,
     alloc: Global,
-    directory: &'d Directory,
+    space: KeySpace<'d>,
     parts: PairParts<'d, 'f, D>,
     caller: Caller<FillValue<'d, D, AnyValue>>,
     place: u32,
     scene: Scene,
     flags: &'f Flags,
 ) -> Result<u32, Memory>
-    requires directory { (directory.now ≡ N.directory) × (D.directory ≡ N.directory) }
-    requires group { (parts.group ≡ N.group) × (N.group.sizes.places ≡ N.directory.keys) }
+    requires space { (space_of space ≡ N.space) × (D.space ≡ N.space) }
+    requires parts { AreParts N.space N.group N.getters N.ledgers parts }
     requires getters { N.getters ≡ 2 }
-    requires desks { (vec_len parts.desks ≡ N.getters) × AreOfDirectory N.directory parts.desks.items }
-    requires callers { (vec_len parts.callers ≡ N.getters) × AreOfGroup N.group parts.callers.items }
-    requires loaders { vec_len parts.loaders ≡ N.getters }
-    requires ledgers { AreNamed N.ledgers N.getters parts.ledgers }
     requires own { caller.group ≡ N.group }
     requires place { IsPlaceOf N.group place }
 {
-    let made = match Fill::<'d, D, N, AnyValue>::new(alloc, directory, parts, 100, 8) {
+    let made = match Fill::<'d, D, N, AnyValue>::new(alloc, space, parts, 100, 8) {
         Ok(made) => made,
-        Err(parts) => match Fill::<'d, D, N, AnyValue>::new(alloc, directory, parts, 100, 8) {
+        Err(parts) => match Fill::<'d, D, N, AnyValue>::new(alloc, space, parts, 100, 8) {
             Ok(made) => made,
             Err(_) => return Err(Memory),
         },
@@ -420,21 +416,21 @@ fn take_spare<'d, D: Naming>(
     Some((callers, spare))
 }
 
-// The directory is named here. The last caller and the last desk are spare.
-fn with_directory<'d, 'f, D: Naming + Send + Sync, R: Wait + Threads + Abort + Sync>(
+// The key space is named here. The last caller and the last desk are spare.
+fn with_space<'d, 'f, D: Naming + Send + Sync, R: Wait + Threads + Abort + Sync>(
     rt: &R,
     alloc: Global,
-    directory: &'d Directory,
-    desks: Vec<Desk>,
+    space: KeySpace<'d>,
+    desks: Vec<KeyDesk>,
     scene: Scene,
     flags: &'f Flags,
 ) -> Result<u32, Memory>
-    requires directory { directory.now ≡ D.directory }
-    requires desks { (vec_len desks ≡ 3) × AreOfDirectory directory.now desks.items }
+    requires space { (space_of space ≡ D.space) × (places_in D.space ≤ LARGEST_PLACE) }
+    requires desks { (vec_len desks ≡ 3) × AreDesksOf D.space desks.items }
 {
     let (group, callers) = Group::<FillValue<'d, D, AnyValue>>::new(
         alloc,
-        directory.place_count(),
+        space.place_count(),
         3,
         1,
     )?;
@@ -448,10 +444,10 @@ fn with_directory<'d, 'f, D: Naming + Send + Sync, R: Wait + Threads + Abort + S
     let Some((callers, caller)) = take_spare(&group, callers) else {
         panic!(rt; "other callers")
     };
-    let Ok(place) = directory.resolve(&mut desk, b"a") else {
+    let Ok(at) = space.find(&mut desk, b"a") else {
         panic!(rt; "the key has no place")
     };
-    let place = place.number().number();
+    let place = at.number().number();
     if !group.has(place) {
         panic!(rt; "the group has no such place")
     }
@@ -465,18 +461,9 @@ fn with_directory<'d, 'f, D: Naming + Send + Sync, R: Wait + Threads + Abort + S
         group,
         callers,
         loaders: sets,
-        ledgers: Ledgers {
-            gets: Blank::new(2),
-            cache_hits: Blank::new(2),
-            loads: Blank::new(2),
-            loads_deduped: Blank::new(2),
-            peer_loads: Blank::new(2),
-            peer_errors: Blank::new(2),
-            local_loads: Blank::new(2),
-            local_load_errors: Blank::new(2),
-        },
+        ledgers: Ledgers::new(2),
     };
-    with_all::<D, Brand, R>(rt, alloc, directory, parts, caller, place, scene, flags)
+    with_all::<D, Brand, R>(rt, alloc, space, parts, caller, place, scene, flags)
 }
 
 // How many gets and reloads were refused memory.
@@ -490,8 +477,8 @@ fn try_out<R: Wait + Threads + Abort + Sync>(
         asked: AtomicBool::new(false),
         answered: AtomicBool::new(false),
     };
-    let (directory, desks) = Directory::new(alloc, 8, 4, 3)?;
-    with_directory::<Brand, R>(rt, alloc, &directory, desks, scene, &flags)
+    let (directory, desks) = open_directory(alloc, 8, 4, 3, 0, 0)?;
+    with_space::<Brand, R>(rt, alloc, KeySpace::Directory(&directory), desks, scene, &flags)
 }
 
 // One that is refused memory before its fill stands is tried out once more, and meets no refusal then.

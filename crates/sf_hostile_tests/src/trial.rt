@@ -1,19 +1,19 @@
 //! A fill with one getter, from nothing.
 ghost use Rattle.std.specs.Prelude.{◌≡◌, ◌≤◌, vec_len};
-ghost use Rattle.sf_fill.specs.Made.{AreOfDirectory, AreOfGroup};
-ghost use Rattle.sf_fill.specs.Totals.{AreNamed};
+ghost use Rattle.sf_words.specs.declared.limits.TheConstants.{LARGEST_PLACE};
+ghost use Rattle.sf_spots.specs.Spaces.{AreDesksOf, places_in, space_of};
+ghost use Rattle.sf_fill.specs.Made.{AreParts};
 
 use bytes::{ByteStr, Bytes};
-use sf_dir::{Desk, Directory};
-use sf_fill::{Fill, FillParts, FillValue, Getter, Ledgers, LoadFault, Naming, Totals, View};
-use sf_group::{Group, Memory};
+use sf_fill::{Fill, FillParts, Getter, LoadFault, Naming, Totals, View};
+use sf_group::Memory;
 use sf_loaders::Loaders;
 use sf_loaders::scripted::{Answer, AnyValue, FixedPicker, RoundChance, Script};
+use sf_spots::{KeyDesk, KeySpace, open_directory};
 use std::alloc::Global;
 use std::fmt::Write;
 use std::marker::Brand;
 use std::sync::Wait;
-use std::sync::ledger::Blank;
 
 /// A fill, and the keys that its getter gets in turn.
 #[derive(Clone, Copy)]
@@ -80,22 +80,18 @@ fn say<'d, D: Naming>(said: &mut String, answer: &Result<View<'d, D, AnyValue>, 
 fn with_all<'d, D: Naming, N: Naming, R: Wait>(
     rt: &R,
     alloc: Global,
-    directory: &'d Directory,
+    space: KeySpace<'d>,
     parts: Parts<'d, D>,
     setting: Setting,
 ) -> Result<Outcome, Memory>
-    requires directory { (directory.now ≡ N.directory) × (D.directory ≡ N.directory) }
-    requires group { (parts.group ≡ N.group) × (N.group.sizes.places ≡ N.directory.keys) }
+    requires space { (space_of space ≡ N.space) × (D.space ≡ N.space) }
+    requires parts { AreParts N.space N.group N.getters N.ledgers parts }
     requires getters { N.getters ≡ 1 }
-    requires desks { (vec_len parts.desks ≡ N.getters) × AreOfDirectory N.directory parts.desks.items }
-    requires callers { (vec_len parts.callers ≡ N.getters) × AreOfGroup N.group parts.callers.items }
-    requires loaders { vec_len parts.loaders ≡ N.getters }
-    requires ledgers { AreNamed N.ledgers N.getters parts.ledgers }
 {
     let limit = setting.limit;
-    let made = match Fill::<'d, D, N, AnyValue>::new(alloc, directory, parts, limit, 0) {
+    let made = match Fill::<'d, D, N, AnyValue>::new(alloc, space, parts, limit, 0) {
         Ok(made) => made,
-        Err(parts) => match Fill::<'d, D, N, AnyValue>::new(alloc, directory, parts, limit, 0) {
+        Err(parts) => match Fill::<'d, D, N, AnyValue>::new(alloc, space, parts, limit, 0) {
             Ok(made) => made,
             Err(_) => return Err(Memory),
         },
@@ -133,47 +129,26 @@ fn get_all<'d, D: Naming, N: Naming, R: Wait>(
     (getter, said)
 }
 
-// The directory is named here.
-fn with_directory<'d, D: Naming, R: Wait>(
+// The key space is named here.
+fn with_space<'d, D: Naming, R: Wait>(
     rt: &R,
     alloc: Global,
-    directory: &'d Directory,
-    desks: Vec<Desk>,
+    space: KeySpace<'d>,
+    desks: Vec<KeyDesk>,
     setting: Setting,
 ) -> Result<Outcome, Memory>
-    requires directory { directory.now ≡ D.directory }
-    requires desks { (vec_len desks ≡ 1) × AreOfDirectory directory.now desks.items }
+    requires space { (space_of space ≡ D.space) × (places_in D.space ≤ LARGEST_PLACE) }
+    requires desks { (vec_len desks ≡ 1) × AreDesksOf D.space desks.items }
     requires first_generation { 1 ≤ setting.first_generation }
 {
-    let (group, callers) = Group::<FillValue<'d, D, AnyValue>>::new(
-        alloc,
-        directory.place_count(),
-        1,
-        setting.first_generation,
-    )?;
     let set = Loaders {
         picker: FixedPicker::new(setting.peer_fails.map(|_| 0)),
         peer: script(alloc, setting.peer_fails.unwrap_or(0), "p")?,
         local: script(alloc, setting.local_fails, "v")?,
         chance: RoundChance::default(),
     };
-    let parts = FillParts {
-        desks,
-        group,
-        callers,
-        loaders: vec![in alloc; set]?,
-        ledgers: Ledgers {
-            gets: Blank::new(1),
-            cache_hits: Blank::new(1),
-            loads: Blank::new(1),
-            loads_deduped: Blank::new(1),
-            peer_loads: Blank::new(1),
-            peer_errors: Blank::new(1),
-            local_loads: Blank::new(1),
-            local_load_errors: Blank::new(1),
-        },
-    };
-    with_all::<D, Brand, R>(rt, alloc, directory, parts, setting)
+    let parts = FillParts::new(alloc, space, desks, vec![in alloc; set]?, setting.first_generation)?;
+    with_all::<D, Brand, R>(rt, alloc, space, parts, setting)
 }
 
 /// What comes of the setting.
@@ -181,6 +156,6 @@ pub fn try_out<R: Wait>(rt: &R, alloc: Global, setting: Setting) -> Result<Outco
     requires places { (1 ≤ setting.places) × (setting.places ≤ 8) }
     requires first_generation { 1 ≤ setting.first_generation }
 {
-    let (directory, desks) = Directory::new(alloc, setting.places, 250, 1)?;
-    with_directory::<Brand, R>(rt, alloc, &directory, desks, setting)
+    let (directory, desks) = open_directory(alloc, setting.places, 250, 1, 0, 0)?;
+    with_space::<Brand, R>(rt, alloc, KeySpace::Directory(&directory), desks, setting)
 }

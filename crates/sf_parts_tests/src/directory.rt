@@ -18,7 +18,7 @@ fn assert_refused(rt: &impl Abort, directory: &Directory, desk: &mut Desk, key: 
 
 // Of one place: a key gets it, another does not, one too long is refused as such, and the first key keeps it.
 fn fill_one_place(rt: &impl Abort, alloc: Global, key: &[u8], other: &[u8]) -> Result<(), Fail> {
-    let (directory, mut desks) = Directory::new(alloc, 1, 250, 1)?;
+    let (directory, mut desks) = Directory::new(alloc, 1, 250, 1, 0, 0)?;
     let mut desk = desks.pop().ok_or("no desk")?;
     assert!(rt; directory.place_count() == 1 && desk.number() == 1 && desks.is_empty());
     let mut place = directory.resolve(&mut desk, key).map_err(|_| "no place")?;
@@ -97,7 +97,7 @@ fn assert_agree(rt: &impl Abort, first: &[u32; KEYS], second: &[u32; KEYS]) {
 #[test]
 fn desks_agree(rt: HostRuntime) -> Result<(), Fail> {
     let bytes = [b'k'; KEYS];
-    let (directory, mut desks) = Directory::new(rt.alloc(), 100, 100, 2)?;
+    let (directory, mut desks) = Directory::new(rt.alloc(), 100, 100, 2, 7, 11)?;
     let two = desks.pop().ok_or("no second desk")?;
     let one = desks.pop().ok_or("no first desk")?;
     let (forwards, backwards) = resolve_on_two(&rt, &directory, one, two, &bytes);

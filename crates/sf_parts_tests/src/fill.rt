@@ -6,7 +6,6 @@ ghost use Rattle.sf_fill.specs.Totals.{AreNamed};
 use sf_fill::{Accounts, AllParts, GetCounts, Ledgers, Naming, Totals};
 use sf_loaders::Counts;
 use std::marker::Brand;
-use std::sync::ledger::Blank;
 
 // One getter hits a cache, and another one loads from a peer: what the accounts say, and what both gathered.
 fn two_getters<N: Naming>(ledgers: Ledgers) -> (Totals, Totals)
@@ -40,16 +39,7 @@ fn two_getters<N: Naming>(ledgers: Ledgers) -> (Totals, Totals)
 }
 
 fn counted() -> (Totals, Totals) {
-    two_getters::<Brand>(Ledgers {
-        gets: Blank::new(2),
-        cache_hits: Blank::new(2),
-        loads: Blank::new(2),
-        loads_deduped: Blank::new(2),
-        peer_loads: Blank::new(2),
-        peer_errors: Blank::new(2),
-        local_loads: Blank::new(2),
-        local_load_errors: Blank::new(2),
-    })
+    two_getters::<Brand>(Ledgers::new(2))
 }
 
 #[test]

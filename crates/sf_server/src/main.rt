@@ -153,7 +153,7 @@ fn serve<R: Threads + Wait + Sync>(
 
 fn main(rt: HostRuntime) -> io::Result<ExitCode> {
     let alloc = rt.alloc();
-    let (directory, mut desks) = Directory::new(alloc, 16, 250, 1)?;
+    let (directory, mut desks) = Directory::new(alloc, 16, 250, 1, 0, 0)?;
     let (group, callers) = Group::<Page>::new(alloc, directory.place_count(), 5, 1)?;
     let Some(mut desk) = desks.pop() else {
         unreachable!()

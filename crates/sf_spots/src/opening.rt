@@ -19,13 +19,15 @@ fn of_directory(alloc: Global, desks: Vec<Desk>) -> Result<Vec<KeyDesk>, Memory>
     Ok(made)
 }
 
-/// A directory for so many keys (1 to 1,048,576) of at most so many bytes (0 to 250), and so many desks of it (1 to 65,535).
-/// Refused where there is no memory.
+/// A directory for so many keys (1 to 1,048,576) of at most so many bytes (0 to 250), by a seed in two halves, and so many desks
+/// of it (1 to 65,535). Refused where there is no memory.
 pub fn open_directory(
     alloc: Global,
     keys: u32,
     key_bytes: u32,
     desks: u32,
+    seed0: u64,
+    seed1: u64,
 ) -> Result<(Directory, Vec<KeyDesk>), Memory>
     requires keys { (1 ≤ keys) × (keys ≤ MOST_KEYS) }
     requires key_bytes { key_bytes ≤ LONGEST_KEY }
@@ -34,7 +36,7 @@ pub fn open_directory(
     ensures count { IfOk result (λ made. vec_len made.1 ≡ desks) }
     ensures desks { IfOk result (λ made. AreDesksOf (inl made.0) made.1.items) }
 {
-    let (directory, dealt) = Directory::new(alloc, keys, key_bytes, desks)?;
+    let (directory, dealt) = Directory::new(alloc, keys, key_bytes, desks, seed0, seed1)?;
     Ok((directory, of_directory(alloc, dealt)?))
 }
 

@@ -300,7 +300,7 @@ fn check_shared(rt: &impl Abort, letter: Option<Letter<Outcome>>) {
 
 #[test]
 fn two_threads_one_load(rt: HostRuntime) -> Result<(), Fail> {
-    let (directory, mut desks) = Directory::new(rt.alloc(), 4, 8, 2)?;
+    let (directory, mut desks) = Directory::new(rt.alloc(), 4, 8, 2, 0, 0)?;
     let (group, mut callers) = Group::<Outcome>::new(rt.alloc(), 4, 2, 1)?;
     let second_place = next_place(&rt, &directory, &mut desks);
     let place = next_place(&rt, &directory, &mut desks);

@@ -10,5 +10,5 @@ invariant-loop-passed l = record {
   own : l.seat.table_id ≡ l.fn.seat.table_id;
   grows : Grows l.fn.seat.me.0 l.seat.me.0 [];
   holds : HoldsSpare l.words.key l.seat.me.0 l.spare;
-  before : (k : ℕ) → k < l.passed → IsTaken l.seat.me.0.seen (place_after l.words.key.keys l.key k) l.key;
+  before : (k : ℕ) → k < l.passed → IsTaken l.seat.me.0.seen (place_after l.words.key l.key k) l.key;
 }

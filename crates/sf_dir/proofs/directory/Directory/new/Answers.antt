@@ -11,7 +11,7 @@ use Rattle.sf_dir.proofs.directory.Directory.new.Goals as goal
 pub of_words-requires : goal.of_words-requires
 of_words-requires c =
     let items = c.in_ok-words.ensures.items_if_clones_equal (λ y e. e) in
-    opens (record { keys = c.args.keys; key_bytes = c.args.key_bytes; desks = c.args.desks }) c.as_slice.result.now (c.as_slice.ensures.value ∙ (items ∙ ap (λ n. replicate n 0) c.word_total_of.ensures))
+    opens (record { keys = c.args.keys; key_bytes = c.args.key_bytes; desks = c.args.desks; seed0 = c.args.seed0; seed1 = c.args.seed1 }) c.as_slice.result.now (c.as_slice.ensures.value ∙ (items ∙ ap (λ n. replicate n 0) c.word_total_of.ensures))
 
 range_more : (a n j : ℕ) → a + n ≡ j → range_with_len a (n + 1) ≡ range_with_len a n ++ j ∷ []
 range_more a n j e = sym (map-id (range_with_len a (n + 1))) ∙ (map-range_with_len_more (λ (x : ℕ). x) a n j e ∙ ap (λ xs. xs ++ j ∷ []) (map-id (range_with_len a n)))
@@ -25,7 +25,7 @@ loop-index-preserved c =
     let was = c.loop-index.invariant in
     let first = c.deal.ensures.first in
     let from = was.from in
-    let directory = directory_of c.in_ok-table.table.shared.table_id (record { keys = c.args.keys; key_bytes = c.args.key_bytes; desks = c.args.desks }) in
+    let directory = directory_of c.in_ok-table.table.shared.table_id (record { keys = c.args.keys; key_bytes = c.args.key_bytes; desks = c.args.desks; seed0 = c.args.seed0; seed1 = c.args.seed1 }) in
     let is : c.deal.result ≡ record { directory = directory; number = c.loop-index.index + 1; seen = [] } = c.deal.ensures.desk ∙ ap (λ z. record { directory = directory_of c.in_ok-table.table.shared.table_id z; number = c.loop-index.index + 1; seen = [] }) was.key in
     record {
       own = c.deal.ensures.own ∙ was.own;
