@@ -12,6 +12,8 @@ mod loaders;
 #[cfg(test)]
 mod rows;
 #[cfg(test)]
+mod spots;
+#[cfg(test)]
 mod steps;
 #[cfg(test)]
 mod trial;

@@ -8,8 +8,11 @@ use crate::steps::Step::{
 };
 use crate::trial::{Gives, Outcome, Setting, try_out};
 use sf_fill::Totals;
+use std::alloc::Global;
 use std::process::Abort;
+use std::sync::Wait;
 use std::test::Fail;
+use std::thread::Threads;
 
 const SETTING: Setting = Setting {
     places: 8,
@@ -226,7 +229,7 @@ fn two_keys_on_one_place(rt: HostRuntime) -> Result<(), Fail> {
 
 #[test]
 fn no_old_answers_after_a_reload(rt: HostRuntime) -> Result<(), Fail> {
-    read_beside_changes(&rt, SETTING)
+    read_beside_changes(&rt, rt.alloc(), SETTING)
 }
 
 // Both keys have one place, so getters of the one join calls of the other, and ask again.
@@ -237,11 +240,15 @@ fn no_old_answers_on_one_place(rt: HostRuntime) -> Result<(), Fail> {
         open: true,
         ..SETTING
     };
-    read_beside_changes(&rt, setting)
+    read_beside_changes(&rt, rt.alloc(), setting)
 }
 
 // Two getters read while a third changes what loads give, and reloads.
-fn read_beside_changes(rt: &HostRuntime, setting: Setting) -> Result<(), Fail>
+fn read_beside_changes<R: Wait + Threads + Abort + Sync>(
+    rt: &R,
+    alloc: Global,
+    setting: Setting,
+) -> Result<(), Fail>
     requires { (1 ≤ setting.places) × (setting.places ≤ 8) × (setting.key_bytes ≤ 250) }
 {
     let setting = Setting {
@@ -250,7 +257,7 @@ fn read_beside_changes(rt: &HostRuntime, setting: Setting) -> Result<(), Fail>
         beside: true,
         ..setting
     };
-    let outcome = try_out(rt, rt.alloc(), setting)?;
+    let outcome = try_out(rt, alloc, setting)?;
     for said in outcome.said.iter().take(2) {
         assert!(rt; said.as_str() == "old=0\n", "{said}");
     }
