@@ -27,17 +27,21 @@ static uint32_t ask_chan(sf_slot *slot, sf_slot *other, const char *key, uint32_
     return sf_ask_chan(slot, other, (const uint8_t *)key, strlen(key), tries);
 }
 
+/* A group whose few keys have places of their own, under these seeds. */
+static uint32_t open_wide(sf_slot *slot, uint32_t callers) {
+    return sf_open(slot, 65536, callers, 0x0123456789abcdef, 0xfedcba9876543210);
+}
+
 static void sizes(void) {
     sf_slot slot = SF_SLOT_NONE;
-    check(sf_open(&slot, 0, 8, 1) == SF_BAD_NUMBER, "no key");
-    check(sf_open(&slot, SF_MOST_KEYS + 1, 8, 1) == SF_BAD_NUMBER, "too many keys");
-    check(sf_open(&slot, 1, SF_MOST_KEY_BYTES + 1, 1) == SF_BAD_NUMBER, "too long keys");
-    check(sf_open(&slot, 1, 8, 0) == SF_BAD_NUMBER, "no caller");
-    check(sf_open(&slot, 1, 8, SF_MOST_CALLERS + 1) == SF_BAD_NUMBER, "too many callers");
+    check(sf_open(&slot, 0, 1, 0, 0) == SF_BAD_NUMBER, "no place");
+    check(sf_open(&slot, SF_MOST_PLACES + 1, 1, 0, 0) == SF_BAD_NUMBER, "too many places");
+    check(sf_open(&slot, 1, 0, 0, 0) == SF_BAD_NUMBER, "no caller");
+    check(sf_open(&slot, 1, SF_MOST_CALLERS + 1, 0, 0) == SF_BAD_NUMBER, "too many callers");
     check(!slot.live && slot.at == NULL, "refused sizes leave the slot");
-    check(sf_open(&slot, SF_MOST_KEYS, SF_MOST_KEY_BYTES, 1) == SF_DONE, "most keys");
+    check(sf_open(&slot, 1 << 20, 1, UINT64_MAX, UINT64_MAX) == SF_DONE, "many places");
     sf_close(&slot);
-    check(sf_open(&slot, 1, 0, SF_MOST_CALLERS) == SF_DONE, "most callers");
+    check(sf_open(&slot, 1, SF_MOST_CALLERS, 0, 0) == SF_DONE, "most callers");
     check(sf_ask(&slot, NULL, 0, 1) == SF_LEADS, "the empty key");
     sf_close(&slot);
 }
@@ -52,7 +56,10 @@ static void not_open(void) {
     check(sf_finish(&none, 1, &joiners) == SF_NOT_OPEN && joiners == 5, "finish not open");
     check(sf_go_on(&none, &joiners) == SF_NOT_OPEN && joiners == 5, "go on not open");
     check(sf_poll(&none, &value, &joiners) == SF_NOT_OPEN && value == 5 && joiners == 5, "poll not open");
+    uint64_t stamp[2] = {5, 5};
     check(sf_is_current(&none) == SF_NOT_OPEN, "is current not open");
+    check(sf_stamp(&none, stamp) == SF_NOT_OPEN && stamp[0] == 5 && stamp[1] == 5, "stamp not open");
+    check(sf_is_still(&none, stamp) == SF_NOT_OPEN, "is still not open");
     check(sf_joined(&none, &value) == SF_NOT_OPEN && value == 5, "joined not open");
     check(sf_call(&none, &joiners, &joiners) == SF_NOT_OPEN && joiners == 5, "call not open");
     check(sf_number(&none, &joiners) == SF_NOT_OPEN && joiners == 5, "number not open");
@@ -89,11 +96,9 @@ static void forgotten_by_name(void) {
     check(forget_call(&a, "k", 1, 1, 1) == SF_NOT_OPEN, "forget call not open");
     check(named(&a, "k", &caller, &generation) == SF_NOT_OPEN && caller == 7 && generation == 7, "named not open");
     check(sf_call(&a, &caller, &generation) == SF_NOT_OPEN && caller == 7 && generation == 7, "call not open");
-    check(sf_open(&a, 1, 4, 3) == SF_DONE && sf_split(&a, &b) == SF_DONE && sf_split(&a, &c) == SF_DONE, "open");
+    check(open_wide(&a, 3) == SF_DONE && sf_split(&a, &b) == SF_DONE && sf_split(&a, &c) == SF_DONE, "open");
     check(sf_call(&a, &caller, &generation) == SF_NOTHING_LEFT && caller == 7 && generation == 7, "no call yet");
     check(named(&a, "k", &caller, &generation) == SF_NONE_NAMED && caller == 7 && generation == 7, "no call is named");
-    check(named(&a, "long!", &caller, &generation) == SF_TOO_LONG && forget_call(&a, "long!", 1, 1, 1) == SF_TOO_LONG, "too long");
-    check(named(&a, "l", &caller, &generation) == SF_FULL && forget_call(&a, "l", 1, 1, 1) == SF_FULL, "full");
     check(forget_call(&a, "k", 1, 1, 0) == SF_BAD_NUMBER && forget_call(&a, "k", 1, 1, SF_MOST_TRIES + 1) == SF_BAD_NUMBER, "bad tries");
     check(ask(&a, "k", 1) == SF_LEADS && names_call_of(&b, "k", &a), "the key names the open call");
     check(forget_call(&a, "k", 1, 1, 1) == SF_WRONG_STATE && named(&a, "k", &caller, &generation) == SF_WRONG_STATE && caller == 7, "a leader");
@@ -115,14 +120,13 @@ static void one_call(void) {
     sf_slot a = SF_SLOT_NONE, b = SF_SLOT_NONE, c = SF_SLOT_NONE, d = SF_SLOT_NONE;
     uint64_t value = 7, count = 7;
     uint32_t joiners = 9;
-    check(sf_open(&a, 2, 4, 3) == SF_DONE, "open");
-    check(sf_open(&a, 2, 4, 3) == SF_WRONG_STATE, "open twice");
+    check(open_wide(&a, 3) == SF_DONE, "open");
+    check(open_wide(&a, 3) == SF_WRONG_STATE, "open twice");
     check(sf_split(&a, &b) == SF_DONE && sf_split(&a, &c) == SF_DONE, "split");
     check(sf_split(&a, &b) == SF_WRONG_STATE, "split onto an open slot");
     check(sf_split(&a, &d) == SF_NOTHING_LEFT && sf_split(&b, &d) == SF_NOTHING_LEFT, "no caller is left");
     check(ask(&a, "k", 0) == SF_BAD_NUMBER && ask(&a, "k", SF_MOST_TRIES + 1) == SF_BAD_NUMBER, "bad tries");
     check(forget(&a, "k", 0) == SF_BAD_NUMBER, "forget: bad tries");
-    check(ask(&a, "long!", 1) == SF_TOO_LONG && forget(&a, "long!", 1) == SF_TOO_LONG, "too long");
     check(sf_is_current(&a) == SF_NOTHING_LEFT && sf_joined(&a, &count) == SF_NOTHING_LEFT, "no letter yet");
     check(sf_finish(&a, 1, &joiners) == SF_WRONG_STATE && sf_poll(&a, &value, &joiners) == SF_WRONG_STATE, "a free caller");
     check(sf_go_on(&a, &joiners) == SF_WRONG_STATE && sf_give_up(&a) == SF_WRONG_STATE, "a free caller has nothing open");
@@ -146,7 +150,6 @@ static void one_call(void) {
     check(sf_poll(&c, &value, &joiners) == SF_DONE && value == UINT64_MAX && joiners == 2, "an old letter");
     check(ask(&c, "m", 1) == SF_LEADS && sf_give_up(&c) == SF_DONE, "give up");
     check(sf_give_up(&c) == SF_WRONG_STATE && ask(&c, "m", 1) == SF_WRONG_STATE, "gone");
-    check(ask(&a, "n", 1) == SF_FULL && forget(&a, "n", 1) == SF_FULL, "full");
     check(ask(&a, "m", 1) == SF_JOINED, "joins a call that was given up");
     sf_close(&c);
     sf_close(&c);
@@ -160,10 +163,9 @@ static void two_callers(void) {
     sf_slot a = SF_SLOT_NONE, b = SF_SLOT_NONE, c = SF_SLOT_NONE, none = SF_SLOT_NONE;
     uint64_t value = 7, count = 7;
     uint32_t joiners = 9;
-    check(sf_open(&a, 1, 4, 3) == SF_DONE && sf_split(&a, &b) == SF_DONE && sf_split(&a, &c) == SF_DONE, "open for two");
+    check(open_wide(&a, 3) == SF_DONE && sf_split(&a, &b) == SF_DONE && sf_split(&a, &c) == SF_DONE, "open for two");
     check(ask_chan(&a, &none, "k", 1) == SF_NOT_OPEN && ask_chan(&none, &a, "k", 1) == SF_NOT_OPEN, "one of the two is not open");
     check(ask_chan(&a, &b, "k", 0) == SF_BAD_NUMBER && ask_chan(&a, &b, "k", SF_MOST_TRIES + 1) == SF_BAD_NUMBER, "bad tries for two");
-    check(ask_chan(&a, &b, "long!", 1) == SF_TOO_LONG, "too long for two");
     check(ask_chan(&a, &b, "k", 1) == SF_LEADS, "the first leads");
     check(sf_poll(&b, &value, &joiners) == SF_NOT_YET && sf_poll(&a, &value, &joiners) == SF_WRONG_STATE, "the second waits");
     check(ask_chan(&a, &c, "k", 1) == SF_WRONG_STATE && ask_chan(&c, &a, "k", 1) == SF_WRONG_STATE, "one of the two leads");
@@ -178,7 +180,7 @@ static void two_callers(void) {
     check(sf_finish(&c, 12, &joiners) == SF_DONE && joiners == 1 && sf_finish(&a, 13, &joiners) == SF_DONE && joiners == 0, "finish both");
     check(sf_poll(&b, &value, &joiners) == SF_DONE && value == 12 && joiners == 1, "the letter of the call that it joined");
     check(sf_joined(&a, &count) == SF_DONE && count == 0, "a call that it led for itself later");
-    check(ask_chan(&a, &b, "m", 1) == SF_FULL && sf_is_current(&a) == SF_YES && sf_is_current(&b) == SF_NO, "full for two");
+    check(sf_is_current(&a) == SF_YES && sf_is_current(&b) == SF_NO, "the later one is current");
     sf_close(&a);
     sf_close(&b);
     sf_close(&c);
@@ -190,7 +192,7 @@ static void notes(void) {
     sf_note note = SF_NOTE_NONE, empty = SF_NOTE_NONE;
     uint64_t value = 7;
     uint32_t joiners = 9;
-    check(sf_open(&a, 2, 4, 2) == SF_DONE && sf_split(&a, &b) == SF_DONE, "open for notes");
+    check(open_wide(&a, 2) == SF_DONE && sf_split(&a, &b) == SF_DONE, "open for notes");
     check(sf_learn(&a, &empty) == SF_NOT_OPEN && !empty.live, "an empty note");
     check(sf_tell(&a, &note) == SF_DONE && note.live, "tell");
     check(sf_learn(&none, &note) == SF_NOT_OPEN && note.live, "learn with no slot");
@@ -211,26 +213,115 @@ static void notes(void) {
     check(!note.live && !empty.live && sf_learn(&b, &note) == SF_NOT_OPEN, "dropped");
 }
 
+/* Two keys at the one place: who joined the other key's call is told so, with that call's number alone. */
+static void others(void) {
+    sf_slot a = SF_SLOT_NONE, b = SF_SLOT_NONE, c = SF_SLOT_NONE;
+    uint64_t value = 7, count = 7, stamp[2] = {5, 5}, other[2] = {5, 5};
+    uint32_t joiners = 9, caller = 0, generation = 0;
+    check(sf_open(&a, 1, 3, 1, 2) == SF_DONE && sf_split(&a, &b) == SF_DONE && sf_split(&a, &c) == SF_DONE, "open for others");
+    check(ask(&a, "k", 1) == SF_LEADS && sf_finish(&a, 1, &joiners) == SF_DONE && sf_stamp(&a, stamp) == SF_DONE, "its own letter");
+    check(ask(&b, "m", 1) == SF_LEADS && ask(&a, "k", 1) == SF_JOINED && ask(&c, "m", 1) == SF_JOINED, "both join the other key's call");
+    check(sf_is_still(&b, stamp) == SF_WRONG_STATE || sf_is_still(&b, stamp) == SF_NO, "the other key's call is current");
+    joiners = 9;
+    check(sf_poll(&a, &value, &joiners) == SF_NOT_YET && value == 7 && joiners == 9, "not yet");
+    check(sf_finish(&b, 22, &joiners) == SF_DONE && joiners == 2 && sf_joined(&b, &count) == SF_DONE && count == 2, "two have its number");
+    joiners = 9;
+    check(sf_poll(&a, &value, &joiners) == SF_OTHER && value == 22 && joiners == 9, "another key's, and its number");
+    check(sf_poll(&a, &value, &joiners) == SF_WRONG_STATE, "it is free then");
+    check(sf_joined(&a, &count) == SF_DONE && count == 0, "its last letter is that of its own key");
+    check(sf_call(&a, &caller, &generation) == SF_DONE && sf_stamp(&a, other) == SF_DONE && memcmp(stamp, other, sizeof stamp) == 0, "and its call, and stamp");
+    check(sf_is_current(&a) == SF_NO, "another key's call followed it at the place");
+    check(sf_poll(&c, &value, &joiners) == SF_DONE && value == 22 && joiners == 2, "the letter of its key");
+    check(sf_ask_chan(&a, &b, (const uint8_t *)"k", 1, 1) == SF_LEADS && ask(&c, "km", 1) == SF_JOINED, "an own channel, and another key");
+    check(sf_finish(&a, 33, &joiners) == SF_DONE && joiners == 1, "settled");
+    check(sf_poll(&b, &value, &joiners) == SF_DONE && value == 33 && joiners == 1, "the own channel is of the key");
+    check(sf_poll(&c, &value, &joiners) == SF_OTHER && value == 33, "a key that begins like it is another");
+    check(ask(&c, "m", 1) == SF_LEADS && forget(&a, "k", 1) == SF_CLOSED, "a Forget of a key forgets its place");
+    check(ask_chan(&a, &b, "k", 1) == SF_LEADS && sf_finish(&c, 44, &joiners) == SF_DONE && sf_finish(&a, 55, &joiners) == SF_DONE, "who asks later leads");
+    check(sf_poll(&b, &value, &joiners) == SF_DONE && value == 55, "its letter");
+    check(ask(&a, "k", 1) == SF_LEADS && ask_chan(&b, &c, "m", 1) == SF_JOINED && sf_finish(&a, 66, &joiners) == SF_DONE, "joined for a second");
+    check(sf_poll(&c, &value, &joiners) == SF_OTHER && value == 66, "the second asked for the key");
+    sf_close(&a);
+    sf_close(&b);
+    sf_close(&c);
+}
+
+/* Keys of any length: each is told from one that differs in its last byte alone. */
+static void long_keys(void) {
+    static const size_t lengths[] = {0, 1, 8, 39, 40, 41, 249, 250, 251, 1000, 100000};
+    static uint8_t key[100000], near_by[100000];
+    for (size_t i = 0; i < sizeof lengths / sizeof *lengths; i++) {
+        sf_slot a = SF_SLOT_NONE, b = SF_SLOT_NONE, c = SF_SLOT_NONE;
+        uint64_t value = 7;
+        uint32_t joiners = 9;
+        size_t len = lengths[i];
+        for (size_t j = 0; j < len; j++) key[j] = near_by[j] = (uint8_t)(j * 7 + i);
+        size_t other = len == 0 ? 1 : len;
+        near_by[other - 1] ^= 1;
+        check(sf_open(&a, 1, 3, 3, 4) == SF_DONE && sf_split(&a, &b) == SF_DONE && sf_split(&a, &c) == SF_DONE, "open for long keys");
+        check(sf_ask(&a, key, len, 1) == SF_LEADS && sf_ask(&b, key, len, 1) == SF_JOINED && sf_ask(&c, near_by, other, 1) == SF_JOINED, "long keys");
+        memset(key, 0xee, len);
+        check(sf_finish(&a, i, &joiners) == SF_DONE && joiners == 2, "the slot kept the key");
+        check(sf_poll(&b, &value, &joiners) == SF_DONE && value == i, "the long key's letter");
+        check(sf_poll(&c, &value, &joiners) == SF_OTHER && value == i, "one byte makes another key");
+        sf_close(&a);
+        sf_close(&b);
+        sf_close(&c);
+    }
+}
+
+/* Stamps: whether a call is current still, from any slot, whatever the bits. */
+static void stamps(void) {
+    sf_slot a = SF_SLOT_NONE, b = SF_SLOT_NONE;
+    uint64_t value = 7, first[2] = {5, 5}, second[2], odd[2];
+    uint32_t joiners = 9;
+    check(open_wide(&a, 2) == SF_DONE && sf_split(&a, &b) == SF_DONE, "open for stamps");
+    check(sf_stamp(&a, first) == SF_NOTHING_LEFT && first[0] == 5 && first[1] == 5, "no letter yet");
+    check(sf_is_still(&a, first) == SF_NO, "bits that no letter had");
+    check(ask(&a, "k", 1) == SF_LEADS && sf_stamp(&a, first) == SF_WRONG_STATE && first[0] == 5, "a leader has no stamp");
+    check(ask(&b, "k", 1) == SF_JOINED && sf_stamp(&b, first) == SF_WRONG_STATE && first[0] == 5, "nor who waits");
+    check(sf_finish(&a, 1, &joiners) == SF_DONE && sf_stamp(&a, first) == SF_DONE && sf_is_still(&a, first) == SF_YES, "current");
+    check(sf_poll(&b, &value, &joiners) == SF_DONE && sf_stamp(&b, second) == SF_DONE && memcmp(first, second, sizeof first) == 0, "one call, one stamp");
+    check(sf_is_still(&b, first) == SF_YES, "from another slot");
+    for (int bit = 0; bit < 128; bit++) {
+        memcpy(odd, first, sizeof odd);
+        odd[bit / 64] ^= 1ull << bit % 64;
+        check(sf_is_still(&b, odd) == SF_NO, "each bit counts");
+    }
+    check(forget(&b, "k", 1) == SF_NONE_OPEN && sf_is_still(&a, first) == SF_NO, "a Forget ends it");
+    check(ask(&a, "k", 1) == SF_LEADS && sf_finish(&a, 2, &joiners) == SF_DONE && sf_stamp(&a, second) == SF_DONE, "the next one");
+    check(sf_is_still(&b, first) == SF_NO && sf_is_still(&b, second) == SF_YES, "is current, and the first is not");
+    check(ask(&a, "m", 1) == SF_LEADS && sf_finish(&a, 3, &joiners) == SF_DONE, "a call of another key");
+    check(sf_is_still(&b, second) == SF_YES, "leaves it current");
+    check(sf_is_still(&a, second) == SF_YES, "also for a slot whose last letter is another");
+    sf_close(&a);
+    check(sf_is_still(&b, second) == SF_YES, "and when the slot of the letter is closed");
+    sf_close(&b);
+}
+
 #ifndef ROUNDS
 #define ROUNDS 20000
 #endif
 
-enum { THREADS = 8, KEYS = 16 };
+enum { THREADS = 8, KEYS = 16, ASKINGS = 3, MOST_LOADS = THREADS * ROUNDS * ASKINGS };
 
 /* Each load has a number, which its value carries. Ticks order when an asking began, when a load's call was settled at the latest,
  * and when a Forget was over. */
-static atomic_ullong clock_now = 1, ticks = 1;
-static atomic_ullong gets, loads, joins, forgets;
+static atomic_ullong clock_now, ticks;
+static atomic_ullong gets, loads, joins, forgets, others_met, alone, still;
 static atomic_ullong forgotten_at[KEYS];
-static atomic_ullong settled_at[THREADS * ROUNDS + 1];
-/* Of each load: how many joined, as its leader was told; how many were told so who joined; and the sum of what they were told. */
-static atomic_ullong joined_of[THREADS * ROUNDS + 1], got_of[THREADS * ROUNDS + 1], told_of[THREADS * ROUNDS + 1];
+static atomic_ullong settled_at[MOST_LOADS + 1];
+/* Of each load: how many joined, as its leader was told; how many have its number who joined; how many of these asked for its key, and the sum of
+ * what those were told. */
+static atomic_ullong joined_of[MOST_LOADS + 1], got_of[MOST_LOADS + 1], own_of[MOST_LOADS + 1], told_of[MOST_LOADS + 1];
 
 struct job {
     sf_slot slot, second;
     sf_note note;
     unsigned seed;
-    unsigned long long old, closed, strange;
+    unsigned long long old, closed, strange, stale;
+    /* An answer that is kept for each key, with the number of its load. */
+    struct { uint64_t stamp[2]; unsigned long long load; bool has; } kept[KEYS];
 };
 
 static unsigned draw(unsigned *seed) {
@@ -255,14 +346,14 @@ static unsigned long long lead(struct job *job, unsigned number, bool with_secon
     return load;
 }
 
-static void get(struct job *job, unsigned number, const char *key) {
+/* Asks once: whether an answer of the key came. */
+static bool get_once(struct job *job, unsigned number, const char *key) {
     unsigned long long forgotten = atomic_load(&forgotten_at[number]), before = atomic_fetch_add(&ticks, 1), load = 0;
     bool with_second = draw(&job->seed) % 8 == 0;
     uint32_t joiners = 9;
     sf_slot *waits = with_second ? &job->second : &job->slot;
     uint64_t value = 0;
     uint32_t code;
-    atomic_fetch_add(&gets, 1);
     do {
         code = with_second ? ask_chan(&job->slot, &job->second, key, 64) : ask(&job->slot, key, 64);
     } while (code == SF_BUSY);
@@ -271,11 +362,17 @@ static void get(struct job *job, unsigned number, const char *key) {
     if (code == SF_JOINED || with_second) {
         bool joined = code == SF_JOINED;
         while ((code = sf_poll(waits, &value, &joiners)) == SF_NOT_YET) sched_yield();
-        if (code != SF_DONE || value % KEYS != number || (joined ? joiners == 0 : value / KEYS != load)) job->strange++;
         atomic_fetch_add(&joins, 1);
+        if (joined) atomic_fetch_add(&got_of[value / KEYS], 1);
+        if (code == SF_OTHER) {
+            if (!joined || value % KEYS == number || joiners != 9) job->strange++;
+            atomic_fetch_add(&others_met, 1);
+            return false;
+        }
+        if (code != SF_DONE || value % KEYS != number || (joined ? joiners == 0 : value / KEYS != load)) job->strange++;
         load = value / KEYS;
         if (joined) {
-            atomic_fetch_add(&got_of[load], 1);
+            atomic_fetch_add(&own_of[load], 1);
             atomic_fetch_add(&told_of[load], joiners);
         } else if (joiners != atomic_load(&joined_of[load])) job->strange++;
     }
@@ -283,6 +380,29 @@ static void get(struct job *job, unsigned number, const char *key) {
     unsigned long long settled = atomic_load(&settled_at[load]);
     if (settled != 0 && settled < before) job->closed++;
     if (load < forgotten) job->old++;
+    if (!with_second) {
+        if (sf_stamp(&job->slot, job->kept[number].stamp) != SF_DONE) job->strange++;
+        job->kept[number].load = load;
+        job->kept[number].has = true;
+    }
+    return true;
+}
+
+static void get(struct job *job, unsigned number, const char *key) {
+    atomic_fetch_add(&gets, 1);
+    if (job->kept[number].has && draw(&job->seed) % 2 == 0) {
+        unsigned long long forgotten = atomic_load(&forgotten_at[number]);
+        uint32_t code = sf_is_still(&job->slot, job->kept[number].stamp);
+        if (code != SF_YES && code != SF_NO) job->strange++;
+        if (code == SF_YES) {
+            atomic_fetch_add(&still, 1);
+            if (job->kept[number].load < forgotten) job->stale++;
+        }
+    }
+    for (int i = 0; i < ASKINGS; i++) {
+        if (get_once(job, number, key)) return;
+    }
+    atomic_fetch_add(&alone, 1);
 }
 
 static void *run(void *at) {
@@ -311,10 +431,20 @@ static void *run(void *at) {
     return NULL;
 }
 
-static void threads(void) {
+/* Nothing is left of an earlier run. */
+static void reset(void) {
+    clock_now = ticks = 1;
+    gets = loads = joins = forgets = others_met = alone = still = 0;
+    for (int i = 0; i < KEYS; i++) forgotten_at[i] = 0;
+    for (int i = 0; i <= MOST_LOADS; i++) settled_at[i] = joined_of[i] = got_of[i] = own_of[i] = told_of[i] = 0;
+}
+
+static void threads(uint32_t places) {
     static struct job jobs[THREADS];
     pthread_t ids[THREADS];
-    check(sf_open(&jobs[0].slot, KEYS, 8, 2 * THREADS) == SF_DONE, "open for threads");
+    reset();
+    memset(jobs, 0, sizeof jobs);
+    check(sf_open(&jobs[0].slot, places, 2 * THREADS, 5, 6) == SF_DONE, "open for threads");
     for (int i = 1; i < THREADS; i++) check(sf_split(&jobs[0].slot, &jobs[i].slot) == SF_DONE, "split for threads");
     for (int i = 0; i < THREADS; i++) {
         check(sf_split(&jobs[0].slot, &jobs[i].second) == SF_DONE, "split for seconds");
@@ -323,23 +453,27 @@ static void threads(void) {
         jobs[i].seed = 2463534242u + 97u * (unsigned)i;
         if (pthread_create(&ids[i], NULL, run, &jobs[i])) abort();
     }
-    unsigned long long old = 0, closed = 0, strange = 0;
+    unsigned long long old = 0, closed = 0, strange = 0, stale = 0;
     for (int i = 0; i < THREADS; i++) {
         pthread_join(ids[i], NULL);
         old += jobs[i].old;
         closed += jobs[i].closed;
         strange += jobs[i].strange;
+        stale += jobs[i].stale;
     }
     check(old == 0, "no answer from before a Forget that was over when it was asked");
     check(closed == 0, "no answer of a call that was settled before it was asked");
-    for (int i = 0; i <= THREADS * ROUNDS; i++) {
+    check(stale == 0, "no answer is current still from before a Forget that was over");
+    for (int i = 0; i <= MOST_LOADS; i++) {
         unsigned long long joined = atomic_load(&joined_of[i]);
-        if (atomic_load(&got_of[i]) != joined || atomic_load(&told_of[i]) != joined * joined) strange++;
+        if (atomic_load(&got_of[i]) != joined || atomic_load(&told_of[i]) != joined * atomic_load(&own_of[i])) strange++;
     }
     check(strange == 0, "codes, keys and numbers of threads");
     check(atomic_load(&joins) == 0, "each who joined has its letter, and leaders count them");
-    check(atomic_load(&loads) > 0 && atomic_load(&loads) < atomic_load(&gets), "threads load, and some join");
+    check(atomic_load(&loads) > 0 && atomic_load(&loads) + atomic_load(&alone) < atomic_load(&gets) + atomic_load(&others_met), "threads load, and some join");
     check(atomic_load(&forgets) > 0 && atomic_load(&loads) + 1 == atomic_load(&clock_now), "threads forget, and loads are counted");
+    check(places > 1 || atomic_load(&others_met) > 0, "keys of one place meet");
+    check(places == 1 || atomic_load(&still) > 0, "some answers are current still");
 }
 
 /* Which call: of a leader, of who joined, and of a last letter. */
@@ -347,7 +481,7 @@ static void calls(void) {
     sf_slot a = SF_SLOT_NONE, b = SF_SLOT_NONE;
     uint64_t value = 7;
     uint32_t joiners = 9, first = 0, second = 0, caller = 0, generation = 0;
-    check(sf_open(&a, 2, 4, 2) == SF_DONE && sf_split(&a, &b) == SF_DONE, "open for calls");
+    check(open_wide(&a, 2) == SF_DONE && sf_split(&a, &b) == SF_DONE, "open for calls");
     check(sf_number(&a, &first) == SF_DONE && sf_number(&b, &second) == SF_DONE && first + second == 3 && first * second == 2, "numbers");
     check(sf_call(&a, &caller, &generation) == SF_NOTHING_LEFT && caller == 0 && generation == 0, "no call yet");
     check(ask(&a, "k", 1) == SF_LEADS && sf_call(&a, &caller, &generation) == SF_DONE && caller == first && generation == 1, "the leader's");
@@ -369,7 +503,12 @@ int main(void) {
     two_callers();
     notes();
     calls();
-    threads();
+    others();
+    long_keys();
+    stamps();
+    threads(1);
+    threads(16);
+    threads(4096);
     printf("%d passed, %d failed\n", passed, failed);
     return failed != 0;
 }

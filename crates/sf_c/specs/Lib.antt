@@ -1,3 +1,4 @@
+pub mod Keys
 pub mod Owned
 pub mod Rows
 pub mod OneCall

@@ -8,7 +8,9 @@ use Rattle.sf_calls.specs.Forgets.{HasForgotCall, HasNamed}
 use Rattle.sf_c.specs.declared.part.Part.{Part}
 use Rattle.sf_c.specs.declared.part.Part.TheVariants.{Free, Leads, Waits, Owes, Gone}
 use Rattle.sf_c.specs.declared.codes.TheConstants.{DONE, OTHERWISE, CLEARED, WRONG_STATE}
-use Rattle.sf_c.specs.Rows.{Seat, IsOther, IsForgetBusy, IsFree, IsNotFree, AreTries, HasPlace, HasNoPlace, HasNotCalled}
+use Rattle.sf_keys.specs.Places.{place_of}
+use Rattle.sf_c.specs.Keys.{WordValue}
+use Rattle.sf_c.specs.Rows.{Seat, IsOther, IsForgetBusy, IsFree, IsNotFree, AreTries, HasNotCalled}
 
 -- the code of what a Forget of one call found
 abbrev pub code_of_hit : Hit → ℕ
@@ -17,7 +19,7 @@ code_of_hit hit.Cleared = CLEARED
 code_of_hit hit.Missed = OTHERWISE
 
 -- how a Forget of one call by a free caller ends: it found that, or all tries failed
-pub record HasHitCall (c : CallerValue ℕ) (k : ℕ) (x : CallId) (d : CallerValue ℕ) (code : ℕ) : Type 0 where
+pub record HasHitCall (c : CallerValue WordValue) (k : ℕ) (x : CallId) (d : CallerValue WordValue) (code : ℕ) : Type 0 where
   pub found : Hit
   pub code_is : code ≡ code_of_hit found
   pub row : HasForgotCall c k x found d
@@ -37,12 +39,10 @@ HasForgotCallPart Gone k x tries q code = IsOther Gone q code
 pub record HasForgotCallPlace (s : Seat) (key : List ℕ) (x : CallId) (tries : ℕ) (t : Seat) (code : ℕ) : Type 0 where
   pub tries_are : AreTries tries
   pub free : IsFree s.part
-  pub place : ℕ
-  pub resolved : HasPlace s.desk key t.desk place
-  pub row : HasForgotCallPart s.part place x tries t.part code
+  pub row : HasForgotCallPart s.part (place_of s.places key) x tries t.part code
 
 abbrev pub HasForgotCallKey : Seat → List ℕ → CallId → ℕ → Seat → ℕ → Type 0
-HasForgotCallKey s key x tries t code = HasForgotCallPlace s key x tries t code ⊎ HasNotCalled s key tries t code
+HasForgotCallKey s key x tries t code = HasForgotCallPlace s key x tries t code ⊎ HasNotCalled s tries t code
 
 -- what is written of a call that may be absent: its two numbers, before and after, and the code where there is none
 abbrev pub IsWritten : Option CallId → ℕ → CallId → CallId → ℕ → Type 0
@@ -50,7 +50,7 @@ IsWritten None none old new code = (code ≡ none) × (new ≡ old)
 IsWritten (Some x) none old new code = (code ≡ DONE) × (new ≡ x)
 
 -- how the question of a free caller ends which call a place names
-pub record HasNamedCall (c : CallerValue ℕ) (k : ℕ) (d : CallerValue ℕ) (old new : CallId) (code : ℕ) : Type 0 where
+pub record HasNamedCall (c : CallerValue WordValue) (k : ℕ) (d : CallerValue WordValue) (old new : CallId) (code : ℕ) : Type 0 where
   pub found : Option CallId
   pub written : IsWritten found OTHERWISE old new code
   pub row : HasNamed c k found d
@@ -66,17 +66,16 @@ HasNamedPart (Waits t) k q old new code = IsOther (Waits t) q code × (new ≡ o
 HasNamedPart (Owes s) k q old new code = IsOther (Owes s) q code × (new ≡ old)
 HasNamedPart Gone k q old new code = IsOther Gone q code × (new ≡ old)
 
--- by key; a caller that is not free names nothing, nor does one whose key has no place
+-- by key; a caller that is not free names nothing
 pub record HasNamedPlace (s : Seat) (key : List ℕ) (t : Seat) (old new : CallId) (code : ℕ) : Type 0 where
   pub free : IsFree s.part
-  pub place : ℕ
-  pub resolved : HasPlace s.desk key t.desk place
-  pub row : HasNamedPart s.part place t.part old new code
+  pub row : HasNamedPart s.part (place_of s.places key) t.part old new code
 
-pub record HasNamedNone (s : Seat) (key : List ℕ) (t : Seat) (old new : CallId) (code : ℕ) : Type 0 where
-  pub part : t.part ≡ s.part
-  pub why : (IsNotFree s.part × (t.desk ≡ s.desk) × (code ≡ WRONG_STATE)) ⊎ (IsFree s.part × HasNoPlace s.desk key t.desk code)
+pub record HasNamedNone (s t : Seat) (old new : CallId) (code : ℕ) : Type 0 where
+  pub code_is : code ≡ WRONG_STATE
+  pub not_free : IsNotFree s.part
+  pub same : t ≡ s
   pub unwritten : new ≡ old
 
 abbrev pub HasNamedKey : Seat → List ℕ → Seat → CallId → CallId → ℕ → Type 0
-HasNamedKey s key t old new code = HasNamedPlace s key t old new code ⊎ HasNamedNone s key t old new code
+HasNamedKey s key t old new code = HasNamedPlace s key t old new code ⊎ HasNamedNone s t old new code

@@ -8,7 +8,9 @@ use Rattle.std.specs.Box.Ownership.{box_owns}
 use Rattle.std.specs.Global.{Global}
 use Rattle.std_heap.specs.contracts.GlobalAllocator.TheImpl.{ghosts}
 use Rattle.std.specs.Prelude.{None}
+use Rattle.std.proofs.Math.Bridge.{le_by_compare}
 use Rattle.atomic_table.specs.Seated.{TableId}
+use Rattle.sf_keys.specs.declared.places.Places.{Places}
 use Rattle.sf_c.specs.declared.part.Part.TheVariants.{Gone}
 use Rattle.sf_c.specs.contracts.state.State.{the_row}
 use Rattle.sf_c.specs.contracts.note_state.NoteState as NoteState
@@ -26,6 +28,10 @@ state_coded = the_row.coded
 abbrev pub no_table : TableId
 no_table = record { words = 0; slots = 0; views_name = 0; atom = 0; block = 0; offset = 0; slot_names = [] }
 
+pub no_places : Places
+unfolding native.Mathlib.Bridge.IsLe
+no_places = record { count = 1; seed0 = 0; seed1 = 0; counted = (le_by_compare 1 1 tt, le_by_compare 1 134217728 tt) }
+
 -- what an empty handle is said to have held
 abbrev pub no_state : the_row.Denot
 no_state = record {
@@ -33,12 +39,9 @@ no_state = record {
     table = no_table;
     sizes = record { places = 0; callers = 0; first = 0 };
   };
-  desk = record {
-    directory = record { table = no_table; keys = 0; key_bytes = 0; desks = 0 };
-    number = 0;
-    seen = [];
-  };
+  places = no_places;
   part = Gone;
+  asked = [];
   last = None;
   own = false;
 }

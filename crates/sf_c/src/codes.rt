@@ -13,11 +13,8 @@ pub(crate) const SPENT: u32 = 2;
 /// All tries failed, each since another had changed a word.
 pub(crate) const BUSY: u32 = 3;
 
-/// The key is longer than the group's keys may be.
-pub(crate) const TOO_LONG: u32 = 4;
-
-/// Each place has another key.
-pub(crate) const FULL: u32 = 5;
+/// The letter is of another key.
+pub(crate) const OTHER: u32 = 4;
 
 /// A slot is not in a state for this call.
 pub(crate) const WRONG_STATE: u32 = 6;

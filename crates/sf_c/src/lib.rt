@@ -9,10 +9,11 @@
 
 ghost use Rattle.std.specs.Prelude.{◌≡◌, ◌≢◌, ◌↔◌, ◌<◌, ◌≤◌, ◌⊎◌, true, false};
 ghost use Rattle.sf_calls.specs.Notes.{HasGrown};
-ghost use Rattle.sf_c.specs.Rows.{AreSizes, HasOpened, IsNewSeat, HasAskedKey, HasAskedChanKey, HasForgotKey, HasFinishedPart, HasGoneOnPart, HasPolledPart, HasQuestionedPart, HasToldPart, HasNotTold, HasLearntPart, HasGivenUp, HasCounted, HasCalled, HasNumbered, MarksOwn, KeepsDesk, KeepsLetter, call_in};
+ghost use Rattle.sf_c.specs.Rows.{AreSizes, HasOpened, IsNewSeat, HasAskedKey, HasAskedChanKey, HasForgotKey, HasFinishedPart, HasGoneOnPart, HasPolledPart, HasQuestionedPart, HasToldPart, HasNotTold, HasLearntPart, HasGivenUp, HasCounted, HasCalled, HasNumbered, MarksOwn, HasGivenKey, KeepsGroup, KeepsLetter, KeepsKey, call_in};
 
 mod codes;
 mod handle;
+mod key;
 mod loose;
 mod note_handle;
 mod note_slot;
@@ -28,47 +29,42 @@ pub use handle::Handle;
 pub use note_handle::NoteHandle;
 pub use note_slot::NoteSlot;
 pub use one_call::{sf_forget_call, sf_named};
-use sf_dir::LONGEST_KEY;
-use sf_group::MOST_CALLERS;
-use sf_words::LARGEST_PLACE;
+use sf_group::{MOST_CALLERS, MOST_PLACES};
 pub use slot::Slot;
 use state::State;
 use std::alloc::Global;
 
 // Whether a group may be so large.
-fn are_sizes(keys: u32, key_bytes: u32, callers: u32) -> bool
-    ensures { result ≡ true ↔ AreSizes keys key_bytes callers }
+fn are_sizes(places: u32, callers: u32) -> bool
+    ensures { result ≡ true ↔ AreSizes places callers }
 {
-    1 <= keys
-        && keys <= LARGEST_PLACE
-        && key_bytes <= LONGEST_KEY
-        && 1 <= callers
-        && callers <= MOST_CALLERS
+    1 <= places && places <= MOST_PLACES && 1 <= callers && callers <= MOST_CALLERS
 }
 
-/// Opens a group for this many keys (1 to 1,048,576) of at most so many bytes (0 to 250) and this many callers (1 to
-/// 65,535), with its first caller in the slot.
+/// Opens a group for this many places (1 to 134,217,728) and callers (1 to 65,535), with its first caller in the slot. Keys
+/// have places by a hash under the two seeds.
 #[unsafe(no_mangle)]
 pub extern "C" fn sf_open(
     slot: &mut Slot,
     alloc: Global,
-    keys: u32,
-    key_bytes: u32,
+    places: u32,
     callers: u32,
+    seed0: u64,
+    seed1: u64,
 ) -> u32
-    ensures opened { result ≡ DONE → (slot.old.live ≡ false) × (slot.new.live ≡ true) × HasOpened keys key_bytes callers slot.new.handle.state }
+    ensures opened { result ≡ DONE → (slot.old.live ≡ false) × (slot.new.live ≡ true) × HasOpened places callers seed0 seed1 slot.new.handle.state }
     ensures refused { result ≢ DONE → slot.new ≡ slot.old }
-    ensures sizes { result ≢ BAD_NUMBER ↔ AreSizes keys key_bytes callers }
-    ensures twice { AreSizes keys key_bytes callers → (result ≡ WRONG_STATE ↔ slot.old.live ≡ true) }
+    ensures sizes { result ≢ BAD_NUMBER ↔ AreSizes places callers }
+    ensures twice { AreSizes places callers → (result ≡ WRONG_STATE ↔ slot.old.live ≡ true) }
     ensures codes { (result ≡ DONE) ⊎ (result ≡ BAD_NUMBER) ⊎ (result ≡ WRONG_STATE) ⊎ (result ≡ NOTHING_LEFT) }
 {
-    if !are_sizes(keys, key_bytes, callers) {
+    if !are_sizes(places, callers) {
         return BAD_NUMBER;
     }
     if slot.live {
         return WRONG_STATE;
     }
-    let Ok(state) = State::open(alloc, keys, key_bytes, callers) else {
+    let Ok(state) = State::open(alloc, places, callers, seed0, seed1) else {
         return NOTHING_LEFT;
     };
     let Ok(state) = Box::new(alloc, state) else {
@@ -84,7 +80,7 @@ pub extern "C" fn sf_split(slot: &mut Slot, alloc: Global, other: &mut Slot) -> 
     ensures kept { slot.new.live ≡ slot.old.live }
     ensures state { slot.old.live ≡ true → slot.new.handle.state ≡ slot.old.handle.state }
     ensures closed { result ≡ NOT_OPEN ↔ slot.old.live ≡ false }
-    ensures made { result ≡ DONE → (other.old.live ≡ false) × (other.new.live ≡ true) × IsNewSeat slot.old.handle.state.group slot.old.handle.state.desk.directory other.new.handle.state }
+    ensures made { result ≡ DONE → (other.old.live ≡ false) × (other.new.live ≡ true) × IsNewSeat slot.old.handle.state.group slot.old.handle.state.places other.new.handle.state }
     ensures refused { result ≢ DONE → other.new ≡ other.old }
     ensures twice { slot.old.live ≡ true → (result ≡ WRONG_STATE ↔ other.old.live ≡ true) }
 {
@@ -119,7 +115,7 @@ pub extern "C" fn sf_ask(slot: &mut Slot, alloc: Global, key: &[u8], tries: u32)
     let Some(mut state) = slot.take(alloc) else {
         return NOT_OPEN;
     };
-    let code = state.ask(key, tries);
+    let code = state.ask(alloc, key, tries);
     slot.put(state);
     code
 }
@@ -140,7 +136,7 @@ pub extern "C" fn sf_ask_chan(
     ensures unchanged { result ≡ NOT_OPEN → (slot.old.live ≡ true → slot.new.handle.state ≡ slot.old.handle.state) × (other.old.live ≡ true → other.new.handle.state ≡ other.old.handle.state) }
     ensures state { slot.old.live ≡ true → KeepsLetter slot.old.handle.state slot.new.handle.state }
     ensures own { slot.old.live ≡ true → other.old.live ≡ true → MarksOwn result true slot.old.handle.state.own slot.new.handle.state.own }
-    ensures other { other.old.live ≡ true → KeepsDesk other.old.handle.state other.new.handle.state × KeepsLetter other.old.handle.state other.new.handle.state × (other.new.handle.state.own ≡ other.old.handle.state.own) }
+    ensures other { other.old.live ≡ true → KeepsLetter other.old.handle.state other.new.handle.state × (other.new.handle.state.own ≡ other.old.handle.state.own) }
     ensures row { slot.old.live ≡ true → other.old.live ≡ true → HasAskedChanKey slot.old.handle.state other.old.handle.state key.now tries slot.new.handle.state other.new.handle.state result }
 {
     let Some(mut state) = slot.take(alloc) else {
@@ -150,7 +146,7 @@ pub extern "C" fn sf_ask_chan(
         slot.put(state);
         return NOT_OPEN;
     };
-    let code = state.ask_chan(&mut second, key, tries);
+    let code = state.ask_chan(alloc, &mut second, key, tries);
     slot.put(state);
     other.put(second);
     code
@@ -161,7 +157,7 @@ pub extern "C" fn sf_ask_chan(
 pub extern "C" fn sf_forget(slot: &mut Slot, alloc: Global, key: &[u8], tries: u32) -> u32
     ensures kept { slot.new.live ≡ slot.old.live }
     ensures closed { result ≡ NOT_OPEN ↔ slot.old.live ≡ false }
-    ensures state { slot.old.live ≡ true → KeepsLetter slot.old.handle.state slot.new.handle.state × (slot.new.handle.state.own ≡ slot.old.handle.state.own) }
+    ensures state { slot.old.live ≡ true → KeepsKey slot.old.handle.state slot.new.handle.state × KeepsLetter slot.old.handle.state slot.new.handle.state × (slot.new.handle.state.own ≡ slot.old.handle.state.own) }
     ensures row { slot.old.live ≡ true → HasForgotKey slot.old.handle.state key.now tries slot.new.handle.state result }
 {
     let Some(mut state) = slot.take(alloc) else {
@@ -178,8 +174,9 @@ pub extern "C" fn sf_finish(slot: &mut Slot, alloc: Global, value: u64, joiners:
     ensures kept { slot.new.live ≡ slot.old.live }
     ensures closed { result ≡ NOT_OPEN ↔ slot.old.live ≡ false }
     ensures unwritten { result ≡ NOT_OPEN → joiners.new ≡ joiners.old }
-    ensures state { slot.old.live ≡ true → KeepsDesk slot.old.handle.state slot.new.handle.state × (slot.new.handle.state.own ≡ slot.old.handle.state.own) }
-    ensures row { slot.old.live ≡ true → HasFinishedPart slot.old.handle.state.part value slot.new.handle.state.part result joiners.old joiners.new slot.old.handle.state.last slot.new.handle.state.last }
+    ensures state { slot.old.live ≡ true → KeepsGroup slot.old.handle.state slot.new.handle.state × (slot.new.handle.state.own ≡ slot.old.handle.state.own) }
+    ensures asked { slot.old.live ≡ true → HasGivenKey result slot.old.handle.state.asked slot.new.handle.state.asked }
+    ensures row { slot.old.live ≡ true → HasFinishedPart slot.old.handle.state.part value slot.old.handle.state.asked slot.new.handle.state.part result joiners.old joiners.new slot.old.handle.state.last slot.new.handle.state.last }
 {
     let Some(mut state) = slot.take(alloc) else {
         return NOT_OPEN;
@@ -195,7 +192,7 @@ pub extern "C" fn sf_go_on(slot: &mut Slot, alloc: Global, joiners: &mut u32) ->
     ensures kept { slot.new.live ≡ slot.old.live }
     ensures closed { result ≡ NOT_OPEN ↔ slot.old.live ≡ false }
     ensures unwritten { result ≡ NOT_OPEN → joiners.new ≡ joiners.old }
-    ensures state { slot.old.live ≡ true → KeepsDesk slot.old.handle.state slot.new.handle.state × (slot.new.handle.state.own ≡ slot.old.handle.state.own) }
+    ensures state { slot.old.live ≡ true → KeepsKey slot.old.handle.state slot.new.handle.state × (slot.new.handle.state.own ≡ slot.old.handle.state.own) }
     ensures row { slot.old.live ≡ true → HasGoneOnPart slot.old.handle.state.part slot.new.handle.state.part result joiners.old joiners.new slot.old.handle.state.last slot.new.handle.state.last }
 {
     let Some(mut state) = slot.take(alloc) else {
@@ -206,15 +203,15 @@ pub extern "C" fn sf_go_on(slot: &mut Slot, alloc: Global, joiners: &mut u32) ->
     code
 }
 
-/// Looks once for the letter that the slot's caller waits for.
+/// Looks once for the letter that the slot's caller waits for, and whether it is of the key that it asked for.
 #[unsafe(no_mangle)]
 pub extern "C" fn sf_poll(slot: &mut Slot, alloc: Global, value: &mut u64, joiners: &mut u32) -> u32
     ensures kept { slot.new.live ≡ slot.old.live }
     ensures closed { result ≡ NOT_OPEN ↔ slot.old.live ≡ false }
     ensures unwritten { result ≡ NOT_OPEN → (value.new ≡ value.old) × (joiners.new ≡ joiners.old) }
-    ensures state { slot.old.live ≡ true → KeepsDesk slot.old.handle.state slot.new.handle.state }
+    ensures state { slot.old.live ≡ true → KeepsKey slot.old.handle.state slot.new.handle.state }
     ensures own { slot.old.live ≡ true → MarksOwn result false slot.old.handle.state.own slot.new.handle.state.own }
-    ensures row { slot.old.live ≡ true → HasPolledPart slot.old.handle.state.part slot.new.handle.state.part result value.old value.new joiners.old joiners.new slot.old.handle.state.last slot.new.handle.state.last }
+    ensures row { slot.old.live ≡ true → HasPolledPart slot.old.handle.state.part slot.old.handle.state.asked slot.new.handle.state.part result value.old value.new joiners.old joiners.new slot.old.handle.state.last slot.new.handle.state.last }
 {
     let Some(mut state) = slot.take(alloc) else {
         return NOT_OPEN;
@@ -224,13 +221,13 @@ pub extern "C" fn sf_poll(slot: &mut Slot, alloc: Global, value: &mut u64, joine
     code
 }
 
-/// Whether the call of the letter that the slot had last, by a poll or by settling, is its key's current one still: no
+/// Whether the call of the letter that the slot had last, by a poll or by settling, is its place's current one still: no
 /// Forget has closed it, and no call has followed it.
 #[unsafe(no_mangle)]
 pub extern "C" fn sf_is_current(slot: &mut Slot, alloc: Global) -> u32
     ensures kept { slot.new.live ≡ slot.old.live }
     ensures closed { result ≡ NOT_OPEN ↔ slot.old.live ≡ false }
-    ensures state { slot.old.live ≡ true → KeepsDesk slot.old.handle.state slot.new.handle.state × (slot.new.handle.state.own ≡ slot.old.handle.state.own) }
+    ensures state { slot.old.live ≡ true → KeepsKey slot.old.handle.state slot.new.handle.state × (slot.new.handle.state.own ≡ slot.old.handle.state.own) }
     ensures row { slot.old.live ≡ true → HasQuestionedPart slot.old.handle.state.part slot.old.handle.state.last slot.new.handle.state.part slot.new.handle.state.last result }
 {
     let Some(mut state) = slot.take(alloc) else {
@@ -333,7 +330,7 @@ pub extern "C" fn sf_learn(slot: &mut Slot, alloc: Global, note: &mut NoteSlot) 
     requires group { slot.old.live ≡ true → note.old.live ≡ true → slot.old.handle.state.group ≡ note.old.handle.note.group }
     ensures kept { (slot.new.live ≡ slot.old.live) × (note.new.live ≡ note.old.live) }
     ensures closed { result ≡ NOT_OPEN ↔ ((slot.old.live ≡ false) ⊎ (note.old.live ≡ false)) }
-    ensures state { slot.old.live ≡ true → KeepsDesk slot.old.handle.state slot.new.handle.state × KeepsLetter slot.old.handle.state slot.new.handle.state × (slot.new.handle.state.own ≡ slot.old.handle.state.own) }
+    ensures state { slot.old.live ≡ true → KeepsKey slot.old.handle.state slot.new.handle.state × KeepsLetter slot.old.handle.state slot.new.handle.state × (slot.new.handle.state.own ≡ slot.old.handle.state.own) }
     ensures unchanged { result ≡ NOT_OPEN → slot.old.live ≡ true → slot.new.handle.state ≡ slot.old.handle.state }
     ensures note { note.old.live ≡ true → HasGrown note.old.handle.note note.new.handle.note }
     ensures row { slot.old.live ≡ true → note.old.live ≡ true → HasLearntPart slot.old.handle.state.part note.old.handle.note slot.new.handle.state.part result }
@@ -365,7 +362,7 @@ pub extern "C" fn sf_drop_note(note: &mut NoteSlot, alloc: Global)
 pub extern "C" fn sf_give_up(slot: &mut Slot, alloc: Global) -> u32
     ensures kept { slot.new.live ≡ slot.old.live }
     ensures closed { result ≡ NOT_OPEN ↔ slot.old.live ≡ false }
-    ensures state { slot.old.live ≡ true → KeepsDesk slot.old.handle.state slot.new.handle.state × KeepsLetter slot.old.handle.state slot.new.handle.state × (slot.new.handle.state.own ≡ slot.old.handle.state.own) }
+    ensures state { slot.old.live ≡ true → KeepsKey slot.old.handle.state slot.new.handle.state × KeepsLetter slot.old.handle.state slot.new.handle.state × (slot.new.handle.state.own ≡ slot.old.handle.state.own) }
     ensures row { slot.old.live ≡ true → HasGivenUp slot.old.handle.state.part slot.new.handle.state.part result }
 {
     let Some(mut state) = slot.take(alloc) else {

@@ -14,10 +14,11 @@ pub struct NoteState {
 }
 
 impl Model for NoteState {
-    ghost use Rattle.std.specs.Prelude.{◌≡◌, ℕ};
+    ghost use Rattle.std.specs.Prelude.{◌≡◌};
     ghost use Rattle.sf_calls.specs.Tokens.{NoteValue};
+    ghost use Rattle.sf_c.specs.Keys.{WordValue};
 
-    ghost Value = { NoteValue ℕ };
+    ghost Value = { NoteValue WordValue };
 
     ghost view = { λ s. s.note };
 

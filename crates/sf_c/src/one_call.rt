@@ -2,14 +2,14 @@
 ghost use Rattle.std.specs.Prelude.{◌≡◌, ◌≢◌, ◌↔◌, ◌≤◌, true, false};
 ghost use Rattle.sf_calls.specs.Same.{IsPlaceOf};
 ghost use Rattle.sf_c.specs.OneCall.{HasForgotCallPart, HasForgotCallKey, HasNamedPart, HasNamedKey};
-ghost use Rattle.sf_c.specs.Rows.{IsOf, KeepsLetter};
+ghost use Rattle.sf_c.specs.Rows.{IsOf, KeepsLetter, KeepsKey};
 
 use crate::codes::{
     BAD_NUMBER, BUSY, CLEARED, DONE, NOT_OPEN, NOTHING_LEFT, OTHERWISE, WRONG_STATE,
 };
 use crate::part::Part;
 use crate::slot::Slot;
-use crate::state::{State, place_of};
+use crate::state::State;
 use crate::word::Word;
 use sf_group::{CallId, Group, Hit, MOST_TRIES};
 use std::alloc::Global;
@@ -60,7 +60,7 @@ impl Part {
 impl State {
     // Forgets this call of the key.
     fn forget_call(&mut self, key: &[u8], call: CallId, tries: u32) -> u32
-        ensures kept { KeepsLetter self.old self.new × (self.new.own ≡ self.old.own) }
+        ensures kept { KeepsKey self.old self.new × KeepsLetter self.old self.new × (self.new.own ≡ self.old.own) }
         ensures row { HasForgotCallKey self.old key.now call tries self.new result }
         ensures open { result ≢ NOT_OPEN }
     {
@@ -70,26 +70,20 @@ impl State {
         if !self.part.is_free() {
             return WRONG_STATE;
         }
-        let place = match place_of(&self.directory, &mut self.desk, key) {
-            Ok(place) => place,
-            Err(code) => return code,
-        };
+        let place = self.places.of(key);
         self.part.forgets_call(&self.group, place, call, tries)
     }
 
     // Which call the key names.
     fn named(&mut self, key: &[u8], call: &mut CallId) -> u32
-        ensures kept { KeepsLetter self.old self.new × (self.new.own ≡ self.old.own) }
+        ensures kept { KeepsKey self.old self.new × KeepsLetter self.old self.new × (self.new.own ≡ self.old.own) }
         ensures row { HasNamedKey self.old key.now self.new call.old call.new result }
         ensures open { result ≢ NOT_OPEN }
     {
         if !self.part.is_free() {
             return WRONG_STATE;
         }
-        let place = match place_of(&self.directory, &mut self.desk, key) {
-            Ok(place) => place,
-            Err(code) => return code,
-        };
+        let place = self.places.of(key);
         self.part.names(&self.group, place, call)
     }
 }
@@ -106,7 +100,7 @@ pub extern "C" fn sf_forget_call(
 ) -> u32
     ensures kept { slot.new.live ≡ slot.old.live }
     ensures closed { result ≡ NOT_OPEN ↔ slot.old.live ≡ false }
-    ensures state { slot.old.live ≡ true → KeepsLetter slot.old.handle.state slot.new.handle.state × (slot.new.handle.state.own ≡ slot.old.handle.state.own) }
+    ensures state { slot.old.live ≡ true → KeepsKey slot.old.handle.state slot.new.handle.state × KeepsLetter slot.old.handle.state slot.new.handle.state × (slot.new.handle.state.own ≡ slot.old.handle.state.own) }
     ensures row { slot.old.live ≡ true → HasForgotCallKey slot.old.handle.state key.now (record { caller = caller; generation = generation }) tries slot.new.handle.state result }
 {
     let Some(mut state) = slot.take(alloc) else {
@@ -129,7 +123,7 @@ pub extern "C" fn sf_named(
     ensures kept { slot.new.live ≡ slot.old.live }
     ensures closed { result ≡ NOT_OPEN ↔ slot.old.live ≡ false }
     ensures unwritten { result ≡ NOT_OPEN → (caller.new ≡ caller.old) × (generation.new ≡ generation.old) }
-    ensures state { slot.old.live ≡ true → KeepsLetter slot.old.handle.state slot.new.handle.state × (slot.new.handle.state.own ≡ slot.old.handle.state.own) }
+    ensures state { slot.old.live ≡ true → KeepsKey slot.old.handle.state slot.new.handle.state × KeepsLetter slot.old.handle.state slot.new.handle.state × (slot.new.handle.state.own ≡ slot.old.handle.state.own) }
     ensures row { slot.old.live ≡ true → HasNamedKey slot.old.handle.state key.now slot.new.handle.state (record { caller = caller.old; generation = generation.old }) (record { caller = caller.new; generation = generation.new }) result }
 {
     let Some(mut state) = slot.take(alloc) else {

@@ -3,16 +3,19 @@
 ghost use Rattle.std.specs.Prelude.{◌≡◌, ◌≢◌, ◌≤◌, IsTrue, IsFalse, IfSome, IfNone};
 ghost use Rattle.sf_calls.specs.Same.{IsPlaceOf};
 ghost use Rattle.sf_calls.specs.Notes.{HasGrown};
-ghost use Rattle.sf_c.specs.Rows.{IsOf, IsLetterOf, HasAsked, HasAskedBoth, HasAskedChan, HasFinishedPart, HasGoneOnPart, HasPolledPart, HasForgotPart, HasGivenUp, HasQuestionedPart, HasToldPart, HasLearntPart, HasNumbered, IsFree, IsNotFree, call_in};
+ghost use Rattle.sf_c.specs.Rows.{IsOf, HasGivenKey, IsLetterOf, HasAsked, HasAskedBoth, HasAskedChan, HasFinishedPart, HasGoneOnPart, HasPolledPart, HasForgotPart, HasGivenUp, HasQuestionedPart, HasToldPart, HasLearntPart, HasNumbered, IsFree, IsNotFree, call_in};
 ghost use Rattle.sf_c.specs.declared.part.Part.TheVariants.{Free};
 
-use crate::codes::{BUSY, DONE, NOT_OPEN, NOTHING_LEFT, OTHERWISE, SPENT, WRONG_STATE};
+use crate::codes::{BUSY, DONE, NOT_OPEN, NOTHING_LEFT, OTHER, OTHERWISE, SPENT, WRONG_STATE};
+use crate::key::Key;
 use crate::word::Word;
 use sf_group::{
     Begun, Caller, ChanBegun, Finished, Flight, Forgotten, Group, Letter, MOST_TRIES, NotBegun,
     Note, Polled, Settled, Ticket,
 };
 use sf_history::CallId;
+use sf_keys::OfKey;
+use std::mem::replace;
 
 /// What a slot's caller does. `Gone` is one that gave up what it had open.
 pub(crate) enum Part {
@@ -128,11 +131,13 @@ impl Part {
         }
     }
 
-    /// Settles the call that it leads: done where all letters are handed out, otherwise some are owed still.
+    /// Settles the call that it leads with a value of the key: done where all letters are handed out, otherwise some are
+    /// owed still.
     pub(crate) fn finished(
         self,
         group: &Group<Word>,
         value: u64,
+        key: &mut Key,
         joiners: &mut u32,
         last: &mut Option<Letter<Word>>,
     ) -> (Part, u32)
@@ -140,18 +145,22 @@ impl Part {
         requires last { IsLetterOf group.now last.old }
         ensures own { IsOf group.now result.0 }
         ensures last { IsLetterOf group.now last.new }
-        ensures row { HasFinishedPart self value result.0 result.1 joiners.old joiners.new last.old last.new }
+        ensures key { HasGivenKey result.1 key.old key.new }
+        ensures row { HasFinishedPart self value key.old result.0 result.1 joiners.old joiners.new last.old last.new }
         ensures open { result.1 ≢ NOT_OPEN }
     {
         match self {
-            Part::Leads(flight) => match group.finish_unrested(flight, Word::new(value)) {
-                Finished::Done(caller, letter) => {
-                    *joiners = letter.joiners();
-                    *last = Some(letter);
-                    (Part::Free(caller), DONE)
+            Part::Leads(flight) => {
+                let word = Word::new(value, replace(key, Key::empty()));
+                match group.finish_unrested(flight, word) {
+                    Finished::Done(caller, letter) => {
+                        *joiners = letter.joiners();
+                        *last = Some(letter);
+                        (Part::Free(caller), DONE)
+                    }
+                    Finished::Held(settled) => (Part::Owes(settled), OTHERWISE),
                 }
-                Finished::Held(settled) => (Part::Owes(settled), OTHERWISE),
-            },
+            }
             Part::Free(caller) => (Part::Free(caller), WRONG_STATE),
             Part::Waits(ticket) => (Part::Waits(ticket), WRONG_STATE),
             Part::Owes(settled) => (Part::Owes(settled), WRONG_STATE),
@@ -189,10 +198,12 @@ impl Part {
         }
     }
 
-    /// Looks for the letter that it waits for: done where it is there, otherwise it is not there yet.
+    /// Looks for the letter that it waits for: done where it is there and of the key, other where it is another key's,
+    /// otherwise it is not there yet.
     pub(crate) fn polled(
         self,
         group: &Group<Word>,
+        key: &Key,
         value: &mut u64,
         joiners: &mut u32,
         last: &mut Option<Letter<Word>>,
@@ -201,13 +212,16 @@ impl Part {
         requires last { IsLetterOf group.now last.old }
         ensures own { IsOf group.now result.0 }
         ensures last { IsLetterOf group.now last.new }
-        ensures row { HasPolledPart self result.0 result.1 value.old value.new joiners.old joiners.new last.old last.new }
+        ensures row { HasPolledPart self key.now result.0 result.1 value.old value.new joiners.old joiners.new last.old last.new }
         ensures open { result.1 ≢ NOT_OPEN }
     {
         match self {
             Part::Waits(ticket) => match group.poll(ticket) {
                 Polled::Ready(caller, letter) => {
                     *value = letter.value().number();
+                    if letter.value().key() != key.as_slice() {
+                        return (Part::Free(caller), OTHER);
+                    }
                     *joiners = letter.joiners();
                     *last = Some(letter);
                     (Part::Free(caller), DONE)

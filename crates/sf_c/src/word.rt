@@ -1,32 +1,37 @@
-//! The values that calls are settled with: numbers that the program in C gives, which nothing here follows.
+//! The values that calls are settled with: numbers that the program in C gives, which nothing here follows, with the key
+//! that each is of.
 ghost use Rattle.std.specs.Prelude.{◌≡◌};
+ghost use Rattle.sf_c.specs.Keys.{word};
 
+use crate::key::Key;
 use sf_group::{Fit, Memory, Share};
+use sf_keys::OfKey;
 use std::marker::Model;
 
-/// A number that a call is settled with. Each member of the call gets the same.
+/// A number that a call of a key is settled with. Each member of the call gets the same.
 #[derive(Drop)]
 pub struct Word {
     number: u64,
+    key: Key,
 }
 
 impl Model for Word {
-    ghost use Rattle.std.specs.Prelude.{ℕ};
+    ghost use Rattle.sf_c.specs.Keys.{WordValue, word};
 
-    ghost Value = { ℕ };
+    ghost Value = { WordValue };
 
-    ghost view = { λ w. w.number };
+    ghost view = { λ w. word w.number w.key };
 }
 
 impl Word {
-    pub(crate) fn new(number: u64) -> Self
-        ensures { result ≡ number }
+    pub(crate) fn new(number: u64, key: Key) -> Self
+        ensures { result ≡ word number key }
     {
-        Word { number }
+        Word { number, key }
     }
 
     pub(crate) fn number(&self) -> u64
-        ensures { result ≡ self.now }
+        ensures { result ≡ self.now.number }
     {
         self.number
     }
@@ -34,10 +39,18 @@ impl Word {
 
 impl Share for Word {
     fn share(&mut self) -> Result<Self, Memory> {
-        Ok(Word::new(self.number))
+        Ok(Word::new(self.number, self.key.again()?))
     }
 }
 
 impl Fit for Word {
     ghost lasts = { λ _ _ _ _ _ f. f };
+}
+
+impl OfKey for Word {
+    ghost key_of = { λ word. word.key };
+
+    fn key(&self) -> &[u8] {
+        self.key.as_slice()
+    }
 }

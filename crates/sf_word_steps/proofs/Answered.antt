@@ -1,5 +1,5 @@
 -- a call's answer is that of its one Settle
-use Rattle.std.proofs.Common.{◌≡◌, ℕ, inl, inr, ◌⊎◌, Bool, true, false, cond, ◌||◌, ◌&&◌, ◌==◌, List, [], ◌∷◌, ◌++◌, refl, sym, ap, ◌∙◌, subst, append_assoc, Option, Some, None}
+use Rattle.std.proofs.Common.{◌≡◌, ℕ, inl, inr, ◌⊎◌, Bool, true, false, cond, ◌||◌, ◌&&◌, ◌==◌, List, [], ◌∷◌, ◌++◌, refl, sym, ap, ◌∙◌, subst, Option, Some, None}
 use Rattle.std.specs.Prelude.{nat_eq, find, option_and_then, option_map}
 use Rattle.std.specs.Option.{option_or}
 use Rattle.std.specs.List.{list_any}
@@ -8,7 +8,7 @@ use Rattle.sf_history.specs.declared.call.CallId.{CallId}
 use Rattle.sf_history.specs.declared.event.Event.{Event}
 use Rattle.sf_history.specs.declared.event.Event.TheVariants.{Lead, Enter, Forget, ForgetCall, Settle, Handed}
 use Rattle.sf_history.specs.Calls.{same_call}
-use Rattle.sf_history.specs.History.{holds_call, has_closed, names, opens, open_call, enters, joined, leads, was_led, settles, is_settled, result_in, result_of, answer_of, maker, own_events}
+use Rattle.sf_history.specs.History.{holds_call, has_closed, names, opens, open_call, enters, joined, leads, was_led, settles, is_settled, result_in, result_of, answer_of}
 use Rattle.sf_history.specs.Legal.{IsLegal, MayFollow}
 use Rattle.sf_lists.proofs.Lists.{by_push, list_any_push_cases, list_any_push_none}
 use Rattle.sf_history.proofs.LegalHistories.{same_call_is, other_call, legal_front, legal_last, fold_push, settled_named}

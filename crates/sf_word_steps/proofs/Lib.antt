@@ -22,3 +22,4 @@ pub mod Answered
 pub mod CountSteps
 pub mod CollectSteps
 pub mod QuestionSteps
+pub mod StillSteps

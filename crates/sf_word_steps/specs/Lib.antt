@@ -12,3 +12,4 @@ pub mod Hears
 pub mod Delivers
 pub mod Collects
 pub mod Questions
+pub mod StillCurrents

@@ -27,6 +27,7 @@ mod resting;
 mod rule;
 mod settling;
 mod steps;
+mod still_current;
 mod view;
 
 pub use actor::Actor;
@@ -43,4 +44,5 @@ pub use questioning::{ask_current, ask_named};
 pub use resting::{Resting, Unrested, Wakes};
 pub use rule::{Deals, Law, Tells, WordSeat, Words};
 pub use steps::{exchange_turns, load_turns, store_turns};
+pub use still_current::is_still_current;
 pub use view::{Claim, View};
