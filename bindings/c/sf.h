@@ -124,8 +124,9 @@ uint32_t sf_is_current(sf_slot *slot);
  * no letter yet; SF_WRONG_STATE where the caller is not free; SF_NOT_OPEN. But for SF_DONE nothing is written. */
 uint32_t sf_stamp(sf_slot *slot, uint64_t stamp[2]);
 
-/* Whether the call of a stamp of the slot's group is its place's current one, as sf_is_current, whichever slot had its letter. A yes is right whatever
- * the stamp holds: that call was current at a moment within this call. SF_YES, SF_NO; SF_WRONG_STATE where the slot's caller is not free; SF_NOT_OPEN. */
+/* Whether the call of a stamp of the slot's group is its place's current one still, whichever slot had its letter; the slot's caller may be free, lead, wait
+ * or owe letters. A yes is right whatever the stamp holds: that call was current at a moment after all that the caller had seen. A no may come of
+ * another key of the place. SF_YES, SF_NO; SF_WRONG_STATE where the caller gave up what it had open; SF_NOT_OPEN. */
 uint32_t sf_is_still(sf_slot *slot, const uint64_t stamp[2]);
 
 /* Of the letter that the slot had last, by sf_finish, sf_go_on or an sf_poll that was SF_DONE: how many joined its call, and one more where this slot

@@ -221,7 +221,7 @@ static void others(void) {
     check(sf_open(&a, 1, 3, 1, 2) == SF_DONE && sf_split(&a, &b) == SF_DONE && sf_split(&a, &c) == SF_DONE, "open for others");
     check(ask(&a, "k", 1) == SF_LEADS && sf_finish(&a, 1, &joiners) == SF_DONE && sf_stamp(&a, stamp) == SF_DONE, "its own letter");
     check(ask(&b, "m", 1) == SF_LEADS && ask(&a, "k", 1) == SF_JOINED && ask(&c, "m", 1) == SF_JOINED, "both join the other key's call");
-    check(sf_is_still(&b, stamp) == SF_WRONG_STATE || sf_is_still(&b, stamp) == SF_NO, "the other key's call is current");
+    check(sf_is_still(&b, stamp) == SF_NO, "the other key's call is current");
     joiners = 9;
     check(sf_poll(&a, &value, &joiners) == SF_NOT_YET && value == 7 && joiners == 9, "not yet");
     check(sf_finish(&b, 22, &joiners) == SF_DONE && joiners == 2 && sf_joined(&b, &count) == SF_DONE && count == 2, "two have its number");
@@ -293,10 +293,15 @@ static void stamps(void) {
     check(sf_is_still(&b, first) == SF_NO && sf_is_still(&b, second) == SF_YES, "is current, and the first is not");
     check(ask(&a, "m", 1) == SF_LEADS && sf_finish(&a, 3, &joiners) == SF_DONE, "a call of another key");
     check(sf_is_still(&b, second) == SF_YES, "leaves it current");
+    check(ask(&a, "m", 1) == SF_LEADS && sf_is_still(&a, second) == SF_YES && sf_is_still(&a, first) == SF_NO, "a leader asks");
+    check(ask(&b, "m", 1) == SF_JOINED && sf_is_still(&b, second) == SF_YES && sf_is_still(&b, first) == SF_NO, "who waits asks");
+    check(sf_finish(&a, 4, &joiners) == SF_DONE && sf_poll(&b, &value, &joiners) == SF_DONE && value == 4, "and goes on");
+    check(ask(&b, "n", 1) == SF_LEADS && sf_give_up(&b) == SF_DONE && sf_is_still(&b, second) == SF_WRONG_STATE && sf_is_still(&b, odd) == SF_WRONG_STATE, "not who gave up");
+    sf_close(&b);
+    check(sf_stamp(&b, first) == SF_NOT_OPEN, "closed");
+    check(sf_is_still(&a, second) == SF_YES, "the other goes on");
     check(sf_is_still(&a, second) == SF_YES, "also for a slot whose last letter is another");
     sf_close(&a);
-    check(sf_is_still(&b, second) == SF_YES, "and when the slot of the letter is closed");
-    sf_close(&b);
 }
 
 #ifndef ROUNDS

@@ -21,6 +21,7 @@ mod note_state;
 mod one_call;
 mod part;
 mod slot;
+mod stamps;
 mod state;
 mod word;
 
@@ -31,6 +32,7 @@ pub use note_slot::NoteSlot;
 pub use one_call::{sf_forget_call, sf_named};
 use sf_group::{MOST_CALLERS, MOST_PLACES};
 pub use slot::Slot;
+pub use stamps::{Stamp, sf_is_still, sf_stamp};
 use state::State;
 use std::alloc::Global;
 

@@ -23,3 +23,9 @@ module _ {V : Type 0} where
     pub lent : HasLent l m
     pub right : IsTrue yes → WasCurrent l.place l.call c.seen l.seen d.seen
     pub outdated : IsFalse yes → current_call nat_eq d.seen l.place ≢ Some l.call
+
+  -- How the question ends whether a call, whichever it is, is the place's current one: a yes was right at a moment after all that
+  -- had been seen, and a no is right at the end.
+  pub record IsStillSaid (k : ℕ) (c : CallId) (yes : Bool) (seen new : List (Event ℕ V)) : Type 0 where
+    pub right : IsTrue yes → WasCurrent k c seen seen new
+    pub outdated : IsFalse yes → current_call nat_eq new k ≢ Some c

@@ -7,3 +7,4 @@ pub mod Deliveries
 pub mod ChanRows
 pub mod LedCalls
 pub mod QuestionRows
+pub mod StillRows

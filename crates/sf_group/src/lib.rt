@@ -25,6 +25,7 @@
 //! | `rest` | `&Ticket` | nothing; it alone may wait |
 //! | `finish_unrested`, `go_on_unrested` | as `finish` and `go_on` | the same, and wake nobody who rests |
 //! | `is_current` | `&mut Caller` and `&mut Letter` | whether the letter's call is its place's current one |
+//! | `is_still_current` | any of the tokens, a place and a call | whether that call is the place's current one |
 //! | `named` | `&mut Caller` | the call that the place names, to forget that alone |
 //!
 //! `finish` answers `Done` where nobody is owed a letter, or all letters could be copied, and `Held` where memory for a

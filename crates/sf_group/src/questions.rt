@@ -1,15 +1,19 @@
-//! The questions whether a letter's call is its place's current one, and which call a place names.
+//! The questions whether a letter's call, or a call of any numbers, is its place's current one, and which call a place names.
 ghost use Rattle.std.specs.Prelude.{◌≡◌};
-ghost use Rattle.sf_calls.specs.Same.{IsPlaceOf};
-ghost use Rattle.sf_calls.specs.Currents.{HasQuestioned};
+ghost use Rattle.sf_calls.specs.Same.{IsPlaceOf, HasNothing, IsSameFlight, IsStillTicket};
+ghost use Rattle.sf_calls.specs.Currents.{HasQuestioned, IsStillSaid};
+ghost use Rattle.sf_calls.specs.Finishes.{IsHeldStill};
 ghost use Rattle.sf_calls.specs.Forgets.{HasNamed};
 
 use crate::caller::Caller;
+use crate::flight::Flight;
 use crate::group::Group;
 use crate::letter::Letter;
+use crate::settled::Settled;
+use crate::ticket::Ticket;
 use sf_calls::Fit;
 use sf_history::CallId;
-use sf_word_steps::{Actor, ask_current, ask_named};
+use sf_word_steps::{Actor, ask_current, ask_named, is_still_current};
 
 impl<V: Fit> Group<V> {
     /// Whether the letter's call is its place's current one. The caller learns what the letter's note shows first, so a yes
@@ -42,5 +46,76 @@ impl<V: Fit> Group<V> {
             place,
         };
         ask_named(&self.table.shared, &mut caller.seat, actor)
+    }
+    /// Whether the call of these numbers, whichever they are, is the place's current one. A yes was right at a moment after all
+    /// that the caller had seen, whether it knew of the call or not; a no is right at the end. It loads two words at most,
+    /// tries nothing again and takes no memory.
+    pub fn is_still_current(&self, caller: &mut Caller<V>, place: u32, call: CallId) -> bool
+        requires own { caller.old.group ≡ self.now }
+        requires place { IsPlaceOf self.now place }
+        ensures nothing { HasNothing caller.old caller.new }
+        ensures said { IsStillSaid place call result caller.old.seen caller.new.seen }
+    {
+        is_still_current(
+            &self.table.shared,
+            &mut caller.seat,
+            self.sizes,
+            place,
+            call,
+        )
+    }
+}
+
+impl<V: Fit> Flight<V> {
+    /// The same question of a leader.
+    pub fn is_still_current(&mut self, group: &Group<V>, place: u32, call: CallId) -> bool
+        requires own { self.old.group ≡ group.now }
+        requires place { IsPlaceOf group.now place }
+        ensures same { IsSameFlight self.old self.new }
+        ensures said { IsStillSaid place call result self.old.seen self.new.seen }
+    {
+        is_still_current(
+            &group.table.shared,
+            &mut self.seat,
+            group.sizes,
+            place,
+            call,
+        )
+    }
+}
+
+impl<V: Fit> Ticket<V> {
+    /// The same question of one who waits.
+    pub fn is_still_current(&mut self, group: &Group<V>, place: u32, call: CallId) -> bool
+        requires own { self.old.group ≡ group.now }
+        requires place { IsPlaceOf group.now place }
+        ensures same { IsStillTicket self.old self.new }
+        ensures said { IsStillSaid place call result self.old.seen self.new.seen }
+    {
+        is_still_current(
+            &group.table.shared,
+            &mut self.seat,
+            group.sizes,
+            place,
+            call,
+        )
+    }
+}
+
+impl<V: Fit> Settled<V> {
+    /// The same question of one who owes letters.
+    pub fn is_still_current(&mut self, group: &Group<V>, place: u32, call: CallId) -> bool
+        requires own { self.old.group ≡ group.now }
+        requires place { IsPlaceOf group.now place }
+        ensures same { IsHeldStill self.old self.new }
+        ensures said { IsStillSaid place call result self.old.seen self.new.seen }
+    {
+        is_still_current(
+            &group.table.shared,
+            &mut self.seat,
+            group.sizes,
+            place,
+            call,
+        )
     }
 }

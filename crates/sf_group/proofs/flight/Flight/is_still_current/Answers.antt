@@ -1,0 +1,51 @@
+use Rattle.std.proofs.Common.{◌≡◌, ◌∙◌, [], sym, ap, subst}
+use Rattle.sf_schedules.specs.declared.operation.Stage.TheVariants as stage
+use Rattle.sf_calls.specs.Tokens.{GroupValue, FlightValue}
+use Rattle.sf_calls.specs.Same.{IsSameFlight}
+use Rattle.sf_calls.specs.Currents.{IsStillSaid}
+use Rattle.sf_word_steps.specs.View.{sizes_of, history_of}
+use Rattle.sf_group.specs.Known.{flight_of}
+use Rattle.sf_group.proofs.NoteRows.{follows_still}
+use Rattle.sf_group.proofs.LedCalls.{placed_later}
+use Rattle.sf_group.proofs.Deliveries.{sits_now, next_now}
+use Rattle.sf_group.proofs.StillRows.{still_said, leading_stays, same_flight}
+use Rattle.sf_group.proofs.flight.Flight.is_still_current.Goals as goal
+
+pub invariant_of-self : goal.invariant_of-self
+invariant_of-self g c =
+    let f = c.self.inside in
+    let was = c.self.invariant in
+    let v = f.seat.me.0 in
+    let w = c.is_still_current.new.seat.me.0 in
+    let p = stage.Leading f.place f.call.generation f.own in
+    let same : sizes_of v ≡ c.group.inside.sizes = ap (λ (x : FlightValue _). x.group.sizes) c.self.view_is ∙ ap (λ (x : GroupValue). x.sizes) (c.requires.own ∙ sym c.group.view_is) in
+    let goes = leading_stays c.group.inside.sizes f.number f.place f.call.generation f.own v w same c.is_still_current.ensures.stays was.0 in (
+      sits_now f.number 0 v w p [] goes,
+      was.1,
+      next_now f.number f.next v w p [] was.2 goes,
+      c.is_still_current.ensures.own.1 ∙ was.3,
+      placed_later f.number 0 f.place v w p [] was.4 goes,
+      was.5,
+      follows_still f.seat.table_id c.is_still_current.new.seat.table_id f.number f.place 0 f.call f.own f.after v w p [] goes was.6,
+    )
+
+pub returns-clause-same : goal.returns-clause-same
+returns-clause-same g c =
+    let f = c.self.inside in
+    let v = f.seat.me.0 in
+    let w = c.is_still_current.new.seat.me.0 in
+    let t = c.is_still_current.new.seat.table_id in
+    let same : sizes_of v ≡ c.group.inside.sizes = ap (λ (x : FlightValue _). x.group.sizes) c.self.view_is ∙ ap (λ (x : GroupValue). x.sizes) (c.requires.own ∙ sym c.group.view_is) in
+    let goes = leading_stays c.group.inside.sizes f.number f.place f.call.generation f.own v w same c.is_still_current.ensures.stays c.self.invariant.0 in
+    subst (λ (x : FlightValue _). IsSameFlight x (flight_of t w f.number f.place f.call f.own)) c.self.view_is
+    (same_flight f.seat.table_id t f.number f.call.generation f.place f.call f.own v w c.is_still_current.ensures.own.0 goes)
+
+pub returns-clause-said : goal.returns-clause-said
+returns-clause-said g c =
+    let f = c.self.inside in
+    let v = f.seat.me.0 in
+    let w = c.is_still_current.new.seat.me.0 in
+    let same : sizes_of v ≡ c.group.inside.sizes = ap (λ (x : FlightValue _). x.group.sizes) c.self.view_is ∙ ap (λ (x : GroupValue). x.sizes) (c.requires.own ∙ sym c.group.view_is) in
+    let goes = leading_stays c.group.inside.sizes f.number f.place f.call.generation f.own v w same c.is_still_current.ensures.stays c.self.invariant.0 in
+    subst (λ (x : FlightValue _). IsStillSaid c.args.place c.args.call c.is_still_current.result x.seen (history_of (sizes_of w) w.known.turns)) c.self.view_is
+    (still_said c.group.inside.sizes f.number c.args.place c.args.call (stage.Leading f.place f.call.generation f.own) c.is_still_current.result v w same goes.sits c.is_still_current.ensures.right c.is_still_current.ensures.outdated)

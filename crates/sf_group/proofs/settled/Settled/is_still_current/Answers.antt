@@ -1,0 +1,55 @@
+use Rattle.std.proofs.Common.{◌≡◌, ◌∙◌, [], sym, ap, subst}
+use Rattle.sf_history.specs.declared.event.Event.TheVariants as event
+use Rattle.sf_schedules.specs.Turns.{at_members}
+use Rattle.sf_calls.specs.Tokens.{GroupValue, SettledValue}
+use Rattle.sf_calls.specs.Finishes.{IsHeldStill}
+use Rattle.sf_calls.specs.Currents.{IsStillSaid}
+use Rattle.sf_word_steps.specs.View.{sizes_of, history_of}
+use Rattle.sf_group.specs.Known.{settled_of}
+use Rattle.sf_group.proofs.Finishes.{fits_later}
+use Rattle.sf_group.proofs.LedCalls.{placed_later}
+use Rattle.sf_group.proofs.Deliveries.{stands_later, still_row, sits_now, next_now}
+use Rattle.sf_group.proofs.StillRows.{still_said, owing_stays}
+use Rattle.sf_group.proofs.settled.Settled.is_still_current.Goals as goal
+
+pub invariant_of-self : goal.invariant_of-self
+invariant_of-self g c =
+    let s = c.self.inside in
+    let was = c.self.invariant in
+    let v = s.seat.me.0 in
+    let w = c.is_still_current.new.seat.me.0 in
+    let p = at_members s.place s.call.generation s.own s.value s.joiners s.top in
+    let same : sizes_of v ≡ c.group.inside.sizes = ap (λ (x : SettledValue _). x.group.sizes) c.self.view_is ∙ ap (λ (x : GroupValue). x.sizes) (c.requires.own ∙ sym c.group.view_is) in
+    let goes = owing_stays c.group.inside.sizes s.number s.place s.call.generation s.own s.value s.joiners s.top v w same c.is_still_current.ensures.stays was.0 in (
+      sits_now s.number 0 v w p [] goes,
+      was.1,
+      next_now s.number s.next v w p [] was.2 goes,
+      c.is_still_current.ensures.own.1 ∙ was.3,
+      was.4,
+      fits_later g.V.Fit.fits g.V.Fit.lasts s.seat.table_id s.number 0 s.place s.call s.value v w p [] was.5 goes,
+      stands_later s.seat.table_id s.number 0 (event.Settle s.call.caller s.call s.value s.joiners) v w p [] was.6 goes,
+      placed_later s.number 0 s.place v w p [] was.7 goes,
+    )
+
+pub returns-clause-same : goal.returns-clause-same
+returns-clause-same g c =
+    let s = c.self.inside in
+    let v = s.seat.me.0 in
+    let w = c.is_still_current.new.seat.me.0 in
+    let t = c.is_still_current.new.seat.table_id in
+    let p = at_members s.place s.call.generation s.own s.value s.joiners s.top in
+    let same : sizes_of v ≡ c.group.inside.sizes = ap (λ (x : SettledValue _). x.group.sizes) c.self.view_is ∙ ap (λ (x : GroupValue). x.sizes) (c.requires.own ∙ sym c.group.view_is) in
+    let goes = owing_stays c.group.inside.sizes s.number s.place s.call.generation s.own s.value s.joiners s.top v w same c.is_still_current.ensures.stays c.self.invariant.0 in
+    subst (λ (x : SettledValue _). IsHeldStill x (settled_of t w s.number s.place s.call s.value s.joiners)) c.self.view_is
+    (still_row s.seat.table_id t s.number s.place s.call s.value s.joiners v w p c.is_still_current.ensures.own.0 goes)
+
+pub returns-clause-said : goal.returns-clause-said
+returns-clause-said g c =
+    let s = c.self.inside in
+    let v = s.seat.me.0 in
+    let w = c.is_still_current.new.seat.me.0 in
+    let p = at_members s.place s.call.generation s.own s.value s.joiners s.top in
+    let same : sizes_of v ≡ c.group.inside.sizes = ap (λ (x : SettledValue _). x.group.sizes) c.self.view_is ∙ ap (λ (x : GroupValue). x.sizes) (c.requires.own ∙ sym c.group.view_is) in
+    let goes = owing_stays c.group.inside.sizes s.number s.place s.call.generation s.own s.value s.joiners s.top v w same c.is_still_current.ensures.stays c.self.invariant.0 in
+    subst (λ (x : SettledValue _). IsStillSaid c.args.place c.args.call c.is_still_current.result x.seen (history_of (sizes_of w) w.known.turns)) c.self.view_is
+    (still_said c.group.inside.sizes s.number c.args.place c.args.call p c.is_still_current.result v w same goes.sits c.is_still_current.ensures.right c.is_still_current.ensures.outdated)
