@@ -9,7 +9,7 @@
  *
  * Your duties, which nothing here can look at:
  * - a slot or note is all zeros, or as the last call left it; it is never used after it was copied elsewhere;
- * - two slots that are given to one call are different ones, and in sf_ask_chan of one group; so are the slot and the note in sf_learn;
+ * - two slots that are given to one call are different ones, and in sf_ask_chan and sf_take_back of one group; so are the slot and the note in sf_learn;
  * - `key` has `len` bytes (it may be null where len is 0), and outputs are yours to write, and overlap nothing else;
  * - no call is made from a signal handler, or from the forked child of a process with threads;
  * - malloc, realloc and free come from one allocator, and align blocks as the C standard asks.
@@ -68,9 +68,15 @@ enum { SF_LEADS = 0, SF_JOINED = 1, SF_NOT_YET = 1, SF_NONE_OPEN = 1, SF_OWES = 
  * SF_DONE; SF_BAD_NUMBER; SF_WRONG_STATE where the slot is open already; SF_NOTHING_LEFT. */
 uint32_t sf_open(sf_slot *slot, uint32_t places, uint32_t callers, uint64_t seed0, uint64_t seed1);
 
-/* Puts another caller of the slot's group into `other`, for another thread. Only the slot of sf_open has callers to split off.
- * SF_DONE; SF_NOT_OPEN; SF_WRONG_STATE where `other` is open already; SF_NOTHING_LEFT. */
+/* Puts another caller of the slot's group into `other`, for another thread. Only the slot of sf_open has callers to split off, and a slot
+ * that took some back. SF_DONE; SF_NOT_OPEN; SF_WRONG_STATE where `other` is open already; SF_NOTHING_LEFT, where nothing is changed. */
 uint32_t sf_split(sf_slot *slot, sf_slot *other);
+
+/* Closes `other`, whose caller is free and of the slot's group, and keeps that caller in the slot: sf_split deals it again, and it goes on with its
+ * next generation. A caller that waits is taken back when its letter has come. The two slots are used by this thread, as in sf_split: a
+ * program whose threads come and go has its lock around both calls. SF_DONE; SF_WRONG_STATE where `other`'s caller is not free, or `other` has callers to split off; SF_NOTHING_LEFT where there is no
+ * memory to keep it, which the slot of sf_open has for all; SF_NOT_OPEN where one of the two is not open. But for SF_DONE nothing is changed. */
+uint32_t sf_take_back(sf_slot *slot, sf_slot *other);
 
 /* A free caller asks for the key, in 1 to SF_MOST_TRIES tries. SF_LEADS: it leads the key's new call, has to load, and then calls
  * sf_finish. SF_JOINED: it waits for the letter of the call that is open at the key's place, and calls sf_poll until that is there.
@@ -161,8 +167,8 @@ void sf_drop_note(sf_note *note);
  * sooner settle with a value that says so. The slot can only be closed then, or split. SF_DONE; SF_WRONG_STATE; SF_NOT_OPEN. */
 uint32_t sf_give_up(sf_slot *slot);
 
-/* Closes the slot, whatever it is doing (see sf_give_up), and does nothing to one that is not open. A group is freed with the last
- * of its slots and notes. */
+/* Closes the slot, whatever it is doing (see sf_give_up), and does nothing to one that is not open. Its caller, and those that it has to split
+ * off, do not come back (see sf_take_back). A group is freed with the last of its slots and notes. */
 void sf_close(sf_slot *slot);
 
 #ifdef __cplusplus

@@ -68,6 +68,7 @@ static void not_open(void) {
     check(ask_chan(&none, &other, "k", 1) == SF_NOT_OPEN, "ask with a second not open");
     check(sf_give_up(&none) == SF_NOT_OPEN, "give up not open");
     check(sf_split(&none, &other) == SF_NOT_OPEN && !other.live, "split not open");
+    check(sf_take_back(&none, &other) == SF_NOT_OPEN, "take back not open");
     sf_close(&none);
     sf_close(&none);
     check(!none.live, "close not open");
@@ -304,6 +305,33 @@ static void stamps(void) {
     sf_close(&a);
 }
 
+/* Callers that come back are dealt again, and go on with their generations. */
+static void taken_back(void) {
+    sf_slot a = SF_SLOT_NONE, b = SF_SLOT_NONE, c = SF_SLOT_NONE, none = SF_SLOT_NONE;
+    uint64_t value = 7, stamp[2];
+    uint32_t joiners = 9, number = 0, again = 0, caller = 0, generation = 0;
+    check(open_wide(&a, 3) == SF_DONE && sf_split(&a, &b) == SF_DONE && sf_number(&b, &number) == SF_DONE, "open to take back");
+    check(sf_take_back(&a, &none) == SF_NOT_OPEN && sf_take_back(&none, &a) == SF_NOT_OPEN && a.live, "one of the two is not open");
+    check(sf_take_back(&b, &a) == SF_WRONG_STATE && a.live, "not a slot with callers to split off");
+    check(ask(&b, "k", 1) == SF_LEADS && sf_take_back(&a, &b) == SF_WRONG_STATE && b.live, "not a leader");
+    check(ask(&a, "k", 1) == SF_JOINED && sf_finish(&b, 1, &joiners) == SF_DONE && sf_stamp(&b, stamp) == SF_DONE, "it settles");
+    check(sf_take_back(&a, &b) == SF_DONE && !b.live && b.at == NULL, "taken back by one who waits");
+    check(sf_poll(&a, &value, &joiners) == SF_DONE && value == 1 && sf_is_still(&a, stamp) == SF_YES, "whose letter is there");
+    check(sf_split(&a, &b) == SF_DONE && sf_number(&b, &again) == SF_DONE && again == number, "it is dealt again");
+    check(sf_is_current(&b) == SF_NOTHING_LEFT && sf_call(&b, &caller, &generation) == SF_NOTHING_LEFT, "without its letter");
+    check(ask(&b, "k", 1) == SF_LEADS && sf_call(&b, &caller, &generation) == SF_DONE && caller == number && generation == 2, "with its next generation");
+    check(sf_finish(&b, 2, &joiners) == SF_DONE && sf_split(&a, &c) == SF_DONE && sf_split(&a, &none) == SF_NOTHING_LEFT, "all are dealt");
+    check(ask(&c, "m", 1) == SF_LEADS && sf_give_up(&c) == SF_DONE && sf_take_back(&a, &c) == SF_WRONG_STATE, "not one who gave up");
+    sf_close(&c);
+    for (uint32_t i = 0; i < 1000; i++) {
+        check(sf_take_back(&a, &b) == SF_DONE && sf_split(&a, &b) == SF_DONE && ask(&b, "k", 1) == SF_LEADS && sf_finish(&b, i, &joiners) == SF_DONE, "again and again");
+    }
+    check(sf_split(&b, &c) == SF_NOTHING_LEFT && sf_take_back(&b, &a) == SF_DONE && !a.live, "also into another slot");
+    check(sf_split(&b, &a) == SF_DONE, "which deals it");
+    sf_close(&a);
+    sf_close(&b);
+}
+
 #ifndef ROUNDS
 #define ROUNDS 20000
 #endif
@@ -511,6 +539,7 @@ int main(void) {
     others();
     long_keys();
     stamps();
+    taken_back();
     threads(1);
     threads(16);
     threads(4096);

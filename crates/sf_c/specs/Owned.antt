@@ -44,6 +44,7 @@ no_state = record {
   asked = [];
   last = None;
   own = false;
+  callers = [];
 }
 
 abbrev pub HeldNote : Type 0

@@ -1,5 +1,5 @@
 -- How calls change what a slot holds, and which code each ending has.
-use Rattle.std.specs.Prelude.{◌≡◌, ◌≢◌, ◌⊎◌, ◌+◌, ℕ, Bool, false, cond, List, [], Option, Some, None, ◌<◌, ◌≤◌}
+use Rattle.std.specs.Prelude.{◌≡◌, ◌≢◌, ◌⊎◌, ◌+◌, ℕ, Bool, false, cond, List, [], ◌∷◌, ◌++◌, All, Option, Some, None, ◌<◌, ◌≤◌}
 use Rattle.sf_calls.specs.Tokens.{GroupValue, CallerValue, FlightValue, TicketValue, LetterValue, NoteValue}
 use Rattle.sf_calls.specs.Fitting.{FitOf}
 use Rattle.sf_calls.specs.Begins.{HasLed, HasJoined, IsRefusedSpent, HasLedChan, HasJoinedChan, AreRefusedSpent}
@@ -21,7 +21,8 @@ use Rattle.sf_c.specs.declared.part.Part.TheVariants.{Free, Leads, Waits, Owes, 
 use Rattle.sf_c.specs.declared.codes.TheConstants.{DONE, OTHERWISE, SPENT, BUSY, OTHER, WRONG_STATE, BAD_NUMBER, NOTHING_LEFT}
 
 -- what clauses see of a slot: its group, the places of keys, what its caller does, the key that it asked for where it leads or
--- waits, the letter of such a key that it had last, and whether the call that it leads, or settled last, has an own channel
+-- waits, the letter of such a key that it had last, whether the call that it leads, or settled last, has an own channel, and the
+-- callers that it has for other slots
 pub record Seat : Type 0 where
   pub group : GroupValue
   pub places : Places
@@ -29,6 +30,7 @@ pub record Seat : Type 0 where
   pub asked : List ℕ
   pub last : Option (LetterValue WordValue)
   pub own : Bool
+  pub callers : List (CallerValue WordValue)
 
 -- the part is that group's
 abbrev pub IsOf : GroupValue → Part → Type 0
@@ -220,26 +222,6 @@ HasGivenUp (Owes s) q code = (code ≡ DONE) × (q ≡ Gone)
 HasGivenUp (Free c) q code = IsOther (Free c) q code
 HasGivenUp Gone q code = IsOther Gone q code
 
--- a slot of this group, by these places, whose caller is new
-pub record IsNewSeat (g : GroupValue) (p : Places) (s : Seat) : Type 0 where
-  pub group : s.group ≡ g
-  pub places : s.places ≡ p
-  pub caller : CallerValue WordValue
-  pub part : s.part ≡ Free caller
-  pub is_new : IsNewCaller g caller
-  pub asked : s.asked ≡ []
-  pub last : s.last ≡ None
-  pub own : s.own ≡ false
-
--- the first slot of a new group
-pub record HasOpened (places callers seed0 seed1 : ℕ) (s : Seat) : Type 0 where
-  pub places_are : s.group.sizes.places ≡ places
-  pub callers_are : s.group.sizes.callers ≡ callers
-  pub count : s.places.count ≡ places
-  pub seed0_is : s.places.seed0 ≡ seed0
-  pub seed1_is : s.places.seed1 ≡ seed1
-  pub seat : IsNewSeat s.group s.places s
-
 -- the caller is free, or it is not
 abbrev pub IsFree : Part → Type 0
 IsFree (Free c) = Unit {0}
@@ -254,6 +236,54 @@ IsNotFree (Leads f) = Unit {0}
 IsNotFree (Waits t) = Unit {0}
 IsNotFree (Owes s) = Unit {0}
 IsNotFree Gone = Unit {0}
+
+-- a slot of this group, by these places, with this caller, which has had no letter here; and with these callers for other slots
+pub record IsSeatOf (g : GroupValue) (p : Places) (c : CallerValue WordValue) (more : List (CallerValue WordValue)) (s : Seat) : Type 0 where
+  pub group : s.group ≡ g
+  pub places : s.places ≡ p
+  pub part : s.part ≡ Free c
+  pub asked : s.asked ≡ []
+  pub last : s.last ≡ None
+  pub own : s.own ≡ false
+  pub callers : s.callers ≡ more
+
+-- the first slot of a new group, all of whose callers are new
+pub record HasOpened (places callers seed0 seed1 : ℕ) (s : Seat) : Type 0 where
+  pub places_are : s.group.sizes.places ≡ places
+  pub callers_are : s.group.sizes.callers ≡ callers
+  pub count : s.places.count ≡ places
+  pub seed0_is : s.places.seed0 ≡ seed0
+  pub seed1_is : s.places.seed1 ≡ seed1
+  pub caller : CallerValue WordValue
+  pub seat : IsSeatOf s.group s.places caller s.callers s
+  pub is_new : IsNewCaller s.group caller
+  pub others : All (IsNewCaller s.group) s.callers
+
+-- the slot with these callers for other slots
+abbrev pub with_callers : Seat → List (CallerValue WordValue) → Seat
+with_callers s more = record { group = s.group; places = s.places; part = s.part; asked = s.asked; last = s.last; own = s.own; callers = more }
+
+-- the last of the callers for other slots got one
+pub record HasSplit (s t o : Seat) : Type 0 where
+  pub caller : CallerValue WordValue
+  pub callers : s.callers ≡ t.callers ++ caller ∷ []
+  pub rest : t ≡ with_callers s t.callers
+  pub seat : IsSeatOf s.group s.places caller [] o
+
+-- a free caller came back from its slot, which had no other; or it did not, and the two are as they were
+pub record IsTakenBack (s u t : Seat) (code : ℕ) : Type 0 where
+  pub code_is : code ≡ DONE
+  pub caller : CallerValue WordValue
+  pub free : u.part ≡ Free caller
+  pub none : u.callers ≡ []
+  pub rest : t ≡ with_callers s (s.callers ++ caller ∷ [])
+
+pub record IsNotTaken (s u t : Seat) (code : ℕ) : Type 0 where
+  pub why : ((code ≡ WRONG_STATE) × (IsNotFree u.part ⊎ (u.callers ≢ []))) ⊎ ((code ≡ NOTHING_LEFT) × IsFree u.part × (u.callers ≡ []))
+  pub same : t ≡ s
+
+abbrev pub HasTakenBack : Seat → Seat → Seat → ℕ → Type 0
+HasTakenBack s u t code = IsTakenBack s u t code ⊎ IsNotTaken s u t code
 
 -- so many tries may be made
 pub record AreTries (tries : ℕ) : Type 0 where
@@ -338,19 +368,22 @@ pub record HasForgotPlace (s : Seat) (key : List ℕ) (tries : ℕ) (t : Seat) (
 abbrev pub HasForgotKey : Seat → List ℕ → ℕ → Seat → ℕ → Type 0
 HasForgotKey s key tries t code = HasForgotPlace s key tries t code ⊎ HasNotCalled s tries t code
 
--- the group and the places are as they were, and so is the letter it had last; or the key that it asked for
+-- the group, the places and the callers for other slots are as they were, and so is the letter it had last; or the key that it asked for
 pub record KeepsGroup (s t : Seat) : Type 0 where
   pub group : t.group ≡ s.group
   pub places : t.places ≡ s.places
+  pub callers : t.callers ≡ s.callers
 
 pub record KeepsLetter (s t : Seat) : Type 0 where
   pub group : t.group ≡ s.group
   pub places : t.places ≡ s.places
+  pub callers : t.callers ≡ s.callers
   pub last : t.last ≡ s.last
 
 pub record KeepsKey (s t : Seat) : Type 0 where
   pub group : t.group ≡ s.group
   pub places : t.places ≡ s.places
+  pub callers : t.callers ≡ s.callers
   pub asked : t.asked ≡ s.asked
 
 -- where the call is done the seat's mark of an own channel is this one then, and else as it was

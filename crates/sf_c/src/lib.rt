@@ -3,13 +3,13 @@
 //!
 //! A slot holds a state on the heap behind one pointer, or nothing. Each export takes the state out, makes its call, and puts
 //! it back; a slot that is not open is answered by its code. What a call did is a row of `specs/Rows`, between what the
-//! slot held before and after. No row asks anything of the program but those of `sf_ask_chan` and
+//! slot held before and after. No row asks anything of the program but those of `sf_ask_chan`, `sf_take_back` and
 //! `sf_learn`, whose two slots, or slot and note, have to be of one group.
 #![tactic(auto)]
 
 ghost use Rattle.std.specs.Prelude.{◌≡◌, ◌≢◌, ◌↔◌, ◌<◌, ◌≤◌, ◌⊎◌, true, false};
 ghost use Rattle.sf_calls.specs.Notes.{HasGrown};
-ghost use Rattle.sf_c.specs.Rows.{AreSizes, HasOpened, IsNewSeat, HasAskedKey, HasAskedChanKey, HasForgotKey, HasFinishedPart, HasGoneOnPart, HasPolledPart, HasQuestionedPart, HasToldPart, HasNotTold, HasLearntPart, HasGivenUp, HasCounted, HasCalled, HasNumbered, MarksOwn, HasGivenKey, KeepsGroup, KeepsLetter, KeepsKey, call_in};
+ghost use Rattle.sf_c.specs.Rows.{AreSizes, HasOpened, HasSplit, HasTakenBack, HasAskedKey, HasAskedChanKey, HasForgotKey, HasFinishedPart, HasGoneOnPart, HasPolledPart, HasQuestionedPart, HasToldPart, HasNotTold, HasLearntPart, HasGivenUp, HasCounted, HasCalled, HasNumbered, MarksOwn, HasGivenKey, KeepsGroup, KeepsLetter, KeepsKey, call_in};
 
 mod codes;
 mod handle;
@@ -80,10 +80,9 @@ pub extern "C" fn sf_open(
 #[unsafe(no_mangle)]
 pub extern "C" fn sf_split(slot: &mut Slot, alloc: Global, other: &mut Slot) -> u32
     ensures kept { slot.new.live ≡ slot.old.live }
-    ensures state { slot.old.live ≡ true → slot.new.handle.state ≡ slot.old.handle.state }
     ensures closed { result ≡ NOT_OPEN ↔ slot.old.live ≡ false }
-    ensures made { result ≡ DONE → (other.old.live ≡ false) × (other.new.live ≡ true) × IsNewSeat slot.old.handle.state.group slot.old.handle.state.places other.new.handle.state }
-    ensures refused { result ≢ DONE → other.new ≡ other.old }
+    ensures made { result ≡ DONE → (other.old.live ≡ false) × (other.new.live ≡ true) × HasSplit slot.old.handle.state slot.new.handle.state other.new.handle.state }
+    ensures refused { result ≢ DONE → (other.new ≡ other.old) × (slot.old.live ≡ true → slot.new.handle.state ≡ slot.old.handle.state) }
     ensures twice { slot.old.live ≡ true → (result ≡ WRONG_STATE ↔ other.old.live ≡ true) }
 {
     let Some(mut state) = slot.take(alloc) else {
@@ -98,11 +97,36 @@ pub extern "C" fn sf_split(slot: &mut Slot, alloc: Global, other: &mut Slot) -> 
     let Some(made) = made else {
         return NOTHING_LEFT;
     };
-    let Ok(made) = Box::new(alloc, made) else {
-        return NOTHING_LEFT;
-    };
     other.put(made);
     DONE
+}
+
+/// Closes the other slot, and keeps its caller, which is free, for a further one. The slots have to be of one group.
+#[unsafe(no_mangle)]
+pub extern "C" fn sf_take_back(slot: &mut Slot, alloc: Global, other: &mut Slot) -> u32
+    requires group { slot.old.live ≡ true → other.old.live ≡ true → slot.old.handle.state.group ≡ other.old.handle.state.group }
+    ensures kept { slot.new.live ≡ slot.old.live }
+    ensures closed { result ≡ NOT_OPEN ↔ ((slot.old.live ≡ false) ⊎ (other.old.live ≡ false)) }
+    ensures taken { result ≡ DONE → other.new.live ≡ false }
+    ensures refused { result ≢ DONE → (other.new.live ≡ other.old.live) × (other.old.live ≡ true → other.new.handle.state ≡ other.old.handle.state) }
+    ensures unchanged { result ≡ NOT_OPEN → slot.old.live ≡ true → slot.new.handle.state ≡ slot.old.handle.state }
+    ensures row { slot.old.live ≡ true → other.old.live ≡ true → HasTakenBack slot.old.handle.state other.old.handle.state slot.new.handle.state result }
+{
+    let Some(mut state) = slot.take(alloc) else {
+        return NOT_OPEN;
+    };
+    let Some(mut second) = other.take(alloc) else {
+        slot.put(state);
+        return NOT_OPEN;
+    };
+    let code = state.take_back(&mut second);
+    slot.put(state);
+    if code == DONE {
+        drop(second);
+    } else {
+        other.put(second);
+    }
+    code
 }
 
 /// The slot's caller asks for the key: it leads a new call, or it waits for the letter of the open one.

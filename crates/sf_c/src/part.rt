@@ -1,6 +1,6 @@
 //! What the caller of a slot does, and how the group's calls change it. Each call takes the part and gives the next one
 //! with a code; a part that is not one for the call comes back as it was.
-ghost use Rattle.std.specs.Prelude.{◌≡◌, ◌≢◌, ◌≤◌, IsTrue, IsFalse, IfSome, IfNone};
+ghost use Rattle.std.specs.Prelude.{◌≡◌, ◌≢◌, ◌≤◌, IsTrue, IsFalse, IfOk, IfErr, IfSome, IfNone};
 ghost use Rattle.sf_calls.specs.Same.{IsPlaceOf};
 ghost use Rattle.sf_calls.specs.Notes.{HasGrown};
 ghost use Rattle.sf_c.specs.Rows.{IsOf, HasGivenKey, IsLetterOf, HasAsked, HasAskedBoth, HasAskedChan, HasFinishedPart, HasGoneOnPart, HasPolledPart, HasForgotPart, HasGivenUp, HasQuestionedPart, HasToldPart, HasLearntPart, HasNumbered, IsFree, IsNotFree, call_in};
@@ -85,6 +85,17 @@ impl Part {
         match self {
             Part::Free(_) => true,
             _ => false,
+        }
+    }
+
+    /// Its caller, which is free. One that is not comes back.
+    pub(crate) fn into_caller(self) -> Result<Caller<Word>, Part>
+        ensures free { IfOk result (λ caller. self ≡ Free caller) }
+        ensures refused { IfErr result (λ part. (part ≡ self) × IsNotFree self) }
+    {
+        match self {
+            Part::Free(caller) => Ok(caller),
+            part => Err(part),
         }
     }
 

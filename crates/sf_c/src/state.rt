@@ -1,8 +1,8 @@
 //! What a slot holds.
-ghost use Rattle.std.specs.Prelude.{◌≡◌, ◌≢◌, ◌↔◌, ◌<◌, ◌≤◌, All, IfOk, IfErr, IfSome, true, false};
+ghost use Rattle.std.specs.Prelude.{◌≡◌, ◌≢◌, ◌↔◌, ◌<◌, ◌≤◌, All, IfOk, IfErr, IfSome, IfNone, true, false};
 ghost use Rattle.sf_calls.specs.Making.{IsNewCaller};
 ghost use Rattle.sf_calls.specs.Notes.{HasGrown};
-ghost use Rattle.sf_c.specs.Rows.{HasOpened, IsNewSeat, HasAskedKey, HasAskedChanKey, HasForgotKey, HasFinishedPart, HasGoneOnPart, HasPolledPart, HasQuestionedPart, HasToldPart, HasNotTold, HasLearntPart, HasGivenUp, HasCounted, HasCalled, HasNumbered, MarksOwn, HasGivenKey, call_in, KeepsGroup, KeepsLetter, KeepsKey};
+ghost use Rattle.sf_c.specs.Rows.{HasOpened, HasSplit, HasTakenBack, HasAskedKey, HasAskedChanKey, HasForgotKey, HasFinishedPart, HasGoneOnPart, HasPolledPart, HasQuestionedPart, HasToldPart, HasNotTold, HasLearntPart, HasGivenUp, HasCounted, HasCalled, HasNumbered, MarksOwn, HasGivenKey, call_in, KeepsGroup, KeepsLetter, KeepsKey};
 
 use crate::codes::{BAD_NUMBER, DONE, NOT_OPEN, NOTHING_LEFT, OTHERWISE, WRONG_STATE};
 use crate::key::Key;
@@ -18,7 +18,7 @@ use std::sync::Arc;
 
 /// A caller, with a share of its group; the places of keys; the key that it asks for, where it leads or waits; the letter of
 /// such a key that it had last; whether the call that it leads, or settled last, has an own channel; and the callers that
-/// have no slot yet.
+/// have no slot.
 #[derive(Drop)]
 pub struct State {
     pub(crate) group: Arc<Group<Word>>,
@@ -32,15 +32,14 @@ pub struct State {
 
 impl Model for State {
     ghost use Rattle.std.specs.Prelude.{◌≡◌, All};
-    ghost use Rattle.sf_calls.specs.Making.{IsNewCaller};
     ghost use Rattle.sf_c.specs.Rows.{IsOf, IsLetterOf, Seat};
 
     ghost Value = { Seat };
 
-    ghost view = { λ s. record { group = s.group.value; places = s.places; part = s.part; asked = s.asked; last = s.last; own = s.own } };
+    ghost view = { λ s. record { group = s.group.value; places = s.places; part = s.part; asked = s.asked; last = s.last; own = s.own; callers = s.callers.items } };
 
     ghost invariant = { λ s. IsOf s.group.value s.part × IsLetterOf s.group.value s.last
-        × (s.group.value.sizes.places ≡ s.places.count) × All (IsNewCaller s.group.value) s.callers.items };
+        × (s.group.value.sizes.places ≡ s.places.count) × All (λ c. c.group ≡ s.group.value) s.callers.items };
 }
 
 // A check of the tests makes the proof that a state may go to another thread only where something asks for it.
@@ -61,6 +60,7 @@ fn first_caller(
     ensures sizes { IfOk result (λ made. (made.0.sizes.places ≡ places) × (made.0.sizes.callers ≡ callers)) }
     ensures first { IfOk result (λ made. IsNewCaller made.0 made.1) }
     ensures others { IfOk result (λ made. All (IsNewCaller made.0) made.2.items) }
+    ensures own { IfOk result (λ made. All (λ c. c.group ≡ made.0) made.2.items) }
 {
     let (group, mut callers) = Group::new(alloc, places, callers, 1)?;
     let Some(caller) = callers.pop() else {
@@ -101,22 +101,55 @@ impl State {
         }))
     }
 
-    /// A state for another slot. None where all callers have one, or there is no memory.
-    pub(crate) fn split(&mut self, alloc: Global) -> Option<State>
-        ensures same { self.new ≡ self.old }
-        ensures made { IfSome result (IsNewSeat self.old.group self.old.places) }
+    /// A state for another slot, with the last of the callers that have none. None where all have one, or there is no memory.
+    pub(crate) fn split(&mut self, alloc: Global) -> Option<Box<State, Global>>
+        ensures made { IfSome result (λ made. HasSplit self.old self.new made.value) }
+        ensures none { IfNone result (self.new ≡ self.old) }
     {
         let group = Arc::try_clone(&self.group).ok()?;
+        let mut made = Box::new(
+            alloc,
+            State {
+                group,
+                places: self.places,
+                part: Part::Gone,
+                asked: Key::empty(),
+                last: None,
+                own: false,
+                callers: Vec::new(alloc),
+            },
+        )
+        .ok()?;
         let caller = self.callers.pop()?;
-        Some(State {
-            group,
-            places: self.places,
-            part: Part::Free(caller),
-            asked: Key::empty(),
-            last: None,
-            own: false,
-            callers: Vec::new(alloc),
-        })
+        made.part = Part::Free(caller);
+        Some(made)
+    }
+
+    /// Takes back the other's caller, for a further slot. Then the other has none; but not where that is not free, or the other
+    /// has callers for further slots itself, or there is no memory.
+    pub(crate) fn take_back(&mut self, other: &mut State) -> u32
+        requires { self.old.group ≡ other.old.group }
+        ensures row { HasTakenBack self.old other.old self.new result }
+        ensures refused { result ≢ DONE → other.new ≡ other.old }
+        ensures open { result ≢ NOT_OPEN }
+    {
+        if !other.callers.is_empty() {
+            return WRONG_STATE;
+        }
+        let caller = match replace(&mut other.part, Part::Gone).into_caller() {
+            Ok(caller) => caller,
+            Err(part) => {
+                other.part = part;
+                return WRONG_STATE;
+            }
+        };
+        match self.callers.push(caller) {
+            Ok(()) => DONE,
+            Err(failed) => {
+                other.part = Part::Free(failed.value);
+                NOTHING_LEFT
+            }
+        }
     }
 
     /// Asks for the key: done where its caller leads a new call then, otherwise it waits then.
