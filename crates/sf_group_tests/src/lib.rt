@@ -26,4 +26,6 @@ mod rows_over_words;
 #[cfg(test)]
 mod sharing;
 #[cfg(test)]
+mod stills;
+#[cfg(test)]
 mod two_threads;
