@@ -1,7 +1,8 @@
 -- What clauses see of keys, and of the values that calls are settled with.
-use Rattle.std.specs.Prelude.{ℕ, List}
+use Rattle.std.specs.Prelude.{ℕ, ◌<◌, List, length}
 use Rattle.sf_c.specs.declared.key.Kept.{Kept}
 use Rattle.sf_c.specs.declared.key.Kept.TheVariants.{Inline, Counted}
+use Rattle.sf_c.specs.declared.key.TheConstants.{SHORT}
 
 -- a number and the key that it is of
 pub record WordValue : Type 0 where
@@ -15,3 +16,8 @@ word number key = record { number = number; key = key }
 abbrev pub bytes_in : Kept → List ℕ
 bytes_in (Inline short) = short.items
 bytes_in (Counted long) = long
+
+-- only a long key is counted
+abbrev pub IsKept : Kept → Type 0
+IsKept (Inline short) = Unit {0}
+IsKept (Counted long) = SHORT < length long

@@ -1,5 +1,5 @@
 -- How calls change what a slot holds, and which code each ending has.
-use Rattle.std.specs.Prelude.{◌≡◌, ◌≢◌, ◌⊎◌, ◌+◌, ℕ, Bool, false, cond, List, [], ◌∷◌, ◌++◌, All, Option, Some, None, ◌<◌, ◌≤◌}
+use Rattle.std.specs.Prelude.{◌≡◌, ◌≢◌, ◌⊎◌, ◌+◌, ℕ, Bool, false, cond, List, [], ◌∷◌, ◌++◌, All, Option, Some, None, length, ◌<◌, ◌≤◌}
 use Rattle.sf_calls.specs.Tokens.{GroupValue, CallerValue, FlightValue, TicketValue, LetterValue, NoteValue}
 use Rattle.sf_calls.specs.Fitting.{FitOf}
 use Rattle.sf_calls.specs.Begins.{HasLed, HasJoined, IsRefusedSpent, HasLedChan, HasJoinedChan, AreRefusedSpent}
@@ -15,6 +15,7 @@ use Rattle.sf_group.specs.declared.group.TheConstants.{MOST_TRIES}
 use Rattle.sf_history.specs.declared.call.CallId.{CallId}
 use Rattle.sf_keys.specs.declared.places.Places.{Places}
 use Rattle.sf_keys.specs.Places.{place_of}
+use Rattle.sf_c.specs.declared.key.TheConstants.{SHORT}
 use Rattle.sf_c.specs.Keys.{WordValue, word}
 use Rattle.sf_c.specs.declared.part.Part.{Part}
 use Rattle.sf_c.specs.declared.part.Part.TheVariants.{Free, Leads, Waits, Owes, Gone}
@@ -290,7 +291,7 @@ pub record AreTries (tries : ℕ) : Type 0 where
   pub some : 1 ≤ tries
   pub most : tries ≤ MOST_TRIES
 
--- a call by key that made nothing: of a number of tries that may not be, of a caller that is not free, or for want of memory
+-- a call by key that made nothing: of a number of tries that may not be, of a caller that is not free, or for want of memory for a long key
 pub record HasBadTries (s : Seat) (tries : ℕ) (t : Seat) (code : ℕ) : Type 0 where
   pub code_is : code ≡ BAD_NUMBER
   pub bad : (tries < 1) ⊎ (MOST_TRIES < tries)
@@ -302,8 +303,9 @@ pub record IsOtherSeat (s : Seat) (tries : ℕ) (t : Seat) (code : ℕ) : Type 0
   pub not_free : IsNotFree s.part
   pub same : t ≡ s
 
-pub record HasNoRoom (s : Seat) (tries : ℕ) (t : Seat) (code : ℕ) : Type 0 where
+pub record HasNoRoom (s : Seat) (key : List ℕ) (tries : ℕ) (t : Seat) (code : ℕ) : Type 0 where
   pub code_is : code ≡ NOTHING_LEFT
+  pub long : SHORT < length key
   pub tries_are : AreTries tries
   pub free : IsFree s.part
   pub same : t ≡ s
@@ -315,9 +317,9 @@ pub record AreOtherSeats (s u : Seat) (tries : ℕ) (t : Seat) (code : ℕ) : Ty
   pub not_free : IsNotFree s.part ⊎ IsNotFree u.part
   pub same : t ≡ s
 
-pub record HaveNoRoom (s u : Seat) (tries : ℕ) (t : Seat) (code : ℕ) : Type 0 where
+pub record HaveNoRoom (s u : Seat) (key : List ℕ) (tries : ℕ) (t : Seat) (code : ℕ) : Type 0 where
   pub second_free : IsFree u.part
-  pub first : HasNoRoom s tries t code
+  pub first : HasNoRoom s key tries t code
 
 abbrev pub HasNotCalled : Seat → ℕ → Seat → ℕ → Type 0
 HasNotCalled s tries t code = HasBadTries s tries t code ⊎ IsOtherSeat s tries t code
@@ -340,11 +342,11 @@ pub record HasAskedPlace (s : Seat) (key : List ℕ) (tries : ℕ) (t : Seat) (c
   pub asked : KeepsAsked code key s.asked t.asked
 
 abbrev pub HasAskedKey : Seat → List ℕ → ℕ → Seat → ℕ → Type 0
-HasAskedKey s key tries t code = HasAskedPlace s key tries t code ⊎ HasNotCalled s tries t code ⊎ HasNoRoom s tries t code
+HasAskedKey s key tries t code = HasAskedPlace s key tries t code ⊎ HasNotCalled s tries t code ⊎ HasNoRoom s key tries t code
 
 -- an asking by key with a second that made nothing: as one without, or where the second is not free
-pub record HasNotAskedChan (s u : Seat) (tries : ℕ) (t v : Seat) (code : ℕ) : Type 0 where
-  pub row : HasBadTries s tries t code ⊎ AreOtherSeats s u tries t code ⊎ HaveNoRoom s u tries t code
+pub record HasNotAskedChan (s u : Seat) (key : List ℕ) (tries : ℕ) (t v : Seat) (code : ℕ) : Type 0 where
+  pub row : HasBadTries s tries t code ⊎ AreOtherSeats s u tries t code ⊎ HaveNoRoom s u key tries t code
   pub second_same : v ≡ u
 
 -- how an asking by key with a second ends
@@ -357,7 +359,7 @@ pub record HasAskedChanPlace (s u : Seat) (key : List ℕ) (tries : ℕ) (t v : 
   pub second_asked : KeepsAsked code key u.asked v.asked
 
 abbrev pub HasAskedChanKey : Seat → Seat → List ℕ → ℕ → Seat → Seat → ℕ → Type 0
-HasAskedChanKey s u key tries t v code = HasAskedChanPlace s u key tries t v code ⊎ HasNotAskedChan s u tries t v code
+HasAskedChanKey s u key tries t v code = HasAskedChanPlace s u key tries t v code ⊎ HasNotAskedChan s u key tries t v code
 
 -- how a Forget by key ends
 pub record HasForgotPlace (s : Seat) (key : List ℕ) (tries : ℕ) (t : Seat) (code : ℕ) : Type 0 where

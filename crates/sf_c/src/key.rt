@@ -1,5 +1,5 @@
 //! Keys, as slots keep them and letters carry them.
-ghost use Rattle.std.specs.Prelude.{◌≡◌, [], IfOk};
+ghost use Rattle.std.specs.Prelude.{◌≡◌, ◌<◌, [], length, IfOk, IfErr};
 
 use arrayvec::ArrayVec;
 use bytes::Bytes;
@@ -7,8 +7,8 @@ use sf_group::Memory;
 use std::alloc::Global;
 use std::marker::Model;
 
-// So many bytes of a key at most lie in the value itself.
-const SHORT: usize = 40;
+/// So many bytes of a key at most lie in the value itself.
+pub(crate) const SHORT: usize = 40;
 
 /// Where the bytes of a key are.
 #[derive(Drop)]
@@ -25,11 +25,13 @@ pub struct Key {
 
 impl Model for Key {
     ghost use Rattle.std.specs.Prelude.{ℕ, List};
-    ghost use Rattle.sf_c.specs.Keys.{bytes_in};
+    ghost use Rattle.sf_c.specs.Keys.{bytes_in, IsKept};
 
     ghost Value = { List ℕ };
 
     ghost view = { λ k. bytes_in k.kept };
+
+    ghost invariant = { λ k. IsKept k.kept };
 }
 
 impl Key {
@@ -42,24 +44,28 @@ impl Key {
         }
     }
 
-    /// A copy of these bytes.
+    /// A copy of these bytes. Few need no memory.
     pub(crate) fn of(alloc: Global, bytes: &[u8]) -> Result<Key, Memory>
-        ensures { IfOk result (λ key. key ≡ bytes.now) }
+        ensures copy { IfOk result (λ key. key ≡ bytes.now) }
+        ensures refused { IfErr result (λ _. SHORT < length bytes.now) }
     {
-        let mut short = ArrayVec::new();
-        match short.try_extend_from_slice(bytes) {
-            Ok(()) => Ok(Key {
-                kept: Kept::Inline(short),
-            }),
-            Err(_) => Ok(Key {
-                kept: Kept::Counted(Bytes::copy_from_slice(alloc, bytes)?),
-            }),
+        if bytes.len() > SHORT {
+            let long = Bytes::copy_from_slice(alloc, bytes)?;
+            return Ok(Key {
+                kept: Kept::Counted(long),
+            });
         }
+        let mut short = ArrayVec::new();
+        let _fits = short.try_extend_from_slice(bytes);
+        Ok(Key {
+            kept: Kept::Inline(short),
+        })
     }
 
     /// Another one.
     pub(crate) fn again(&self) -> Result<Key, Memory>
-        ensures { IfOk result (λ key. key ≡ self.now) }
+        ensures copy { IfOk result (λ key. key ≡ self.now) }
+        ensures refused { IfErr result (λ _. SHORT < length self.now) }
     {
         match &self.kept {
             Kept::Inline(short) => {
