@@ -2,11 +2,22 @@
 //! `cargo run --release --example figures`, once `bindings/library` has been run.
 use singleflight::Group;
 use std::collections::HashMap;
-use std::sync::atomic::{AtomicU64, Ordering::Relaxed};
+use std::sync::atomic::{AtomicBool, AtomicU64, Ordering::Relaxed};
 use std::sync::{Arc, Barrier, Condvar, Mutex};
-use std::time::Instant;
+use std::time::{Duration, Instant};
 
 const GETS: u64 = 300_000;
+
+// One who asks: of the group, or of the map.
+trait Asker {
+    fn get(&mut self, key: &[u8], load: impl FnOnce() -> u64) -> u64;
+}
+
+impl Asker for singleflight::Caller<u64> {
+    fn get(&mut self, key: &[u8], load: impl FnOnce() -> u64) -> u64 {
+        *self.do_with(key, load).unwrap().answer
+    }
+}
 
 #[derive(Default)]
 struct Call {
@@ -19,8 +30,8 @@ struct Plain {
     calls: Mutex<HashMap<Vec<u8>, Arc<Call>>>,
 }
 
-impl Plain {
-    fn do_with(&self, key: &[u8], load: impl FnOnce() -> u64) -> Arc<u64> {
+impl Asker for &Plain {
+    fn get(&mut self, key: &[u8], load: impl FnOnce() -> u64) -> u64 {
         let mut calls = self.calls.lock().unwrap();
         if let Some(call) = calls.get(key).cloned() {
             drop(calls);
@@ -28,31 +39,35 @@ impl Plain {
             while answer.is_none() {
                 answer = call.settled.wait(answer).unwrap();
             }
-            return answer.clone().unwrap();
+            return **answer.as_ref().unwrap();
         }
         let call = Arc::new(Call::default());
         calls.insert(key.to_vec(), call.clone());
         drop(calls);
         let answer = Arc::new(load());
+        // Who asks from now on leads a call of its own: this one's load has ended.
+        self.calls.lock().unwrap().remove(key);
         *call.answer.lock().unwrap() = Some(answer.clone());
         call.settled.notify_all();
-        self.calls.lock().unwrap().remove(key);
-        answer
+        *answer
     }
 }
 
 // What a loop got has to be used, or the loop may go.
 static USED: AtomicU64 = AtomicU64::new(0);
 
-// Nanoseconds a get of each thread.
-fn time(threads: u64, run: impl Fn(u64, &Barrier) + Sync) -> f64 {
-    let (ready, start) = (Barrier::new(threads as usize + 1), Barrier::new(threads as usize + 1));
-    let took = std::thread::scope(|scope| {
+// How long so many threads take, each with an asker of its own, which is made before.
+fn time<A: Asker>(threads: usize, asker: impl Fn() -> A + Sync, run: impl Fn(usize, &mut A) + Sync) -> Duration {
+    let (ready, start) = (Barrier::new(threads + 1), Barrier::new(threads + 1));
+    std::thread::scope(|scope| {
         for thread in 0..threads {
-            let (run, ready, start) = (&run, &ready, &start);
+            let (asker, run, ready, start) = (&asker, &run, &ready, &start);
             scope.spawn(move || {
+                let mut asker = asker();
                 ready.wait();
-                run(thread, start)
+                start.wait();
+                run(thread, &mut asker);
+                start.wait();
             });
         }
         ready.wait();
@@ -60,40 +75,109 @@ fn time(threads: u64, run: impl Fn(u64, &Barrier) + Sync) -> f64 {
         start.wait();
         start.wait();
         from.elapsed()
+    })
+}
+
+// Nanoseconds a get of each thread, whose load does nothing.
+fn gets<A: Asker>(threads: usize, hot: bool, asker: impl Fn() -> A + Sync) -> f64 {
+    let took = time(threads, asker, |thread, asker| {
+        let key = if hot { b"key-hot".to_vec() } else { format!("key-{thread}").into_bytes() };
+        let mut sum = 0;
+        for round in 0..GETS {
+            sum ^= asker.get(&key, || round);
+        }
+        USED.fetch_xor(sum, Relaxed);
     });
     took.as_nanos() as f64 / GETS as f64
 }
 
+fn spin(until: Instant) {
+    while Instant::now() < until {
+        std::hint::spin_loop();
+    }
+}
+
+// Of askers who want one key over and over, whose load takes so long: the half and 99 of 100 of the gets take no longer, in
+// microseconds.
+fn latency<A: Asker>(askers: usize, load: Duration, asker: impl Fn() -> A + Sync) -> [f64; 2] {
+    let all = Mutex::new(Vec::new());
+    time(askers, asker, |_, asker| {
+        let mut own = Vec::new();
+        for _ in 0..400 {
+            let from = Instant::now();
+            asker.get(b"key-hot", || {
+                spin(Instant::now() + load);
+                0
+            });
+            own.push(from.elapsed());
+        }
+        all.lock().unwrap().extend(own);
+    });
+    let mut all = all.into_inner().unwrap();
+    all.sort();
+    [2, 100].map(|part| all[all.len() - all.len().div_ceil(part)].as_nanos() as f64 / 1000.0)
+}
+
+// With so many waiters for one slow key: the gets of 16 other keys in a second, each by two threads with a load that sleeps for
+// a millisecond; those of all, and of the key that had fewest.
+fn beside_waiters<A: Asker>(waiters: usize, asker: impl Fn() -> A + Sync) -> [u64; 2] {
+    const KEYS: usize = 16;
+    let gets: [AtomicU64; KEYS] = Default::default();
+    let (is_over, asked, all) = (AtomicBool::new(false), AtomicU64::new(0), 2 * KEYS);
+    time(all + waiters, asker, |thread, asker| {
+        if thread >= all {
+            asked.fetch_add(1, Relaxed);
+            asker.get(b"slow", || {
+                while !is_over.load(Relaxed) {
+                    std::thread::sleep(Duration::from_millis(10));
+                }
+                0
+            });
+            return;
+        }
+        while asked.load(Relaxed) < waiters as u64 {
+            std::thread::sleep(Duration::from_millis(1));
+        }
+        std::thread::sleep(Duration::from_millis(300));
+        let key = format!("key-{}", thread % KEYS).into_bytes();
+        let until = Instant::now() + Duration::from_secs(1);
+        while Instant::now() < until {
+            asker.get(&key, || {
+                std::thread::sleep(Duration::from_millis(1));
+                0
+            });
+            gets[thread % KEYS].fetch_add(1, Relaxed);
+        }
+        is_over.store(true, Relaxed);
+    });
+    let gets = gets.map(AtomicU64::into_inner);
+    [gets.iter().sum(), gets.into_iter().min().unwrap()]
+}
+
 fn main() {
+    let open = |callers| Group::<u64>::open(1024, 16, callers).unwrap();
     for (what, hot) in [("own keys", false), ("one hot key", true)] {
         for threads in [1, 4] {
-            let key_of = |thread: u64| if hot { b"key-hot".to_vec() } else { format!("key-{thread}").into_bytes() };
             let (mut ours, mut plains) = (f64::MAX, f64::MAX);
             for _ in 0..7 {
-                let group = Group::<u64>::open(1024, 16, 4).unwrap();
-                ours = ours.min(time(threads, |thread, start| {
-                    let (mut caller, key) = (group.caller().unwrap(), key_of(thread));
-                    start.wait();
-                    let mut sum = 0;
-                    for round in 0..GETS {
-                        sum ^= *caller.do_with(&key, || round).unwrap().answer;
-                    }
-                    start.wait();
-                    USED.fetch_xor(sum, Relaxed);
-                }));
+                let group = open(4);
+                ours = ours.min(gets(threads, hot, || group.caller().unwrap()));
                 let plain = Plain::default();
-                plains = plains.min(time(threads, |thread, start| {
-                    let key = key_of(thread);
-                    start.wait();
-                    let mut sum = 0;
-                    for round in 0..GETS {
-                        sum ^= *plain.do_with(&key, || round);
-                    }
-                    start.wait();
-                    USED.fetch_xor(sum, Relaxed);
-                }));
+                plains = plains.min(gets(threads, hot, || &plain));
             }
             println!("{what}, {threads} threads: {ours:.0} ns a get; mutex, map and condition variable {plains:.0} ns");
         }
+    }
+    for load in [1, 10, 100] {
+        let (group, plain) = (open(64), Plain::default());
+        let ours = latency(64, Duration::from_micros(load), || group.caller().unwrap());
+        let plains = latency(64, Duration::from_micros(load), || &plain);
+        println!("64 threads, one key, a load of {load} us: p50 {:.0} us, p99 {:.0}; mutex {:.0}, {:.0}", ours[0], ours[1], plains[0], plains[1]);
+    }
+    for waiters in [0, 3000] {
+        let (group, plain) = (open(4000), Plain::default());
+        let ours = beside_waiters(waiters, || group.caller().unwrap());
+        let plains = beside_waiters(waiters, || &plain);
+        println!("{waiters} waiters for one key: {} gets of 16 others, least of one {}; mutex {}, {}", ours[0], ours[1], plains[0], plains[1]);
     }
 }

@@ -39,7 +39,12 @@ impl<T> Answer<T> {
 
     /// So many others had it, or will, so that the count is right from now on.
     pub(crate) fn settle(&self, others: u64) {
-        self.inner().count.fetch_sub(MANY - 1 - others, Ordering::Relaxed);
+        if others == 0 {
+            // Nobody else has it, nor will.
+            self.inner().count.store(1, Ordering::Relaxed);
+        } else {
+            self.inner().count.fetch_sub(MANY - 1 - others, Ordering::Relaxed);
+        }
     }
 
     /// The number that stands for it, which is not 0.
@@ -91,7 +96,9 @@ impl<T> Clone for Answer<T> {
 
 impl<T> Drop for Answer<T> {
     fn drop(&mut self) {
-        if self.inner().count.fetch_sub(1, Ordering::Release) == 1 {
+        // Who has the only count is alone, and nobody clones it then.
+        let count = &self.inner().count;
+        if count.load(Ordering::Relaxed) == 1 || count.fetch_sub(1, Ordering::Release) == 1 {
             fence(Ordering::Acquire);
             // SAFETY: nobody else has a count, and nobody gets one.
             drop(unsafe { Box::from_raw(self.node.as_ptr()) });

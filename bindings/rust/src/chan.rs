@@ -1,9 +1,10 @@
 //! Askings for a second caller, who waits elsewhere.
 
-use crate::{Caller, Error, Got, Leading, got, raw, refusal};
+use crate::caller::{Caller, Leading};
+use crate::pool::Seat;
+use crate::{Error, Got, raw, refusal};
 use std::fmt;
 use std::sync::Arc;
-use std::sync::atomic::Ordering::Relaxed;
 use std::sync::mpsc::{RecvError, TryRecvError};
 
 /// A call that its caller leads, and for which it has to load. Where it is dropped, it is settled with nothing.
@@ -13,7 +14,8 @@ pub struct Job<'a, T>(Leading<'a, T>);
 impl<T> Job<'_, T> {
     /// Loads, and settles the call.
     pub fn run(self, load: impl FnOnce() -> T) -> Got<T> {
-        self.0.load(load)
+        let leading = self.0;
+        leading.end(load())
     }
 }
 
@@ -27,92 +29,68 @@ impl<T> fmt::Debug for Job<'_, T> {
 /// has come.
 #[derive(Debug)]
 #[must_use]
-pub struct Receiver<T> {
-    // None once the answer is there, and the caller is free.
-    waits: Option<Caller<T>>,
-    free: Option<Caller<T>>,
-}
+pub struct Receiver<T>(Caller<T>);
 
 impl<T: Send + Sync> Receiver<T> {
-    /// The answer, if it is there. `Disconnected` where the leader's load panicked, or the answer was taken before.
+    /// The answer, if it is there. `Disconnected` where there is none: the leader's load panicked, or the answer was taken before.
     pub fn try_recv(&mut self) -> Result<Got<T>, TryRecvError> {
-        let caller = self.waits.as_mut().ok_or(TryRecvError::Disconnected)?;
-        let letter = caller.seat.as_mut().and_then(|seat| seat.poll()).ok_or(TryRecvError::Empty)?;
-        self.take(letter).ok_or(TryRecvError::Disconnected)
+        let call = self.0.waits.ok_or(TryRecvError::Disconnected)?;
+        let letter = self.0.seat.as_mut().and_then(Seat::poll).ok_or(TryRecvError::Empty)?;
+        self.0.read(letter, call).ok_or(TryRecvError::Disconnected)
     }
 
-    /// Waits for the answer. An error where the leader's load panicked, or the answer was taken before.
+    /// Waits for the answer. An error where there is none.
     pub fn recv(&mut self) -> Result<Got<T>, RecvError> {
-        let caller = self.waits.as_mut().ok_or(RecvError)?;
-        let seat = caller.seat.as_mut().ok_or(RecvError)?;
-        let letter = caller.pool.wait(seat, None).ok_or(RecvError)?;
-        self.take(letter).ok_or(RecvError)
-    }
-
-    fn take(&mut self, letter: (u64, u32)) -> Option<Got<T>> {
-        self.free = self.waits.take();
-        let caller = self.free.as_mut()?;
-        caller.has_letter = true;
-        got(letter, caller.seat.as_mut()?.call())
+        let call = self.0.waits.ok_or(RecvError)?;
+        let seat = self.0.seat.as_mut().ok_or(RecvError)?;
+        let letter = self.0.pool.post(call.caller).wait(seat, None).ok_or(RecvError)?;
+        self.0.read(letter, call).ok_or(RecvError)
     }
 
     /// The caller that waited, which is free once its answer was there; else the receiver.
-    pub fn into_caller(mut self) -> Result<Caller<T>, Self> {
-        self.free.take().ok_or(self)
-    }
-}
-
-impl<T> Drop for Receiver<T> {
-    fn drop(&mut self) {
-        // The leader gives it a count of its answer, which somebody has to take.
-        if let Some(mut caller) = self.waits.take() {
-            if let Some(seat) = caller.seat.take() {
-                caller.pool.leave(seat);
-            }
-        }
+    pub fn into_caller(self) -> Result<Caller<T>, Self> {
+        if self.0.waits.is_some() { Err(self) } else { Ok(self.0) }
     }
 }
 
 impl<T: Send + Sync> Caller<T> {
     /// Asks for the key for the other caller, whose answer comes by the receiver, to whichever thread has that. Where no call is
     /// open, this caller leads a new one, and has to run the job; else it has nothing to do.
-    pub fn do_chan(&mut self, other: Caller<T>, key: &[u8]) -> Result<(Receiver<T>, Option<Job<'_, T>>), (Error, Caller<T>)> {
+    ///
+    /// ```
+    /// # let group = singleflight::Group::<u32>::open(1, 1, 2).unwrap();
+    /// let (mut caller, other) = (group.caller().unwrap(), group.caller().unwrap());
+    /// let (mut receiver, job) = caller.do_chan(other, b"k").unwrap();
+    /// let waits = std::thread::spawn(move || *receiver.recv().unwrap().answer);
+    /// if let Some(job) = job {
+    ///     job.run(|| 7);
+    /// }
+    /// assert_eq!(waits.join().unwrap(), 7);
+    /// ```
+    pub fn do_chan(&mut self, mut other: Caller<T>, key: &[u8]) -> Result<(Receiver<T>, Option<Job<'_, T>>), (Error, Caller<T>)> {
         if !Arc::ptr_eq(&self.pool, &other.pool) {
             return Err((Error::OtherGroup, other));
         }
-        let mut other = other;
-        let pool = &*self.pool;
-        let (seat, second) = match (Self::seat(pool, &mut self.seat), Self::seat(pool, &mut other.seat)) {
-            (Ok(seat), Ok(second)) => (seat, second),
-            _ => return Err((Error::NothingLeft, other)),
+        let code = match (self.free_seat(), other.free_seat()) {
+            (Ok(seat), Ok(second)) => loop {
+                match unsafe { raw::sf_ask_chan(&mut seat.slot, &mut second.slot, key.as_ptr(), key.len(), raw::MOST_TRIES) } {
+                    raw::BUSY => std::hint::spin_loop(),
+                    code => break code,
+                }
+            },
+            (Err(why), _) | (_, Err(why)) => return Err((why, other)),
         };
-        let code = loop {
-            let code = unsafe { raw::sf_ask_chan(&mut seat.slot, &mut second.slot, key.as_ptr(), key.len(), raw::MOST_TRIES) };
-            if code != raw::BUSY {
-                break code;
-            }
-            std::hint::spin_loop();
-        };
-        let job = match code {
-            raw::DONE => {
-                pool.post(seat.number).leads.fetch_add(1, Relaxed);
-                self.has_letter = true;
-                Some(Job(Leading {
-                    pool,
-                    seat,
-                    has_receiver: true,
-                }))
-            }
-            raw::OTHERWISE => {
-                pool.post(second.number).joins.fetch_add(1, Relaxed);
-                None
-            }
-            code => return Err((refusal(code), other)),
-        };
-        let receiver = Receiver {
-            waits: Some(other),
-            free: None,
-        };
-        Ok((receiver, job))
+        if code != raw::DONE && code != raw::OTHERWISE {
+            return Err((refusal(code), other));
+        }
+        other.joined();
+        if code == raw::OTHERWISE {
+            other.count(|post| &post.joins);
+            return Ok((Receiver(other), None));
+        }
+        self.count(|post| &post.leads);
+        let mut leading = self.leading();
+        leading.has_receiver = true;
+        Ok((Receiver(other), Some(Job(leading))))
     }
 }

@@ -1,32 +1,35 @@
 //! The callers of a group: they are split off as they are needed, and dealt again when they come back.
 
 use crate::answer::Answer;
+use crate::post::Post;
 use crate::raw::{self, Slot};
 use crate::{Call, Error, refusal};
 use std::marker::PhantomData;
-use std::sync::atomic::{AtomicU64, Ordering::Relaxed};
-use std::sync::{Condvar, Mutex, MutexGuard, OnceLock, PoisonError};
-use std::time::Instant;
+use std::sync::{Mutex, MutexGuard, OnceLock, PoisonError};
 
 const CHUNK: usize = 256;
 
 // A lock whose holder panicked is as good as before: none panics between two writes.
-fn lock<T>(mutex: &Mutex<T>) -> MutexGuard<'_, T> {
+pub(crate) fn lock<T>(mutex: &Mutex<T>) -> MutexGuard<'_, T> {
     mutex.lock().unwrap_or_else(PoisonError::into_inner)
 }
 
-// A caller's slot, with its number.
+/// What a settled call brings to one who joined it: the number that it was settled with, and how many joined.
+#[derive(Clone, Copy)]
+pub(crate) struct Letter(pub(crate) u64, pub(crate) u32);
+
+/// A caller's slot, with its number.
 pub(crate) struct Seat {
     pub(crate) slot: Slot,
     pub(crate) number: u32,
 }
 
 impl Seat {
-    // The number that the call was settled with, and how many joined it, where the letter is there.
-    pub(crate) fn poll(&mut self) -> Option<(u64, u32)> {
+    /// The letter of the call that it joined, once.
+    pub(crate) fn poll(&mut self) -> Option<Letter> {
         let (mut number, mut joiners) = (0, 0);
         let code = unsafe { raw::sf_poll(&mut self.slot, &mut number, &mut joiners) };
-        (code == raw::DONE).then_some((number, joiners))
+        (code == raw::DONE).then_some(Letter(number, joiners))
     }
 
     pub(crate) fn is_free(&mut self) -> bool {
@@ -34,7 +37,7 @@ impl Seat {
         unsafe { raw::sf_number(&mut self.slot, &mut number) == raw::DONE }
     }
 
-    // The call that it waits for, or that of the letter that it had last.
+    /// The call that it leads or waits for, or that of the letter that it had last.
     pub(crate) fn call(&mut self) -> Call {
         let (mut caller, mut generation) = (0, 0);
         unsafe { raw::sf_call(&mut self.slot, &mut caller, &mut generation) };
@@ -46,18 +49,6 @@ impl Drop for Seat {
     fn drop(&mut self) {
         unsafe { raw::sf_close(&mut self.slot) }
     }
-}
-
-// Where those park who wait for a call of one caller; and what that caller did.
-#[derive(Default)]
-pub(crate) struct Post {
-    // Of those who have left, and whose letters will come.
-    left: Mutex<Vec<Seat>>,
-    settled: Condvar,
-    pub(crate) leads: AtomicU64,
-    pub(crate) joins: AtomicU64,
-    pub(crate) closed: AtomicU64,
-    pub(crate) idle: AtomicU64,
 }
 
 struct Seats {
@@ -113,12 +104,13 @@ impl<T> Pool<T> {
         }
     }
 
+    /// The post of the caller with this number.
     pub(crate) fn post(&self, number: u32) -> &Post {
         let posts = self.posts[number as usize / CHUNK].get_or_init(|| (0..CHUNK).map(|_| Post::default()).collect());
         &posts[number as usize % CHUNK]
     }
 
-    // A free seat. None where all are taken, or there is no memory.
+    /// A free seat. None where all are taken, or there is no memory.
     pub(crate) fn take(&self) -> Option<Seat> {
         let mut seats = lock(&self.seats);
         if let Some(seat) = seats.free.pop() {
@@ -141,64 +133,18 @@ impl<T> Pool<T> {
         lock(&self.seats).free.push(seat);
     }
 
-    // Lets a seat go that has had all its calls.
+    /// Gives the count of the answer back that the letter brought, which nobody uses.
+    pub(crate) fn give_back(&self, letter: Option<Letter>) {
+        if let Some(Letter(number, _)) = letter {
+            // SAFETY: the leader counts each who joined, also one who has left, and each takes its letter once.
+            drop(unsafe { Answer::<T>::of_number(number) });
+        }
+    }
+
+    /// Lets a seat go that has had all its calls.
     pub(crate) fn retire(&self, seat: Seat) {
         lock(&self.seats).gone += 1;
         drop(seat);
-    }
-
-    // The call of the caller with this number is settled: wakes who waits for it, and takes the letters of those who have left.
-    pub(crate) fn settled(&self, number: u32) {
-        let post = self.post(number);
-        // Who looked before the letters were there holds the lock until it sleeps.
-        let left = std::mem::take(&mut *lock(&post.left));
-        post.settled.notify_all();
-        for mut seat in left {
-            if let Some((number, _)) = seat.poll() {
-                // SAFETY: the leader counts each who joined, also one who has left.
-                drop(unsafe { Answer::<T>::of_number(number) });
-            }
-            self.put(seat);
-        }
-    }
-
-    // Waits for the letter, until the deadline at the latest.
-    pub(crate) fn wait(&self, seat: &mut Seat, deadline: Option<Instant>) -> Option<(u64, u32)> {
-        for _ in 0..64 {
-            if let Some(letter) = seat.poll() {
-                return Some(letter);
-            }
-            std::hint::spin_loop();
-        }
-        let post = self.post(seat.call().caller);
-        let mut guard = lock(&post.left);
-        loop {
-            if let Some(letter) = seat.poll() {
-                return Some(letter);
-            }
-            guard = match deadline {
-                None => post.settled.wait(guard).unwrap_or_else(PoisonError::into_inner),
-                Some(deadline) => {
-                    let left = deadline.checked_duration_since(Instant::now())?;
-                    post.settled.wait_timeout(guard, left).unwrap_or_else(PoisonError::into_inner).0
-                }
-            };
-        }
-    }
-
-    // The seat, which waits, goes back when its letter has come.
-    pub(crate) fn leave(&self, mut seat: Seat) {
-        let post = self.post(seat.call().caller);
-        let mut left = lock(&post.left);
-        match seat.poll() {
-            None => left.push(seat),
-            Some((number, _)) => {
-                drop(left);
-                // SAFETY: the leader counts each who joined, also one who has left.
-                drop(unsafe { Answer::<T>::of_number(number) });
-                self.put(seat);
-            }
-        }
     }
 
     pub(crate) fn stats(&self) -> Stats {
@@ -210,10 +156,10 @@ impl<T> Pool<T> {
         };
         drop(seats);
         for post in self.posts.iter().filter_map(OnceLock::get).flat_map(|posts| posts.iter()) {
-            stats.leads += post.leads.load(Relaxed);
-            stats.joins += post.joins.load(Relaxed);
-            stats.closed += post.closed.load(Relaxed);
-            stats.idle += post.idle.load(Relaxed);
+            stats.leads += post.leads.get();
+            stats.joins += post.joins.get();
+            stats.closed += post.closed.get();
+            stats.idle += post.idle.get();
         }
         stats
     }

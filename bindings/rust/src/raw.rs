@@ -36,6 +36,7 @@ pub const SPENT: u32 = 2;
 pub const BUSY: u32 = 3;
 pub const TOO_LONG: u32 = 4;
 pub const FULL: u32 = 5;
+pub const WRONG_STATE: u32 = 6;
 pub const BAD_NUMBER: u32 = 8;
 pub const CLEARED: u32 = 10;
 pub const MOST_TRIES: u32 = 65_536;

@@ -1,0 +1,113 @@
+//! Where those wait who joined a call of one caller: who sleeps in a thread, and who is woken by a waker.
+
+use crate::pool::{Letter, Pool, Seat, lock};
+use std::collections::BTreeMap;
+use std::sync::atomic::{AtomicU64, Ordering::Relaxed};
+use std::sync::{Condvar, Mutex, PoisonError};
+use std::task::{Poll, Waker};
+use std::time::Instant;
+
+#[derive(Default)]
+struct Waits {
+    // Of those who have left, and whose letters will come.
+    left: Vec<Seat>,
+    // By the numbers of the callers that wait.
+    wakers: BTreeMap<u32, Waker>,
+    asleep: u32,
+}
+
+/// What stands at a caller's number.
+#[derive(Default)]
+#[repr(align(128))]
+pub(crate) struct Post {
+    waits: Mutex<Waits>,
+    settled: Condvar,
+    pub(crate) leads: Counter,
+    pub(crate) joins: Counter,
+    pub(crate) closed: Counter,
+    pub(crate) idle: Counter,
+}
+
+/// A number to which one thread at a time adds: that which has the caller.
+#[derive(Default)]
+pub(crate) struct Counter(AtomicU64);
+
+impl Counter {
+    pub(crate) fn add(&self) {
+        self.0.store(self.get() + 1, Relaxed);
+    }
+
+    pub(crate) fn get(&self) -> u64 {
+        self.0.load(Relaxed)
+    }
+}
+
+impl Post {
+    /// The caller's call is settled: wakes who waits for it, and takes the letters of those who have left.
+    pub(crate) fn wake<T>(&self, pool: &Pool<T>) {
+        // Who looked before the letters were there holds the lock until it sleeps, or its waker is there.
+        let mut waits = lock(&self.waits);
+        let left = std::mem::take(&mut waits.left);
+        let wakers = std::mem::take(&mut waits.wakers);
+        let asleep = waits.asleep > 0;
+        drop(waits);
+        if asleep {
+            self.settled.notify_all();
+        }
+        wakers.into_values().for_each(Waker::wake);
+        for mut seat in left {
+            pool.give_back(seat.poll());
+            pool.put(seat);
+        }
+    }
+
+    /// Waits for the letter, until the deadline at the latest.
+    pub(crate) fn wait(&self, seat: &mut Seat, deadline: Option<Instant>) -> Option<Letter> {
+        for _ in 0..64 {
+            if let Some(letter) = seat.poll() {
+                return Some(letter);
+            }
+            std::hint::spin_loop();
+        }
+        let mut waits = lock(&self.waits);
+        loop {
+            if let Some(letter) = seat.poll() {
+                return Some(letter);
+            }
+            let timeout = match deadline {
+                None => None,
+                Some(deadline) => Some(deadline.checked_duration_since(Instant::now())?),
+            };
+            waits.asleep += 1;
+            waits = match timeout {
+                None => self.settled.wait(waits).unwrap_or_else(PoisonError::into_inner),
+                Some(timeout) => self.settled.wait_timeout(waits, timeout).unwrap_or_else(PoisonError::into_inner).0,
+            };
+            waits.asleep -= 1;
+        }
+    }
+
+    /// The letter, or who is to be woken when it comes.
+    pub(crate) fn poll(&self, seat: &mut Seat, waker: &Waker) -> Poll<Letter> {
+        let mut waits = lock(&self.waits);
+        if let Some(letter) = seat.poll() {
+            return Poll::Ready(letter);
+        }
+        waits.wakers.entry(seat.number).or_insert_with(|| waker.clone()).clone_from(waker);
+        Poll::Pending
+    }
+
+    /// The seat, which waits, goes back when its letter has come.
+    pub(crate) fn leave<T>(&self, pool: &Pool<T>, mut seat: Seat) {
+        let mut waits = lock(&self.waits);
+        let waker = waits.wakers.remove(&seat.number);
+        let letter = seat.poll();
+        if letter.is_none() {
+            waits.left.push(seat);
+            return;
+        }
+        drop((waits, waker));
+        pool.give_back(letter);
+        pool.put(seat);
+    }
+}
