@@ -463,3 +463,49 @@ func TestRounds(t *testing.T) {
 		}
 	}
 }
+
+// One origin hangs behind deadlines and has all callers: those who ask for another key have two loads together at most.
+func TestOriginThatHangs(t *testing.T) {
+	g := open(t, 4, 16)
+	started, release := make(chan struct{}), make(chan struct{})
+	hangs := g.DoChan("hangs", func() (interface{}, error) { close(started); <-release; return 1, nil })
+	<-started
+	for i := 0; i < 100; i++ {
+		ctx, cancel := context.WithTimeout(context.Background(), 100*time.Microsecond)
+		_, err, _ := g.DoContext(ctx, "hangs", func(own context.Context) (interface{}, error) { <-own.Done(); return nil, own.Err() })
+		if err != context.DeadlineExceeded {
+			t.Error("who waits for it leaves", err)
+		}
+		cancel()
+	}
+	if st := g.Stats(); st.InUse != 16 {
+		t.Error("it has all callers", st)
+	}
+	for round := 0; round < 20; round++ {
+		var loads atomic.Int64
+		var all sync.WaitGroup
+		before := g.Stats()
+		end := make(chan struct{})
+		for i := 0; i < 50; i++ {
+			all.Add(1)
+			go func() {
+				defer all.Done()
+				g.Do("page", func() (interface{}, error) { loads.Add(1); <-end; return 3, nil })
+			}()
+		}
+		until(t, "all ask", func() bool {
+			st := g.Stats()
+			return st.Leads+st.Joins+st.Alone == before.Leads+before.Joins+before.Alone+50
+		})
+		close(end)
+		all.Wait()
+		if loads.Load() > 2 {
+			t.Error("two loads at most", loads.Load())
+		}
+	}
+	close(release)
+	if r := <-hangs; r.Val != 1 {
+		t.Error("the origin answers", r)
+	}
+	until(t, "all callers are back", func() bool { return g.Stats().InUse == 0 })
+}
