@@ -17,31 +17,34 @@ func (detached) Err() error                  { return nil }
 // forgotten then, and who had joined nevertheless asks again.
 func (g *Group) DoContext(ctx context.Context, key string, fn func(context.Context) (interface{}, error)) (v interface{}, err error, shared bool) {
 	p := g.pool()
-	for {
+	for others := 0; ; {
 		if err := ctx.Err(); err != nil {
 			return nil, err, false
 		}
-		a := p.ask(key)
+		a := p.ask(key, others)
 		if a.leads {
 			return p.leadContext(ctx, a, key, fn)
 		}
-		v, err, ended, settled := p.join(a, ctx.Done())
-		if !settled {
-			if ended {
-				p.forgetAsked(a, key)
-			}
+		r, how := p.join(a, ctx.Done())
+		switch how {
+		case settled:
+			r.end()
+			return r.Val, r.Err, true
+		case other:
+			others++
+		case leftLast:
+			p.forgetAsked(a, key)
 			return nil, ctx.Err(), false
-		}
-		if !ended || err == nil {
-			end(err)
-			return v, err, true
+		case left:
+			return nil, ctx.Err(), false
 		}
 	}
 }
 
 func (p *pool) leadContext(ctx context.Context, a asking, key string, fn func(context.Context) (interface{}, error)) (interface{}, error, bool) {
 	if ctx.Done() == nil {
-		return p.lead(a, func() (interface{}, error) { return fn(ctx) }, nil)
+		r := p.lead(a, func() (interface{}, error) { return fn(ctx) }, nil)
+		return r.Val, r.Err, r.Shared
 	}
 	own, cancel := context.WithCancel(detached{ctx})
 	w := p.watch(a, cancel)
@@ -49,19 +52,19 @@ func (p *pool) leadContext(ctx context.Context, a asking, key string, fn func(co
 		defer cancel()
 		p.lead(a, func() (interface{}, error) { return fn(own) }, w)
 	}()
+	result := func(r Result) (interface{}, error, bool) {
+		r.end()
+		return r.Val, r.Err, r.Shared
+	}
 	select {
 	case r := <-w.result:
-		end(r.Err)
-		return r.Val, r.Err, r.Shared
+		return result(r)
 	case <-ctx.Done():
 	}
-	left, last := w.leave(true, nil)
-	if !left {
-		r := <-w.result
-		end(r.Err)
-		return r.Val, r.Err, r.Shared
-	}
-	if last {
+	switch w.leave(true, nil) {
+	case settled:
+		return result(<-w.result)
+	case leftLast:
 		p.forgetAsked(a, key)
 	}
 	return nil, ctx.Err(), false

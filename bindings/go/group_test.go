@@ -49,7 +49,7 @@ func TestZeroGroup(t *testing.T) {
 }
 
 func TestClose(t *testing.T) {
-	g := open(t, 2, 3)
+	g := open(t, 3)
 	started, release := make(chan struct{}), make(chan struct{})
 	first := g.DoChan("key", func() (interface{}, error) { close(started); <-release; return 1, nil })
 	<-started
@@ -57,7 +57,7 @@ func TestClose(t *testing.T) {
 	g.Close()
 	g.Close()
 	// Another group may get the memory that is free again, and the calls of the closed one leave it alone.
-	other := open(t, 2, 3)
+	other := open(t, 3)
 	inside, end := make(chan struct{}), make(chan struct{})
 	otherFirst := other.DoChan("key", func() (interface{}, error) { close(inside); <-end; return 3, nil })
 	<-inside
@@ -89,7 +89,7 @@ func TestClose(t *testing.T) {
 
 func TestCloseWhileCallsRun(t *testing.T) {
 	for round := 0; round < 50; round++ {
-		g, err := New(Options{Keys: 4, KeyBytes: 8, Callers: 16})
+		g, err := New(Places(4), Callers(16))
 		if err != nil {
 			t.Fatal(err)
 		}
@@ -147,10 +147,33 @@ func TestForgottenGroup(t *testing.T) {
 	})
 }
 
+// So many keys with a place each: where another key of its place is led, a stamp is current no more.
+func apart(t *testing.T, g *Group, count int) (keys []string) {
+	t.Helper()
+	var led []string
+	var stamps []Stamp
+	for i := 0; i < 2*count+10; i++ {
+		key := fmt.Sprint("key-", i)
+		_, _, _, stamp := g.DoStamped(key, value(nil))
+		led, stamps = append(led, key), append(stamps, stamp)
+	}
+	for i, key := range led {
+		if len(keys) < count && g.IsStill(stamps[i]) {
+			keys = append(keys, key)
+		}
+	}
+	if len(keys) < count {
+		t.Fatal("keys apart", len(keys))
+	}
+	return keys
+}
+
 // Many goroutines ask for few keys at one time, which all get one load each.
 func manyOn(t *testing.T, goroutines, keys int) {
 	var g Group
 	defer g.Close()
+	names := apart(t, &g, keys)
+	before := g.Stats()
 	var loads atomic.Int64
 	release := make(chan struct{})
 	var all sync.WaitGroup
@@ -166,16 +189,19 @@ func manyOn(t *testing.T, goroutines, keys int) {
 			if v != key || err != nil || shared != (goroutines > keys) {
 				t.Error("an answer", key, v, err, shared)
 			}
-		}(fmt.Sprint("key-", i%keys))
+		}(names[i%keys])
 	}
-	until(t, "all ask", func() bool { st := g.Stats(); return st.Leads+st.Joins+st.Alone == uint64(goroutines) })
-	if st := g.Stats(); st.InUse != uint32(goroutines) || st.Made != uint32(goroutines) {
+	until(t, "all ask", func() bool {
+		st := g.Stats()
+		return st.Leads+st.Joins+st.Alone == before.Leads+uint64(goroutines)
+	})
+	if st := g.Stats(); st.InUse != uint32(goroutines) || st.Made > uint32(goroutines+shardCount) {
 		t.Error("each has a caller", st)
 	}
 	close(release)
 	all.Wait()
 	st := g.Stats()
-	if loads.Load() != int64(keys) || st.Leads != uint64(keys) || st.Joins != uint64(goroutines-keys) || st.Alone != 0 || st.InUse != 0 {
+	if loads.Load() != int64(keys) || st.Leads != before.Leads+uint64(keys) || st.Joins != uint64(goroutines-keys) || st.Alone != 0 || st.InUse != 0 {
 		t.Error("one load for each key", loads.Load(), st)
 	}
 }
@@ -186,7 +212,7 @@ func TestManyOnOwnKeys(t *testing.T)  { manyOn(t, 4000, 4000) }
 
 // The seats of all shards serve one that has none.
 func TestSeatsAreDealtAgain(t *testing.T) {
-	g := open(t, 64, 1)
+	g := open(t, 1)
 	for i := 0; i < 64; i++ {
 		key := fmt.Sprint("k", i)
 		if v, err, _ := g.Do(key, value(key)); v != key || err != nil {
@@ -200,7 +226,7 @@ func TestSeatsAreDealtAgain(t *testing.T) {
 
 // Two keys of one shard: who waits for the slow one is not woken by the other.
 func TestWaitsAreApart(t *testing.T) {
-	g := open(t, 200, 8)
+	g := open(t, 8)
 	p := g.made.Load()
 	other := ""
 	for i := 0; other == ""; i++ {
@@ -254,7 +280,7 @@ func TestWaitsAreApart(t *testing.T) {
 }
 
 func TestDoContext(t *testing.T) {
-	g := open(t, 2, 4)
+	g := open(t, 4)
 	ctx, cancel := context.WithCancel(context.WithValue(context.Background(), "who", "leader"))
 	defer cancel()
 	if v, err, shared := g.DoContext(ctx, "key", func(own context.Context) (interface{}, error) {
@@ -290,7 +316,7 @@ func TestDoContext(t *testing.T) {
 
 // A leader leaves, and its load goes on while somebody waits, and no longer.
 func TestDoContextOfALeader(t *testing.T) {
-	g := open(t, 1, 4)
+	g := open(t, 4)
 	leader, leave := context.WithCancel(context.Background())
 	waiter, stop := context.WithCancel(context.Background())
 	started := make(chan context.Context, 1)
@@ -350,7 +376,7 @@ func waiting(g *Group) (count int) {
 // A panic in a load with a goroutine of its own goes on in its leader and in who joined; so does a Goexit.
 func TestDoContextPanics(t *testing.T) {
 	for _, ends := range []func(){func() { panic("load") }, runtime.Goexit} {
-		g := open(t, 1, 3)
+		g := open(t, 3)
 		ctx, cancel := context.WithCancel(context.Background())
 		started, release := make(chan struct{}), make(chan struct{})
 		var recovered [2]interface{}
@@ -389,7 +415,7 @@ func TestManyContexts(t *testing.T)   { manyContexts(t, 256) }
 func TestContextsBeside(t *testing.T) { manyContexts(t, 2) }
 
 func manyContexts(t *testing.T, callers uint32) {
-	g := open(t, 8, callers)
+	g := open(t, callers)
 	var now atomic.Int64
 	var forgotten [8]atomic.Int64
 	var all sync.WaitGroup
@@ -443,7 +469,7 @@ func manyContexts(t *testing.T, callers uint32) {
 // More clients than callers, in rounds: those who find none free have one load together.
 func TestRounds(t *testing.T) {
 	const clients = 200
-	g := open(t, 4, 64)
+	g := open(t, 64)
 	for round := uint64(1); round <= 20; round++ {
 		var loads atomic.Int64
 		var all sync.WaitGroup
@@ -466,7 +492,7 @@ func TestRounds(t *testing.T) {
 
 // One origin hangs behind deadlines and has all callers: those who ask for another key have two loads together at most.
 func TestOriginThatHangs(t *testing.T) {
-	g := open(t, 4, 16)
+	g := open(t, 16)
 	started, release := make(chan struct{}), make(chan struct{})
 	hangs := g.DoChan("hangs", func() (interface{}, error) { close(started); <-release; return 1, nil })
 	<-started

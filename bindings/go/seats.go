@@ -44,26 +44,42 @@ static uint32_t forget_call(sf_slot *slot, _GoString_ key, uint32_t caller, uint
 	return code;
 }
 
-// Settles a call, and returns how many joined it.
-static uint32_t finish(uintptr_t slot) {
-	uint32_t joiners = 0;
-	if (sf_finish((sf_slot *)slot, 0, &joiners) == SF_OWES) {
-		while (sf_go_on((sf_slot *)slot, &joiners) == SF_OWES) {}
+// What came of a call: how many joined it, and its stamp.
+typedef struct {
+	uint32_t code, joiners;
+	uint64_t stamp[2];
+} letter;
+
+// Settles a call.
+static letter finish(uintptr_t slot) {
+	letter l = {0};
+	if (sf_finish((sf_slot *)slot, 0, &l.joiners) == SF_OWES) {
+		while (sf_go_on((sf_slot *)slot, &l.joiners) == SF_OWES) {}
 	}
-	return joiners;
+	sf_stamp((sf_slot *)slot, l.stamp);
+	return l;
 }
 
-// Whether the call is settled that the slot joined.
-static bool poll(uintptr_t slot) {
-	uint32_t joiners;
+// What came of the call that the slot joined; or the code is SF_NOT_YET, or SF_OTHER.
+static letter poll(uintptr_t slot) {
+	letter l = {0};
 	uint64_t value;
-	return sf_poll((sf_slot *)slot, &value, &joiners) == SF_DONE;
+	l.code = sf_poll((sf_slot *)slot, &value, &l.joiners);
+	if (l.code == SF_DONE) sf_stamp((sf_slot *)slot, l.stamp);
+	return l;
+}
+
+static uint32_t is_still(uintptr_t slot, uint64_t place, uint64_t call) {
+	uint64_t stamp[2] = {place, call};
+	return sf_is_still((sf_slot *)slot, stamp);
 }
 */
 import "C"
 
 import (
 	"context"
+	"crypto/rand"
+	"encoding/binary"
 	"hash/maphash"
 	"sync"
 	"sync/atomic"
@@ -71,9 +87,9 @@ import (
 )
 
 const (
-	mostKeys    = C.SF_MOST_KEYS
-	mostBytes   = C.SF_MOST_KEY_BYTES
 	mostCallers = C.SF_MOST_CALLERS - 1
+	// So many calls of other keys one waits for at the key's place, and then stands beside the library.
+	rounds = 3
 )
 
 // Who waits for a call. It is made by the first who does.
@@ -89,13 +105,13 @@ type wait struct {
 	result  chan Result        // for the leader, where the load has a goroutine of its own
 }
 
-// One who waits leaves: the leader, or who joined, by a seat that comes back with its letter or by none. Whether it has left, as
-// the call was not settled; and whether it was the last, so that the load was ended.
-func (w *wait) leave(leader bool, joined *seat) (left, last bool) {
+// One who waits leaves: the leader, or who joined, by a seat that comes back with its letter or by none. It is settled where the call
+// is; else it has left, and was perhaps the last, so that the load is told to end.
+func (w *wait) leave(leader bool, joined *seat) outcome {
 	w.lock.Lock()
 	defer w.lock.Unlock()
 	if w.settled {
-		return false, false
+		return settled
 	}
 	w.alone = w.alone || leader
 	if joined != nil {
@@ -105,9 +121,9 @@ func (w *wait) leave(leader bool, joined *seat) (left, last bool) {
 	if w.waiting == 0 && w.cancel != nil && !w.ended {
 		w.ended = true
 		w.cancel()
-		return true, true
+		return leftLast
 	}
-	return true, false
+	return left
 }
 
 // A caller's slot, and what the call came to that it led, until all who joined have that.
@@ -131,6 +147,10 @@ func (s *seat) wait() *wait {
 		s.waits = &wait{lock: &s.mu, done: make(chan struct{})}
 	}
 	return s.waits
+}
+
+func newSeat(slot *C.sf_slot) *seat {
+	return &seat{slot: slot, at: C.uintptr_t(uintptr(unsafe.Pointer(slot)))}
 }
 
 func (s *seat) close() {
@@ -178,16 +198,22 @@ type pool struct {
 }
 
 // None where a size is out of range, or there is no memory.
-func newPool(o Options) *pool {
+func newPool(size sizes) *pool {
+	var seeds [16]byte
+	if _, err := rand.Read(seeds[:]); err != nil {
+		return nil
+	}
 	slot := C.new_slot()
 	if slot == nil {
 		return nil
 	}
-	if C.sf_open(slot, C.uint32_t(o.Keys), C.uint32_t(o.KeyBytes), C.uint32_t(o.Callers)+1) != C.SF_DONE {
+	seed0, seed1 := binary.LittleEndian.Uint64(seeds[:8]), binary.LittleEndian.Uint64(seeds[8:])
+	// The slot from which the callers are split off has one of its own.
+	if C.sf_open(slot, C.uint32_t(size.places), C.uint32_t(size.callers)+1, C.uint64_t(seed0), C.uint64_t(seed1)) != C.SF_DONE {
 		C.free(unsafe.Pointer(slot))
 		return nil
 	}
-	return &pool{seed: maphash.MakeSeed(), root: &seat{slot: slot}, most: o.Callers}
+	return &pool{seed: maphash.MakeSeed(), root: newSeat(slot), most: size.callers}
 }
 
 func (p *pool) shardOf(key string) int {
@@ -208,7 +234,7 @@ func (p *pool) grow() *seat {
 		return nil
 	}
 	p.made++
-	s := &seat{slot: slot, at: C.uintptr_t(uintptr(unsafe.Pointer(slot)))}
+	s := newSeat(slot)
 	number := uint32(C.number(slot))
 	at := &p.chunks[number/chunkSize]
 	if at.Load() == nil {
@@ -300,10 +326,10 @@ type asking struct {
 	leads  bool
 }
 
-// Asks for the key by a free seat, or beside the library where there is none, or no room for the key.
-func (p *pool) ask(key string) asking {
+// Asks for the key by a free seat; or beside the library, where there is none, or so many calls of other keys were met.
+func (p *pool) ask(key string, others int) asking {
 	shard := p.shardOf(key)
-	for !p.closed.Load() {
+	for others < rounds && !p.closed.Load() {
 		s := p.take(shard)
 		if s == nil {
 			break
@@ -360,22 +386,25 @@ func (p *pool) forgetAsked(a asking, key string) {
 	}
 }
 
-// Settles the call that the seat leads, and wakes who waits for it. How many joined.
-func (p *pool) settle(a asking, v interface{}, err error, watched *wait) int64 {
+// Settles the call that the seat leads with what the result has, tells the result of the call, and wakes who waits for it.
+func (p *pool) settle(a asking, r *Result, watched *wait) {
+	r.Call = a.call
 	if a.beside != nil {
-		return p.beside.settle(a.beside, v, err)
+		r.Shared = p.beside.settle(a.beside, r.Val, r.Err) > 0
+		return
 	}
 	shard, s := a.shard, a.seat
-	s.val, s.err, s.ended = v, err, false
+	s.val, s.err, s.ended = r.Val, r.Err, false
 	if watched != nil {
 		s.mu.Lock()
 		s.ended = watched.ended
 		s.mu.Unlock()
 	}
 	s.owed.Store(0)
-	joined := int64(C.finish(s.at))
-	owed := joined
-	if joined > 0 || watched != nil {
+	letter := C.finish(s.at)
+	r.Shared, r.Stamp = letter.joiners > 0, stampOf(letter)
+	owed := int64(letter.joiners)
+	if r.Shared || watched != nil {
 		// Who looked too early holds the lock until it is among those who wait.
 		s.mu.Lock()
 		w := s.waits
@@ -394,7 +423,10 @@ func (p *pool) settle(a asking, v interface{}, err error, watched *wait) int64 {
 		}
 	}
 	p.release(shard, s, owed)
-	return joined
+}
+
+func stampOf(letter C.letter) Stamp {
+	return Stamp{uint64(letter.stamp[0]), uint64(letter.stamp[1])}
 }
 
 // So many more have to take what the seat's call came to; or by -1 one has. The seat is free when all have.
@@ -405,16 +437,27 @@ func (p *pool) release(shard int, s *seat, more int64) {
 	}
 }
 
-// Waits until the call is settled that it joined, or until stop is closed. Where it is settled, what it came to, and whether its load
-// was ended since nobody waited; else it has left, and whether the load was ended by that.
-func (p *pool) join(a asking, stop <-chan struct{}) (v interface{}, err error, ended, settled bool) {
+// How a wait has ended.
+type outcome uint8
+
+const (
+	settled  outcome = iota // with the call's result
+	ended                   // the load was told to end, since nobody waited for it: one asks again
+	other                   // the call was another key's: one asks again
+	left                    // by leaving
+	leftLast                // the same, and so the load is told to end
+)
+
+// Waits until the call is settled that it joined, or until stop is closed.
+func (p *pool) join(a asking, stop <-chan struct{}) (r Result, how outcome) {
 	if a.beside != nil {
 		return a.beside.join(stop)
 	}
 	s, led := a.seat, a.leader
-	for !bool(C.poll(s.at)) {
+	letter := C.poll(s.at)
+	for letter.code == C.SF_NOT_YET {
 		led.mu.Lock()
-		if bool(C.poll(s.at)) {
+		if letter = C.poll(s.at); letter.code != C.SF_NOT_YET {
 			led.mu.Unlock()
 			break
 		}
@@ -424,18 +467,46 @@ func (p *pool) join(a asking, stop <-chan struct{}) (v interface{}, err error, e
 		select {
 		case <-w.done:
 		case <-stop:
-			if left, last := w.leave(false, s); left {
-				return nil, nil, last, false
+			if how := w.leave(false, s); how != settled {
+				return r, how
 			}
 			<-w.done
 		}
+		letter = C.poll(s.at)
 	}
 	p.put(a.shard, s)
 	// The leader has stored this after the rest, so that Go knows of the order, too.
 	led.owed.Load()
-	v, err, ended = led.val, led.err, led.ended
+	switch {
+	case letter.code == C.SF_OTHER:
+		how = other
+	case led.ended && led.err != nil:
+		how = ended
+	default:
+		r = Result{led.val, led.err, true, a.call, stampOf(letter)}
+	}
 	p.release(a.shard, led, -1)
-	return v, err, ended, true
+	return r, how
+}
+
+// Whether the call of the stamp is current: asked by a free seat, or where there is none, by that which nobody has.
+func (p *pool) isStill(stamp Stamp) bool {
+	if p.closed.Load() {
+		return false
+	}
+	shard := int(stamp[0] % shardCount)
+	if s := p.take(shard); s != nil {
+		still := s.isStill(stamp)
+		p.put(shard, s)
+		return still
+	}
+	p.mu.Lock()
+	defer p.mu.Unlock()
+	return p.root.slot != nil && p.root.isStill(stamp)
+}
+
+func (s *seat) isStill(stamp Stamp) bool {
+	return C.is_still(s.at, C.uint64_t(stamp[0]), C.uint64_t(stamp[1])) == C.SF_YES
 }
 
 // The wait of a call that it leads, whose load has a goroutine of its own.

@@ -1,10 +1,17 @@
 // Package singleflight is golang.org/x/sync/singleflight over the proved library: Do, DoChan and Forget. The zero Group is ready
 // for use, as there; it is made at its first call, with the default sizes. New takes others.
 //
-// A group has a fixed number of keys, each of which has its room for good, and of callers, of which each call that is led or
-// joined takes one until it has ended. A Do that finds no caller free, or no room for its key, stands beside the library: it
-// shares its call with those alone who do so too, by a mutex and a map, and Stats counts these. So a function may ask the group
-// for other keys, however many wait. A caller makes 4,294,967,295 calls, and another takes its place then.
+// Any number of keys of any length come and go: a group has places, a key's is a hash of its bytes, and keys may share one. Who finds
+// another key's call open there waits for it and asks again, three times at most, and stands beside the library then. So does a Do
+// that finds no caller free, of which each call that is led or joined takes one until it has ended. Beside the library a Do shares its
+// call with those alone who stand there too, by a mutex and a map, and Stats counts these. So a function may ask the group for other
+// keys, however many wait. A caller makes 4,294,967,295 calls, and another takes its place then.
+//
+// # Results in a cache
+//
+// A Stamp tells of a result whether it may be used still. Ask IsStill before it is put into the cache, so that it was not made before
+// a Forget that came meanwhile; and ask again when it is taken out: who has seen a Forget and asks then gets a no for all that was
+// current before it.
 package singleflight
 
 import (
@@ -18,17 +25,22 @@ import (
 	"sync/atomic"
 )
 
-// Result is what DoCall returns, for DoChan.
+// Result is what Do returns, for DoChan, with the call that it came from and its stamp.
 type Result struct {
 	Val    interface{}
 	Err    error
 	Shared bool
 	Call   Call
+	Stamp  Stamp
 }
 
 // Call names a call of a group, for ForgetCall: no two calls of one are the same. The zero Call is that of each that stood beside
 // the library.
 type Call struct{ caller, generation uint32 }
+
+// Stamp names the place and the call of a result, for IsStill: 16 plain bytes, to be kept with the result. The zero Stamp is that of
+// each that stood beside the library, which is never a current one.
+type Stamp [2]uint64
 
 // Hit is what a Forget of one call found.
 type Hit uint8
@@ -75,30 +87,26 @@ func newPanicError(value interface{}) error {
 	return &panicError{value, stack}
 }
 
-// Options are the sizes of a group. Where one is 0 it is the default.
-type Options struct {
-	Keys     uint32 // 1 to 1,048,576; by default 16,384
-	KeyBytes uint32 // of the longest key: 1 to 250; by default 250
-	Callers  uint32 // how many calls may be led or joined at one time: 1 to 65,534; by default 16,384
-}
+// The sizes of a group.
+type sizes struct{ places, callers uint32 }
 
-func (o *Options) fill() {
-	if o.Keys == 0 {
-		o.Keys = 16384
-	}
-	if o.KeyBytes == 0 {
-		o.KeyBytes = mostBytes
-	}
-	if o.Callers == 0 {
-		o.Callers = 16384
-	}
-}
+func defaultSizes() sizes { return sizes{places: 1048576, callers: 16384} }
+
+// Option is a size of a group, for New.
+type Option func(*sizes)
+
+// Places is the number of places, 1 to 134,217,728, of 8 bytes each; by default 1,048,576. Have 1,000 for each call that is open at one
+// time, or 16 for each result in a cache.
+func Places(n uint32) Option { return func(s *sizes) { s.places = n } }
+
+// Callers is how many calls may be led or joined at one time, 1 to 65,534, of 240 bytes each; by default 16,384.
+func Callers(n uint32) Option { return func(s *sizes) { s.callers = n } }
 
 // Stats are the numbers of a group's calls since it was made.
 type Stats struct {
 	Leads  uint64 // functions that were called for a call of the library
 	Joins  uint64 // askings that joined another's call
-	Alone  uint64 // functions that were called beside the library, as no caller was free, or no room for the key
+	Alone  uint64 // functions that were called beside the library, as no caller was free, or other keys' calls were open at the place
 	Closed uint64 // Forgets that closed a call
 	Idle   uint64 // Forgets that closed none
 	Made   uint32 // callers that were made so far
@@ -111,13 +119,16 @@ type Group struct {
 	mu   sync.Mutex // taken to make it and to close it
 }
 
-// New makes a group of these sizes.
-func New(o Options) (*Group, error) {
-	o.fill()
-	if o.Keys > mostKeys || o.KeyBytes > mostBytes || o.Callers > mostCallers {
+// New makes a group. With no options it has the sizes of the zero Group, and takes 12 MB.
+func New(options ...Option) (*Group, error) {
+	s := defaultSizes()
+	for _, option := range options {
+		option(&s)
+	}
+	if s.callers == 0 || s.callers > mostCallers {
 		return nil, ErrSize
 	}
-	p := newPool(o)
+	p := newPool(s)
 	if p == nil {
 		return nil, ErrSize
 	}
@@ -141,9 +152,7 @@ func (g *Group) pool() *pool {
 	if p := g.made.Load(); p != nil {
 		return p
 	}
-	var o Options
-	o.fill()
-	p := newPool(o)
+	p := newPool(defaultSizes())
 	if p == nil {
 		p = closedPool()
 	}
@@ -181,48 +190,63 @@ func (g *Group) Stats() Stats {
 // Do returns what fn returns: of the key's open call, or where there is none, of a new one, for which it calls fn. Where that
 // panics or ends its goroutine, so do all who joined.
 func (g *Group) Do(key string, fn func() (interface{}, error)) (v interface{}, err error, shared bool) {
-	v, err, shared, _ = g.DoCall(key, fn)
-	return v, err, shared
+	r := g.pool().do(key, fn)
+	return r.Val, r.Err, r.Shared
 }
 
 // DoCall is Do, and tells from which call the result came.
 func (g *Group) DoCall(key string, fn func() (interface{}, error)) (v interface{}, err error, shared bool, call Call) {
-	p := g.pool()
-	return p.do(p.ask(key), key, fn)
+	r := g.pool().do(key, fn)
+	return r.Val, r.Err, r.Shared, r.Call
 }
 
-func (p *pool) do(a asking, key string, fn func() (interface{}, error)) (v interface{}, err error, shared bool, call Call) {
-	for ; !a.leads; a = p.ask(key) {
-		v, err, ended, _ := p.join(a, nil)
-		if !ended || err == nil {
-			end(err)
-			return v, err, true, a.call
+// DoStamped is Do, and returns the stamp of the result.
+func (g *Group) DoStamped(key string, fn func() (interface{}, error)) (v interface{}, err error, shared bool, stamp Stamp) {
+	r := g.pool().do(key, fn)
+	return r.Val, r.Err, r.Shared, r.Stamp
+}
+
+// IsStill tells whether the call of the stamp is its place's current one: no Forget of a key of that place has ended it, and no newer
+// call was led there. A yes is right for any stamp of the group; a no may come of another key of the place. After Close it is a no.
+func (g *Group) IsStill(stamp Stamp) bool {
+	p := g.made.Load()
+	return p != nil && p.isStill(stamp)
+}
+
+func (p *pool) do(key string, fn func() (interface{}, error)) Result {
+	return p.goOn(p.ask(key, 0), key, fn)
+}
+
+// Goes on with an asking until there is a result.
+func (p *pool) goOn(a asking, key string, fn func() (interface{}, error)) Result {
+	for others := 0; !a.leads; a = p.ask(key, others) {
+		r, how := p.join(a, nil)
+		switch how {
+		case settled:
+			r.end()
+			return r
+		case other:
+			others++
 		}
-		// All who waited before had left, so that the load was told to end.
 	}
-	v, err, shared = p.lead(a, fn, nil)
-	return v, err, shared, a.call
+	return p.lead(a, fn, nil)
 }
 
-// Ends the goroutine as the function did whose error this is.
-func end(err error) {
-	if e, ok := err.(*panicError); ok {
+// Ends the goroutine where the function has ended its own.
+func (r *Result) end() {
+	if e, ok := r.Err.(*panicError); ok {
 		panic(e)
-	} else if err == errGoexit {
+	} else if r.Err == errGoexit {
 		runtime.Goexit()
 	}
 }
 
-// DoChan is DoCall, whose result comes by a channel. The channel is not closed.
+// DoChan is Do, whose result comes by a channel. The channel is not closed.
 func (g *Group) DoChan(key string, fn func() (interface{}, error)) <-chan Result {
 	ch := make(chan Result, 1)
 	p := g.pool()
-	a := p.ask(key)
-	go func() {
-		var r Result
-		r.Val, r.Err, r.Shared, r.Call = p.do(a, key, fn)
-		ch <- r
-	}()
+	a := p.ask(key, 0)
+	go func() { ch <- p.goOn(a, key, fn) }()
 	return ch
 }
 
@@ -257,31 +281,31 @@ func (g *Group) ForgetCall(key string, call Call) Hit {
 
 // Calls fn, and settles the call that was led, also where fn panics or ends its goroutine. A watched call has a goroutine of
 // its own, and its panic goes on in the leader's, unless that has left.
-func (p *pool) lead(a asking, fn func() (interface{}, error), watched *wait) (v interface{}, err error, shared bool) {
+func (p *pool) lead(a asking, fn func() (interface{}, error), watched *wait) (r Result) {
 	returned, recovered := false, false
 	// By two deferred functions a panic is told from Goexit, which recover does not stop.
 	defer func() {
 		if !returned && !recovered {
-			err = errGoexit
+			r.Err = errGoexit
 		}
-		shared = p.settle(a, v, err, watched) > 0
+		p.settle(a, &r, watched)
 		if watched != nil && !watched.alone {
-			watched.result <- Result{v, err, shared, a.call}
-		} else if e, ok := err.(*panicError); ok {
+			watched.result <- r
+		} else if e, ok := r.Err.(*panicError); ok {
 			panic(e)
 		}
 	}()
 	func() {
 		defer func() {
 			if !returned {
-				if r := recover(); r != nil {
-					err = newPanicError(r)
+				if v := recover(); v != nil {
+					r.Err = newPanicError(v)
 				}
 			}
 		}()
-		v, err = fn()
+		r.Val, r.Err = fn()
 		returned = true
 	}()
 	recovered = !returned
-	return v, err, false
+	return r
 }

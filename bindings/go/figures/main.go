@@ -3,7 +3,9 @@ package main
 
 import (
 	"fmt"
+	"os"
 	"sort"
+	"strconv"
 	"sync"
 	"sync/atomic"
 	"time"
@@ -126,6 +128,44 @@ func besideWaiters(g group, waiters int) [2]int64 {
 	return least
 }
 
+// Nanoseconds an IsStill of each goroutine.
+func still(goroutines int) float64 {
+	var g ours.Group
+	defer g.Close()
+	_, _, _, stamp := g.DoStamped("key", func() (interface{}, error) { return nil, nil })
+	took := together(goroutines, func(int) {
+		for n := 0; n < gets; n++ {
+			if !g.IsStill(stamp) {
+				panic("it is current")
+			}
+		}
+	})
+	return float64(took.Nanoseconds()) / gets
+}
+
+// What each tenth of so many different keys costs by four goroutines: nanoseconds a Do of each, the least and the median of batches.
+func tenths(g group, keys int) (all [10][2]time.Duration) {
+	const batch = 500
+	for part := range all {
+		var mu sync.Mutex
+		var times []time.Duration
+		together(4, func(i int) {
+			for done := 0; done < keys/40; done += batch {
+				from := time.Now()
+				for n := 0; n < batch; n++ {
+					g.Do(strconv.Itoa((part*keys+done+n)*4+i), func() (interface{}, error) { return nil, nil })
+				}
+				mu.Lock()
+				times = append(times, time.Since(from)/batch)
+				mu.Unlock()
+			}
+		})
+		sort.Slice(times, func(i, j int) bool { return times[i] < times[j] })
+		all[part] = [2]time.Duration{times[0], times[len(times)/2]}
+	}
+	return all
+}
+
 // The best of so many rounds by each of the two.
 func best(rounds int, run func(g group) float64) (own, other float64) {
 	own, other = 1e18, 1e18
@@ -149,6 +189,15 @@ func main() {
 			fmt.Printf("%s, %d goroutines: %.0f ns a Do; x/sync %.0f ns\n", what, goroutines, own, other)
 		}
 	}
+	for _, goroutines := range []int{1, 4} {
+		least := 1e18
+		for round := 0; round < 7; round++ {
+			if took := still(goroutines); took < least {
+				least = took
+			}
+		}
+		fmt.Printf("IsStill, %d goroutines: %.0f ns\n", goroutines, least)
+	}
 	for _, keys := range []int{1, 40, 4000} {
 		own, other := best(7, func(g group) float64 { return crowd(g, keys) })
 		fmt.Printf("4,000 goroutines, %d keys: %.0f ns a Do of all; x/sync %.0f ns\n", keys, own, other)
@@ -159,6 +208,16 @@ func main() {
 		g.Close()
 		fmt.Printf("64 goroutines, one key, a function of %v: p50 %v, p99 %v; x/sync %v, %v\n", load, own[0], own[1], other[0], other[1])
 	}
+	keys := 200000
+	if n, err := strconv.Atoi(os.Getenv("SF_KEYS")); err == nil {
+		keys = n
+	}
+	small, err := ours.New(ours.Places(65536))
+	if err != nil {
+		panic(err)
+	}
+	fmt.Printf("%d keys over 65,536 places, 4 goroutines, each tenth: %v; x/sync %v\n", keys, tenths(small, keys), tenths(new(theirs.Group), keys))
+	small.Close()
 	for _, waiters := range []int{0, 3000} {
 		g := new(ours.Group)
 		own, other := besideWaiters(g, waiters), besideWaiters(new(theirs.Group), waiters)

@@ -91,6 +91,56 @@ fn gets<A: Asker>(threads: usize, hot: bool, asker: impl Fn() -> A + Sync) -> f6
     took.as_nanos() as f64 / GETS as f64
 }
 
+// Nanoseconds a get of one thread, by the length of the key.
+fn by_length<A: Asker>(len: usize, mut asker: A) -> f64 {
+    let (key, from) = (vec![b'k'; len], Instant::now());
+    let mut sum = 0;
+    for round in 0..GETS {
+        sum ^= asker.get(&key, || round);
+    }
+    USED.fetch_xor(sum, Relaxed);
+    from.elapsed().as_nanos() as f64 / GETS as f64
+}
+
+// Nanoseconds each thread takes to ask whether an answer is current still, by a caller of its own or by the group.
+fn still(threads: usize, by_group: bool) -> f64 {
+    let group = Group::<u64>::new();
+    let stamp = group.caller().unwrap().do_with(b"key", || 1).unwrap().stamp();
+    let took = time(threads, || group.caller().unwrap(), |_, caller| {
+        for _ in 0..GETS {
+            assert!(if by_group { group.is_still(stamp) } else { caller.is_still(stamp) });
+        }
+    });
+    took.as_nanos() as f64 / GETS as f64
+}
+
+// Keys of eight bytes, which for a directory of 65,536 places without a seed begin their walk at one of a few places.
+fn chosen(count: usize) -> Vec<[u8; 8]> {
+    let mix = |number: u64| {
+        let first = (number ^ (number >> 33)).wrapping_mul(0xff51_afd7_ed55_8ccd);
+        let second = (first ^ (first >> 33)).wrapping_mul(0xc4ce_b9fe_1a85_ec53);
+        second ^ (second >> 33)
+    };
+    let is_chosen = |key: &u64| mix(8 ^ key) >> 48 < 64;
+    (0..u64::MAX).filter(is_chosen).map(u64::to_le_bytes).take(count).collect()
+}
+
+// Nanoseconds a get of these keys in turn, by one thread over 65,536 places.
+fn in_turn(keys: &[[u8; 8]]) -> f64 {
+    let group = Group::<u64>::open(65_536, 4).unwrap();
+    let mut caller = group.caller().unwrap();
+    let from = Instant::now();
+    for key in keys {
+        USED.fetch_xor(caller.get(key, || 1), Relaxed);
+    }
+    from.elapsed().as_nanos() as f64 / keys.len() as f64
+}
+
+// The best of some rounds.
+fn best(mut run: impl FnMut() -> f64) -> f64 {
+    (0..7).map(|_| run()).fold(f64::MAX, f64::min)
+}
+
 fn spin(until: Instant) {
     while Instant::now() < until {
         std::hint::spin_loop();
@@ -155,16 +205,25 @@ fn beside_waiters<A: Asker>(waiters: usize, asker: impl Fn() -> A + Sync) -> [u6
 }
 
 fn main() {
-    let open = |callers| Group::<u64>::open(1024, 16, callers).unwrap();
+    let open = |callers| Group::<u64>::open(1 << 20, callers).unwrap();
+    for len in [8, 32, 128, 250, 1000] {
+        let group = open(1);
+        let ours = best(|| by_length(len, group.caller().unwrap()));
+        let plains = best(|| by_length(len, &Plain::default()));
+        println!("a key of {len} bytes, 1 thread: {ours:.0} ns a get; mutex, map and condition variable {plains:.0} ns");
+    }
+    for threads in [1, 4] {
+        let (own, group) = (best(|| still(threads, false)), best(|| still(threads, true)));
+        println!("is_still, {threads} threads: {own:.0} ns by a caller; {group:.0} ns by the group");
+    }
+    let (chosen, others) = (chosen(30_000), (0..30_000u64).map(u64::to_le_bytes).collect::<Vec<_>>());
+    let (chosen, others) = (best(|| in_turn(&chosen)), best(|| in_turn(&others)));
+    println!("30,000 keys chosen for a directory's hash: {chosen:.0} ns a get; others {others:.0} ns");
     for (what, hot) in [("own keys", false), ("one hot key", true)] {
         for threads in [1, 4] {
-            let (mut ours, mut plains) = (f64::MAX, f64::MAX);
-            for _ in 0..7 {
-                let group = open(4);
-                ours = ours.min(gets(threads, hot, || group.caller().unwrap()));
-                let plain = Plain::default();
-                plains = plains.min(gets(threads, hot, || &plain));
-            }
+            let (group, plain) = (open(4), Plain::default());
+            let ours = best(|| gets(threads, hot, || group.caller().unwrap()));
+            let plains = best(|| gets(threads, hot, || &plain));
             println!("{what}, {threads} threads: {ours:.0} ns a get; mutex, map and condition variable {plains:.0} ns");
         }
     }

@@ -2,8 +2,8 @@
 use singleflight::Group;
 
 fn main() {
-    // At most 1024 keys of 100 bytes, and five callers.
-    let group = Group::<String>::open(1024, 100, 5).unwrap();
+    // For any number of keys; `open` takes other sizes.
+    let group = Group::<String>::new();
     std::thread::scope(|scope| {
         for _ in 0..4 {
             let mut caller = group.caller().unwrap();

@@ -3,7 +3,7 @@
 use crate::answer::Answer;
 use crate::pool::{Letter, Pool, Seat};
 use crate::post::{Counter, Post};
-use crate::{Call, Error, Got, Hit, Note, raw, refusal};
+use crate::{Call, Error, Got, Hit, Note, Stamp, raw, refusal};
 use std::fmt;
 use std::sync::Arc;
 use std::time::{Duration, Instant};
@@ -89,13 +89,14 @@ impl<T> Leading<'_, T> {
         let answer = Answer::lent(value);
         let joiners = self.settle(answer.number());
         answer.settle(u64::from(joiners) + u64::from(self.has_receiver));
-        let call = self.seat.call();
+        let (call, stamp) = (Some(self.seat.call()), self.seat.stamp());
         std::mem::forget(self);
         Got {
             answer,
             joiners,
             led: true,
             call,
+            stamp,
         }
     }
 }
@@ -111,6 +112,18 @@ pub(crate) enum Asked {
     Leads,
     Joined(Call),
 }
+
+/// What a letter brought.
+pub(crate) enum Read<T> {
+    Got(Got<T>),
+    /// Nothing: the leader's load ended without an answer.
+    Failed,
+    /// Nothing: the call was another key's.
+    Other,
+}
+
+/// So many calls of other keys one waits for at the key's place, and then loads alone.
+pub(crate) const ROUNDS: u32 = 3;
 
 impl<T: Send + Sync> Caller<T> {
     /// Its seat, which is free: a new one where it has none, or left a call before it was over.
@@ -173,23 +186,46 @@ impl<T: Send + Sync> Caller<T> {
         call
     }
 
-    /// What the letter of the call brings that it joined. None where the leader's load ended without an answer: it asks again.
-    pub(crate) fn read(&mut self, Letter(number, joiners): Letter, call: Call) -> Option<Got<T>> {
+    /// What the letter brings of the call that it joined.
+    pub(crate) fn read(&mut self, letter: Letter, call: Call) -> Read<T> {
         self.waits = None;
+        let Letter::Own(number, joiners) = letter else {
+            self.pool.give_back(letter);
+            return Read::Other;
+        };
         self.has_letter = true;
         // SAFETY: the leader counts each who joined, and each takes its letter once.
-        unsafe { Answer::of_number(number) }.map(|answer| Got {
+        let Some(answer) = (unsafe { Answer::of_number(number) }) else {
+            return Read::Failed;
+        };
+        Read::Got(Got {
             answer,
             joiners,
             led: false,
-            call,
+            call: Some(call),
+            stamp: self.seat.as_mut().map(Seat::stamp).unwrap_or_default(),
         })
+    }
+
+    /// What it loaded without a call.
+    pub(crate) fn alone(&mut self, value: T) -> Got<T> {
+        self.has_letter = false;
+        self.count(|post| &post.alone);
+        let answer = Answer::lent(value);
+        answer.settle(0);
+        Got {
+            answer,
+            joiners: 0,
+            led: true,
+            call: None,
+            stamp: Stamp::default(),
+        }
     }
 
     /// The answer of the key's open call; or where there is none, of a new one, for which `load` is called.
     ///
     /// ```
-    /// # let group = singleflight::Group::<u32>::open(1, 1, 1).unwrap();
+    /// # let group = singleflight::Group::<u32>::open(1, 1).unwrap();
     /// # let mut caller = group.caller().unwrap();
     /// let got = caller.do_with(b"k", || 7).unwrap();
     /// assert!(*got.answer == 7 && got.led && !got.shared());
@@ -204,7 +240,7 @@ impl<T: Send + Sync> Caller<T> {
     /// ```
     /// # use singleflight::{Error, Group};
     /// # use std::time::Duration;
-    /// # let group = Group::<u32>::open(1, 1, 2).unwrap();
+    /// # let group = Group::<u32>::open(1, 2).unwrap();
     /// let (mut leader, mut other) = (group.caller().unwrap(), group.caller().unwrap());
     /// leader.do_with(b"k", || {
     ///     let late = other.do_with_timeout(b"k", Duration::from_millis(1), || 8);
@@ -217,7 +253,8 @@ impl<T: Send + Sync> Caller<T> {
     }
 
     fn do_until(&mut self, key: &[u8], deadline: Option<Instant>, load: impl FnOnce() -> T) -> Result<Got<T>, Error> {
-        loop {
+        let mut others = 0;
+        while others < ROUNDS {
             let Asked::Joined(call) = self.ask(key)? else {
                 let leading = self.leading();
                 return Ok(leading.end(load()));
@@ -227,10 +264,13 @@ impl<T: Send + Sync> Caller<T> {
                 self.leave();
                 return Err(Error::TimedOut);
             };
-            if let Some(got) = self.read(letter, call) {
-                return Ok(got);
+            match self.read(letter, call) {
+                Read::Got(got) => return Ok(got),
+                Read::Failed => {}
+                Read::Other => others += 1,
             }
         }
+        Ok(self.alone(load()))
     }
 
     /// Closes the key's open call, if there is one: who asks from now on gets a later one's answer. Whether there was one.
@@ -257,9 +297,9 @@ impl<T: Send + Sync> Caller<T> {
     ///
     /// ```
     /// # use singleflight::{Group, Hit};
-    /// # let group = Group::<u32>::open(1, 1, 1).unwrap();
+    /// # let group = Group::<u32>::open(1, 1).unwrap();
     /// # let mut caller = group.caller().unwrap();
-    /// let stale = caller.do_with(b"k", || 1).unwrap().call();
+    /// let stale = caller.do_with(b"k", || 1).unwrap().call().unwrap();
     /// assert_eq!(caller.forget_call(b"k", stale), Ok(Hit::Cleared));
     /// assert_eq!(caller.forget_call(b"k", stale), Ok(Hit::Missed));
     /// ```
@@ -282,7 +322,7 @@ impl<T: Send + Sync> Caller<T> {
     /// Which call the key names: the one that was led last, unless a Forget has ended it.
     ///
     /// ```
-    /// # let group = singleflight::Group::<u32>::open(1, 1, 1).unwrap();
+    /// # let group = singleflight::Group::<u32>::open(1, 1).unwrap();
     /// # let mut caller = group.caller().unwrap();
     /// assert_eq!(caller.named(b"k"), Ok(None));
     /// ```
@@ -294,6 +334,22 @@ impl<T: Send + Sync> Caller<T> {
             raw::OTHERWISE => Ok(None),
             code => Err(refusal(code)),
         }
+    }
+
+    /// Whether the call of the stamp is its place's current one: no Forget of a key of that place has ended it, and no newer call was led
+    /// there. A yes is right for any stamp of the group, whichever caller got it; a no may come of another key of the place. It costs
+    /// two loads, and takes no lock.
+    ///
+    /// ```
+    /// # let group = singleflight::Group::<u32>::open(1, 2).unwrap();
+    /// let (mut first, mut second) = (group.caller().unwrap(), group.caller().unwrap());
+    /// let stamp = first.do_with(b"k", || 1).unwrap().stamp();
+    /// assert!(second.is_still(stamp));
+    /// first.forget(b"k").unwrap();
+    /// assert!(!second.is_still(stamp));
+    /// ```
+    pub fn is_still(&mut self, stamp: Stamp) -> bool {
+        self.free_seat().is_ok_and(|seat| seat.is_still(stamp))
     }
 
     /// Whether the call of the answer that this caller got last is its key's current one still. None before the first, and after a

@@ -1,8 +1,8 @@
 //! Askings for a second caller, who waits elsewhere.
 
-use crate::caller::{Caller, Leading};
-use crate::pool::Seat;
-use crate::{Error, Got, raw, refusal};
+use crate::caller::{Caller, Leading, Read};
+use crate::pool::{Letter, Seat};
+use crate::{Call, Error, Got, raw, refusal};
 use std::fmt;
 use std::sync::Arc;
 use std::sync::mpsc::{RecvError, TryRecvError};
@@ -32,11 +32,12 @@ impl<T> fmt::Debug for Job<'_, T> {
 pub struct Receiver<T>(Caller<T>);
 
 impl<T: Send + Sync> Receiver<T> {
-    /// The answer, if it is there. `Disconnected` where there is none: the leader's load panicked, or the answer was taken before.
+    /// The answer, if it is there. `Disconnected` where there is none: the leader's load panicked, the call was another key's, at whose
+    /// place it was open, or the answer was taken before.
     pub fn try_recv(&mut self) -> Result<Got<T>, TryRecvError> {
         let call = self.0.waits.ok_or(TryRecvError::Disconnected)?;
         let letter = self.0.seat.as_mut().and_then(Seat::poll).ok_or(TryRecvError::Empty)?;
-        self.0.read(letter, call).ok_or(TryRecvError::Disconnected)
+        self.read(letter, call).ok_or(TryRecvError::Disconnected)
     }
 
     /// Waits for the answer. An error where there is none.
@@ -44,7 +45,14 @@ impl<T: Send + Sync> Receiver<T> {
         let call = self.0.waits.ok_or(RecvError)?;
         let seat = self.0.seat.as_mut().ok_or(RecvError)?;
         let letter = self.0.pool.post(call.caller).wait(seat, None).ok_or(RecvError)?;
-        self.0.read(letter, call).ok_or(RecvError)
+        self.read(letter, call).ok_or(RecvError)
+    }
+
+    fn read(&mut self, letter: Letter, call: Call) -> Option<Got<T>> {
+        match self.0.read(letter, call) {
+            Read::Got(got) => Some(got),
+            Read::Failed | Read::Other => None,
+        }
     }
 
     /// The caller that waited, which is free once its answer was there; else the receiver.
@@ -58,7 +66,7 @@ impl<T: Send + Sync> Caller<T> {
     /// open, this caller leads a new one, and has to run the job; else it has nothing to do.
     ///
     /// ```
-    /// # let group = singleflight::Group::<u32>::open(1, 1, 2).unwrap();
+    /// # let group = singleflight::Group::<u32>::open(1, 2).unwrap();
     /// let (mut caller, other) = (group.caller().unwrap(), group.caller().unwrap());
     /// let (mut receiver, job) = caller.do_chan(other, b"k").unwrap();
     /// let waits = std::thread::spawn(move || *receiver.recv().unwrap().answer);

@@ -1,6 +1,6 @@
 //! Asking in a task: a future that runs under any executor.
 
-use crate::caller::{Asked, Caller};
+use crate::caller::{Asked, Caller, ROUNDS, Read};
 use crate::{Call, Error, Got};
 use std::future::Future;
 use std::pin::Pin;
@@ -13,9 +13,9 @@ struct Waiting<'a, T: Send + Sync> {
 }
 
 impl<T: Send + Sync> Future for Waiting<'_, T> {
-    type Output = Option<Got<T>>;
+    type Output = Read<T>;
 
-    fn poll(mut self: Pin<&mut Self>, context: &mut Context<'_>) -> Poll<Option<Got<T>>> {
+    fn poll(mut self: Pin<&mut Self>, context: &mut Context<'_>) -> Poll<Read<T>> {
         let call = self.call;
         let caller = &mut *self.caller;
         let seat = caller.seat.as_mut().expect("who joined has a seat");
@@ -45,7 +45,7 @@ impl<T: Send + Sync> Caller<T> {
     /// #         Poll::Pending => unreachable!(),
     /// #     }
     /// # }
-    /// # let group = singleflight::Group::<u32>::open(1, 1, 1).unwrap();
+    /// # let group = singleflight::Group::<u32>::open(1, 1).unwrap();
     /// let mut caller = group.caller().unwrap();
     /// block_on(async {
     ///     let got = caller.do_async(b"k", async { 7 }).await.unwrap();
@@ -53,14 +53,18 @@ impl<T: Send + Sync> Caller<T> {
     /// });
     /// ```
     pub async fn do_async(&mut self, key: &[u8], load: impl Future<Output = T>) -> Result<Got<T>, Error> {
-        loop {
+        let mut others = 0;
+        while others < ROUNDS {
             let Asked::Joined(call) = self.ask(key)? else {
                 let leading = self.leading();
                 return Ok(leading.end(load.await));
             };
-            if let Some(got) = (Waiting { caller: self, call }).await {
-                return Ok(got);
+            match (Waiting { caller: self, call }).await {
+                Read::Got(got) => return Ok(got),
+                Read::Failed => {}
+                Read::Other => others += 1,
             }
         }
+        Ok(self.alone(load.await))
     }
 }

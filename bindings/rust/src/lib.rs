@@ -4,7 +4,7 @@
 //! ```
 //! use singleflight::Group;
 //!
-//! let group = Group::<String>::open(1024, 100, 4).unwrap();
+//! let group = Group::<String>::new();
 //! std::thread::scope(|scope| {
 //!     for _ in 0..4 {
 //!         let mut caller = group.caller().unwrap();
@@ -17,8 +17,49 @@
 //! });
 //! ```
 //!
-//! Each thread has a [`Caller`] of its own, which goes back to its group when it is dropped. Asking, settling and forgetting take
-//! no lock; who joins a call parks until its leader, which looks whether anybody joined, wakes it.
+//! Each thread or task has a [`Caller`] of its own, which goes back to its group when it is dropped. Asking, settling and forgetting
+//! take no lock; who joins a call parks until its leader, which looks whether anybody joined, wakes it.
+//!
+//! Any number of keys of any length come and go: a group has places, a key's is a hash of its bytes, and keys may share one. Who
+//! finds another key's call open there waits for it and asks again, three times at most, and loads without a call then, shared with
+//! nobody, which [`Stats::alone`] counts. So have 1,000 places for each call that is open at one time, or 16 for each cached answer.
+//!
+//! # Answers in a cache
+//!
+//! A [`Stamp`] tells of an answer whether it may be used still. Ask before it is put into the cache, so that it was not loaded before a
+//! Forget that came meanwhile; and ask again when it is taken out: who has seen a Forget and asks then gets a no for all that was
+//! current before it.
+//!
+//! ```
+//! use singleflight::{Answer, Caller, Group, Stamp};
+//! use std::{collections::HashMap, sync::Mutex};
+//!
+//! type Cache = Mutex<HashMap<&'static str, (Answer<String>, Stamp)>>;
+//!
+//! fn get(cache: &Cache, caller: &mut Caller<String>, key: &'static str) -> Answer<String> {
+//!     let found = cache.lock().unwrap().get(key).cloned();
+//!     if let Some((answer, stamp)) = found {
+//!         if caller.is_still(stamp) {
+//!             return answer;
+//!         }
+//!     }
+//!     let got = caller.do_with(key.as_bytes(), || format!("the page of {key}")).unwrap();
+//!     if caller.is_still(got.stamp()) {
+//!         cache.lock().unwrap().insert(key, (got.answer.clone(), got.stamp()));
+//!     }
+//!     got.answer
+//! }
+//!
+//! let (group, cache) = (Group::new(), Cache::default());
+//! let mut caller = group.caller().unwrap();
+//! for _ in 0..2 {
+//!     assert_eq!(*get(&cache, &mut caller, "ada"), "the page of ada");
+//! }
+//! assert_eq!(group.stats().leads, 1);
+//! caller.forget(b"ada").unwrap();
+//! get(&cache, &mut caller, "ada");
+//! assert_eq!(group.stats().leads, 2);
+//! ```
 
 mod answer;
 mod caller;
@@ -36,6 +77,9 @@ pub use pool::Stats;
 use std::fmt;
 use std::sync::Arc;
 
+const PLACES: u32 = 1_048_576;
+const CALLERS: u32 = 16_384;
+
 /// Why a call made nothing.
 #[derive(Clone, Copy, Debug, PartialEq, Eq)]
 pub enum Error {
@@ -43,10 +87,6 @@ pub enum Error {
     Size,
     /// There is no memory, or no caller is left.
     NothingLeft,
-    /// The key is longer than the group's keys may be.
-    KeyTooLong,
-    /// The group has as many keys as it can.
-    Full,
     /// The caller has had all its calls.
     Spent,
     /// The answer did not come in time.
@@ -60,8 +100,6 @@ impl fmt::Display for Error {
         f.write_str(match self {
             Error::Size => "a size is out of range",
             Error::NothingLeft => "no memory or no caller is left",
-            Error::KeyTooLong => "key too long",
-            Error::Full => "group full",
             Error::Spent => "caller spent",
             Error::TimedOut => "timed out",
             Error::OtherGroup => "of another group",
@@ -85,30 +123,44 @@ pub struct Note<T> {
 /// What an asking got.
 #[derive(Debug)]
 pub struct Got<T> {
-    /// What the call was settled with.
+    /// What the call was settled with, or what was loaded without one.
     pub answer: Answer<T>,
     /// How many joined the call.
     pub joiners: u32,
-    /// Whether this caller led it.
+    /// Whether this caller loaded it.
     pub led: bool,
-    call: Call,
+    call: Option<Call>,
+    stamp: Stamp,
 }
 
 /// A call of a group: no two calls of one have both numbers the same.
 ///
 /// ```
-/// # let group = singleflight::Group::<u32>::open(1, 1, 1).unwrap();
+/// # let group = singleflight::Group::<u32>::open(1, 1).unwrap();
 /// # let mut caller = group.caller().unwrap();
 /// let first = caller.do_with(b"k", || 1).unwrap().call();
 /// assert_ne!(caller.do_with(b"k", || 2).unwrap().call(), first);
 /// ```
 #[derive(Clone, Copy, Debug, PartialEq, Eq, Hash)]
 pub struct Call {
-    /// The number of its leader.
+    /// The number of its leader, from 1 to 65,535.
     pub caller: u32,
-    /// Which call of its leader it is.
+    /// Which call of its leader it is, from 0 on.
     pub generation: u32,
 }
+
+/// The place and the call of an answer, for [`Caller::is_still`]: 16 plain bytes, to be kept with the answer. The default is that
+/// of no call, which is never a current one.
+///
+/// ```
+/// # use singleflight::{Group, Stamp};
+/// # let group = Group::<u32>::open(1, 1).unwrap();
+/// # let mut caller = group.caller().unwrap();
+/// let stamp = caller.do_with(b"k", || 1).unwrap().stamp();
+/// assert!(caller.is_still(stamp) && !caller.is_still(Stamp::default()));
+/// ```
+#[derive(Clone, Copy, Debug, Default, PartialEq, Eq, Hash)]
+pub struct Stamp([u64; 2]);
 
 /// What a Forget of one call found.
 #[derive(Clone, Copy, Debug, PartialEq, Eq)]
@@ -127,23 +179,27 @@ impl<T> Got<T> {
         self.joiners > 0
     }
 
-    /// The call that the answer came from, for [`Caller::forget_call`].
+    /// The call that the answer came from, for [`Caller::forget_call`]. None where it was loaded without one.
     ///
     /// ```
-    /// # let group = singleflight::Group::<u32>::open(1, 1, 1).unwrap();
+    /// # let group = singleflight::Group::<u32>::open(1, 1).unwrap();
     /// # let mut caller = group.caller().unwrap();
     /// let got = caller.do_with(b"k", || 1).unwrap();
-    /// assert_eq!(caller.named(b"k").unwrap(), Some(got.call()));
+    /// assert_eq!(caller.named(b"k").unwrap(), got.call());
     /// ```
-    pub fn call(&self) -> Call {
+    pub fn call(&self) -> Option<Call> {
         self.call
+    }
+
+    /// The stamp of the answer, by which one asks later whether it is current still. That of an answer that was loaded without a call
+    /// is the default.
+    pub fn stamp(&self) -> Stamp {
+        self.stamp
     }
 }
 
 fn refusal(code: u32) -> Error {
     match code {
-        raw::TOO_LONG => Error::KeyTooLong,
-        raw::FULL => Error::Full,
         raw::SPENT => Error::Spent,
         raw::BAD_NUMBER => Error::Size,
         _ => Error::NothingLeft,
@@ -151,21 +207,71 @@ fn refusal(code: u32) -> Error {
 }
 
 impl<T: Send + Sync> Group<T> {
-    /// A group for 1 to 1,048,576 keys of at most 0 to 250 bytes, and 1 to 65,534 callers at one time.
-    pub fn open(keys: u32, key_bytes: u32, callers: u32) -> Result<Self, Error> {
-        let pool = Arc::new(Pool::open(keys, key_bytes, callers)?);
+    /// A group with 1,048,576 places and at most 16,384 callers at one time, in 12 MB. It panics where there is no memory.
+    ///
+    /// ```
+    /// let group = singleflight::Group::<u32>::new();
+    /// assert_eq!(*group.caller().unwrap().do_with(b"any key", || 7).unwrap().answer, 7);
+    /// ```
+    pub fn new() -> Self {
+        Self::open(PLACES, CALLERS).expect("memory for a group")
+    }
+
+    /// A group with 1 to 134,217,728 places, of 8 bytes each, and 1 to 65,534 callers at one time, of 240 bytes each and some 400 more once they
+    /// are made. While it is opened it takes twice as much. `Size` or `NothingLeft` where it is
+    /// refused.
+    ///
+    /// ```
+    /// use singleflight::{Error, Group};
+    ///
+    /// assert!(Group::<u32>::open(65_536, 16).is_ok());
+    /// assert_eq!(Group::<u32>::open(0, 16).err(), Some(Error::Size));
+    /// ```
+    pub fn open(places: u32, callers: u32) -> Result<Self, Error> {
+        let pool = Arc::new(Pool::open(places, callers)?);
         Ok(Group { pool })
     }
 
     /// A caller, that of one that was dropped or a new one. None where all are taken, or there is no memory.
+    ///
+    /// ```
+    /// # let group = singleflight::Group::<u32>::open(1, 1).unwrap();
+    /// let caller = group.caller().unwrap();
+    /// assert!(group.caller().is_none());
+    /// drop(caller);
+    /// assert!(group.caller().is_some());
+    /// ```
     pub fn caller(&self) -> Option<Caller<T>> {
         let seat = self.pool.take()?;
         Some(Caller::of(self.pool.clone(), seat))
     }
 
+    /// [`Caller::is_still`] for who has no caller. It takes a lock.
+    ///
+    /// ```
+    /// # let group = singleflight::Group::<u32>::open(1, 1).unwrap();
+    /// let stamp = group.caller().unwrap().do_with(b"k", || 1).unwrap().stamp();
+    /// assert!(group.is_still(stamp));
+    /// ```
+    pub fn is_still(&self, stamp: Stamp) -> bool {
+        self.pool.is_still(stamp)
+    }
+
     /// The numbers of the group's calls. It costs a look at each caller that was made.
+    ///
+    /// ```
+    /// # let group = singleflight::Group::<u32>::open(1, 1).unwrap();
+    /// group.caller().unwrap().do_with(b"k", || 1).unwrap();
+    /// assert!(group.stats().leads == 1 && group.stats().in_use == 0);
+    /// ```
     pub fn stats(&self) -> Stats {
         self.pool.stats()
+    }
+}
+
+impl<T: Send + Sync> Default for Group<T> {
+    fn default() -> Self {
+        Self::new()
     }
 }
 

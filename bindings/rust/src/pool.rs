@@ -3,7 +3,9 @@
 use crate::answer::Answer;
 use crate::post::Post;
 use crate::raw::{self, Slot};
-use crate::{Call, Error, refusal};
+use crate::{Call, Error, Stamp, refusal};
+use std::collections::hash_map::RandomState;
+use std::hash::BuildHasher;
 use std::marker::PhantomData;
 use std::sync::{Mutex, MutexGuard, OnceLock, PoisonError};
 
@@ -14,9 +16,13 @@ pub(crate) fn lock<T>(mutex: &Mutex<T>) -> MutexGuard<'_, T> {
     mutex.lock().unwrap_or_else(PoisonError::into_inner)
 }
 
-/// What a settled call brings to one who joined it: the number that it was settled with, and how many joined.
+/// What a settled call brings to one who joined it: the number that it was settled with, and how many joined; or that it was
+/// another key's, and its number.
 #[derive(Clone, Copy)]
-pub(crate) struct Letter(pub(crate) u64, pub(crate) u32);
+pub(crate) enum Letter {
+    Own(u64, u32),
+    Other(u64),
+}
 
 /// A caller's slot, with its number.
 pub(crate) struct Seat {
@@ -28,8 +34,23 @@ impl Seat {
     /// The letter of the call that it joined, once.
     pub(crate) fn poll(&mut self) -> Option<Letter> {
         let (mut number, mut joiners) = (0, 0);
-        let code = unsafe { raw::sf_poll(&mut self.slot, &mut number, &mut joiners) };
-        (code == raw::DONE).then_some(Letter(number, joiners))
+        match unsafe { raw::sf_poll(&mut self.slot, &mut number, &mut joiners) } {
+            raw::DONE => Some(Letter::Own(number, joiners)),
+            raw::OTHER => Some(Letter::Other(number)),
+            _ => None,
+        }
+    }
+
+    /// Whether the call of the stamp is current.
+    pub(crate) fn is_still(&mut self, stamp: Stamp) -> bool {
+        unsafe { raw::sf_is_still(&mut self.slot, &stamp.0) == raw::DONE }
+    }
+
+    /// The stamp of the letter that it had last.
+    pub(crate) fn stamp(&mut self) -> Stamp {
+        let mut stamp = Stamp::default();
+        unsafe { raw::sf_stamp(&mut self.slot, &mut stamp.0) };
+        stamp
     }
 
     pub(crate) fn is_free(&mut self) -> bool {
@@ -66,6 +87,8 @@ pub struct Stats {
     pub leads: u64,
     /// Askings that joined another's call.
     pub joins: u64,
+    /// Loads without a call, as other keys' calls were open at the key's place.
+    pub alone: u64,
     /// Forgets that closed a call.
     pub closed: u64,
     /// Forgets that closed none.
@@ -84,11 +107,12 @@ pub(crate) struct Pool<T> {
 }
 
 impl<T> Pool<T> {
-    pub(crate) fn open(keys: u32, key_bytes: u32, callers: u32) -> Result<Self, Error> {
+    pub(crate) fn open(places: u32, callers: u32) -> Result<Self, Error> {
         // The slot from which the callers are split off has one of its own.
         let all = callers.checked_add(1).filter(|all| *all > 1).ok_or(Error::Size)?;
         let mut root = Slot::NONE;
-        match unsafe { raw::sf_open(&mut root, keys, key_bytes, all) } {
+        let random = RandomState::new();
+        match unsafe { raw::sf_open(&mut root, places, all, random.hash_one(0), random.hash_one(1)) } {
             raw::DONE => Ok(Pool {
                 seats: Mutex::new(Seats {
                     root,
@@ -133,12 +157,16 @@ impl<T> Pool<T> {
         lock(&self.seats).free.push(seat);
     }
 
+    /// Whether the call of the stamp is current, asked by the slot that nobody has.
+    pub(crate) fn is_still(&self, stamp: Stamp) -> bool {
+        unsafe { raw::sf_is_still(&mut lock(&self.seats).root, &stamp.0) == raw::DONE }
+    }
+
     /// Gives the count of the answer back that the letter brought, which nobody uses.
-    pub(crate) fn give_back(&self, letter: Option<Letter>) {
-        if let Some(Letter(number, _)) = letter {
-            // SAFETY: the leader counts each who joined, also one who has left, and each takes its letter once.
-            drop(unsafe { Answer::<T>::of_number(number) });
-        }
+    pub(crate) fn give_back(&self, letter: Letter) {
+        let (Letter::Own(number, _) | Letter::Other(number)) = letter;
+        // SAFETY: the leader counts each who joined, also one who asked for another key, and each takes its letter once.
+        drop(unsafe { Answer::<T>::of_number(number) });
     }
 
     /// Lets a seat go that has had all its calls.
@@ -158,6 +186,7 @@ impl<T> Pool<T> {
         for post in self.posts.iter().filter_map(OnceLock::get).flat_map(|posts| posts.iter()) {
             stats.leads += post.leads.get();
             stats.joins += post.joins.get();
+            stats.alone += post.alone.get();
             stats.closed += post.closed.get();
             stats.idle += post.idle.get();
         }

@@ -24,6 +24,7 @@ pub(crate) struct Post {
     settled: Condvar,
     pub(crate) leads: Counter,
     pub(crate) joins: Counter,
+    pub(crate) alone: Counter,
     pub(crate) closed: Counter,
     pub(crate) idle: Counter,
 }
@@ -56,7 +57,7 @@ impl Post {
         }
         wakers.into_values().for_each(Waker::wake);
         for mut seat in left {
-            pool.give_back(seat.poll());
+            seat.poll().into_iter().for_each(|letter| pool.give_back(letter));
             pool.put(seat);
         }
     }
@@ -101,11 +102,10 @@ impl Post {
     pub(crate) fn leave<T>(&self, pool: &Pool<T>, mut seat: Seat) {
         let mut waits = lock(&self.waits);
         let waker = waits.wakers.remove(&seat.number);
-        let letter = seat.poll();
-        if letter.is_none() {
+        let Some(letter) = seat.poll() else {
             waits.left.push(seat);
             return;
-        }
+        };
         drop((waits, waker));
         pool.give_back(letter);
         pool.put(seat);

@@ -34,15 +34,14 @@ pub const DONE: u32 = 0;
 pub const OTHERWISE: u32 = 1;
 pub const SPENT: u32 = 2;
 pub const BUSY: u32 = 3;
-pub const TOO_LONG: u32 = 4;
-pub const FULL: u32 = 5;
+pub const OTHER: u32 = 4;
 pub const WRONG_STATE: u32 = 6;
 pub const BAD_NUMBER: u32 = 8;
 pub const CLEARED: u32 = 10;
 pub const MOST_TRIES: u32 = 65_536;
 
 extern "C" {
-    pub fn sf_open(slot: &mut Slot, keys: u32, key_bytes: u32, callers: u32) -> u32;
+    pub fn sf_open(slot: &mut Slot, places: u32, callers: u32, seed0: u64, seed1: u64) -> u32;
     pub fn sf_split(slot: &mut Slot, other: &mut Slot) -> u32;
     pub fn sf_ask(slot: &mut Slot, key: *const u8, len: usize, tries: u32) -> u32;
     pub fn sf_ask_chan(slot: &mut Slot, other: &mut Slot, key: *const u8, len: usize, tries: u32) -> u32;
@@ -55,6 +54,8 @@ extern "C" {
     pub fn sf_forget_call(slot: &mut Slot, key: *const u8, len: usize, caller: u32, generation: u32, tries: u32) -> u32;
     pub fn sf_named(slot: &mut Slot, key: *const u8, len: usize, caller: &mut u32, generation: &mut u32) -> u32;
     pub fn sf_is_current(slot: &mut Slot) -> u32;
+    pub fn sf_stamp(slot: &mut Slot, stamp: &mut [u64; 2]) -> u32;
+    pub fn sf_is_still(slot: &mut Slot, stamp: &[u64; 2]) -> u32;
     pub fn sf_tell(slot: &mut Slot, note: &mut Note) -> u32;
     pub fn sf_learn(slot: &mut Slot, note: &mut Note) -> u32;
     pub fn sf_drop_note(note: &mut Note);

@@ -56,7 +56,7 @@ async fn yield_now() {
 }
 
 fn open(callers: u32) -> (Group<Arc<u32>>, Vec<Caller<Arc<u32>>>) {
-    let group = Group::open(16, 8, callers).unwrap();
+    let group = Group::open(1 << 20, callers).unwrap();
     let all = (0..callers).map(|_| group.caller().unwrap()).collect();
     (group, all)
 }
@@ -95,7 +95,7 @@ fn a_task_joins_a_thread_and_a_thread_joins_a_task() {
 
 #[test]
 fn three_thousand_tasks_are_woken_once_each() {
-    let group = Group::<u32>::open(16, 8, 3010).unwrap();
+    let group = Group::<u32>::open(1 << 20, 3010).unwrap();
     let mut callers: Vec<_> = (0..3000).map(|_| group.caller().unwrap()).collect();
     let wakes: Vec<Arc<Wakes>> = callers.iter().map(|_| Arc::default()).collect();
     let mut slow = group.caller().unwrap();
@@ -281,7 +281,7 @@ fn random_tasks() {
         forgotten: Default::default(),
         dropped: AtomicU64::new(0),
     });
-    let group = Arc::new(Group::<(usize, u64, Arc<()>)>::open(KEYS as u32, 8, 4000).unwrap());
+    let group = Arc::new(Group::<(usize, u64, Arc<()>)>::open(1 << 20, 4000).unwrap());
     let live = Arc::new(());
     let tasks = (0..1000).map(|_| {
         let (world, group, live) = (world.clone(), group.clone(), live.clone());

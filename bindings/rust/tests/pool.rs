@@ -1,4 +1,6 @@
 //! Callers that come back, waits that take too long, and the numbers of a group.
+mod apart;
+
 use singleflight::{Error, Group, Stats};
 use std::sync::atomic::{AtomicU64, Ordering::SeqCst};
 use std::sync::{Arc, Barrier};
@@ -15,7 +17,7 @@ fn until(what: &str, holds: impl Fn() -> bool) {
 
 #[test]
 fn callers_that_are_dropped_are_dealt_again() {
-    let group = Group::<u32>::open(1, 4, 1).unwrap();
+    let group = Group::<u32>::open(1, 1).unwrap();
     for round in 0..100 {
         let mut caller = group.caller().unwrap();
         assert!(group.caller().is_none(), "there is one");
@@ -30,7 +32,7 @@ fn callers_that_are_dropped_are_dealt_again() {
 
 #[test]
 fn a_caller_with_a_call_that_nobody_settles_is_not_dealt_again() {
-    let group = Group::<u32>::open(2, 4, 3).unwrap();
+    let group = Group::<u32>::open(1 << 20, 3).unwrap();
     let (mut first, second) = (group.caller().unwrap(), group.caller().unwrap());
     let (receiver, job) = first.do_chan(second, b"k").unwrap();
     std::mem::forget(job);
@@ -41,7 +43,7 @@ fn a_caller_with_a_call_that_nobody_settles_is_not_dealt_again() {
 
 #[test]
 fn a_wait_that_takes_too_long() {
-    let group = Group::<Arc<u32>>::open(2, 4, 3).unwrap();
+    let group = Group::<Arc<u32>>::open(1 << 20, 3).unwrap();
     let (mut leader, mut waiter) = (group.caller().unwrap(), group.caller().unwrap());
     let (started, release) = (Arc::new(Barrier::new(2)), Arc::new(Barrier::new(2)));
     let value = Arc::new(7);
@@ -77,15 +79,15 @@ fn a_wait_that_takes_too_long() {
 #[test]
 fn many_on_some_keys() {
     const THREADS: usize = 200;
-    let group = Group::<u32>::open(64, 8, 65_534).unwrap();
+    let group = Group::<u32>::open(1 << 20, 65_534).unwrap();
+    let names = apart::keys(&group, THREADS);
     for keys in [1, 40, THREADS] {
         let before = group.stats();
         let (loads, release) = (AtomicU64::new(0), AtomicU64::new(0));
         std::thread::scope(|scope| {
             for thread in 0..THREADS {
-                let (group, loads, release) = (&group, &loads, &release);
+                let (group, loads, release, key) = (&group, &loads, &release, &names[thread % keys]);
                 scope.spawn(move || {
-                    let key = format!("k{}", thread % keys.min(64));
                     let got = group.caller().unwrap().do_with(key.as_bytes(), || {
                         loads.fetch_add(1, SeqCst);
                         until("all ask", || release.load(SeqCst) == 1);
@@ -99,14 +101,14 @@ fn many_on_some_keys() {
             assert!(group.stats().in_use == THREADS as u32 && group.stats().made == THREADS as u32, "each has a caller");
             release.store(1, SeqCst);
         });
-        assert!(loads.load(SeqCst) == keys.min(64) as u64, "one load a key");
+        assert!(loads.load(SeqCst) == keys as u64, "one load a key");
         assert!(group.stats().in_use == 0, "all are back");
     }
 }
 
 #[test]
 fn random_waits() {
-    let group = Group::<Arc<u32>>::open(4, 4, 64).unwrap();
+    let group = Group::<Arc<u32>>::open(1 << 20, 64).unwrap();
     let live = Arc::new(0);
     let timed_out = AtomicU64::new(0);
     std::thread::scope(|scope| {
@@ -142,7 +144,7 @@ fn random_waits() {
 
 #[test]
 fn all_can_be_shown() {
-    let group = Group::<u32>::open(1, 4, 2).unwrap();
+    let group = Group::<u32>::open(1, 2).unwrap();
     let (mut first, second) = (group.caller().unwrap(), group.caller().unwrap());
     let (receiver, job) = first.do_chan(second, b"k").unwrap();
     let shown = format!("{job:?} {receiver:?} {group:?}");

@@ -1,4 +1,7 @@
 //! Asking in tasks of tokio: one load for all who ask at one time, deadlines, and tasks that are aborted.
+#[path = "../../tests/apart/mod.rs"]
+mod apart;
+
 use singleflight::Group;
 use std::sync::Arc;
 use std::sync::atomic::{AtomicU64, Ordering::SeqCst};
@@ -25,13 +28,14 @@ async fn until(what: &str, holds: impl Fn() -> bool) {
 fn one_load_for_all_who_ask_at_once() {
     runtime().block_on(async {
         for keys in [1, 40, 4000] {
-            let group = Arc::new(Group::<String>::open(4096, 16, 4000).unwrap());
+            let group = Arc::new(Group::<String>::open(1 << 16, 4000).unwrap());
+            let names = apart::keys(&group, keys);
+            let before = group.stats();
             let (loads, release) = (Arc::new(AtomicU64::new(0)), Arc::new(Semaphore::new(0)));
             let tasks: Vec<_> = (0..4000)
                 .map(|task| {
-                    let (group, loads, release) = (group.clone(), loads.clone(), release.clone());
+                    let (group, loads, release, key) = (group.clone(), loads.clone(), release.clone(), names[task % keys].clone());
                     tokio::spawn(async move {
-                        let key = format!("k{}", task % keys);
                         let load = async {
                             loads.fetch_add(1, SeqCst);
                             drop(release.acquire().await.unwrap());
@@ -42,12 +46,13 @@ fn one_load_for_all_who_ask_at_once() {
                     })
                 })
                 .collect();
-            until("all ask", || group.stats().leads + group.stats().joins == 4000).await;
+            let asked = || group.stats().leads + group.stats().joins - before.leads - before.joins;
+            until("all ask", || asked() == 4000).await;
             release.add_permits(4000);
             for task in tasks {
                 task.await.unwrap();
             }
-            assert!(loads.load(SeqCst) == keys && group.stats().in_use == 0, "one load a key, and all callers are back");
+            assert!(loads.load(SeqCst) == keys as u64 && group.stats().in_use == 0, "one load a key, and all callers are back");
         }
     });
 }
@@ -55,7 +60,7 @@ fn one_load_for_all_who_ask_at_once() {
 #[test]
 fn deadlines_and_aborted_tasks() {
     runtime().block_on(async {
-        let group = Arc::new(Group::<Arc<u32>>::open(1, 16, 4).unwrap());
+        let group = Arc::new(Group::<Arc<u32>>::open(1, 4).unwrap());
         let (value, release) = (Arc::new(7), Arc::new(Semaphore::new(0)));
         let weak = Arc::downgrade(&value);
         let leader = tokio::spawn({

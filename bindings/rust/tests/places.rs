@@ -1,0 +1,208 @@
+//! Keys that share a place: each answer is of its own key, and none is from before a Forget.
+use singleflight::{Group, Stamp, Stats};
+use std::future::Future;
+use std::pin::{Pin, pin};
+use std::sync::atomic::{AtomicI64, AtomicU64, Ordering::SeqCst};
+use std::sync::mpsc::TryRecvError;
+use std::sync::{Arc, Mutex};
+use std::task::{Context, Poll, Waker};
+use std::time::Duration;
+
+fn look<F: Future>(future: Pin<&mut F>) -> Poll<F::Output> {
+    future.poll(&mut Context::from_waker(Waker::noop()))
+}
+
+#[test]
+fn who_finds_another_keys_call_asks_again() {
+    let group = Group::<Arc<&str>>::open(1, 2).unwrap();
+    let (mut first, mut second) = (group.caller().unwrap(), group.caller().unwrap());
+    let value = Arc::new("ada");
+    let weak = Arc::downgrade(&value);
+    std::thread::scope(|scope| {
+        let mut other = None;
+        let got = first.do_with(b"ada", || {
+            other = Some(scope.spawn(|| second.do_with(b"grace", || Arc::new("grace")).unwrap()));
+            while group.stats().joins == 0 {
+                std::thread::sleep(Duration::from_millis(1));
+            }
+            value
+        });
+        let (got, other) = (got.unwrap(), other.unwrap().join().unwrap());
+        assert!(**got.answer == "ada" && got.led && got.joiners == 1, "who asked for another key had joined");
+        assert!(**other.answer == "grace" && other.led && !other.shared() && other.call() != got.call(), "and leads a call of its own");
+    });
+    assert!(weak.upgrade().is_none(), "its count of the other key's answer is given back");
+    assert!(first.is_current() == Some(false) && second.is_current() == Some(true), "the place has one current call");
+    assert!(group.stats() == Stats { leads: 2, joins: 1, made: 2, in_use: 2, ..Stats::default() }, "{:?}", group.stats());
+}
+
+#[test]
+fn after_three_calls_of_other_keys_one_loads_alone() {
+    let group = Group::<Arc<u32>>::open(1, 2).unwrap();
+    let (mut first, mut second) = (group.caller().unwrap(), group.caller().unwrap());
+    let (loads, value) = (AtomicU64::new(0), Arc::new(1));
+    assert!(second.do_with(b"other", || Arc::new(0)).is_ok() && second.is_current() == Some(true), "a letter before");
+    {
+        let load = async {
+            loads.fetch_add(1, SeqCst);
+            value.clone()
+        };
+        let mut task = pin!(second.do_async(b"other", load));
+        for round in 0..3u64 {
+            let got = first.do_with(b"key", || {
+                assert!(look(task.as_mut()).is_pending(), "it waits");
+                assert!(group.stats().joins == round + 1 && loads.load(SeqCst) == 0, "and has asked again");
+                Arc::new(7)
+            });
+            assert!(**got.unwrap().answer == 7, "the first has its own");
+        }
+        let Poll::Ready(Ok(got)) = look(task.as_mut()) else { panic!("it waits no longer") };
+        assert!(**got.answer == 1 && got.led && got.joiners == 0 && loads.load(SeqCst) == 1, "its own load");
+        assert!(got.call().is_none() && got.stamp() == Stamp::default(), "of no call");
+    }
+    assert!(Arc::strong_count(&value) == 1, "the answer is gone with who had it");
+    assert!(second.is_current().is_none(), "there is no call to ask about");
+    let stats = group.stats();
+    assert!(stats.alone == 1 && stats.leads == 4 && stats.joins == 3, "{stats:?}");
+}
+
+#[test]
+fn a_receiver_of_another_keys_call_gets_none() {
+    let group = Group::<u32>::open(1, 3).unwrap();
+    let (mut first, mut second, third) = (group.caller().unwrap(), group.caller().unwrap(), group.caller().unwrap());
+    let mut waits = None;
+    first
+        .do_with(b"key", || {
+            let (receiver, job) = second.do_chan(third, b"other").unwrap();
+            assert!(job.is_none(), "another call is open at its place");
+            waits = Some(receiver);
+            7
+        })
+        .unwrap();
+    let mut receiver = waits.unwrap();
+    assert!(receiver.try_recv().err() == Some(TryRecvError::Disconnected), "no answer of its key");
+    let third = receiver.into_caller().unwrap();
+    let (mut receiver, job) = second.do_chan(third, b"other").unwrap();
+    job.unwrap().run(|| 8);
+    assert!(*receiver.recv().unwrap().answer == 8, "it asks again");
+}
+
+#[test]
+fn keys_of_any_length() {
+    let group = Group::<usize>::open(1, 2).unwrap();
+    let (mut first, mut second) = (group.caller().unwrap(), group.caller().unwrap());
+    for len in [0, 1, 249, 250, 251, 252, 1000, 100_000] {
+        let key = vec![b'k'; len];
+        let other = [&key[..], b"l"].concat();
+        let got = first.do_with(&key, || {
+            // One byte more makes another key.
+            let mut task = pin!(second.do_async(&other, async { len + 1 }));
+            assert!(look(task.as_mut()).is_pending(), "it waits");
+            drop(task);
+            len
+        });
+        assert!(*got.unwrap().answer == len && first.is_current() == Some(true), "the answer");
+        assert!(*second.do_with(&other, || len + 1).unwrap().answer == len + 1, "the other's");
+        let call = second.do_with(&key, || len).unwrap().call();
+        assert!(call.is_some() && first.named(&key) == Ok(call), "the call that it names");
+        assert!(second.forget(&key) == Ok(false), "nothing is open");
+    }
+}
+
+fn draw(seed: &mut u64) -> u64 {
+    *seed ^= *seed << 13;
+    *seed ^= *seed >> 7;
+    *seed ^= *seed << 17;
+    *seed
+}
+
+struct Page<'a> {
+    key: String,
+    moment: u64,
+    live: &'a AtomicI64,
+}
+
+impl Drop for Page<'_> {
+    fn drop(&mut self) {
+        self.live.fetch_sub(1, SeqCst);
+    }
+}
+
+// Eight threads ask for 64 keys, some of which are long, and forget them. Each value names its key, and when it was loaded: so each
+// answer is of its own key, and none is from before a Forget of it that the asker had seen. Where there is a cache, whose answers are
+// asked for by their stamps, so is each of those.
+fn stress(places: u32, answers: u64, cached: bool) -> Stats {
+    const KEYS: usize = 64;
+    let (live, clock) = (AtomicI64::new(0), AtomicU64::new(1));
+    let forgotten: Vec<AtomicU64> = (0..KEYS).map(|_| AtomicU64::new(0)).collect();
+    let cache: Vec<Mutex<Option<_>>> = (0..KEYS).map(|_| Mutex::new(None)).collect();
+    let names: Vec<String> = (0..KEYS).map(|number| format!("{}{number}", "key".repeat(number % 8 * 20))).collect();
+    let hits = AtomicU64::new(0);
+    let group = Group::<Page>::open(places, 8).unwrap();
+    std::thread::scope(|scope| {
+        for thread in 0..8u64 {
+            let mut caller = group.caller().unwrap();
+            let (live, clock, forgotten, names, cache, hits) = (&live, &clock, &forgotten, &names, &cache, &hits);
+            scope.spawn(move || {
+                let mut seed = 88_172_645_463_325_252 + thread;
+                for _ in 0..answers / 8 {
+                    let number = draw(&mut seed) as usize % KEYS;
+                    let key = names[number].as_bytes();
+                    if draw(&mut seed) % 16 == 0 {
+                        let now = clock.load(SeqCst);
+                        caller.forget(key).unwrap();
+                        forgotten[number].fetch_max(now, SeqCst);
+                    }
+                    let before = forgotten[number].load(SeqCst);
+                    if cached {
+                        let found: Option<(singleflight::Answer<Page>, Stamp)> = cache[number].lock().unwrap().clone();
+                        if let Some((page, stamp)) = found {
+                            if caller.is_still(stamp) {
+                                assert!(page.key == names[number] && page.moment >= before, "a hit of its key, and no older than a forget");
+                                hits.fetch_add(1, SeqCst);
+                                continue;
+                            }
+                        }
+                    }
+                    let turns = draw(&mut seed) % 4;
+                    let load = || {
+                        let moment = clock.fetch_add(1, SeqCst);
+                        (0..turns).for_each(|_| std::thread::yield_now());
+                        live.fetch_add(1, SeqCst);
+                        Page { key: names[number].clone(), moment, live }
+                    };
+                    let got = caller.do_with(key, load).unwrap();
+                    assert!(got.answer.key == names[number], "an answer of another key");
+                    assert!(got.answer.moment >= before, "an answer from before a forget");
+                    if cached && caller.is_still(got.stamp()) {
+                        *cache[number].lock().unwrap() = Some((got.answer.clone(), got.stamp()));
+                    }
+                }
+            });
+        }
+    });
+    drop(cache);
+    let stats = group.stats();
+    assert!(live.load(SeqCst) == 0 && stats.in_use == 0, "each value is dropped once, and each caller is back: {stats:?}");
+    assert!(!cached || hits.load(SeqCst) > 0, "there were hits");
+    stats
+}
+
+#[test]
+fn a_million_answers_over_sixteen_places() {
+    let stats = stress(16, 1_000_000, false);
+    assert!(stats.leads + stats.alone < 1_000_000 && stats.joins > 0 && stats.alone > 0, "some joined, and some loaded alone: {stats:?}");
+}
+
+#[test]
+fn all_keys_on_one_place() {
+    let stats = stress(1, 100_000, false);
+    assert!(stats.joins > 0 && stats.alone > 0, "some joined, and some loaded alone: {stats:?}");
+}
+
+#[test]
+fn cached_answers_by_their_stamps() {
+    for places in [1, 16, 1 << 20] {
+        stress(places, 100_000, true);
+    }
+}
