@@ -1,79 +1,6 @@
 package singleflight
 
-/*
-#include <stdlib.h>
-#include <string.h>
-#include "sf.h"
-
-// Each slot has a cache line of its own.
-static sf_slot *new_slot(void) {
-	void *slot = aligned_alloc(128, 128);
-	return slot ? memset(slot, 0, 128) : slot;
-}
-
-static uint32_t number(sf_slot *slot) {
-	uint32_t number = 0;
-	sf_number(slot, &number);
-	return number;
-}
-
-// A slot comes as its address, and a key as Go has it, so that a call allocates nothing and is checked for no pointers. Where
-// the slot leads or joined, the number of the leader stands above the code, in 16 bits from bit 8 on, and the generation in the upper half.
-static uint64_t ask(uintptr_t slot, _GoString_ key) {
-	uint32_t code, leader = 0, generation = 0;
-	do {
-		code = sf_ask((sf_slot *)slot, (const uint8_t *)_GoStringPtr(key), _GoStringLen(key), SF_MOST_TRIES);
-	} while (code == SF_BUSY);
-	if (code == SF_LEADS || code == SF_JOINED) sf_call((sf_slot *)slot, &leader, &generation);
-	return (uint64_t)generation << 32 | leader << 8 | code;
-}
-
-static uint32_t forget(sf_slot *slot, _GoString_ key) {
-	uint32_t code;
-	do {
-		code = sf_forget(slot, (const uint8_t *)_GoStringPtr(key), _GoStringLen(key), SF_MOST_TRIES);
-	} while (code == SF_BUSY);
-	return code;
-}
-
-static uint32_t forget_call(sf_slot *slot, _GoString_ key, uint32_t caller, uint32_t generation) {
-	uint32_t code;
-	do {
-		code = sf_forget_call(slot, (const uint8_t *)_GoStringPtr(key), _GoStringLen(key), caller, generation, SF_MOST_TRIES);
-	} while (code == SF_BUSY);
-	return code;
-}
-
-// What came of a call: how many joined it, and its stamp.
-typedef struct {
-	uint32_t code, joiners;
-	uint64_t stamp[2];
-} letter;
-
-// Settles a call.
-static letter finish(uintptr_t slot) {
-	letter l = {0};
-	if (sf_finish((sf_slot *)slot, 0, &l.joiners) == SF_OWES) {
-		while (sf_go_on((sf_slot *)slot, &l.joiners) == SF_OWES) {}
-	}
-	sf_stamp((sf_slot *)slot, l.stamp);
-	return l;
-}
-
-// What came of the call that the slot joined; or the code is SF_NOT_YET, or SF_OTHER.
-static letter poll(uintptr_t slot) {
-	letter l = {0};
-	uint64_t value;
-	l.code = sf_poll((sf_slot *)slot, &value, &l.joiners);
-	if (l.code == SF_DONE) sf_stamp((sf_slot *)slot, l.stamp);
-	return l;
-}
-
-static uint32_t is_still(uintptr_t slot, uint64_t place, uint64_t call) {
-	uint64_t stamp[2] = {place, call};
-	return sf_is_still((sf_slot *)slot, stamp);
-}
-*/
+// #include "calls.h"
 import "C"
 
 import (
@@ -334,7 +261,7 @@ func (p *pool) ask(key string, others int) asking {
 		if s == nil {
 			break
 		}
-		asked := uint64(C.ask(s.at, key))
+		asked := askFor(s.at, key)
 		call := Call{uint32(asked) >> 8, uint32(asked >> 32)}
 		switch uint8(asked) {
 		case C.SF_LEADS:
@@ -401,8 +328,8 @@ func (p *pool) settle(a asking, r *Result, watched *wait) {
 		s.mu.Unlock()
 	}
 	s.owed.Store(0)
-	letter := C.finish(s.at)
-	r.Shared, r.Stamp = letter.joiners > 0, stampOf(letter)
+	letter := finish(s.at)
+	r.Shared, r.Stamp = letter.joiners > 0, letter.stamp
 	owed := int64(letter.joiners)
 	if r.Shared || watched != nil {
 		// Who looked too early holds the lock until it is among those who wait.
@@ -416,7 +343,7 @@ func (p *pool) settle(a asking, r *Result, watched *wait) {
 		s.mu.Unlock()
 		if w != nil {
 			for _, left := range w.left {
-				C.poll(left.at)
+				poll(left.at)
 				p.put(shard, left)
 			}
 			owed -= int64(len(w.left))
@@ -425,16 +352,18 @@ func (p *pool) settle(a asking, r *Result, watched *wait) {
 	p.release(shard, s, owed)
 }
 
-func stampOf(letter C.letter) Stamp {
-	return Stamp{uint64(letter.stamp[0]), uint64(letter.stamp[1])}
-}
-
 // So many more have to take what the seat's call came to; or by -1 one has. The seat is free when all have.
 func (p *pool) release(shard int, s *seat, more int64) {
 	if s.owed.Add(more) == 0 {
 		s.val, s.err = nil, nil
 		p.put(shard, s)
 	}
+}
+
+// What came of a call: how many joined it, and its stamp.
+type letter struct {
+	code, joiners uint32
+	stamp         Stamp
 }
 
 // How a wait has ended.
@@ -454,10 +383,10 @@ func (p *pool) join(a asking, stop <-chan struct{}) (r Result, how outcome) {
 		return a.beside.join(stop)
 	}
 	s, led := a.seat, a.leader
-	letter := C.poll(s.at)
+	letter := poll(s.at)
 	for letter.code == C.SF_NOT_YET {
 		led.mu.Lock()
-		if letter = C.poll(s.at); letter.code != C.SF_NOT_YET {
+		if letter = poll(s.at); letter.code != C.SF_NOT_YET {
 			led.mu.Unlock()
 			break
 		}
@@ -472,7 +401,7 @@ func (p *pool) join(a asking, stop <-chan struct{}) (r Result, how outcome) {
 			}
 			<-w.done
 		}
-		letter = C.poll(s.at)
+		letter = poll(s.at)
 	}
 	p.put(a.shard, s)
 	// The leader has stored this after the rest, so that Go knows of the order, too.
@@ -483,7 +412,7 @@ func (p *pool) join(a asking, stop <-chan struct{}) (r Result, how outcome) {
 	case led.ended && led.err != nil:
 		how = ended
 	default:
-		r = Result{led.val, led.err, true, a.call, stampOf(letter)}
+		r = Result{led.val, led.err, true, a.call, letter.stamp}
 	}
 	p.release(a.shard, led, -1)
 	return r, how
@@ -496,17 +425,13 @@ func (p *pool) isStill(stamp Stamp) bool {
 	}
 	shard := int(stamp[0] % shardCount)
 	if s := p.take(shard); s != nil {
-		still := s.isStill(stamp)
+		still := isStill(s.at, stamp)
 		p.put(shard, s)
 		return still
 	}
 	p.mu.Lock()
 	defer p.mu.Unlock()
-	return p.root.slot != nil && p.root.isStill(stamp)
-}
-
-func (s *seat) isStill(stamp Stamp) bool {
-	return C.is_still(s.at, C.uint64_t(stamp[0]), C.uint64_t(stamp[1])) == C.SF_YES
+	return p.root.slot != nil && isStill(p.root.at, stamp)
 }
 
 // The wait of a call that it leads, whose load has a goroutine of its own.

@@ -2,10 +2,11 @@
 // for use, as there; it is made at its first call, with the default sizes. New takes others.
 //
 // Any number of keys of any length come and go: a group has places, a key's is a hash of its bytes, and keys may share one. Who finds
-// another key's call open there waits for it and asks again, three times at most, and stands beside the library then. So does a Do
-// that finds no caller free, of which each call that is led or joined takes one until it has ended. Beside the library a Do shares its
-// call with those alone who stand there too, by a mutex and a map, and Stats counts these. So a function may ask the group for other
-// keys, however many wait. A caller makes 4,294,967,295 calls, and another takes its place then.
+// another key's call open there waits for it and asks again, three times at most, and stands beside the library then (Shared tells of the joined call that
+// somebody joined, whatever key he asked for). So does a Do that finds no caller free, of which each call that is led or joined takes
+// one until it has ended. Beside the library a Do shares its call with those alone who stand there too, by a mutex and a map, and Stats
+// counts these. So a function may ask the group for other keys, however many wait. A caller makes 4,294,967,295 calls, and another
+// takes its place then.
 //
 // # Results in a cache
 //

@@ -125,7 +125,7 @@ pub struct Note<T> {
 pub struct Got<T> {
     /// What the call was settled with, or what was loaded without one.
     pub answer: Answer<T>,
-    /// How many joined the call.
+    /// How many joined the call, those included who asked for another key of its place.
     pub joiners: u32,
     /// Whether this caller loaded it.
     pub led: bool,

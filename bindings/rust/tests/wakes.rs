@@ -39,7 +39,7 @@ fn calls_of_other_keys_wake_nobody() {
             }
             // Calls of 1,000 other keys, each with one who waits and is woken.
             for round in 0..1000u32 {
-                let key = format!("k{round}");
+                let key = format!("{round}-key");
                 let (mut first, mut second) = (group.caller().unwrap(), group.caller().unwrap());
                 let joins = group.stats().joins;
                 std::thread::scope(|scope| {
