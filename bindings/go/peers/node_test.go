@@ -18,6 +18,7 @@ type mesh struct {
 	answer map[string]func([]byte) []byte
 	cut    map[string]bool
 	calls  int
+	during func() // called at each
 }
 
 type meshed struct {
@@ -35,6 +36,9 @@ func (m meshed) Serve(self string, answer func([]byte) []byte, missed func()) er
 }
 
 func (m meshed) Call(ctx context.Context, peer string, request []byte) ([]byte, error) {
+	if m.during != nil {
+		m.during()
+	}
 	m.mu.Lock()
 	m.calls++
 	answer := m.answer[peer]
@@ -196,6 +200,13 @@ func TestWhoMayHaveMissedSomethingAsksFirst(t *testing.T) {
 	if err := c.wait(context.Background()); err != nil || !c.versions.covers(user, "a", a.versions.last) {
 		t.Errorf("it has not asked after %v: %v", long, err)
 	}
+	// What is missed while it asks may be missed by that.
+	m.during = c.missed
+	c.round(context.Background())
+	if !c.away() {
+		t.Error("it does not ask again")
+	}
+	m.during = nil
 	ctx, cancel := context.WithCancel(context.Background())
 	cancel()
 	c.missed()
