@@ -75,10 +75,10 @@ type node struct {
 	every     time.Duration // from one asking to the next
 	start     uint64
 	rounds    singleflight.Group
-	asked     atomic.Pointer[asked] // of the last round that has ended
+	asked     atomic.Pointer[asked] // of the last round that has ended, or none
 	ready     chan struct{}         // closed when the first has ended
-	closed    chan struct{}
-	closing   sync.Once
+	closed    chan struct{}         // closed by close
+	isClosed  atomic.Bool
 	forgets   atomic.Uint64
 	unheard   atomic.Uint64 // Forgets that some peer did not acknowledge
 	misses    atomic.Uint64 // times that requests may have been lost
@@ -132,20 +132,22 @@ func (n *node) knows(peer string) bool {
 }
 
 func (n *node) close() {
-	n.closing.Do(func() {
+	if !n.isClosed.Swap(true) {
 		close(n.closed)
 		n.transport.Close()
 		n.rounds.Close()
-	})
+	}
 }
 
 // run begins: what the others know is known here, or nothing from before is asked for; and then asks them time and again.
 func (n *node) run() {
-	if len(n.round(context.Background())) > 0 {
+	first := n.now()
+	if len(n.askAll(context.Background())) > 0 {
 		// Who does not answer may have an answer that one of the others has cached, and a Forget of it that this peer's last
 		// process acknowledged.
 		n.versions.forgetAll()
 	}
+	n.asked.Store(first)
 	close(n.ready)
 	tick := time.NewTicker(n.every)
 	defer tick.Stop()
@@ -168,14 +170,23 @@ func (n *node) shared(ctx context.Context) error {
 	return err
 }
 
-// round asks each of the others for what is not known here, and returns those that did not answer as peers that serve.
+// round asks all, and unless the context has ended first, stores when it began.
 func (n *node) round(ctx context.Context) []Silent {
-	now := &asked{time.Now(), n.misses.Load()}
+	now := n.now()
+	silent := n.askAll(ctx)
+	if n.serves() && ctx.Err() == nil {
+		n.asked.Store(now)
+	}
+	return silent
+}
+
+func (n *node) now() *asked { return &asked{time.Now(), n.misses.Load()} }
+
+// askAll asks each of the others for what is not known here, and returns those that did not answer as peers that serve.
+func (n *node) askAll(ctx context.Context) []Silent {
 	ctx, cancel := context.WithTimeout(ctx, n.timeout)
 	defer cancel()
-	silent := n.each(n.peers(), func(peer string) error { return n.ask(ctx, peer) })
-	n.asked.Store(now)
-	return silent
+	return n.each(n.peers(), func(peer string) error { return n.ask(ctx, peer) })
 }
 
 // each calls do for each peer at one time, and returns those for which it failed.
@@ -269,12 +280,9 @@ func (n *node) answer(bytes []byte) []byte {
 	return bytes
 }
 
-func (n *node) serves() bool   { return isDone(n.ready) }
-func (n *node) isClosed() bool { return isDone(n.closed) }
-
-func isDone(ch <-chan struct{}) bool {
+func (n *node) serves() bool {
 	select {
-	case <-ch:
+	case <-n.ready:
 		return true
 	default:
 		return false
@@ -282,23 +290,22 @@ func isDone(ch <-chan struct{}) bool {
 }
 
 // missed makes the next Get ask the others first.
-func (n *node) missed() {
-	n.misses.Add(1)
-}
+func (n *node) missed() { n.misses.Add(1) }
 
 // wait returns once this peer may serve: it has begun, and it was not away for so long that it has to ask the others first.
 func (n *node) wait(ctx context.Context) error {
-	if !n.serves() {
-		select {
-		case <-n.ready:
-		case <-n.closed:
-		case <-ctx.Done():
-			return ctx.Err()
-		}
-	}
-	for !n.isClosed() {
+	for !n.isClosed.Load() {
 		if !n.away() {
 			return nil
+		}
+		if !n.serves() {
+			select {
+			case <-n.ready:
+			case <-n.closed:
+			case <-ctx.Done():
+				return ctx.Err()
+			}
+			continue
 		}
 		// One that began before it was away may be joined; then another is made.
 		if err := n.shared(ctx); err != nil {
@@ -308,10 +315,10 @@ func (n *node) wait(ctx context.Context) error {
 	return ErrClosed
 }
 
-// away tells whether requests were lost since the last round of askings began, or that is too long ago.
+// away tells whether no round of askings has ended, or requests were lost since the last began, or that is too long ago.
 func (n *node) away() bool {
 	last := n.asked.Load()
-	return last.misses != n.misses.Load() || time.Since(last.at) > 2*n.every+n.timeout
+	return last == nil || last.misses != n.misses.Load() || time.Since(last.at) > 2*n.every+n.timeout
 }
 
 // firstTry is how long a peer's first answer may take before it is asked again; each further one may take twice as long.
@@ -319,7 +326,7 @@ const firstTry = 250 * time.Millisecond
 
 // forget forgets the item here and at each other peer, and returns nil once all have acknowledged that.
 func (n *node) forget(ctx context.Context, of item) error {
-	if n.isClosed() {
+	if n.isClosed.Load() {
 		return ErrClosed
 	}
 	if _, limited := ctx.Deadline(); !limited {

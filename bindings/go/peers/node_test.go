@@ -88,7 +88,7 @@ func beginAll(t *testing.T, m *mesh, every time.Duration) (a, b, c *node) {
 func TestAForgetNamesWhoDidNotAcknowledge(t *testing.T) {
 	m := newMesh()
 	a, b, c := beginAll(t, m, time.Minute)
-	before := c.versions.version(user)
+	before := versionOf(c.versions, user)
 	m.setCut("c", true)
 	err := a.forget(context.Background(), user)
 	var unanswered *Unanswered
@@ -98,16 +98,16 @@ func TestAForgetNamesWhoDidNotAcknowledge(t *testing.T) {
 	if want := `peers: Forget of "7": not answered by c (cut off)`; err.Error() != want {
 		t.Errorf("%q, not %q", err, want)
 	}
-	if a.versions.version(user) != b.versions.version(user) || b.versions.version(user) == before {
+	if versionOf(a.versions, user) != versionOf(b.versions, user) || versionOf(b.versions, user) == before {
 		t.Error("who acknowledged it has not forgotten the key")
 	}
-	if c.versions.version(user) != before {
+	if versionOf(c.versions, user) != before {
 		t.Error("who was cut off has forgotten the key")
 	}
 	// It learns of it when it is back.
 	m.setCut("c", false)
 	c.round(context.Background())
-	if c.versions.version(user) != a.versions.version(user) {
+	if versionOf(c.versions, user) != versionOf(a.versions, user) {
 		t.Error("who was cut off does not learn of the Forget")
 	}
 	if a.forgets.Load() != 1 || a.unheard.Load() != 1 {
@@ -159,19 +159,19 @@ func TestBeginning(t *testing.T) {
 		t.Fatal(err)
 	}
 	again := begin(t, m, "c", time.Minute)
-	if again.versions.version(user) != a.versions.version(user) || again.versions.moves != 1 {
+	if versionOf(again.versions, user) != versionOf(a.versions, user) || again.versions.moves != 1 {
 		t.Error("it does not take over what the others know")
 	}
 	m.setCut("b", true)
 	again = begin(t, m, "c", time.Minute)
-	if again.versions.version(user) == a.versions.version(user) || !again.versions.covers(user, "a", a.versions.last) {
+	if versionOf(again.versions, user) == versionOf(a.versions, user) || !again.versions.covers(user, "a", a.versions.last) {
 		t.Error("with b cut off it does not forget all")
 	}
 	m.setCut("b", false)
 	a.round(context.Background())
 	b.ready = make(chan struct{})
 	again = begin(t, m, "c", time.Minute)
-	if again.versions.version(user) == a.versions.version(user) {
+	if versionOf(again.versions, user) == versionOf(a.versions, user) {
 		t.Error("where b has not begun to serve it does not forget all")
 	}
 	close(b.ready)
@@ -212,6 +212,9 @@ func TestWhoMayHaveMissedSomethingAsksFirst(t *testing.T) {
 	c.missed()
 	if err := c.wait(ctx); err != context.Canceled {
 		t.Errorf("by a context that has ended: %v", err)
+	}
+	if c.round(ctx); !c.away() {
+		t.Error("a round that was cut short is taken for a whole one")
 	}
 }
 

@@ -11,11 +11,13 @@ import (
 	"errors"
 	"fmt"
 	"hash/crc32"
+	"hash/maphash"
 	"net/http"
 	"net/url"
 	"regexp"
 	"strings"
 	"sync"
+	"sync/atomic"
 	"time"
 
 	"github.com/golang/groupcache"
@@ -162,7 +164,7 @@ func (p *Pool) Set(peers ...string) error {
 
 // Sync asks each other peer for what was missed here, and returns nil once all have answered.
 func (p *Pool) Sync(ctx context.Context) error {
-	if p.node.isClosed() {
+	if p.node.isClosed.Load() {
 		return ErrClosed
 	}
 	if silent := p.node.round(ctx); len(silent) > 0 {
@@ -195,7 +197,21 @@ type Cache struct {
 	name  string
 	node  *node
 	group *groupcache.Group
+	seed  maphash.Seed
+	names [namesKept]atomic.Pointer[named]
 }
+
+// A named is a key with the name that it had lately, and has as long as no version changes, so that a hit makes no name. It is kept
+// at a place of its hash.
+type named struct {
+	key, version, name string
+	renamed            atomic.Uint64 // of the versions, when it had that
+}
+
+const (
+	namesKept = 4096
+	mostNamed = 256 // bytes of a key that is kept so
+)
 
 var cacheName = regexp.MustCompile(`^[A-Za-z0-9_-]{1,64}$`)
 
@@ -219,7 +235,11 @@ func (p *Pool) Cache(name string, bytes int64, getter groupcache.Getter) (*Cache
 		}
 		return getter.Get(ctx, key, dest)
 	}))
-	return &Cache{name, p.node, group}, nil
+	return newCache(name, p.node, group), nil
+}
+
+func newCache(name string, n *node, group *groupcache.Group) *Cache {
+	return &Cache{name: name, node: n, group: group, seed: maphash.MakeSeed()}
 }
 
 // Group is groupcache's, for its Stats and CacheStats. Its keys have versions.
@@ -235,7 +255,29 @@ func (c *Cache) Get(ctx context.Context, key string, dest groupcache.Sink) error
 	if err := c.node.wait(ctx); err != nil {
 		return err
 	}
-	return c.group.Get(ctx, nameOf(key, c.node.versions.version(item{c.name, key})), dest)
+	return c.group.Get(ctx, c.nameOf(key), dest)
+}
+
+// nameOf returns the key's name as it is now.
+func (c *Cache) nameOf(key string) string {
+	at := &c.names[maphash.String(c.seed, key)%namesKept]
+	last := at.Load()
+	here := last != nil && last.key == key
+	if here && last.renamed.Load() == c.node.versions.renamed.Load() {
+		return last.name
+	}
+	version, renamed := c.node.versions.version(item{c.name, key})
+	if here && last.version == version {
+		last.renamed.Store(renamed)
+		return last.name
+	}
+	name := nameOf(key, version)
+	if len(key) <= mostNamed {
+		now := &named{key: strings.Clone(key), version: version, name: name}
+		now.renamed.Store(renamed)
+		at.Store(now)
+	}
+	return name
 }
 
 // Forget makes each peer forget the key, and returns nil once all have acknowledged that; else its error is an *Unanswered, or

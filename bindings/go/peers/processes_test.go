@@ -250,6 +250,9 @@ func freeAddress(t *testing.T) string {
 }
 
 func newPool(t *testing.T, count int, change func(*setting)) *pool {
+	if testing.Short() {
+		t.Skip("processes")
+	}
 	p := &pool{t: t, source: &source{numbers: map[string]int{}}, client: &http.Client{Timeout: 10 * time.Second,
 		Transport: &http.Transport{MaxIdleConnsPerHost: 64}}}
 	origin := httptest.NewServer(p.source)
@@ -281,9 +284,26 @@ func newPool(t *testing.T, count int, change func(*setting)) *pool {
 	for _, c := range p.children {
 		p.await(c)
 	}
-	// Until all have asked all, each has a floor of its own.
-	time.Sleep(500 * time.Millisecond)
+	p.settle()
 	return p
+}
+
+// settle waits until all peers have the same name for a key, so that one load is enough for all: who began when the others did not
+// serve yet has a floor of its own.
+func (p *pool) settle() {
+	end := time.Now().Add(20 * time.Second)
+	for i := 0; ; i++ {
+		before := p.source.loads.Load()
+		for _, c := range p.children {
+			p.ask(c, "/get?key=none"+strconv.Itoa(i))
+		}
+		if p.source.loads.Load() == before+1 {
+			return
+		} else if time.Now().After(end) {
+			p.t.Fatal("the peers do not agree")
+		}
+		time.Sleep(20 * time.Millisecond)
+	}
 }
 
 func (p *pool) start(c *child) {

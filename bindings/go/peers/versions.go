@@ -4,6 +4,7 @@ import (
 	"container/list"
 	"fmt"
 	"sync"
+	"sync/atomic"
 )
 
 // An item is a key of a cache.
@@ -22,8 +23,9 @@ type item struct{ cache, key string }
 //	3: Forget, which knows of 4 only, takes number 4.5, and is acknowledged by all: by 2 as well, where 5 stays
 //	2: Get answers key@5, which was loaded before the second Forget began
 type versions struct {
-	self string
-	most int // entries that may stand above the floor
+	self    string
+	most    int           // entries that may stand above the floor
+	renamed atomic.Uint64 // how often a version has changed, which it does under the lock
 
 	mu      sync.RWMutex // protects the rest
 	last    number       // of this peer's own Forgets
@@ -53,14 +55,14 @@ func newVersions(self string, most int, start uint64) *versions {
 	}
 }
 
-// version returns what stands beside the key in its name.
-func (v *versions) version(of item) string {
+// version returns what stands beside the key in its name, until renamed is another.
+func (v *versions) version(of item) (version string, renamed uint64) {
 	v.mu.RLock()
 	defer v.mu.RUnlock()
 	if e := v.entries[of]; e != nil {
-		return e.version
+		return e.version, v.renamed.Load()
 	}
-	return v.bottom
+	return v.bottom, v.renamed.Load()
 }
 
 // covers tells whether what is loaded under the item's version here was loaded after that Forget began.
@@ -129,6 +131,7 @@ func (v *versions) name(e *entry) {
 	all := v.floor.clone()
 	all.join(e.own)
 	e.version = all.version()
+	v.renamed.Add(1)
 }
 
 // raise moves the floor up to the vector, and drops what it covers then. The lock is held.
@@ -138,6 +141,7 @@ func (v *versions) raise(to vector) {
 	}
 	v.seen.join(to)
 	v.bottom = v.floor.version()
+	v.renamed.Add(1)
 	v.moves++
 	for of, e := range v.entries {
 		above := e.own[:0]

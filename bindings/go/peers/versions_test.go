@@ -11,22 +11,22 @@ var user = item{"users", "7"}
 
 func TestVersionsWithTheSameForgetsAreTheSame(t *testing.T) {
 	a, b := newVersions("a", 9, 100), newVersions("b", 9, 200)
-	if a.version(user) != b.version(user) {
+	if versionOf(a, user) != versionOf(b, user) {
 		t.Error("two peers that know of no Forget have different versions")
 	}
 	fromA, fromB := a.forget(user), b.forget(user)
-	if a.version(user) == b.version(user) {
+	if versionOf(a, user) == versionOf(b, user) {
 		t.Error("two peers have the same version after different Forgets")
 	}
 	for i := 0; i < 2; i++ { // the second time changes nothing
 		if a.take(user, "b", fromB) != nil || b.take(user, "a", fromA) != nil {
 			t.Fatal("a Forget is refused")
 		}
-		if a.version(user) != b.version(user) {
+		if versionOf(a, user) != versionOf(b, user) {
 			t.Error("two peers that know of the same Forgets have different versions")
 		}
 	}
-	if other := (item{"users", "8"}); a.version(other) != newVersions("c", 9, 1).version(other) {
+	if other := (item{"users", "8"}); versionOf(a, other) != versionOf(newVersions("c", 9, 1), other) {
 		t.Error("a Forget changes another key's version")
 	}
 }
@@ -36,11 +36,11 @@ func TestCrossingForgets(t *testing.T) {
 	a, b, c := newVersions("a", 9, 100), newVersions("b", 9, 200), newVersions("c", 9, 300)
 	fromA := a.forget(user)
 	c.take(user, "a", fromA)
-	between := map[string]bool{a.version(user): true, b.version(user): true, c.version(user): true}
+	between := map[string]bool{versionOf(a, user): true, versionOf(b, user): true, versionOf(c, user): true}
 	fromB := b.forget(user)
 	for _, peer := range []*versions{a, c} {
 		peer.take(user, "b", fromB)
-		if between[peer.version(user)] || !peer.covers(user, "b", fromB) {
+		if between[versionOf(peer, user)] || !peer.covers(user, "b", fromB) {
 			t.Errorf("%s has a version from before b's Forget", peer.self)
 		}
 	}
@@ -48,7 +48,7 @@ func TestCrossingForgets(t *testing.T) {
 
 func TestTheFloorMovesBeyondTheMost(t *testing.T) {
 	a, b := newVersions("a", 4, 100), newVersions("b", 4, 200)
-	before, last := a.version(user), number{}
+	before, last := versionOf(a, user), number{}
 	for i := 0; i < 5; i++ {
 		of := item{"users", fmt.Sprint("k", i)}
 		last = a.forget(of)
@@ -60,10 +60,10 @@ func TestTheFloorMovesBeyondTheMost(t *testing.T) {
 	if keys, moves := a.counts(); keys != 0 || moves != 1 {
 		t.Errorf("%d keys, %d moves of the floor", keys, moves)
 	}
-	if a.version(user) == before {
+	if versionOf(a, user) == before {
 		t.Error("a key that nobody forgot has its version still")
 	}
-	if a.version(user) != b.version(user) {
+	if versionOf(a, user) != versionOf(b, user) {
 		t.Error("peers whose floors moved at the same Forget have different versions")
 	}
 	if !a.covers(item{"users", "k0"}, "a", last) {
@@ -72,7 +72,7 @@ func TestTheFloorMovesBeyondTheMost(t *testing.T) {
 	// What the floor covers adds nothing, and what it does not cover stays.
 	b.forget(user)
 	a.merge(b.since(0))
-	if keys, _ := a.counts(); keys != 1 || a.version(user) != b.version(user) {
+	if keys, _ := a.counts(); keys != 1 || versionOf(a, user) != versionOf(b, user) {
 		t.Errorf("%d keys are kept of a Forget that the floor does not cover", keys)
 	}
 }
@@ -94,7 +94,7 @@ func TestSinceHasWhatChangedAfter(t *testing.T) {
 	}
 	b.merge(a.since(0))
 	for _, key := range []string{"1", "2", "3\xff", "4"} {
-		if of := (item{"users", key}); a.version(of) != b.version(of) {
+		if of := (item{"users", key}); versionOf(a, of) != versionOf(b, of) {
 			t.Errorf("%q has another version after a merge of all", key)
 		}
 	}
@@ -111,9 +111,9 @@ func TestStartsGrow(t *testing.T) {
 	if stale := (staleStart{}); !errors.As(err, &stale) || stale.known != 500 {
 		t.Fatalf("a Forget of a process that did not start last: %v", err)
 	}
-	before := next.version(item{"users", "8"})
+	before := versionOf(next, item{"users", "8"})
 	next.restart(500)
-	if next.version(item{"users", "8"}) == before {
+	if versionOf(next, item{"users", "8"}) == before {
 		t.Error("it does not forget all")
 	}
 	if err := other.take(user, "a", next.forget(user)); err != nil {
@@ -170,4 +170,9 @@ func TestVectorOrderOfMarks(t *testing.T) {
 	if a.join(b) || a.covers("d", number{}) || a.covers("a", number{2, 2}) || !a.covers("a", number{1, 7}) {
 		t.Errorf("%v", a)
 	}
+}
+
+func versionOf(v *versions, of item) string {
+	version, _ := v.version(of)
+	return version
 }
