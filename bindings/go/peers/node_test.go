@@ -4,6 +4,7 @@ import (
 	"context"
 	"encoding/json"
 	"errors"
+	"io"
 	"net/http"
 	"net/http/httptest"
 	"strings"
@@ -78,9 +79,10 @@ func begin(t *testing.T, m *mesh, self string, every time.Duration) *node {
 func beginAll(t *testing.T, m *mesh, every time.Duration) (a, b, c *node) {
 	a, b, c = begin(t, m, "a", every), begin(t, m, "b", every), begin(t, m, "c", every)
 	for _, n := range []*node{a, b, c, a} {
-		if silent := n.round(context.Background()); len(silent) > 0 {
+		if _, silent := n.askAll(context.Background()); len(silent) > 0 {
 			t.Fatal(silent)
 		}
+		n.round(context.Background())
 	}
 	return a, b, c
 }
@@ -196,7 +198,7 @@ func TestWhoMayHaveMissedSomethingAsksFirst(t *testing.T) {
 	a.forget(context.Background(), user)
 	m.setCut("c", false)
 	long := 2*c.every + c.timeout
-	c.asked.Store(&asked{time.Now().Add(-long - time.Millisecond), c.misses.Load()})
+	c.asked.Store(&asked{at: time.Now().Add(-long - time.Millisecond), misses: c.misses.Load()})
 	if err := c.wait(context.Background()); err != nil || !c.versions.covers(user, "a", a.versions.last) {
 		t.Errorf("it has not asked after %v: %v", long, err)
 	}
@@ -229,6 +231,49 @@ func TestAskingTimeAndAgain(t *testing.T) {
 			t.Fatal("who was cut off does not learn of the Forget")
 		}
 	}
+}
+
+// A peer that joins answers once all others know it, and knows all by then.
+func TestAPeerThatIsNotOnTheLists(t *testing.T) {
+	m := newMesh()
+	a, b, c := beginAll(t, m, time.Minute)
+	for _, n := range []*node{a, b} {
+		n.set([]string{"a", "b"})
+	}
+	c = begin(t, m, "c", time.Minute)
+	expect := func(want ...string) {
+		t.Helper()
+		err := c.wait(context.Background())
+		var unanswered *Unanswered
+		if errors.As(err, &unanswered) != (len(want) > 0) {
+			t.Fatalf("%v, where %v do not know it", err, want)
+		}
+		for i, peer := range want {
+			if len(unanswered.Peers) != len(want) || unanswered.Peers[i].Peer != peer {
+				t.Errorf("%v, where %v do not know it", err, want)
+			}
+		}
+	}
+	expect("a", "b")
+	if err := a.forget(context.Background(), user); err != nil {
+		t.Error(err)
+	}
+	if err := c.forget(context.Background(), user); err == nil {
+		t.Error("a Forget of a peer that nobody knows returns nil")
+	}
+	a.set(names)
+	expect("b")
+	b.set(names)
+	expect()
+	if !c.versions.covers(user, "a", a.versions.last) {
+		t.Error("it has begun without a Forget that had returned nil")
+	}
+	if err := a.forget(context.Background(), user); err != nil || !c.versions.covers(user, "a", a.versions.last) {
+		t.Errorf("a Forget does not reach it: %v", err)
+	}
+	b.set([]string{"a", "b"})
+	c.round(context.Background())
+	expect("b")
 }
 
 func TestBadRequestsChangeNothing(t *testing.T) {
@@ -290,5 +335,32 @@ func TestHTTP(t *testing.T) {
 	h.Close()
 	if _, err := post(1); err == nil || !strings.Contains(err.Error(), "503") {
 		t.Errorf("after Close: %v", err)
+	}
+}
+
+func TestALimitHoldsUntilTheAnswerIsRead(t *testing.T) {
+	stall := make(chan struct{})
+	server := httptest.NewServer(http.HandlerFunc(func(w http.ResponseWriter, r *http.Request) {
+		if r.URL.Path == "/late" {
+			<-stall
+		}
+		w.Write([]byte("begun"))
+		w.(http.Flusher).Flush()
+		if r.URL.Path == "/stalls" {
+			<-stall
+		}
+	}))
+	defer server.Close()
+	defer close(stall)
+	client := &http.Client{Transport: limited{connections(), 100 * time.Millisecond}}
+	for path, ok := range map[string]bool{"/": true, "/late": false, "/stalls": false} {
+		got, err := client.Get(server.URL + path)
+		if err == nil {
+			_, err = io.ReadAll(got.Body)
+			got.Body.Close()
+		}
+		if (err == nil) != ok {
+			t.Errorf("%s: %v", path, err)
+		}
 	}
 }

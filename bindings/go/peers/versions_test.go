@@ -92,6 +92,13 @@ func TestSinceHasWhatChangedAfter(t *testing.T) {
 	if none := a.since(late.Change); len(none.Items) != 0 {
 		t.Errorf("after the last change: %v", none.Items)
 	}
+	a.forgetAll()
+	if moved := a.since(late.Change); len(moved.Floor) == 0 || len(moved.Items) != 0 {
+		t.Errorf("after the floor moved: %v", moved)
+	} else if none := a.since(moved.Change); len(none.Floor) != 0 {
+		t.Errorf("after the last change: %v", none.Floor)
+	}
+	a.forget(item{"users", "2"})
 	b.merge(a.since(0))
 	for _, key := range []string{"1", "2", "3\xff", "4"} {
 		if of := (item{"users", key}); versionOf(a, of) != versionOf(b, of) {
