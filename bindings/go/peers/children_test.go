@@ -13,11 +13,13 @@ import (
 	"net/http/httptest"
 	"os"
 	"os/exec"
+	"path/filepath"
 	"sort"
 	"strconv"
 	"strings"
 	"sync"
 	"sync/atomic"
+	"syscall"
 	"testing"
 	"time"
 
@@ -58,7 +60,7 @@ func (l liar) Call(ctx context.Context, peer string, request []byte) ([]byte, er
 		return l.Transport.Call(ctx, peer, request)
 	}
 	time.AfterFunc(100*time.Millisecond, func() { l.Transport.Call(context.Background(), peer, request) })
-	return []byte("{}"), nil
+	return []byte(`{"taken":true}`), nil
 }
 
 func beChild(s setting) error {
@@ -320,6 +322,26 @@ func (p *pool) kill(c *child) {
 	c.command.Process.Kill()
 	c.command.Wait()
 }
+
+// pause returns once all threads of the child have stopped.
+func (p *pool) pause(c *child) {
+	c.command.Process.Signal(syscall.SIGSTOP)
+	for end := time.Now().Add(10 * time.Second); ; time.Sleep(time.Millisecond) {
+		stats, _ := filepath.Glob(fmt.Sprintf("/proc/%d/task/*/stat", c.command.Process.Pid))
+		stopped := len(stats) > 0
+		for _, path := range stats {
+			stat, err := os.ReadFile(path)
+			stopped = stopped && err == nil && bytes.Contains(stat, []byte(") T "))
+		}
+		if stopped {
+			return
+		} else if time.Now().After(end) {
+			p.t.Fatal("a peer does not stop")
+		}
+	}
+}
+
+func (p *pool) goOn(c *child) { c.command.Process.Signal(syscall.SIGCONT) }
 
 func (p *pool) restart(c *child) {
 	p.start(c)

@@ -179,9 +179,6 @@ func (n *node) ask(ctx context.Context, peer string) error {
 	if err != nil {
 		return err
 	}
-	if got.Changes == nil {
-		return errors.New("no changes in its reply")
-	}
 	n.versions.merge(*got.Changes)
 	n.mu.Lock()
 	if _, known := n.reached[peer]; known {

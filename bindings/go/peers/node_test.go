@@ -171,12 +171,17 @@ func TestBeginning(t *testing.T) {
 	}
 	m.setCut("b", false)
 	a.round(context.Background())
-	b.ready = make(chan struct{})
+	begun := b.asked.Swap(nil)
 	again = begin(t, m, "c", time.Minute)
 	if versionOf(again.versions, user) == versionOf(a.versions, user) {
-		t.Error("where b has not begun to serve it does not forget all")
+		t.Error("where b does not answer Gets yet it does not forget all")
 	}
-	close(b.ready)
+	b.asked.Store(&asked{at: begun.at, strangers: []Silent{{"c", errUnknown}}})
+	a.round(context.Background())
+	again = begin(t, m, "c", time.Minute)
+	if versionOf(again.versions, user) == versionOf(a.versions, user) {
+		t.Error("where b does not answer Gets since others do not know it, it does not forget all")
+	}
 }
 
 func TestWhoMayHaveMissedSomethingAsksFirst(t *testing.T) {
@@ -295,6 +300,26 @@ func TestBadRequestsChangeNothing(t *testing.T) {
 	}
 	if after := a.versions.since(0); after.Change != before.Change || after.Floor.version() != before.Floor.version() {
 		t.Error("a bad request changes something")
+	}
+}
+
+func TestAReplyThatIsNone(t *testing.T) {
+	m := newMesh()
+	a, _, _ := beginAll(t, m, time.Minute)
+	for _, reply := range []string{"", "{}", `{"taken":false}`, "<html>", `{"changes":null}`} {
+		reply := reply
+		m.mu.Lock()
+		m.answer["b"] = func([]byte) []byte { return []byte(reply) }
+		m.mu.Unlock()
+		ctx, cancel := context.WithTimeout(context.Background(), 10*time.Millisecond)
+		var unanswered *Unanswered
+		if err := a.forget(ctx, user); !errors.As(err, &unanswered) || unanswered.Peers[0].Peer != "b" {
+			t.Errorf("%q is taken for an acknowledgement: %v", reply, err)
+		}
+		cancel()
+		if _, silent := a.askAll(context.Background()); len(silent) != 1 {
+			t.Errorf("%q is taken for an answer: %v", reply, silent)
+		}
 	}
 }
 
