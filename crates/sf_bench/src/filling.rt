@@ -220,7 +220,14 @@ where
     };
     let desks = hash_desks(rt.alloc(), places, threads)?;
     let space = KeySpace::Hashed(places);
-    with_space::<Brand, R>(rt, table, space, desks, threads, "get of one cached key, hashed")
+    with_space::<Brand, R>(
+        rt,
+        table,
+        space,
+        desks,
+        threads,
+        "get of one cached key, hashed",
+    )
 }
 
 /// What a get costs of a key that a cache has: the first get of each fill loads it.

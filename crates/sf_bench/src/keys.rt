@@ -181,7 +181,15 @@ where
         ..short
     };
     at_length(rt, table, 16, short)?;
-    at_length(rt, table, 16, Case { threads: 4, ..short })?;
+    at_length(
+        rt,
+        table,
+        16,
+        Case {
+            threads: 4,
+            ..short
+        },
+    )?;
     at_length(rt, table, LONGEST, long)?;
     at_length(rt, table, LONGEST, Case { threads: 4, ..long })
 }

@@ -493,8 +493,8 @@ module _ {P F L C : Type 0} (path : CallId → Loaders P F L C → LoadAnswer �
       let l = h.1.0 in let row = h.1.1 in let lent = h.1.2 in let w = row.current in
       let fresh = fresh_at (spot_place p) u.seen w.moment e.seen l row.nothing.adds.lawful.legal w.within w.begins w.current row.kept.place_is row.kept.fits row.kept.settled (starts_again l.seen w.moment e.seen w.shows w.within) in
       inl (unasking p u (reply_of (Kept e m)) m.call (nothing_moved u e row.nothing)
-          (answered (spot_place p) m.call u.seen e.seen [] m m.value.result refl refl (fresh_lent (spot_place p) u.seen e.seen l m lent fresh))
-          (record { gets = refl; loads = λ e. cc; hits = λ _ _. (refl, refl) }))
+      (answered (spot_place p) m.call u.seen e.seen [] m m.value.result refl refl (fresh_lent (spot_place p) u.seen e.seen l m lent fresh))
+      (record { gets = refl; loads = λ e. cc; hits = λ _ _. (refl, refl) }))
   found_from p u old new (Uncopied e) h = inl (unasking p u (reply_of (Uncopied e)) (call_of u) (nothing_moved u e h.1.1.nothing) tt (record { gets = refl; loads = λ e. cc; hits = λ _ _. (refl, refl) }))
   found_from p u old new (Unmade e) h = inr (e, inl h.0, refl)
   found_from p u old new (Spent e) h = inl (after_misses space key (spot_place p) h.0 u h.1 (reply_of (Spent e)) h.2 (spent p h.1 e h.3.0))

@@ -80,9 +80,7 @@ fn reserve<'d, D: Naming, N: Naming, O: Origin, P, F, L, C>(
     })
 }
 
-impl<'d, D: Naming, O: Origin, P: Drop, F: Drop, L: Drop, C: Drop>
-    FillParts<'d, D, O, P, F, L, C>
-{
+impl<'d, D: Naming, O: Origin, P: Drop, F: Drop, L: Drop, C: Drop> FillParts<'d, D, O, P, F, L, C> {
     /// The parts of a fill over the key space, which has at most 1,048,576 places, with a getter for each set of loaders, 1 to
     /// 65,535: a group whose callers' first generation is this one, from 1 on, and its ledgers. Refused where there is no memory.
     pub fn new(

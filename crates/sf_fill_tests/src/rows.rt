@@ -262,6 +262,9 @@ fn read_beside_changes<R: Wait + Threads + Abort + Sync>(
         assert!(rt; said.as_str() == "old=0\n", "{said}");
     }
     assert!(rt; outcome.book.gets == 4_000, "the gets");
-    assert!(rt; outcome.book.cache_hits < 4_000 && outcome.book.loads > 1, "the hits");
+    assert!(rt;
+        outcome.book.cache_hits < 4_000 && outcome.book.loads > 1,
+        "the hits"
+    );
     Ok(())
 }

@@ -16,14 +16,23 @@ fn spots_of_a_directory(rt: HostRuntime) -> Result<(), Fail> {
     let mut at = space.find(&mut desk, b"a").map_err(|_| "refused")?;
     let mut spot = at.spot(alloc, b"a")?;
     let again = spot.again()?;
-    assert!(rt; at.number().number() == 1 && spot.number().number() == 1, "the place");
+    assert!(rt;
+        at.number().number() == 1 && spot.number().number() == 1,
+        "the place"
+    );
     assert!(rt; again.number().number() == 1, "another one's place");
-    assert!(rt; spot.is_of(b"a") && spot.is_of(b"b"), "it may be of each key of its place");
+    assert!(rt;
+        spot.is_of(b"a") && spot.is_of(b"b"),
+        "it may be of each key of its place"
+    );
     spot.agree(&mut at, b"a");
     let full = space.find(&mut desk, b"b").err();
     assert!(rt; matches!(full, Some(Refusal::Full)), "another key has room");
     let long = space.find(&mut desk, b"12345").err();
-    assert!(rt; matches!(long, Some(Refusal::KeyTooLong)), "a long key has room");
+    assert!(rt;
+        matches!(long, Some(Refusal::KeyTooLong)),
+        "a long key has room"
+    );
     Ok(())
 }
 
@@ -48,8 +57,14 @@ fn spots_by_a_hash(rt: HostRuntime) -> Result<(), Fail> {
     let again = spot.again()?;
     let number = places.of(key);
     assert!(rt; at.number().number() == number, "the place");
-    assert!(rt; spot.number().number() == number && again.number().number() == number, "a spot's");
-    assert!(rt; spot.is_of(key) && again.is_of(key) && !spot.is_of(b"b"), "another key");
+    assert!(rt;
+        spot.number().number() == number && again.number().number() == number,
+        "a spot's"
+    );
+    assert!(rt;
+        spot.is_of(key) && again.is_of(key) && !spot.is_of(b"b"),
+        "another key"
+    );
     spot.agree(&mut at, key);
     Ok(())
 }

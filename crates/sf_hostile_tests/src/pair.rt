@@ -478,7 +478,14 @@ fn try_out<R: Wait + Threads + Abort + Sync>(
         answered: AtomicBool::new(false),
     };
     let (directory, desks) = open_directory(alloc, 8, 4, 3, 0, 0)?;
-    with_space::<Brand, R>(rt, alloc, KeySpace::Directory(&directory), desks, scene, &flags)
+    with_space::<Brand, R>(
+        rt,
+        alloc,
+        KeySpace::Directory(&directory),
+        desks,
+        scene,
+        &flags,
+    )
 }
 
 // One that is refused memory before its fill stands is tried out once more, and meets no refusal then.

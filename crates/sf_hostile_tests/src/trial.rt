@@ -147,7 +147,13 @@ fn with_space<'d, D: Naming, R: Wait>(
         local: script(alloc, setting.local_fails, "v")?,
         chance: RoundChance::default(),
     };
-    let parts = FillParts::new(alloc, space, desks, vec![in alloc; set]?, setting.first_generation)?;
+    let parts = FillParts::new(
+        alloc,
+        space,
+        desks,
+        vec![in alloc; set]?,
+        setting.first_generation,
+    )?;
     with_all::<D, Brand, R>(rt, alloc, space, parts, setting)
 }
 

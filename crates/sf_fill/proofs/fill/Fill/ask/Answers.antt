@@ -25,6 +25,9 @@ loop-preserved g c =
       c.wait-caller.ensures.group ∙ (joined.group ∙ i.2),
       i.3,
       i.4,
-      (suc i.5.0, missed_again g.N.Naming.space c.args.key.now (spot_place c.args.spot) i.5.0 c.args.caller c.loop.asking c.wait-caller.result.0 c.in-Ok-Join.ticket letter i.5.1 joined c.wait-caller.ensures
-          (subst (λ (s : SpaceId). IsInSpace s letter.value.spot) c.self.invariant.2 within) other),
+      (
+        suc i.5.0,
+        missed_again g.N.Naming.space c.args.key.now (spot_place c.args.spot) i.5.0 c.args.caller c.loop.asking c.wait-caller.result.0 c.in-Ok-Join.ticket letter i.5.1 joined c.wait-caller.ensures
+            (subst (λ (s : SpaceId). IsInSpace s letter.value.spot) c.self.invariant.2 within) other,
+      ),
     )
