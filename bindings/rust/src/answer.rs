@@ -15,6 +15,12 @@ struct Node<T> {
 }
 
 /// The answer of a call. Its clones, and those of the other members, are of one value.
+///
+/// ```
+/// # let group = singleflight::Group::<String>::open(1, 1).unwrap();
+/// let answer = group.caller().unwrap().do_with(b"k", || "Ada".to_string()).unwrap().answer;
+/// assert!(*answer == "Ada" && answer.len() == 3 && *answer.clone() == *answer);
+/// ```
 pub struct Answer<T> {
     node: NonNull<Node<T>>,
     owns: PhantomData<Node<T>>,

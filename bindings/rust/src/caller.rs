@@ -274,6 +274,16 @@ impl<T: Send + Sync> Caller<T> {
     }
 
     /// Closes the key's open call, if there is one: who asks from now on gets a later one's answer. Whether there was one.
+    ///
+    /// ```
+    /// # let group = singleflight::Group::<u32>::open(1, 2).unwrap();
+    /// let (mut first, mut second) = (group.caller().unwrap(), group.caller().unwrap());
+    /// first.do_with(b"k", || {
+    ///     assert_eq!(second.forget(b"k"), Ok(true));
+    ///     assert!(second.do_with(b"k", || 2).unwrap().led);
+    ///     1
+    /// }).unwrap();
+    /// ```
     pub fn forget(&mut self, key: &[u8]) -> Result<bool, Error> {
         let seat = self.free_seat()?;
         loop {
@@ -352,8 +362,17 @@ impl<T: Send + Sync> Caller<T> {
         self.free_seat().is_ok_and(|seat| seat.is_still(stamp))
     }
 
-    /// Whether the call of the answer that this caller got last is its key's current one still. None before the first, and after a
-    /// wait that took too long.
+    /// Whether the call of the answer that this caller got last is its place's current one still. None where it has none: before the
+    /// first, after a wait that it left, and after a load without a call.
+    ///
+    /// ```
+    /// # let group = singleflight::Group::<u32>::open(1, 1).unwrap();
+    /// # let mut caller = group.caller().unwrap();
+    /// caller.do_with(b"k", || 1).unwrap();
+    /// assert_eq!(caller.is_current(), Some(true));
+    /// caller.forget(b"k").unwrap();
+    /// assert_eq!(caller.is_current(), Some(false));
+    /// ```
     pub fn is_current(&mut self) -> Option<bool> {
         let seat = self.seat.as_mut().filter(|_| self.has_letter)?;
         match unsafe { raw::sf_is_current(&mut seat.slot) } {
@@ -363,7 +382,15 @@ impl<T: Send + Sync> Caller<T> {
         }
     }
 
-    /// A note of what this caller has seen.
+    /// A note of what this caller has seen, for [`Caller::learn`].
+    ///
+    /// ```
+    /// # let group = singleflight::Group::<u32>::open(1, 2).unwrap();
+    /// let (mut first, mut second) = (group.caller().unwrap(), group.caller().unwrap());
+    /// first.forget(b"k").unwrap();
+    /// let mut note = first.tell().unwrap();
+    /// std::thread::spawn(move || second.learn(&mut note).unwrap()).join().unwrap();
+    /// ```
     pub fn tell(&mut self) -> Result<Note<T>, Error> {
         let seat = self.free_seat()?;
         let mut note = raw::Note::NONE;

@@ -13,6 +13,14 @@ pub struct Job<'a, T>(Leading<'a, T>);
 
 impl<T> Job<'_, T> {
     /// Loads, and settles the call.
+    ///
+    /// ```
+    /// # let group = singleflight::Group::<u32>::open(1, 2).unwrap();
+    /// # let (mut caller, other) = (group.caller().unwrap(), group.caller().unwrap());
+    /// let (receiver, job) = caller.do_chan(other, b"k").unwrap();
+    /// assert!(*job.unwrap().run(|| 7).answer == 7);
+    /// # drop(receiver);
+    /// ```
     pub fn run(self, load: impl FnOnce() -> T) -> Got<T> {
         let leading = self.0;
         leading.end(load())
@@ -56,6 +64,16 @@ impl<T: Send + Sync> Receiver<T> {
     }
 
     /// The caller that waited, which is free once its answer was there; else the receiver.
+    ///
+    /// ```
+    /// # let group = singleflight::Group::<u32>::open(1, 2).unwrap();
+    /// # let (mut caller, other) = (group.caller().unwrap(), group.caller().unwrap());
+    /// let (mut receiver, job) = caller.do_chan(other, b"k").unwrap();
+    /// assert!(receiver.try_recv().is_err());
+    /// job.unwrap().run(|| 7);
+    /// assert!(*receiver.try_recv().unwrap().answer == 7);
+    /// assert!(receiver.into_caller().is_ok());
+    /// ```
     pub fn into_caller(self) -> Result<Caller<T>, Self> {
         if self.0.waits.is_some() { Err(self) } else { Ok(self.0) }
     }

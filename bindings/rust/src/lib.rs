@@ -61,6 +61,8 @@
 //! assert_eq!(group.stats().leads, 2);
 //! ```
 
+#![warn(missing_docs)]
+
 mod answer;
 mod caller;
 mod chan;
@@ -175,6 +177,11 @@ pub enum Hit {
 
 impl<T> Got<T> {
     /// Whether somebody joined the call.
+    ///
+    /// ```
+    /// # let group = singleflight::Group::<u32>::open(1, 1).unwrap();
+    /// assert!(!group.caller().unwrap().do_with(b"k", || 1).unwrap().shared());
+    /// ```
     pub fn shared(&self) -> bool {
         self.joiners > 0
     }
