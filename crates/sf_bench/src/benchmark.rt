@@ -91,6 +91,6 @@ pub fn write_names<W: Write>(writer: &mut W) -> Result<(), StreamFault>
 {
     write_all(
         writer,
-        "lookup\nlead\njoin\nforget\ncurrent\ndistinct\nhot\nfill\n",
+        "lookup\nlead\njoin\nforget\ncurrent\ndistinct\nhot\nplace\nkey\nfill\n",
     )
 }

@@ -1,9 +1,9 @@
 //! What a leader's second look finds. No getters can be made to show it by turns, since the first look of a get finds the same
 //! letters; so a caller of the group that is no getter leads.
-ghost use Rattle.std.specs.Prelude.{◌≡◌, ◌≤◌, vec_len};
+ghost use Rattle.std.specs.Prelude.{◌≡◌, ◌≤◌, IfSome, vec_len};
 ghost use Rattle.sf_words.specs.declared.limits.TheConstants.{LARGEST_PLACE};
 ghost use Rattle.sf_spots.specs.Spaces.{AreDesksOf, places_in, space_of};
-ghost use Rattle.sf_fill.specs.Made.{AreParts};
+ghost use Rattle.sf_fill.specs.Made.{AreOfGroup, AreParts};
 
 use bytes::Bytes;
 use sf_fill::{Fill, FillParts, FillValue, Ledgers, Naming};
@@ -94,6 +94,29 @@ fn loaders(alloc: Global) -> Result<Loaders<FixedPicker, Script, Script, RoundCh
     })
 }
 
+// The last caller, and the one before it.
+fn take_leader<'d, D: Naming>(
+    group: &Group<FillValue<'d, D, AnyValue>>,
+    callers: Vec<Caller<FillValue<'d, D, AnyValue>>>,
+) -> Option<
+    (
+        Vec<Caller<FillValue<'d, D, AnyValue>>>,
+        Caller<FillValue<'d, D, AnyValue>>,
+    ),
+>
+    requires { AreOfGroup group.now callers.items }
+    ensures one { IfSome result (λ taken. (vec_len taken.0 ≡ 1) × AreOfGroup group.now taken.0.items) }
+    ensures leader { IfSome result (λ taken. taken.1.group ≡ group.now) }
+{
+    let _ = group;
+    let mut callers = callers;
+    let leader = callers.pop()?;
+    if callers.len() != 1 {
+        return None;
+    }
+    Some((callers, leader))
+}
+
 // The key space is named here. The last of two callers leads.
 fn with_space<'d, D: Naming, R: Wait>(
     rt: &R,
@@ -106,9 +129,9 @@ fn with_space<'d, D: Naming, R: Wait>(
     requires desks { (vec_len desks ≡ 1) × AreDesksOf D.space desks.items }
 {
     let places = space.place_count();
-    let (group, mut callers) = Group::<FillValue<'d, D, AnyValue>>::new(alloc, places, 2, 1)?;
-    let Some(leader) = callers.pop() else {
-        unreachable!()
+    let (group, callers) = Group::<FillValue<'d, D, AnyValue>>::new(alloc, places, 2, 1)?;
+    let Some((callers, leader)) = take_leader(&group, callers) else {
+        return Err(Memory);
     };
     let parts = FillParts {
         desks,
