@@ -133,14 +133,13 @@ fn with_all<'d, D: Naming + Send + Sync, N: Naming + Send + Sync, R>(
     table: &Table,
     space: KeySpace<'d>,
     parts: PageParts<'d, D>,
-    threads: u32,
-    detail: &'static str,
+    case: Case,
 ) -> Result<(), Fault>
 where
     R: AllocGlobal + Print + Wait + Threads + Clock + Sync,
     requires space { (space_of space ≡ N.space) × (D.space ≡ N.space) }
     requires parts { AreParts N.space N.group N.getters N.ledgers parts }
-    requires getters { (N.getters ≡ threads) × (1 ≤ threads) × (threads ≤ 64) }
+    requires getters { (N.getters ≡ case.threads) × (1 ≤ case.threads) × (case.threads ≤ 64) }
 {
     let alloc = rt.alloc();
     let made = Fill::<'d, D, N, AnyValue>::new(alloc, space, parts, LIMIT, 0);
@@ -148,11 +147,6 @@ where
         return Err(Fault::Memory);
     };
     let times = measure(rt, workers(alloc, &fill, getters)?)?;
-    let case = Case {
-        benchmark: Benchmark::Fill,
-        detail,
-        threads,
-    };
     table.row(rt, case, times)
 }
 
@@ -182,52 +176,49 @@ fn with_space<'d, D: Naming + Send + Sync, R>(
     table: &Table,
     space: KeySpace<'d>,
     desks: Vec<KeyDesk>,
-    threads: u32,
-    detail: &'static str,
+    case: Case,
 ) -> Result<(), Fault>
 where
     R: AllocGlobal + Print + Wait + Threads + Clock + Sync,
     requires space { (space_of space ≡ D.space) × (places_in D.space ≤ LARGEST_PLACE) }
-    requires threads { (1 ≤ threads) × (threads ≤ 64) }
-    requires desks { (vec_len desks ≡ threads) × AreDesksOf D.space desks.items }
+    requires threads { (1 ≤ case.threads) × (case.threads ≤ 64) }
+    requires desks { (vec_len desks ≡ case.threads) × AreDesksOf D.space desks.items }
 {
     let alloc = rt.alloc();
-    let parts = FillParts::new(alloc, space, desks, loaders(alloc, threads)?, 1)?;
-    with_all::<D, Brand, R>(rt, table, space, parts, threads, detail)
+    let parts = FillParts::new(alloc, space, desks, loaders(alloc, case.threads)?, 1)?;
+    with_all::<D, Brand, R>(rt, table, space, parts, case)
 }
 
-// Measures gets on so many threads, of a fill over a directory. Nothing is named here.
-fn in_directory<R>(rt: &R, table: &Table, threads: u32) -> Result<(), Fault>
+/// A get of a key that a cache has.
+const CASE: Case = Case {
+    benchmark: Benchmark::Fill,
+    detail: "get of one cached key",
+    threads: 1,
+};
+
+// Measures gets of a fill over a directory. Nothing is named here.
+fn in_directory<R>(rt: &R, table: &Table, case: Case) -> Result<(), Fault>
 where
     R: AllocGlobal + Print + Wait + Threads + Clock + Sync,
-    requires { (1 ≤ threads) × (threads ≤ 64) }
+    requires { (1 ≤ case.threads) × (case.threads ≤ 64) }
 {
-    let (directory, desks) = open_directory(rt.alloc(), 16, 16, threads, 7, 11)?;
-    let space = KeySpace::Directory(&directory);
-    with_space::<Brand, R>(rt, table, space, desks, threads, "get of one cached key")
+    let (directory, desks) = open_directory(rt.alloc(), 16, 16, case.threads, 7, 11)?;
+    with_space::<Brand, R>(rt, table, KeySpace::Directory(&directory), desks, case)
 }
 
 // The same over hashed places.
-fn in_open<R>(rt: &R, table: &Table, threads: u32) -> Result<(), Fault>
+fn in_open<R>(rt: &R, table: &Table, case: Case) -> Result<(), Fault>
 where
     R: AllocGlobal + Print + Wait + Threads + Clock + Sync,
-    requires { (1 ≤ threads) × (threads ≤ 64) }
+    requires { (1 ≤ case.threads) × (case.threads ≤ 64) }
 {
     let places = Places {
         count: 16,
         seed0: 7,
         seed1: 11,
     };
-    let desks = hash_desks(rt.alloc(), places, threads)?;
-    let space = KeySpace::Hashed(places);
-    with_space::<Brand, R>(
-        rt,
-        table,
-        space,
-        desks,
-        threads,
-        "get of one cached key, hashed",
-    )
+    let desks = hash_desks(rt.alloc(), places, case.threads)?;
+    with_space::<Brand, R>(rt, table, KeySpace::Hashed(places), desks, case)
 }
 
 /// What a get costs of a key that a cache has: the first get of each fill loads it.
@@ -235,8 +226,19 @@ pub(crate) fn measure_fill<R>(rt: &R, table: &Table) -> Result<(), Fault>
 where
     R: AllocGlobal + Print + Wait + Threads + Clock + Sync,
 {
-    in_directory(rt, table, 1)?;
-    in_directory(rt, table, 4)?;
-    in_open(rt, table, 1)?;
-    in_open(rt, table, 4)
+    let hashed = Case {
+        detail: "get of one cached key, hashed",
+        ..CASE
+    };
+    in_directory(rt, table, CASE)?;
+    in_directory(rt, table, Case { threads: 4, ..CASE })?;
+    in_open(rt, table, hashed)?;
+    in_open(
+        rt,
+        table,
+        Case {
+            threads: 4,
+            ..hashed
+        },
+    )
 }
