@@ -7,7 +7,7 @@ use Rattle.sf_calls.specs.Begins.{HasJoined}
 use Rattle.sf_calls.specs.Finishes.{IsReady}
 use Rattle.sf_spots.specs.Spaces.{SpaceId}
 use Rattle.sf_spots.specs.Spots.{IsInSpace, IsOther}
-use Rattle.sf_fill.specs.declared.found.Found.TheVariants.{Led}
+use Rattle.sf_fill.specs.declared.get.Found.TheVariants.{Led}
 use Rattle.sf_fill.specs.declared.totals.GetCounts.{GetCounts}
 use Rattle.sf_fill.specs.FillValue.{Filled, FitsFill}
 use Rattle.sf_fill.specs.Found.{HasMissed, IsMiss}

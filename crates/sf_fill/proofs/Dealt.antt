@@ -3,13 +3,12 @@ use Rattle.std.proofs.Common.{◌≡◌, List, [], ◌∷◌, ◌++◌, reverse,
 use Rattle.std.proofs.lemmas.List.{reverse-append}
 use Rattle.sf_calls.specs.Tokens.{CallerValue}
 use Rattle.sf_spots.specs.declared.key_space.KeyDesk.{KeyDesk}
-use Rattle.sf_loaders.specs.declared.load_path.Loaders.{Loaders}
 use Rattle.sf_fill.specs.FillValue.{Filled}
 use Rattle.sf_fill.specs.GetterValue.{GetterValue, new_getter}
 use Rattle.sf_fill.specs.Made.{new_getters}
 
-module _ {P F L C : Type 0} where
-  dealt_last : (ds : List KeyDesk) (cs : List (CallerValue Filled)) (ls : List (Loaders P F L C)) (d : KeyDesk) (c : CallerValue Filled) (l : Loaders P F L C)
+module _ {L : Type 0} where
+  dealt_last : (ds : List KeyDesk) (cs : List (CallerValue Filled)) (ls : List L) (d : KeyDesk) (c : CallerValue Filled) (l : L)
       → length cs ≡ length ds → length ls ≡ length ds
       → new_getters (ds ++ d ∷ []) (cs ++ c ∷ []) (ls ++ l ∷ []) ≡ new_getters ds cs ls ++ new_getter d c l ∷ []
   dealt_last [] [] [] d c l p q = refl
@@ -22,8 +21,8 @@ module _ {P F L C : Type 0} where
       ap (λ r. new_getter w x y ∷ r) (dealt_last ds cs ls d c l fewer also)
 
   -- one more is made, and is put behind those that were made before
-  pub dealt_more : (desks ds : List KeyDesk) (callers cs : List (CallerValue Filled)) (loaders ls : List (Loaders P F L C)) (getters more : List (GetterValue P F L C))
-      (d : KeyDesk) (c : CallerValue Filled) (l : Loaders P F L C) (getter : GetterValue P F L C)
+  pub dealt_more : (desks ds : List KeyDesk) (callers cs : List (CallerValue Filled)) (loaders ls : List L) (getters more : List (GetterValue L))
+      (d : KeyDesk) (c : CallerValue Filled) (l : L) (getter : GetterValue L)
       → desks ≡ ds ++ d ∷ [] → callers ≡ cs ++ c ∷ [] → loaders ≡ ls ++ l ∷ [] → length cs ≡ length ds → length ls ≡ length ds
       → more ≡ getters ++ getter ∷ [] → getter ≡ new_getter d c l
       → new_getters ds cs ls ++ reverse more ≡ new_getters desks callers loaders ++ reverse getters

@@ -26,7 +26,6 @@ use Rattle.sf_dir.specs.declared.refusal.Refusal.TheVariants as refusal
 use Rattle.sf_loaders.specs.LoadPath.{LoadAnswer}
 use Rattle.sf_loaders.specs.declared.faults.LocalFault.{LocalFault}
 use Rattle.sf_loaders.specs.declared.faults.LocalFault.TheVariants as local
-use Rattle.sf_loaders.specs.declared.load_path.Loaders.{Loaders}
 use Rattle.sf_spots.specs.declared.key_space.KeyDesk.{KeyDesk}
 use Rattle.sf_spots.specs.declared.spot.Spot.{Spot}
 use Rattle.sf_spots.specs.declared.spot.Spot.TheVariants as spot
@@ -34,12 +33,12 @@ use Rattle.sf_spots.specs.Spaces.{SpaceId}
 use Rattle.sf_spots.specs.Spots.{IsInSpace, IsOther, spot_place}
 use Rattle.sf_fill.specs.declared.fault.LoadFault.{LoadFault}
 use Rattle.sf_fill.specs.declared.fault.LoadFault.TheVariants as fault
-use Rattle.sf_fill.specs.declared.found.Found.{Found}
-use Rattle.sf_fill.specs.declared.found.Found.TheVariants.{Kept, Uncopied, Unmade, Spent, Joined, Led}
-use Rattle.sf_fill.specs.declared.forgot.Forgot.{Forgot}
-use Rattle.sf_fill.specs.declared.forgot.Forgot.TheVariants as forgot
-use Rattle.sf_fill.specs.declared.standing.Standing.{Standing}
-use Rattle.sf_fill.specs.declared.standing.Standing.TheVariants.{Free, Owing}
+use Rattle.sf_fill.specs.declared.get.Found.{Found}
+use Rattle.sf_fill.specs.declared.get.Found.TheVariants.{Kept, Uncopied, Unmade, Spent, Joined, Led}
+use Rattle.sf_fill.specs.declared.reload.Forgot.{Forgot}
+use Rattle.sf_fill.specs.declared.reload.Forgot.TheVariants as forgot
+use Rattle.sf_fill.specs.declared.getter.Standing.{Standing}
+use Rattle.sf_fill.specs.declared.getter.Standing.TheVariants.{Free, Owing}
 use Rattle.sf_fill.specs.declared.totals.GetCounts.{GetCounts}
 use Rattle.sf_fill.specs.declared.totals.Totals.{Totals}
 use Rattle.sf_fill.specs.Counted.{has_asking, is_asking, askings_in, IsCounted}
@@ -365,12 +364,12 @@ none_forgot a k (forgot.Cleared x) = refl
 none_forgot a k (forgot.Missed x) = refl
 none_forgot a k forgot.Idle = refl
 
-module _ {P F L C : Type 0} (path : CallId → Loaders P F L C → LoadAnswer → Loaders P F L C → Type 0) (draws : C → C → Type 0) (space : SpaceId) (key : List ℕ) where
-  source_counts : (p : Spot) (f : FlightValue Filled) (old new : Loaders P F L C) (v : Filled) (n : GetCounts) → IsSource path draws p f old new v n → (n.gets ≡ 1) × (n.loads ≡ 1)
+module _ {L : Type 0} (path : CallId → L → LoadAnswer → L → Type 0) (draws : L → L → Type 0) (space : SpaceId) (key : List ℕ) where
+  source_counts : (p : Spot) (f : FlightValue Filled) (old new : L) (v : Filled) (n : GetCounts) → IsSource path draws p f old new v n → (n.gets ≡ 1) × (n.loads ≡ 1)
   source_counts p f old new v n (inl r) = (ap (λ (k : GetCounts). k.gets) r.counts, ap (λ (k : GetCounts). k.loads) r.counts)
   source_counts p f old new v n (inr r) = (ap (λ (k : GetCounts). k.gets) r.counts, ap (λ (k : GetCounts). k.loads) r.counts)
 
-  run : (p : Spot) (u : CallerValue Filled) (old new : Loaders P F L C) (finished : Finished (CallerValue Filled) (LetterValue Filled) (SettledValue Filled)) (n : GetCounts) → HasRun path draws p u old new finished n → Once u (spot_place p) (reply_of (Led finished n))
+  run : (p : Spot) (u : CallerValue Filled) (old new : L) (finished : Finished (CallerValue Filled) (LetterValue Filled) (SettledValue Filled)) (n : GetCounts) → HasRun path draws p u old new finished n → Once u (spot_place p) (reply_of (Led finished n))
   run p u old new (Done c m) n r =
       let f = r.flight in let ran = r.run in let ready = ran.ready in let counts = source_counts p f old new ran.value n ran.source in let e = ran.settled.0 in let l = ran.settled.1 in let done = ran.settled.2 in let nothing = ran.settled.3 in let lent = ran.settled.4 in
       let lead : Event ℕ Filled = event.Lead u.number (spot_place p) (call_of u) None in
@@ -487,7 +486,7 @@ module _ {P F L C : Type 0} (path : CallId → Loaders P F L C → LoadAnswer �
       none (inl d) = refl
       none (inr places) = All-nil _
 
-  found_from : (p : Spot) (u : CallerValue Filled) (old new : Loaders P F L C) (found : Found Filled) → HasFoundFrom space key path draws p u old new found
+  found_from : (p : Spot) (u : CallerValue Filled) (old new : L) (found : Found Filled) → HasFoundFrom space key path draws p u old new found
       → Asked space key u (spot_place p) (reply_of found) ⊎ Quiet u (reply_of found)
   found_from p u old new (Kept e m) h =
       let l = h.1.0 in let row = h.1.1 in let lent = h.1.2 in let w = row.current in
@@ -501,7 +500,7 @@ module _ {P F L C : Type 0} (path : CallId → Loaders P F L C → LoadAnswer �
   found_from p u old new (Joined e l) h = inl (after_misses space key (spot_place p) h.0 u h.1 (reply_of (Joined e l)) h.2 (joined p h.1 e l h.3.1.0 h.3.1.1 h.3.1.2))
   found_from p u old new (Led finished n) h = inl (after_misses space key (spot_place p) h.0 u h.1 (reply_of (Led finished n)) h.2 (run p h.1 old new finished n h.3))
 
-  found_so : (p : Spot) (c : CallerValue Filled) (old new : Loaders P F L C) (found : Found Filled) → HasFound space key path draws p c old new found
+  found_so : (p : Spot) (c : CallerValue Filled) (old new : L) (found : Found Filled) → HasFound space key path draws p c old new found
       → Asked space key c (spot_place p) (reply_of found) ⊎ Quiet c (reply_of found)
   found_so p c old new found h = elim (found_from p h.0 old new found h.2) [
     | inl a ↦ inl (asked_before space key c h.0 (spot_place p) (reply_of found) (still_looked c h.0 h.1) a)
@@ -518,7 +517,7 @@ module _ {P F L C : Type 0} (path : CallId → Loaders P F L C → LoadAnswer �
   added_looked s c d x h (inr n) = added_more s (Free c) (Free d) x [] 0 h (nothing_moved c d n) refl
 
   -- the caller's group stays
-  pub group_found : (p : Spot) (c : CallerValue Filled) (old new : Loaders P F L C) (found : Found Filled) → HasFound space key path draws p c old new found → IsOfGroup c.group (reply_of found).0
+  pub group_found : (p : Spot) (c : CallerValue Filled) (old new : L) (found : Found Filled) → HasFound space key path draws p c old new found → IsOfGroup c.group (reply_of found).0
   group_found p c old new found h = stays (reply_of found) (found_so p c old new found h)
     where
       stays : (x : Reply) → Asked space key c (spot_place p) x ⊎ Quiet c x → IsOfGroup c.group x.0
@@ -526,7 +525,7 @@ module _ {P F L C : Type 0} (path : CallId → Loaders P F L C → LoadAnswer �
       stays x (inr (d, looked, is)) = subst (λ (y : Reply). IsOfGroup c.group y.0) (sym is) (still_looked c d looked).group
 
   -- a get that settled up first, to stand so
-  fresh_from : (old new : GetterValue P F L C) (m : Standing Filled) (loaders : Loaders P F L C) (counts : GetCounts) (answer : GetAnswer) → HasDelivered old.standing m
+  fresh_from : (old new : GetterValue L) (m : Standing Filled) (loaders : L) (counts : GetCounts) (answer : GetAnswer) → HasDelivered old.standing m
       → GetsFrom path draws space key m old.desk new.desk loaders new.loaders (new.standing, counts, answer) → (f : IsFreshGet space key old new answer) × Suits f.added counts answer
   fresh_from old new (Owing s) loaders counts answer owed got =
       let answer_is : answer ≡ Err fault.Memory = ap (λ (r : Reply). r.2) got.2 in
@@ -596,16 +595,16 @@ module _ {P F L C : Type 0} (path : CallId → Loaders P F L C → LoadAnswer �
             subst (λ (x : Reply). Suits [] x.1 x.2) (sym reply) (record { gets = refl; loads = λ e. cc; hits = λ _ no. cc }),
           )
 
-  fresh_got : (old new : GetterValue P F L C) (answer : GetAnswer) (h : HasGot path draws space key old new answer) → (f : IsFreshGet space key old new answer) × Suits f.added h.counts answer
+  fresh_got : (old new : GetterValue L) (answer : GetAnswer) (h : HasGot path draws space key old new answer) → (f : IsFreshGet space key old new answer) × Suits f.added h.counts answer
   fresh_got old new answer h =
-      let desk : h.middle.desk ≡ old.desk = ap (λ (g : GetterValue P F L C). g.desk) h.settled.rest in
+      let desk : h.middle.desk ≡ old.desk = ap (λ (g : GetterValue L). g.desk) h.settled.rest in
       fresh_from old new h.middle.standing h.middle.loaders h.counts answer h.settled.delivered
       (subst (λ (k : KeyDesk). GetsFrom path draws space key h.middle.standing k new.desk h.middle.loaders new.loaders (new.standing, h.counts, answer)) desk h.got)
 
-  pub fresh : (old new : GetterValue P F L C) (answer : GetAnswer) → HasGot path draws space key old new answer → IsFreshGet space key old new answer
+  pub fresh : (old new : GetterValue L) (answer : GetAnswer) → HasGot path draws space key old new answer → IsFreshGet space key old new answer
   fresh old new answer h = (fresh_got old new answer h).0
 
-  pub counted : (old new : GetterValue P F L C) (answer : GetAnswer) → HasGot path draws space key old new answer → IsCounted old new answer
+  pub counted : (old new : GetterValue L) (answer : GetAnswer) → HasGot path draws space key old new answer → IsCounted old new answer
   counted old new answer h =
       let f = (fresh_got old new answer h).0 in let suits = (fresh_got old new answer h).1 in
       let handed : Seen = handed_by old.standing f.delivered in
@@ -622,8 +621,8 @@ module _ {P F L C : Type 0} (path : CallId → Loaders P F L C → LoadAnswer �
         hits = λ e ok. let hit = suits.hits (sym same ∙ e) ok in (omega (arith, hits, hit.0), omega (arith, loads, hit.1));
       }
 
-module _ {P F L C : Type 0} (space : SpaceId) (key : List ℕ) where
-  reloads_from : (old new : GetterValue P F L C) (m : Standing Filled) (answer : Result Forgot LoadFault) → HasDelivered old.standing m → ReloadsFrom space key m old.desk new.desk new.standing answer → IsReloading space key old new answer
+module _ {L : Type 0} (space : SpaceId) (key : List ℕ) where
+  reloads_from : (old new : GetterValue L) (m : Standing Filled) (answer : Result Forgot LoadFault) → HasDelivered old.standing m → ReloadsFrom space key m old.desk new.desk new.standing answer → IsReloading space key old new answer
   reloads_from old new (Owing s) answer owed r = (
     false,
     subst (λ (a : Result Forgot LoadFault). ForgetsOnce space key old new false a) (sym r.2)
@@ -655,7 +654,7 @@ module _ {P F L C : Type 0} (space : SpaceId) (key : List ℕ) where
         )
   ]
 
-  pub reloading : (old new : GetterValue P F L C) (answer : Result Forgot LoadFault) → HasReloaded space key old new answer → IsReloading space key old new answer
+  pub reloading : (old new : GetterValue L) (answer : Result Forgot LoadFault) → HasReloaded space key old new answer → IsReloading space key old new answer
   reloading old new answer h =
-      let desk : h.middle.desk ≡ old.desk = ap (λ (g : GetterValue P F L C). g.desk) h.settled.rest in
+      let desk : h.middle.desk ≡ old.desk = ap (λ (g : GetterValue L). g.desk) h.settled.rest in
       reloads_from old new h.middle.standing answer h.settled.delivered (subst (λ (k : KeyDesk). ReloadsFrom space key h.middle.standing k new.desk new.standing answer) desk h.reloaded)

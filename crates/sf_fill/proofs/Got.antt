@@ -4,10 +4,9 @@ use Rattle.sf_history.specs.declared.call.CallId.{CallId}
 use Rattle.sf_spots.specs.declared.key_space.KeyDesk.{KeyDesk}
 use Rattle.sf_spots.specs.Spaces.{SpaceId}
 use Rattle.sf_loaders.specs.LoadPath.{LoadAnswer}
-use Rattle.sf_loaders.specs.declared.load_path.Loaders.{Loaders}
 use Rattle.sf_fill.specs.declared.fault.LoadFault.{LoadFault}
-use Rattle.sf_fill.specs.declared.forgot.Forgot.{Forgot}
-use Rattle.sf_fill.specs.declared.standing.Standing.{Standing}
+use Rattle.sf_fill.specs.declared.reload.Forgot.{Forgot}
+use Rattle.sf_fill.specs.declared.getter.Standing.{Standing}
 use Rattle.sf_fill.specs.declared.totals.Totals.{Totals}
 use Rattle.sf_fill.specs.FillValue.{Filled}
 use Rattle.sf_fill.specs.Gets.{GetsFrom, HasGot, Reply}
@@ -16,9 +15,9 @@ use Rattle.sf_fill.specs.Owing.{HasSettledUp}
 use Rattle.sf_fill.specs.Reloads.{ReloadsFrom, HasReloaded}
 use Rattle.sf_fill.specs.Totals.{with_counts}
 
-module _ {P F L C : Type 0} where
-  pub got : (path : CallId → Loaders P F L C → LoadAnswer → Loaders P F L C → Type 0) (draws : C → C → Type 0) (space : SpaceId) (key : List ℕ)
-      (old middle : GetterValue P F L C) (desk after : KeyDesk) (standing : Standing Filled) (loaders new : Loaders P F L C) (tallies counted : Totals) (reply : Reply)
+module _ {L : Type 0} where
+  pub got : (path : CallId → L → LoadAnswer → L → Type 0) (draws : L → L → Type 0) (space : SpaceId) (key : List ℕ)
+      (old middle : GetterValue L) (desk after : KeyDesk) (standing : Standing Filled) (loaders new : L) (tallies counted : Totals) (reply : Reply)
       → HasSettledUp old middle → record { desk = desk; standing = standing; loaders = loaders; counted = tallies } ≡ middle
       → GetsFrom path draws space key standing desk after loaders new reply → counted ≡ with_counts tallies reply.1
       → HasGot path draws space key old (record { desk = after; standing = reply.0; loaders = new; counted = counted }) reply.2
@@ -29,10 +28,10 @@ module _ {P F L C : Type 0} where
         settled = from;
         counts = reply.1;
         got = g;
-        counted = t ∙ ap (λ (m : GetterValue P F L C). with_counts m.counted reply.1) from.rest;
+        counted = t ∙ ap (λ (m : GetterValue L). with_counts m.counted reply.1) from.rest;
       }
 
-  pub reloaded : (space : SpaceId) (key : List ℕ) (old middle : GetterValue P F L C) (desk after : KeyDesk) (standing back : Standing Filled) (loaders : Loaders P F L C)
+  pub reloaded : (space : SpaceId) (key : List ℕ) (old middle : GetterValue L) (desk after : KeyDesk) (standing back : Standing Filled) (loaders : L)
       (tallies : Totals) (answer : Result Forgot LoadFault)
       → HasSettledUp old middle → record { desk = desk; standing = standing; loaders = loaders; counted = tallies } ≡ middle
       → ReloadsFrom space key standing desk after back answer

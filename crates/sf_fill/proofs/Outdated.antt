@@ -18,8 +18,8 @@ use Rattle.sf_calls.specs.Tokens.{CallerValue}
 use Rattle.sf_calls.specs.Seen.{StartsWith}
 use Rattle.sf_calls.proofs.AddsAgain.{starts_again}
 use Rattle.sf_calls.proofs.Moments.{current_unforgotten, first_added, legal_before}
-use Rattle.sf_fill.specs.declared.forgot.Forgot.{Forgot}
-use Rattle.sf_fill.specs.declared.forgot.Forgot.TheVariants as forgot
+use Rattle.sf_fill.specs.declared.reload.Forgot.{Forgot}
+use Rattle.sf_fill.specs.declared.reload.Forgot.TheVariants as forgot
 use Rattle.sf_fill.specs.FillValue.{Filled}
 use Rattle.sf_fill.specs.Fresh.{IsOutdated}
 use Rattle.sf_fill.specs.Reloads.{HasForgotNamed, ForgetsNamed}

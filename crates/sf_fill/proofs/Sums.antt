@@ -14,12 +14,12 @@ same_totals a b e f h j k l m n = λ i. record { gets = e i; cache_hits = f i; l
 sum_last : (f : Totals → ℕ) (xs : List Totals) (x : Totals) (all : ℕ) → (all + f x) + sum_by f xs ≡ all + sum_by f (xs ++ x ∷ [])
 sum_last f xs x all = omega (arith, sum_by-append f xs (x ∷ []), sum_by-cons f x [])
 
-module _ {P F L C : Type 0} where
+module _ {L : Type 0} where
   -- the last getter's counts go to those that are summed up already
-  pub sums_on : (all : Totals) (xs : List (GetterValue P F L C)) (x : GetterValue P F L C)
-      → plus (plus all x.counted) (sums_of (map (λ (y : GetterValue P F L C). y.counted) xs)) ≡ plus all (sums_of (map (λ (y : GetterValue P F L C). y.counted) (xs ++ x ∷ [])))
+  pub sums_on : (all : Totals) (xs : List (GetterValue L)) (x : GetterValue L)
+      → plus (plus all x.counted) (sums_of (map (λ (y : GetterValue L). y.counted) xs)) ≡ plus all (sums_of (map (λ (y : GetterValue L). y.counted) (xs ++ x ∷ [])))
   sums_on all xs x =
-      let count : GetterValue P F L C → Totals = λ y. y.counted in
+      let count : GetterValue L → Totals = λ y. y.counted in
       let last = map-append count xs (x ∷ []) in
       rw last (same_totals (plus (plus all x.counted) (sums_of (map count xs))) (plus all (sums_of (map count xs ++ x.counted ∷ [])))
       (sum_last (λ (t : Totals). t.gets) (map count xs) x.counted all.gets)

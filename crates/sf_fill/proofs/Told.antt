@@ -13,8 +13,8 @@ use Rattle.sf_calls.specs.Seen.{StartsWith, Stands}
 use Rattle.sf_calls.specs.Unforgotten.{forgets, IsUnforgotten}
 use Rattle.sf_calls.proofs.AddsAgain.{starts_again}
 use Rattle.sf_calls.proofs.Moments.{legal_before, stands_more, stands_own}
-use Rattle.sf_fill.specs.declared.forgot.Forgot.{Forgot}
-use Rattle.sf_fill.specs.declared.forgot.Forgot.TheVariants as forgot
+use Rattle.sf_fill.specs.declared.reload.Forgot.{Forgot}
+use Rattle.sf_fill.specs.declared.reload.Forgot.TheVariants as forgot
 use Rattle.sf_fill.specs.FillValue.{Filled}
 use Rattle.sf_fill.specs.Fresh.{handed_by, forgot_by}
 use Rattle.sf_spots.specs.Spots.{spot_place}
@@ -77,8 +77,8 @@ other_call : (k : ℕ) (old new moment : Seen) (c : CallId) → IsLegal nat_eq m
 other_call k old new moment c legal first then ended now was =
     past_after moment new k c legal then (names_more new old c first (current_names old k c was)) (ended was) now
 
-pub notes_carry_reloads : (P F L C P' F' L' C' : Type 0) → NotesCarryReloads P F L C P' F' L' C'
-notes_carry_reloads P F L C P' F' L' C' d key old new after delivered came_to r n told other learnt has then l legal fresh =
+pub notes_carry_reloads : (L M : Type 0) → NotesCarryReloads L M
+notes_carry_reloads L M d key old new after delivered came_to r n told other learnt has then l legal fresh =
     let k = spot_place r.spot in
     let shown : StartsWith (seen_of learnt.standing) (seen_of new.standing) = subst (λ (h : Seen). StartsWith (seen_of learnt.standing) h) told.shown has.shows in
     let begins : StartsWith fresh.moment (seen_of new.standing) = starts_again (seen_of new.standing) (seen_of learnt.standing) fresh.moment shown fresh.begins in

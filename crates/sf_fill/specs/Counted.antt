@@ -32,9 +32,9 @@ module _ {V : Type 0} where
     pub begins : StartsWith new old
     pub own : own_events a new ≡ own_events a old ++ added
 
-module _ {P F L C : Type 0} where
+module _ {L : Type 0} where
   -- Gets rises by one; Loads rises by one where it asked; where it answers a view and did not ask, CacheHits rises by one and Loads stays.
-  pub record IsCounted (old new : GetterValue P F L C) (answer : GetAnswer) : Type 0 where
+  pub record IsCounted (old new : GetterValue L) (answer : GetAnswer) : Type 0 where
     pub added : List (Event ℕ Filled)
     pub made : HasMade (number_of old.standing) (number_of new.standing) (seen_of old.standing) (seen_of new.standing) added
     pub gets : new.counted.gets ≡ old.counted.gets + 1

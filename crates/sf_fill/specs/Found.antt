@@ -16,9 +16,8 @@ use Rattle.sf_loaders.specs.declared.counts.Counts.{Counts}
 use Rattle.sf_loaders.specs.declared.counts.Source.{Source}
 use Rattle.sf_loaders.specs.declared.counts.Source.TheVariants.{Peer, Local}
 use Rattle.sf_loaders.specs.declared.faults.LocalFault.{LocalFault}
-use Rattle.sf_loaders.specs.declared.load_path.Loaders.{Loaders}
-use Rattle.sf_fill.specs.declared.found.Found.{Found}
-use Rattle.sf_fill.specs.declared.found.Found.TheVariants.{Kept, Uncopied, Unmade, Spent, Joined, Led}
+use Rattle.sf_fill.specs.declared.get.Found.{Found}
+use Rattle.sf_fill.specs.declared.get.Found.TheVariants.{Kept, Uncopied, Unmade, Spent, Joined, Led}
 use Rattle.sf_fill.specs.declared.totals.GetCounts.{GetCounts}
 use Rattle.sf_fill.specs.FillValue.{Filled, FitsFill}
 use Rattle.sf_fill.specs.Settled.{HasOnlyLooked, IsCurrentLetter, IsFollowed}
@@ -56,41 +55,40 @@ HasSettled f v (Done c m) = (d : CallerValue Filled) × (l : LetterValue Filled)
 HasSettled f v (Held s) = IsHeld f v s
 
 -- a draw, whatever it gave
-abbrev pub IsDraw : {C : Type 0} → (C → ℕ → C → Type 0) → C → C → Type 0
+abbrev pub IsDraw : {L : Type 0} → (L → ℕ → L → Type 0) → L → L → Type 0
 IsDraw gives old new = (draw : ℕ) × gives old draw new
 
-module _ {C : Type 0} (draws : C → C → Type 0) where
+module _ {L : Type 0} (draws : L → L → Type 0) where
   -- one draw at most is made where a peer gave the value, and else none
-  abbrev pub DrawsFor : Source → C → C → Type 0
+  abbrev pub DrawsFor : Source → L → L → Type 0
   DrawsFor Peer old new = (new ≡ old) ⊎ draws old new
   DrawsFor Local old new = new ≡ old
 
-  abbrev pub HasDrawn : Result (List ℕ × Source) LocalFault → C → C → Type 0
+  abbrev pub HasDrawn : Result (List ℕ × Source) LocalFault → L → L → Type 0
   HasDrawn (Ok found) old new = DrawsFor found.1 old new
   HasDrawn (Err fault) old new = new ≡ old
 
-module _ {P F L C : Type 0} (path : CallId → Loaders P F L C → LoadAnswer → Loaders P F L C → Type 0) (draws : C → C → Type 0) where
+module _ {L : Type 0} (path : CallId → L → LoadAnswer → L → Type 0) (draws : L → L → Type 0) where
   -- the loaders gave the value for the run of the call, and then there may have been a draw
-  pub record IsLoaded (p : Spot) (call : CallId) (old new : Loaders P F L C) (v : Filled) (n : GetCounts) : Type 0 where
+  pub record IsLoaded (p : Spot) (call : CallId) (old new : L) (v : Filled) (n : GetCounts) : Type 0 where
     pub outcome : LoadAnswer
-    pub after : Loaders P F L C
+    pub after : L
     pub asked : path call old outcome after
     pub value : v ≡ record { spot = p; root = call; result = bytes_in outcome.0 }
     pub counts : n ≡ load_counts outcome.1
-    pub drawn : HasDrawn draws outcome.0 after.chance new.chance
-    pub rest : new ≡ record after { chance = new.chance }
+    pub drawn : HasDrawn draws outcome.0 after new
 
   -- a cache had it, and no loader was asked
-  pub record IsSecondLook (p : Spot) (f : FlightValue Filled) (old new : Loaders P F L C) (v : Filled) (n : GetCounts) : Type 0 where
+  pub record IsSecondLook (p : Spot) (f : FlightValue Filled) (old new : L) (v : Filled) (n : GetCounts) : Type 0 where
     pub value : IsFromCache p f v
     pub counts : n ≡ second_look_counts
     pub unasked : new ≡ old
 
-  abbrev pub IsSource : Spot → FlightValue Filled → Loaders P F L C → Loaders P F L C → Filled → GetCounts → Type 0
+  abbrev pub IsSource : Spot → FlightValue Filled → L → L → Filled → GetCounts → Type 0
   IsSource p f old new v n = IsLoaded p f.call old new v n ⊎ IsSecondLook p f old new v n
 
   -- the leader of the call may have learnt what a cached letter shows, and settled the call with a value of that source
-  pub record HasRunFrom (p : Spot) (flight : FlightValue Filled) (old new : Loaders P F L C) (finished : Finished (CallerValue Filled) (LetterValue Filled) (SettledValue Filled)) (n : GetCounts) : Type 0 where
+  pub record HasRunFrom (p : Spot) (flight : FlightValue Filled) (old new : L) (finished : Finished (CallerValue Filled) (LetterValue Filled) (SettledValue Filled)) (n : GetCounts) : Type 0 where
     pub ready : FlightValue Filled
     pub value : Filled
     pub learnt : IsSameFlight flight ready
@@ -98,7 +96,7 @@ module _ {P F L C : Type 0} (path : CallId → Loaders P F L C → LoadAnswer �
     pub settled : HasSettled ready value finished
 
   -- the caller led the place's next call, and ran it so
-  pub record HasRun (p : Spot) (c : CallerValue Filled) (old new : Loaders P F L C) (finished : Finished (CallerValue Filled) (LetterValue Filled) (SettledValue Filled)) (n : GetCounts) : Type 0 where
+  pub record HasRun (p : Spot) (c : CallerValue Filled) (old new : L) (finished : Finished (CallerValue Filled) (LetterValue Filled) (SettledValue Filled)) (n : GetCounts) : Type 0 where
     pub flight : FlightValue Filled
     pub led : HasLed c (spot_place p) flight
     pub run : HasRunFrom p flight old new finished n
@@ -126,10 +124,10 @@ HasMissed s key k (suc n) c d = (u : CallerValue Filled) × HasMissed s key k n 
 abbrev pub AfterMisses : SpaceId → List ℕ → ℕ → CallerValue Filled → (CallerValue Filled → Type 0) → Type 0
 AfterMisses s key k c then = (n : ℕ) × (u : CallerValue Filled) × HasMissed s key k n c u × then u
 
-module _ (s : SpaceId) (key : List ℕ) {P F L C : Type 0} (path : CallId → Loaders P F L C → LoadAnswer → Loaders P F L C → Type 0) (draws : C → C → Type 0) where
+module _ (s : SpaceId) (key : List ℕ) {L : Type 0} (path : CallId → L → LoadAnswer → L → Type 0) (draws : L → L → Type 0) where
   -- a cache had a current letter; memory for the key was refused; a joiner has the open call's letter; who has no generation left
   -- did nothing more
-  abbrev pub HasFoundFrom : Spot → CallerValue Filled → Loaders P F L C → Loaders P F L C → Found Filled → Type 0
+  abbrev pub HasFoundFrom : Spot → CallerValue Filled → L → L → Found Filled → Type 0
   HasFoundFrom p c old new (Kept d m) = (new ≡ old) × ((l : LetterValue Filled) × IsCurrentLetter c (spot_place p) l d × HasLent l m)
   HasFoundFrom p c old new (Uncopied d) = (new ≡ old) × ((l : LetterValue Filled) × IsCurrentLetter c (spot_place p) l d)
   HasFoundFrom p c old new (Unmade d) = (d ≡ c) × (new ≡ old)
@@ -138,5 +136,5 @@ module _ (s : SpaceId) (key : List ℕ) {P F L C : Type 0} (path : CallId → Lo
   HasFoundFrom p c old new (Led finished n) = AfterMisses s key (spot_place p) c (λ u. HasRun path draws p u old new finished n)
 
   -- the same once the caller has looked for letters, by which it may have seen more
-  abbrev pub HasFound : Spot → CallerValue Filled → Loaders P F L C → Loaders P F L C → Found Filled → Type 0
+  abbrev pub HasFound : Spot → CallerValue Filled → L → L → Found Filled → Type 0
   HasFound p c old new found = (u : CallerValue Filled) × HasOnlyLooked c u × HasFoundFrom p u old new found

@@ -13,10 +13,10 @@ use Rattle.sf_spots.specs.Spots.{IsOther, IsSpotOfKey, spot_place}
 use Rattle.sf_loaders.specs.declared.faults.LocalFault.TheVariants as local
 use Rattle.sf_fill.specs.declared.fault.LoadFault.{LoadFault}
 use Rattle.sf_fill.specs.declared.fault.LoadFault.TheVariants as fault
-use Rattle.sf_fill.specs.declared.forgot.Forgot.{Forgot}
-use Rattle.sf_fill.specs.declared.forgot.Forgot.TheVariants as forgot
-use Rattle.sf_fill.specs.declared.standing.Standing.{Standing}
-use Rattle.sf_fill.specs.declared.standing.Standing.TheVariants.{Free, Owing}
+use Rattle.sf_fill.specs.declared.reload.Forgot.{Forgot}
+use Rattle.sf_fill.specs.declared.reload.Forgot.TheVariants as forgot
+use Rattle.sf_fill.specs.declared.getter.Standing.{Standing}
+use Rattle.sf_fill.specs.declared.getter.Standing.TheVariants.{Free, Owing}
 use Rattle.sf_fill.specs.Counted.{askings_in}
 use Rattle.sf_fill.specs.FillValue.{Filled}
 use Rattle.sf_fill.specs.Gets.{GetAnswer}
@@ -101,9 +101,9 @@ forgot_by by k forgot.Idle = []
 abbrev pub IsOutdated : ℕ → List (Event ℕ Filled) → List (Event ℕ Filled) → Type 0
 IsOutdated k old new = (c : CallId) → current_call nat_eq old k ≡ Some c → current_call nat_eq new k ≢ Some c
 
-module _ {P F L C : Type 0} (space : SpaceId) (key : List ℕ) where
+module _ {L : Type 0} (space : SpaceId) (key : List ℕ) where
   -- the key has a place, of which this call was asked for or found, after calls of other keys of the place that were joined
-  pub record IsAnswered (old new : GetterValue P F L C) (added : List (Event ℕ Filled)) (answer : GetAnswer) : Type 0 where
+  pub record IsAnswered (old new : GetterValue L) (added : List (Event ℕ Filled)) (answer : GetAnswer) : Type 0 where
     pub spot : Spot
     pub resolved : IsSpotOfKey space key old.desk new.desk spot
     pub missed : List (Event ℕ Filled)
@@ -115,7 +115,7 @@ module _ {P F L C : Type 0} (space : SpaceId) (key : List ℕ) where
     pub answered : IsAnswer (spot_place spot) call (seen_of old.standing) (seen_of new.standing) asking answer
 
   -- what was owed is handed out first, or nothing further is done
-  pub record IsFreshGet (old new : GetterValue P F L C) (answer : GetAnswer) : Type 0 where
+  pub record IsFreshGet (old new : GetterValue L) (answer : GetAnswer) : Type 0 where
     pub delivered : Bool
     pub added : List (Event ℕ Filled)
     pub adds : HasAdded old.standing new.standing (handed_by old.standing delivered ++ added)
@@ -123,15 +123,15 @@ module _ {P F L C : Type 0} (space : SpaceId) (key : List ℕ) where
     pub undelivered : delivered ≡ false → (added ≡ []) × (answer ≡ Err fault.Memory)
 
   -- a reload adds one Forget of the call that it names, after what was owed; where it names none or is refused, none
-  pub record IsForgetOf (old new : GetterValue P F L C) (delivered : Bool) (came_to : Forgot) : Type 0 where
+  pub record IsForgetOf (old new : GetterValue L) (delivered : Bool) (came_to : Forgot) : Type 0 where
     pub spot : Spot
     pub resolved : IsSpotOfKey space key old.desk new.desk spot
     pub adds : HasAdded old.standing new.standing (handed_by old.standing delivered ++ forgot_by (number_of old.standing) (spot_place spot) came_to)
     pub outdated : IsOutdated (spot_place spot) (seen_of old.standing) (seen_of new.standing)
 
-  abbrev pub ForgetsOnce : GetterValue P F L C → GetterValue P F L C → Bool → Result Forgot LoadFault → Type 0
+  abbrev pub ForgetsOnce : GetterValue L → GetterValue L → Bool → Result Forgot LoadFault → Type 0
   ForgetsOnce old new delivered (Ok came_to) = (delivered ≡ true) × IsForgetOf old new delivered came_to
   ForgetsOnce old new delivered (Err refused) = HasAdded old.standing new.standing (handed_by old.standing delivered)
 
-  abbrev pub IsReloading : GetterValue P F L C → GetterValue P F L C → Result Forgot LoadFault → Type 0
+  abbrev pub IsReloading : GetterValue L → GetterValue L → Result Forgot LoadFault → Type 0
   IsReloading old new answer = (delivered : Bool) × ForgetsOnce old new delivered answer

@@ -12,14 +12,13 @@ use Rattle.sf_dir.specs.declared.refusal.Refusal.TheVariants as refusal
 use Rattle.sf_loaders.specs.LoadPath.{LoadAnswer}
 use Rattle.sf_loaders.specs.declared.faults.LocalFault.{LocalFault}
 use Rattle.sf_loaders.specs.declared.faults.LocalFault.TheVariants as local
-use Rattle.sf_loaders.specs.declared.load_path.Loaders.{Loaders}
 use Rattle.sf_fill.specs.declared.fault.LoadFault.{LoadFault}
 use Rattle.sf_fill.specs.declared.fault.LoadFault.TheVariants as fault
 use Rattle.sf_fill.specs.declared.fault.GetRefusal.TheVariants as refused
-use Rattle.sf_fill.specs.declared.found.Found.{Found}
-use Rattle.sf_fill.specs.declared.found.Found.TheVariants.{Kept, Uncopied, Unmade, Spent, Joined, Led}
-use Rattle.sf_fill.specs.declared.standing.Standing.{Standing}
-use Rattle.sf_fill.specs.declared.standing.Standing.TheVariants.{Free, Owing}
+use Rattle.sf_fill.specs.declared.get.Found.{Found}
+use Rattle.sf_fill.specs.declared.get.Found.TheVariants.{Kept, Uncopied, Unmade, Spent, Joined, Led}
+use Rattle.sf_fill.specs.declared.getter.Standing.{Standing}
+use Rattle.sf_fill.specs.declared.getter.Standing.TheVariants.{Free, Owing}
 use Rattle.sf_fill.specs.declared.totals.GetCounts.{GetCounts}
 use Rattle.sf_fill.specs.FillValue.{Filled}
 use Rattle.sf_fill.specs.Found.{HasFound, hit_counts, load_counts, get_alone, no_run}
@@ -84,16 +83,16 @@ IsOfKey key (Joined c l) = MayBe l.value.spot key
 IsOfKey key (Led (Done c l) n) = MayBe l.value.spot key
 IsOfKey key (Led (Held s) n) = Unit {0}
 
-module _ {P F L C : Type 0} (path : CallId → Loaders P F L C → LoadAnswer → Loaders P F L C → Type 0) (draws : C → C → Type 0) (space : SpaceId) (key : List ℕ) where
+module _ {L : Type 0} (path : CallId → L → LoadAnswer → L → Type 0) (draws : L → L → Type 0) (space : SpaceId) (key : List ℕ) where
   -- the key is refused, and nothing else is done
-  pub record IsRefusedGet (c : CallerValue Filled) (desk after : KeyDesk) (old new : Loaders P F L C) (reply : Reply) : Type 0 where
+  pub record IsRefusedGet (c : CallerValue Filled) (desk after : KeyDesk) (old new : L) (reply : Reply) : Type 0 where
     pub refusal : Refusal
     pub cause : IsRefusedSpot space key desk after refusal
     pub unasked : new ≡ old
     pub reply_is : reply ≡ (Free c, get_alone, Err (refusal_of refusal))
 
   -- the key has a place, for which this was found
-  pub record IsFoundGet (c : CallerValue Filled) (desk after : KeyDesk) (old new : Loaders P F L C) (reply : Reply) : Type 0 where
+  pub record IsFoundGet (c : CallerValue Filled) (desk after : KeyDesk) (old new : L) (reply : Reply) : Type 0 where
     pub spot : Spot
     pub resolved : IsSpotOfKey space key desk after spot
     pub found : Found Filled
@@ -101,17 +100,17 @@ module _ {P F L C : Type 0} (path : CallId → Loaders P F L C → LoadAnswer �
     pub reply_is : reply ≡ reply_of found
 
   -- a get of a free caller
-  abbrev pub HasReplied : CallerValue Filled → KeyDesk → KeyDesk → Loaders P F L C → Loaders P F L C → Reply → Type 0
+  abbrev pub HasReplied : CallerValue Filled → KeyDesk → KeyDesk → L → L → Reply → Type 0
   HasReplied c desk after old new reply = IsRefusedGet c desk after old new reply ⊎ IsFoundGet c desk after old new reply
 
   -- the get of a caller that has settled up; where it owes letters still, the get is counted alone
-  abbrev pub GetsFrom : Standing Filled → KeyDesk → KeyDesk → Loaders P F L C → Loaders P F L C → Reply → Type 0
+  abbrev pub GetsFrom : Standing Filled → KeyDesk → KeyDesk → L → L → Reply → Type 0
   GetsFrom (Owing s) desk after old new reply = (after ≡ desk) × (new ≡ old) × (reply ≡ (Owing s, get_alone, Err fault.Memory))
   GetsFrom (Free c) desk after old new reply = IsSeeingSpace space desk after × HasReplied c desk after old new reply
 
   -- what was owed is delivered first, if it can be
-  pub record HasGot (old new : GetterValue P F L C) (answer : GetAnswer) : Type 0 where
-    pub middle : GetterValue P F L C
+  pub record HasGot (old new : GetterValue L) (answer : GetAnswer) : Type 0 where
+    pub middle : GetterValue L
     pub settled : HasSettledUp old middle
     pub counts : GetCounts
     pub got : GetsFrom middle.standing middle.desk new.desk middle.loaders new.loaders (new.standing, counts, answer)

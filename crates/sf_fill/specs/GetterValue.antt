@@ -3,18 +3,17 @@ use Rattle.std.specs.Prelude.{◌≡◌, ℕ, Bool, true, false, List}
 use Rattle.sf_history.specs.declared.event.Event.{Event}
 use Rattle.sf_calls.specs.Tokens.{GroupValue, CallerValue}
 use Rattle.sf_spots.specs.declared.key_space.KeyDesk.{KeyDesk}
-use Rattle.sf_loaders.specs.declared.load_path.Loaders.{Loaders}
-use Rattle.sf_fill.specs.declared.standing.Standing.{Standing}
-use Rattle.sf_fill.specs.declared.standing.Standing.TheVariants.{Free, Owing}
+use Rattle.sf_fill.specs.declared.getter.Standing.{Standing}
+use Rattle.sf_fill.specs.declared.getter.Standing.TheVariants.{Free, Owing}
 use Rattle.sf_fill.specs.declared.totals.Totals.{Totals}
 use Rattle.sf_fill.specs.FillValue.{Filled}
 use Rattle.sf_fill.specs.Ledgers.{nothing_counted}
 
 -- its desk, its caller, which is free or owes letters, its loaders, and what it has counted
-pub record GetterValue (P F L C : Type 0) : Type 0 where
+pub record GetterValue (L : Type 0) : Type 0 where
   pub desk : KeyDesk
   pub standing : Standing Filled
-  pub loaders : Loaders P F L C
+  pub loaders : L
   pub counted : Totals
 
 module _ {V : Type 0} where
@@ -38,7 +37,7 @@ module _ {V : Type 0} where
   is_owing (Free caller) = false
   is_owing (Owing settled) = true
 
-module _ {P F L C : Type 0} where
+module _ {L : Type 0} where
   -- the getter of a desk, a caller and loaders, which has counted nothing
-  abbrev pub new_getter : KeyDesk → CallerValue Filled → Loaders P F L C → GetterValue P F L C
+  abbrev pub new_getter : KeyDesk → CallerValue Filled → L → GetterValue L
   new_getter desk caller loaders = record { desk = desk; standing = Free caller; loaders = loaders; counted = nothing_counted }

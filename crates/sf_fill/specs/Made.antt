@@ -3,17 +3,16 @@ use Rattle.std.specs.Prelude.{◌≡◌, ℕ, ◌≤◌, List, [], ◌∷◌, Al
 use Rattle.sf_words.specs.declared.limits.TheConstants.{LARGEST_PLACE}
 use Rattle.sf_calls.specs.Tokens.{GroupValue, CallerValue}
 use Rattle.sf_spots.specs.declared.key_space.KeyDesk.{KeyDesk}
-use Rattle.sf_loaders.specs.declared.load_path.Loaders.{Loaders}
 use Rattle.sf_spots.specs.Spaces.{SpaceId, AreDesksOf, places_in}
-use Rattle.sf_fill.specs.declared.making.FillParts.{FillParts}
+use Rattle.sf_fill.specs.declared.parts.FillParts.{FillParts}
 use Rattle.sf_fill.specs.Names.{LedgerNames}
 use Rattle.sf_fill.specs.Totals.{AreNamed}
 use Rattle.sf_fill.specs.FillValue.{Filled}
 use Rattle.sf_fill.specs.GetterValue.{GetterValue, new_getter}
 
-module _ {P F L C : Type 0} where
+module _ {L : Type 0} where
   -- the getters of these desks, callers and loaders, in their order
-  abbrev pub new_getters : List KeyDesk → List (CallerValue Filled) → List (Loaders P F L C) → List (GetterValue P F L C)
+  abbrev pub new_getters : List KeyDesk → List (CallerValue Filled) → List L → List (GetterValue L)
   new_getters [] callers loaders = []
   new_getters (d ∷ desks) [] loaders = []
   new_getters (d ∷ desks) (c ∷ callers) [] = []
@@ -24,7 +23,7 @@ abbrev pub AreOfGroup : GroupValue → List (CallerValue Filled) → Type 0
 AreOfGroup g callers = All (λ (c : CallerValue Filled). c.group ≡ g) callers
 
 -- the parts of a fill over this key space, with this group, so many getters, and ledgers of these names
-pub record AreParts {D O P F L C : Type 0} (s : SpaceId) (g : GroupValue) (n : ℕ) (names : LedgerNames) (p : FillParts D O P F L C) : Type 0 where
+pub record AreParts {D O L : Type 0} (s : SpaceId) (g : GroupValue) (n : ℕ) (names : LedgerNames) (p : FillParts D O L) : Type 0 where
   pub few : (1 ≤ n) × (n ≤ 65535)
   pub places : places_in s ≤ LARGEST_PLACE
   pub group : (p.group ≡ g) × (g.sizes.places ≡ places_in s)

@@ -10,22 +10,22 @@ use Rattle.sf_calls.specs.Tokens.{NoteValue, LetterValue}
 use Rattle.sf_calls.specs.Seen.{StartsWith, Stands}
 use Rattle.sf_spots.specs.Spaces.{SpaceId}
 use Rattle.sf_spots.specs.Spots.{spot_place}
-use Rattle.sf_fill.specs.declared.forgot.Forgot.{Forgot}
-use Rattle.sf_fill.specs.declared.forgot.Forgot.TheVariants as forgot
+use Rattle.sf_fill.specs.declared.reload.Forgot.{Forgot}
+use Rattle.sf_fill.specs.declared.reload.Forgot.TheVariants as forgot
 use Rattle.sf_fill.specs.FillValue.{Filled}
 use Rattle.sf_fill.specs.Fresh.{HasAdded, IsFresh, IsForgetOf}
 use Rattle.sf_fill.specs.GetterValue.{GetterValue, group_of, number_of, seen_of, is_owing}
 
-module _ {P F L C : Type 0} where
+module _ {L : Type 0} where
   -- the getter stays as it was, and the note shows what it has seen
-  pub record HasToldNote (old new : GetterValue P F L C) (n : NoteValue Filled) : Type 0 where
+  pub record HasToldNote (old new : GetterValue L) (n : NoteValue Filled) : Type 0 where
     pub same : new ≡ old
     pub group : n.group ≡ group_of old.standing
     pub shown : n.seen ≡ seen_of old.standing
 
   -- The getter has then seen what was shown, and all that it had seen. It made nothing, owes what it owed, and nothing else of
   -- it changes.
-  pub record HasLearntNote (old : GetterValue P F L C) (shown : List (Event ℕ Filled)) (new : GetterValue P F L C) : Type 0 where
+  pub record HasLearntNote (old : GetterValue L) (shown : List (Event ℕ Filled)) (new : GetterValue L) : Type 0 where
     pub adds : HasAdded old.standing new.standing []
     pub shows : StartsWith (seen_of new.standing) shown
     pub owes : is_owing new.standing ≡ is_owing old.standing
@@ -55,9 +55,9 @@ pub record IsAfterReload (by k : ℕ) (came_to : Forgot) (old moment : List (Eve
   pub loaded : IsLoadedAfter by k came_to l.value.root moment
 
 -- A getter reloads a key and tells a note, which another one learns. What that gets fresh from the place then is after the reload.
-abbrev pub NotesCarryReloads : (P F L C P' F' L' C' : Type 0) → Type 0
-NotesCarryReloads P F L C P' F' L' C' = (space : SpaceId) (key : List ℕ) (old new after : GetterValue P F L C) (delivered : Bool) (came_to : Forgot)
+abbrev pub NotesCarryReloads : (L M : Type 0) → Type 0
+NotesCarryReloads L M = (space : SpaceId) (key : List ℕ) (old new after : GetterValue L) (delivered : Bool) (came_to : Forgot)
     (r : IsForgetOf space key old new delivered came_to) (n : NoteValue Filled) → HasToldNote new after n
-    → (other learnt : GetterValue P' F' L' C') → HasLearntNote other n.seen learnt
+    → (other learnt : GetterValue M) → HasLearntNote other n.seen learnt
     → (then : List (Event ℕ Filled)) (l : LetterValue Filled) → IsLegal nat_eq then → (fresh : IsFresh (spot_place r.spot) (seen_of learnt.standing) then l)
     → IsAfterReload (number_of old.standing) (spot_place r.spot) came_to (seen_of old.standing) fresh.moment l

@@ -3,8 +3,8 @@ use Rattle.std.specs.Prelude.{◌≡◌}
 use Rattle.sf_calls.specs.declared.outcomes.Finished.TheVariants.{Done, Held}
 use Rattle.sf_calls.specs.Tokens.{LetterValue}
 use Rattle.sf_calls.specs.Finishes.{HasGoneOn}
-use Rattle.sf_fill.specs.declared.standing.Standing.{Standing}
-use Rattle.sf_fill.specs.declared.standing.Standing.TheVariants.{Free, Owing}
+use Rattle.sf_fill.specs.declared.getter.Standing.{Standing}
+use Rattle.sf_fill.specs.declared.getter.Standing.TheVariants.{Free, Owing}
 use Rattle.sf_fill.specs.FillValue.{Filled, FitsFill}
 use Rattle.sf_fill.specs.GetterValue.{GetterValue}
 
@@ -14,8 +14,8 @@ HasDelivered (Free c) new = new ≡ Free c
 HasDelivered (Owing s) (Free d) = (l : LetterValue Filled) × HasGoneOn FitsFill s (Done d l)
 HasDelivered (Owing s) (Owing t) = HasGoneOn FitsFill s (Held t)
 
-module _ {P F L C : Type 0} where
+module _ {L : Type 0} where
   -- nothing else of the getter changes
-  pub record HasSettledUp (old new : GetterValue P F L C) : Type 0 where
+  pub record HasSettledUp (old new : GetterValue L) : Type 0 where
     pub delivered : HasDelivered old.standing new.standing
     pub rest : new ≡ record old { standing = new.standing }

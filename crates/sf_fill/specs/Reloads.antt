@@ -12,10 +12,10 @@ use Rattle.sf_spots.specs.Spots.{IsSpotOfKey, IsRefusedSpot, IsSeeingSpace, spot
 use Rattle.sf_dir.specs.declared.refusal.Refusal.{Refusal}
 use Rattle.sf_fill.specs.declared.fault.LoadFault.{LoadFault}
 use Rattle.sf_fill.specs.declared.fault.LoadFault.TheVariants as fault
-use Rattle.sf_fill.specs.declared.forgot.Forgot.{Forgot}
-use Rattle.sf_fill.specs.declared.forgot.Forgot.TheVariants as forgot
-use Rattle.sf_fill.specs.declared.standing.Standing.{Standing}
-use Rattle.sf_fill.specs.declared.standing.Standing.TheVariants.{Free, Owing}
+use Rattle.sf_fill.specs.declared.reload.Forgot.{Forgot}
+use Rattle.sf_fill.specs.declared.reload.Forgot.TheVariants as forgot
+use Rattle.sf_fill.specs.declared.getter.Standing.{Standing}
+use Rattle.sf_fill.specs.declared.getter.Standing.TheVariants.{Free, Owing}
 use Rattle.sf_fill.specs.FillValue.{Filled}
 use Rattle.sf_fill.specs.Gets.{refusal_of}
 use Rattle.sf_fill.specs.GetterValue.{GetterValue}
@@ -62,10 +62,10 @@ module _ (space : SpaceId) (key : List ℕ) where
   ReloadsFrom (Free c) desk after standing answer =
       IsSeeingSpace space desk after × (IsRefusedReload c desk after standing answer ⊎ HasForgottenKey c desk after standing answer)
 
-module _ {P F L C : Type 0} (space : SpaceId) (key : List ℕ) where
+module _ {L : Type 0} (space : SpaceId) (key : List ℕ) where
   -- what was owed is delivered first, if it can be; nothing is counted
-  pub record HasReloaded (old new : GetterValue P F L C) (answer : Result Forgot LoadFault) : Type 0 where
-    pub middle : GetterValue P F L C
+  pub record HasReloaded (old new : GetterValue L) (answer : Result Forgot LoadFault) : Type 0 where
+    pub middle : GetterValue L
     pub settled : HasSettledUp old middle
     pub reloaded : ReloadsFrom space key middle.standing middle.desk new.desk new.standing answer
     pub rest : new ≡ record middle { desk = new.desk; standing = new.standing }

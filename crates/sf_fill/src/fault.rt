@@ -1,5 +1,4 @@
 //! Why a getter gives no value.
-
 ghost use Rattle.std.specs.Prelude.{◌≡◌};
 ghost use Rattle.sf_fill.specs.Gets.{refusal_of};
 

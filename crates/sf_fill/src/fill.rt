@@ -3,8 +3,8 @@ ghost use Rattle.std.specs.Prelude.{◌≡◌, ◌<◌, map, vec_len};
 ghost use Rattle.sf_fill.specs.Totals.{sums_of};
 ghost use Rattle.sf_fill.specs.GetterValue.{GetterValue};
 
-use crate::cached::Cached;
 use crate::getter::Getter;
+use crate::kept::Kept;
 use crate::naming::Naming;
 use crate::totals::{Accounts, AllParts, Totals};
 use crate::value::FillValue;
@@ -15,24 +15,6 @@ use sf_spots::KeySpace;
 use std::alloc::Global;
 use std::marker::Model;
 use std::sync::{Mutex, Wait};
-
-/// What lies under the lock: the letters that are kept, and what all getters have counted.
-#[derive(Drop)]
-pub(crate) struct Kept<'d, D: Naming, N: Naming, O: Origin> {
-    pub(crate) caches: Caches<Cached<'d, D, N, O>>,
-    pub(crate) accounts: Accounts<N>,
-}
-
-impl<'d, D: Naming, N: Naming, O: Origin> Model for Kept<'d, D, N, O> {
-    ghost use Rattle.std.specs.Prelude.{◌≡◌, ℕ};
-
-    ghost Value = { ℕ };
-
-    ghost view = { λ k. k.caches.places };
-
-    // The caches have the group's places.
-    ghost invariant = { λ k. k.caches.places ≡ N.group.sizes.places };
-}
 
 /// Two caches of a group's answers, which getters fill: groupcache's `Group`. A lock is held to look, to put and to count,
 /// and never while a getter loads or waits for a letter.
@@ -74,14 +56,10 @@ impl<'d, D: Naming, N: Naming, O: Origin> Fill<'d, D, N, O> {
 
     /// Spends all getters, and answers the book's numbers: for each counter, the sum of what they counted. All are as many
     /// as there are parts.
-    pub fn gather<R: Wait, P: Drop, F: Drop, L: Drop, C: Drop>(
-        &self,
-        rt: &R,
-        getters: Vec<Getter<'d, D, N, O, P, F, L, C>>,
-    ) -> Totals
+    pub fn gather<R: Wait, L: Drop>(&self, rt: &R, getters: Vec<Getter<'d, D, N, O, L>>) -> Totals
         requires all { vec_len getters ≡ N.getters }
         requires some { 0 < vec_len getters }
-        ensures { result ≡ sums_of (map (λ (g : GetterValue P F L C). g.counted) getters.entry.items) }
+        ensures { result ≡ sums_of (map (λ (g : GetterValue L). g.counted) getters.entry.items) }
     {
         let mut all = sum_up(getters);
         self.kept.lock(rt).accounts.gathered(&mut all)
@@ -89,11 +67,11 @@ impl<'d, D: Naming, N: Naming, O: Origin> Fill<'d, D, N, O> {
 }
 
 // The parts of all these getters, which are spent.
-fn sum_up<'d, D: Naming, N: Naming, O: Origin, P: Drop, F: Drop, L: Drop, C: Drop>(
-    getters: Vec<Getter<'d, D, N, O, P, F, L, C>>,
+fn sum_up<'d, D: Naming, N: Naming, O: Origin, L: Drop>(
+    getters: Vec<Getter<'d, D, N, O, L>>,
 ) -> AllParts<N>
     requires { 0 < vec_len getters }
-    ensures { result ≡ record { parts = vec_len getters.entry; counted = sums_of (map (λ (g : GetterValue P F L C). g.counted) getters.entry.items) } }
+    ensures { result ≡ record { parts = vec_len getters.entry; counted = sums_of (map (λ (g : GetterValue L). g.counted) getters.entry.items) } }
 {
     let mut getters = getters;
     let Some(last) = getters.pop() else {

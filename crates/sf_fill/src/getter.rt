@@ -1,39 +1,72 @@
-//! Getters.
-ghost use Rattle.std.specs.Prelude.{◌≡◌, ◌↔◌, ◌-◌, ◌^◌, IsTrue};
+//! Getters: what they owe, and what they tell each other.
+ghost use Rattle.std.specs.Prelude.{◌≡◌, ◌↔◌, ◌-◌, ◌^◌, IsTrue, is_ok, not};
 ghost use Rattle.sf_fill.specs.GetterValue.{is_owing};
+ghost use Rattle.sf_fill.specs.Fresh.{HasAdded, delivered_by};
+ghost use Rattle.sf_fill.specs.Owing.{HasSettledUp};
+ghost use Rattle.sf_calls.specs.Notes.{HasGrown};
+ghost use Rattle.sf_fill.specs.Notes.{HasToldNote, HasLearntNote, NotesCarryReloads};
 
+use crate::fill::Fill;
 use crate::log::Log;
 use crate::naming::Naming;
-use crate::standing::Standing;
 use crate::totals::Tallies;
 use crate::value::FillValue;
-use sf_group::Event;
-use sf_loaders::{Loaders, Origin};
+use sf_calls::Fit;
+use sf_group::{Caller, Event, Finished, Memory, Note, Settled};
+use sf_loaders::Origin;
 use sf_spots::KeyDesk;
+use sf_wait::go_on_wait;
 use sf_words::PlaceNo;
 use std::marker::Model;
+use std::sync::Wait;
+
+/// Where a getter's caller is: free, or owing letters of a call that it has settled.
+pub(crate) enum Standing<V: Fit> {
+    Free(Caller<V>),
+    Owing(Settled<V>),
+}
+
+impl<V: Fit> Standing<V> {
+    // Whether letters are owed.
+    pub(crate) fn is_owing(&self) -> bool
+        ensures { result ≡ is_owing self.now }
+    {
+        match self {
+            Standing::Free(_) => false,
+            Standing::Owing(_) => true,
+        }
+    }
+
+    // Spends the caller; what it owes never comes.
+    pub(crate) fn end(self) {
+        match self {
+            Standing::Free(caller) => drop(caller),
+            Standing::Owing(settled) => settled.abandon(),
+        }
+    }
+}
 
 /// One who gets keys of a fill, in one thread at a time. It has to be spent.
-pub struct Getter<'d, D: Naming, N: Naming, O: Origin, P, F, L, C> {
+pub struct Getter<'d, D: Naming, N: Naming, O: Origin, L> {
     pub(crate) desk: KeyDesk,
     pub(crate) standing: Standing<FillValue<'d, D, O>>,
-    pub(crate) loaders: Loaders<P, F, L, C>,
+    pub(crate) loaders: L,
     pub(crate) tallies: Tallies<N>,
     pub(crate) log: Log,
 }
 
-impl<'d, D: Naming, N: Naming, O: Origin, P, F, L, C> Model for Getter<'d, D, N, O, P, F, L, C> {
+impl<'d, D: Naming, N: Naming, O: Origin, L> Model for Getter<'d, D, N, O, L> {
     ghost use Rattle.sf_spots.specs.Spaces.{IsDeskOf};
     ghost use Rattle.sf_fill.specs.GetterValue.{GetterValue, IsOfGroup};
 
-    ghost Value = { GetterValue P F L C };
+    ghost Value = { GetterValue L };
 
     ghost view = { λ g. record { desk = g.desk; standing = g.standing; loaders = g.loaders; counted = g.tallies } };
 
     ghost invariant = { λ g. IsDeskOf N.space g.desk × IsOfGroup N.group g.standing };
 }
 
-impl<'d, D: Naming, N: Naming, O: Origin, P, F, L, C> Getter<'d, D, N, O, P, F, L, C> {
+impl<'d, D: Naming, N: Naming, O: Origin, L> Getter<'d, D, N, O, L> {
     // Whether no further get can be counted.
     pub(crate) fn is_full(&self) -> bool
         ensures { IsTrue result ↔ (self.now.counted.gets ≡ 2 ^ 64 - 1) }
@@ -59,10 +92,7 @@ impl<'d, D: Naming, N: Naming, O: Origin, P, F, L, C> Getter<'d, D, N, O, P, F, 
     /// Spends the getter; what it owes is abandoned.
     pub fn end(self)
     where
-        P: Drop,
-        F: Drop,
         L: Drop,
-        C: Drop,
     {
         let _ = self.into_tallies();
     }
@@ -70,10 +100,7 @@ impl<'d, D: Naming, N: Naming, O: Origin, P, F, L, C> Getter<'d, D, N, O, P, F, 
     // Spends the getter, but for its tallies.
     pub(crate) fn into_tallies(self) -> Tallies<N>
     where
-        P: Drop,
-        F: Drop,
         L: Drop,
-        C: Drop,
         ensures { result ≡ self.entry.counted }
     {
         let Getter {
@@ -87,3 +114,78 @@ impl<'d, D: Naming, N: Naming, O: Origin, P, F, L, C> Getter<'d, D, N, O, P, F, 
         tallies
     }
 }
+
+impl<'d, D: Naming, N: Naming, O: Origin, L> Getter<'d, D, N, O, L> {
+    /// Delivers the letters that are owed; where memory for one is refused, they are owed still.
+    pub fn settle_up<R: Wait>(
+        self,
+        rt: &R,
+        fill: &Fill<'d, D, N, O>,
+    ) -> (Getter<'d, D, N, O, L>, Result<(), Memory>)
+        ensures settled { HasSettledUp self.entry result.0 }
+        ensures adds { HasAdded self.entry.standing result.0.standing (delivered_by self.entry.standing result.0.standing) }
+        ensures done { is_ok result.1 ≡ not (is_owing result.0.standing) }
+    {
+        let Getter {
+            desk,
+            standing,
+            loaders,
+            tallies,
+            mut log,
+        } = self;
+        let (standing, outcome) = match standing {
+            Standing::Free(caller) => (Standing::Free(caller), Ok(())),
+            Standing::Owing(settled) => match go_on_wait(rt, &fill.group, settled) {
+                Finished::Done(caller, letter) => {
+                    log.add(Event::Handed {
+                        by: caller.number(),
+                        call: letter.call(),
+                    });
+                    (Standing::Free(caller), Ok(()))
+                }
+                Finished::Held(settled) => (Standing::Owing(settled), Err(Memory)),
+            },
+        };
+        let getter = Getter {
+            desk,
+            standing,
+            loaders,
+            tallies,
+            log,
+        };
+        (getter, outcome)
+    }
+}
+
+impl<'d, D: Naming, N: Naming, O: Origin, L> Getter<'d, D, N, O, L> {
+    /// A note that shows what the getter has seen, as the Forgets of its reloads.
+    pub fn tell(&mut self, fill: &Fill<'d, D, N, O>) -> Note<FillValue<'d, D, O>>
+        ensures group { result.group ≡ N.group }
+        ensures told { HasToldNote self.old self.new result }
+    {
+        match &mut self.standing {
+            Standing::Free(caller) => fill.group.tell(caller),
+            Standing::Owing(settled) => settled.tell(&fill.group),
+        }
+    }
+
+    /// The getter has then seen what the note shows: its next get answers nothing that a Forget had ended that the note
+    /// shows. What it owes it owes still.
+    pub fn learn(&mut self, fill: &Fill<'d, D, N, O>, note: &mut Note<FillValue<'d, D, O>>)
+        requires note { note.old.group ≡ N.group }
+        ensures learnt { HasLearntNote self.old note.old.seen self.new }
+        ensures note { HasGrown note.old note.new }
+    {
+        match &mut self.standing {
+            Standing::Free(caller) => fill.group.learn(caller, note),
+            Standing::Owing(settled) => settled.learn(&fill.group, note),
+        }
+    }
+}
+
+/// Who learns the note of a getter that reloaded a key gets nothing of the key's place from before: no letter of the call
+/// that was current when the reload began, and, where that closed or cleared its call, no bytes that were loaded before its
+/// Forget. This function has no code, and its contract is the law.
+pub fn notes_carry_reloads<L, M>()
+    ensures { NotesCarryReloads L M }
+{}

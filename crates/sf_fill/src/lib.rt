@@ -14,23 +14,17 @@
 //! | spend a getter | `end`, or `gather` |
 #![tactic(auto)]
 
-mod cached;
 mod counting;
 mod fault;
 mod fill;
-mod forgot;
-mod found;
+mod get;
 mod getter;
-mod getting;
-mod leading;
+mod kept;
+mod load;
 mod log;
-mod looking;
-mod making;
 mod naming;
-mod notes;
-mod owing;
-mod reloading;
-mod standing;
+mod parts;
+mod reload;
 mod totals;
 mod value;
 mod view;
@@ -38,13 +32,13 @@ mod view;
 pub use counting::{Account, Parts, Tally, open};
 pub use fault::{GetRefusal, LoadFault};
 pub use fill::Fill;
-pub use forgot::Forgot;
 pub use getter::Getter;
-pub use making::FillParts;
 pub use naming::{
     CacheHits, Gets, Loads, LoadsDeduped, LocalLoadErrors, LocalLoads, Naming, PeerErrors,
     PeerLoads,
 };
+pub use parts::FillParts;
+pub use reload::Forgot;
 pub use totals::{Accounts, AllParts, GetCounts, Ledgers, Tallies, Totals};
 pub use value::FillValue;
 pub use view::View;

@@ -1,6 +1,6 @@
 //! What a getter's calls added to the group's history, as far as there is room for it.
 
-use crate::forgot::Forgot;
+use crate::reload::Forgot;
 use sf_calls::Fit;
 use sf_group::{Event, Finished};
 use sf_history::{CallId, Hit};

@@ -13,5 +13,5 @@ mod traits;
 
 pub use counts::{Counts, Source};
 pub use faults::{LocalFault, PeerFault};
-pub use load_path::{Loaders, load_once};
+pub use load_path::{LoadPath, Loaders, load_once};
 pub use traits::{Chance, Local, Origin, Peer, Picker};

@@ -1,11 +1,12 @@
 //! The load path.
 
-ghost use Rattle.std.specs.Prelude.{◌≡◌, IfOk};
-ghost use Rattle.sf_loaders.specs.LoadPath.{IsLoadOf, IsOfOneRun};
+ghost use Rattle.std.specs.Prelude.{◌≡◌, ◌<◌, ℕ, List, IfOk};
+ghost use Rattle.sf_history.specs.declared.call.CallId.{CallId};
+ghost use Rattle.sf_loaders.specs.LoadPath.{IsLoadOf, IsOfOneRun, LoadAnswer};
 
 use crate::counts::{Counts, Source};
 use crate::faults::LocalFault;
-use crate::traits::{Local, Origin, Peer, Picker};
+use crate::traits::{Chance, Local, Origin, Peer, Picker};
 use bytes::Bytes;
 use sf_history::CallId;
 
@@ -62,5 +63,47 @@ where
             counts.local_load_errors = 1;
             (Err(fault), counts)
         }
+    }
+}
+
+/// What one getter of a fill asks for its values, as one: [`Loaders`], or what stands for them.
+pub trait LoadPath {
+    /// What is stated of its values.
+    type Origin: Origin;
+
+    /// The key, the call of the run, the path before it, what comes of it, and the path after.
+    ghost run_gives: { List ℕ → CallId → Self → LoadAnswer → Self → Type 0 };
+
+    /// The path before a draw, the draw, and the path after.
+    ghost draw_gives: { Self → ℕ → Self → Type 0 };
+
+    /// Loads the key's value for the run of the call, and says what that adds to the counters.
+    fn run(&mut self, key: &[u8], call: CallId) -> (Result<(Bytes, Source), LocalFault>, Counts)
+        ensures gives { run_gives key.now call self.old result self.new }
+        ensures loaded { IfOk result.0 (λ found. Self.Origin.loaded key.now call found.0) }
+        ensures counts { IsOfOneRun result.1 };
+
+    /// A draw, 0 to 9, for the one in ten of the peers' values that are kept.
+    fn draw(&mut self) -> u32
+        ensures below_ten { result < 10 }
+        ensures gives { draw_gives self.old result self.new };
+}
+
+impl<P: Picker, F: Peer, L: Local<Origin = F::Origin>, C: Chance> LoadPath for Loaders<P, F, L, C> {
+    type Origin = F::Origin;
+
+    ghost use Rattle.std.specs.Prelude.{◌≡◌};
+    ghost use Rattle.sf_loaders.specs.LoadPath.{IsLoadOf};
+
+    ghost run_gives = { λ key call old answer new. IsLoadOf P.pick_gives F.fetch_gives L.load_gives key call old answer new × (new.chance ≡ old.chance) };
+
+    ghost draw_gives = { λ old draw new. C.draw_gives old.chance draw new.chance × (new ≡ record old { chance = new.chance }) };
+
+    fn run(&mut self, key: &[u8], call: CallId) -> (Result<(Bytes, Source), LocalFault>, Counts) {
+        load_once(self, key, call)
+    }
+
+    fn draw(&mut self) -> u32 {
+        self.chance.draw()
     }
 }

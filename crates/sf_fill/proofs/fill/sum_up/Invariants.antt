@@ -6,7 +6,7 @@ use Rattle.sf_fill.proofs.fill.sum_up.Given as goal
 abbrev pub invariant-rest : goal.invariant-rest
 invariant-rest g l = record {
   parts : l.all.parts + vec_len l.getters ≡ vec_len l.fn.getters;
-  counted : plus l.all.counted (sums_of (map (λ (x : GetterValue g.row.P.Denot g.row.F.Denot g.row.L.Denot g.row.C.Denot). x.counted) l.getters.items)) ≡ sums_of (map (λ (x : GetterValue g.row.P.Denot g.row.F.Denot g.row.L.Denot g.row.C.Denot). x.counted) l.fn.getters.items);
+  counted : plus l.all.counted (sums_of (map (λ (x : GetterValue g.row.L.Denot). x.counted) l.getters.items)) ≡ sums_of (map (λ (x : GetterValue g.row.L.Denot). x.counted) l.fn.getters.items);
 }
 
 abbrev pub decreases-rest : goal.decreases-rest

@@ -1,6 +1,5 @@
 use Rattle.std.proofs.Common.{sym, subst}
 use Rattle.sf_calls.specs.Tokens.{GroupValue}
-use Rattle.sf_loaders.specs.LoadPath.{IsLoadOf}
 use Rattle.sf_spots.specs.Spots.{spot_at}
 use Rattle.sf_fill.specs.Found.{IsDraw}
 use Rattle.sf_fill.specs.Gets.{Reply, reply_of}
@@ -12,5 +11,5 @@ pub returns-in-Ok-clause-group : goal.returns-in-Ok-clause-group
 returns-in-Ok-clause-group g c =
     subst (λ (x : Reply). IsOfGroup g.N.Naming.group x.0) (sym c.reply.ensures.reply)
     (subst (λ (h : GroupValue). IsOfGroup h (reply_of c.find-found.result).0) c.requires.caller
-    (group_found (IsLoadOf g.P.Picker.pick_gives g.F.Peer.fetch_gives g.L.Local.load_gives c.args.key.now) (IsDraw g.C.Chance.draw_gives) g.N.Naming.space c.args.key.now
+    (group_found (g.L.LoadPath.run_gives c.args.key.now) (IsDraw g.L.LoadPath.draw_gives) g.N.Naming.space c.args.key.now
     (spot_at c.args.key.now c.in-Ok.at) c.args.caller _ _ c.find-found.result c.find-found.ensures.found))

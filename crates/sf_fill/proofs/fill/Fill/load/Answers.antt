@@ -3,22 +3,20 @@ use Rattle.sf_fill.proofs.fill.Fill.load.Goals as goal
 
 pub returns-in-Ok-clause-source : goal.returns-in-Ok-clause-source
 returns-in-Ok-clause-source g c = record {
-  outcome = c.load_once-loaded.result;
-  after = c.load_once-loaded.new.loaders;
-  asked = c.load_once-loaded.ensures.path;
+  outcome = c.run-loaded.result;
+  after = c.run-loaded.new.self;
+  asked = c.run-loaded.ensures.gives;
   value = rw c.in-Ok.is c.of_run.ensures;
   counts = refl;
   drawn = rw c.in-Ok.is c.cache_for-keep.ensures;
-  rest = refl;
 }
 
 pub returns-in-Err-clause-source : goal.returns-in-Err-clause-source
 returns-in-Err-clause-source g c = record {
-  outcome = c.load_once-loaded.result;
-  after = c.load_once-loaded.new.loaders;
-  asked = c.load_once-loaded.ensures.path;
+  outcome = c.run-loaded.result;
+  after = c.run-loaded.new.self;
+  asked = c.run-loaded.ensures.gives;
   value = rw c.in-Err.is c.of_run-in-Err.ensures;
   counts = refl;
   drawn = rw c.in-Err.is refl;
-  rest = refl;
 }

@@ -2,7 +2,7 @@ use Rattle.std.proofs.Common.{◌≡◌, ◌+◌, ap, ◌∙◌, arith, vec_len}
 use Rattle.sf_spots.specs.Spaces.{IsDeskOf}
 use Rattle.sf_calls.specs.Tokens.{CallerValue}
 use Rattle.sf_fill.specs.declared.totals.Totals.{Totals}
-use Rattle.sf_fill.specs.declared.standing.Standing.TheVariants.{Free}
+use Rattle.sf_fill.specs.declared.getter.Standing.TheVariants.{Free}
 use Rattle.sf_fill.specs.FillValue.{Filled}
 use Rattle.sf_fill.specs.GetterValue.{GetterValue}
 use Rattle.sf_fill.proofs.Dealt.{dealt_more}
@@ -31,7 +31,7 @@ deal-preserved g c =
     (last_is _ _ _ _ c.pop.ensures.items c.in-Some.is) (last_is _ _ _ _ c.pop-in-Some.ensures.items c.in-Some-pop.is) (last_is _ _ _ _ c.pop-in-Some-2.ensures.items c.in-Some-pop-2.is)
     (omega (arith, callers, c.pop.new.self.ok.0, c.pop-in-Some.new.self.ok.0)) (omega (arith, loaders, c.pop.new.self.ok.0, c.pop-in-Some-2.new.self.ok.0))
     c.push_reserved.ensures.items
-    (ap (λ (t : Totals). let v : GetterValue g.row.P.Denot g.row.F.Denot g.row.L.Denot g.row.C.Denot = record { desk = c.in-Some.desk; standing = Free c.in-Some-pop.caller; loaders = c.in-Some-pop-2.loaders; counted = t } in v) c.deal-in-Some.ensures.tallies) in
+    (ap (λ (t : Totals). let v : GetterValue g.row.L.Denot = record { desk = c.in-Some.desk; standing = Free c.in-Some-pop.caller; loaders = c.in-Some-pop-2.loaders; counted = t } in v) c.deal-in-Some.ensures.tallies) in
     record {
       callers = (callers, caller.1);
       desks = desk.1;

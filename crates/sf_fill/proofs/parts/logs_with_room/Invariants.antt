@@ -1,5 +1,5 @@
 use Rattle.std.specs.Prelude.{◌≡◌, vec_len}
-use Rattle.sf_fill.proofs.making.logs_with_room.Given as goal
+use Rattle.sf_fill.proofs.parts.logs_with_room.Given as goal
 
 abbrev pub invariant-loop-index : goal.invariant-loop-index
 invariant-loop-index l = vec_len l.logs ≡ l.index

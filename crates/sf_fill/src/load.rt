@@ -3,7 +3,6 @@ ghost use Rattle.std.specs.Prelude.{◌≡◌, IfOk};
 ghost use Rattle.sf_calls.specs.Same.{HasNothing, IsPlaceOf, IsSameFlight};
 ghost use Rattle.sf_calls.specs.Seen.{IsLawful};
 ghost use Rattle.sf_calls.specs.Notes.{HasLent};
-ghost use Rattle.sf_loaders.specs.LoadPath.{IsLoadOf};
 ghost use Rattle.sf_spots.specs.Spots.{IsInSpace, MayBe, spot_key, spot_place};
 ghost use Rattle.sf_fill.specs.FillValue.{FitsFill};
 ghost use Rattle.sf_fill.specs.Found.{DrawsFor, HasSettled, IsDraw, IsFromCache, IsLoaded, IsSource, second_look_counts};
@@ -12,16 +11,14 @@ ghost use Rattle.sf_fill.specs.Settled.{CopiesFollowed, IsSettled};
 ghost use Rattle.sf_fill.specs.Totals.{IsOfOneGet};
 
 use crate::fill::Fill;
-use crate::looking::InCache;
+use crate::kept::InCache;
 use crate::naming::Naming;
 use crate::totals::GetCounts;
 use crate::value::FillValue;
 use sf_caches::Which;
 use sf_group::{Caller, Finished, Flight, Letter};
 use sf_history::CallId;
-use sf_loaders::{
-    Chance, Counts, Loaders, Local, LocalFault, Origin, Peer, Picker, Source, load_once,
-};
+use sf_loaders::{Counts, LoadPath, LocalFault, Origin, Source};
 use sf_spots::Spot;
 use sf_wait::finish_wait;
 use std::sync::Wait;
@@ -51,36 +48,33 @@ pub(crate) const NO_RUN: Counts = Counts {
 
 impl<'d, D: Naming, N: Naming, O: Origin> Fill<'d, D, N, O> {
     // Where a value of that source goes: a local one into main, and one in ten of the peers' into hot.
-    fn cache_for<C: Chance>(&self, source: Source, chance: &mut C) -> Option<Which>
-        ensures { DrawsFor (IsDraw C.draw_gives) source chance.old chance.new }
+    fn cache_for<L: LoadPath>(&self, source: Source, loaders: &mut L) -> Option<Which>
+        ensures { DrawsFor (IsDraw L.draw_gives) source loaders.old loaders.new }
     {
         if self.limit <= 0 {
             return None;
         }
         match source {
             Source::Local => Some(Which::Main),
-            Source::Peer => (chance.draw() == 0).then_some(Which::Hot),
+            Source::Peer => (loaders.draw() == 0).then_some(Which::Hot),
         }
     }
 
     // The value for a call that is led: what a cache has of the call that it follows, and else what the loaders give.
-    pub(crate) fn source<R: Wait, P, F, L, C>(
+    pub(crate) fn source<R: Wait, L>(
         &self,
         rt: &R,
         flight: &mut Flight<FillValue<'d, D, O>>,
         spot: Spot<'d>,
         key: &[u8],
-        loaders: &mut Loaders<P, F, L, C>,
+        loaders: &mut L,
     ) -> Sourced<'d, D, O>
     where
-        P: Picker,
-        F: Peer<Origin = O>,
-        L: Local<Origin = O>,
-        C: Chance,
+        L: LoadPath<Origin = O>,
         requires flight { (flight.old.group ≡ N.group) × IsLawful N.group.sizes flight.old.seen }
         requires led { IsRooted flight.old.place flight.old.call flight.old.call flight.old.seen }
         requires spot { IsInSpace D.space spot × (spot_key spot ≡ key.now) × (spot_place spot ≡ flight.old.place) }
-        ensures source { IsSource (IsLoadOf P.pick_gives F.fetch_gives L.load_gives key.now) (IsDraw C.draw_gives) spot.entry flight.old loaders.old loaders.new result.value result.counts }
+        ensures source { IsSource (L.run_gives key.now) (IsDraw L.draw_gives) spot.entry flight.old loaders.old loaders.new result.value result.counts }
         ensures of_key { MayBe result.value.spot key.now }
         ensures learnt { IsSameFlight flight.old flight.new }
         ensures fits { FitsFill flight.new.place flight.new.call result.value flight.new.seen }
@@ -130,24 +124,21 @@ impl<'d, D: Naming, N: Naming, O: Origin> Fill<'d, D, N, O> {
     }
 
     // What the loaders give for the run of the call.
-    fn load<P, F, L, C>(
+    fn load<L>(
         &self,
         call: CallId,
         spot: Spot<'d>,
         key: &[u8],
-        loaders: &mut Loaders<P, F, L, C>,
+        loaders: &mut L,
     ) -> Sourced<'d, D, O>
     where
-        P: Picker,
-        F: Peer<Origin = O>,
-        L: Local<Origin = O>,
-        C: Chance,
+        L: LoadPath<Origin = O>,
         requires spot { IsInSpace D.space spot × (spot_key spot ≡ key.now) }
-        ensures source { IsLoaded (IsLoadOf P.pick_gives F.fetch_gives L.load_gives key.now) (IsDraw C.draw_gives) spot.entry call loaders.old loaders.new result.value result.counts }
+        ensures source { IsLoaded (L.run_gives key.now) (IsDraw L.draw_gives) spot.entry call loaders.old loaders.new result.value result.counts }
         ensures of_key { MayBe result.value.spot key.now }
         ensures one { IsOfOneGet result.counts }
     {
-        let (loaded, run) = load_once(loaders, key, call);
+        let (loaded, run) = loaders.run(key, call);
         let counts = GetCounts {
             gets: 1,
             cache_hits: 0,
@@ -156,7 +147,7 @@ impl<'d, D: Naming, N: Naming, O: Origin> Fill<'d, D, N, O> {
         };
         match loaded {
             Ok((bytes, source)) => {
-                let keep = self.cache_for(source, &mut loaders.chance);
+                let keep = self.cache_for(source, loaders);
                 Sourced {
                     value: FillValue::of_run(spot, call, Ok(bytes)),
                     keep,

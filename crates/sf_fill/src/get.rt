@@ -2,7 +2,6 @@
 ghost use Rattle.std.specs.Prelude.{◌≡◌, ◌<◌, ◌-◌, ◌^◌, Err, IfOk};
 ghost use Rattle.sf_calls.specs.Same.{IsPlaceOf};
 ghost use Rattle.sf_calls.specs.Seen.{IsLawful};
-ghost use Rattle.sf_loaders.specs.LoadPath.{IsLoadOf};
 ghost use Rattle.sf_spots.specs.Spaces.{IsDeskOf};
 ghost use Rattle.sf_spots.specs.Spots.{IsInSpace, IsSeeingSpace, MayBe, place_at, spot_at, spot_key, spot_place};
 ghost use Rattle.sf_fill.specs.declared.fault.LoadFault.{LoadFault};
@@ -17,20 +16,35 @@ ghost use Rattle.sf_fill.specs.Totals.{IsOfOneGet};
 
 use crate::fault::{GetRefusal, LoadFault, of_key};
 use crate::fill::Fill;
-use crate::found::Found;
-use crate::getter::Getter;
-use crate::leading::{NO_RUN, Sourced};
+use crate::getter::{Getter, Standing};
+use crate::load::{NO_RUN, Sourced};
 use crate::log::Log;
 use crate::naming::Naming;
-use crate::standing::Standing;
 use crate::totals::GetCounts;
 use crate::value::FillValue;
 use crate::view::{View, show};
-use sf_group::{Begun, Caller, Event, Finished, Flight, Spent};
-use sf_loaders::{Chance, Loaders, Local, Origin, Peer, Picker};
+use sf_calls::Fit;
+use sf_group::{Begun, Caller, Event, Finished, Flight, Letter, Spent};
+use sf_loaders::{LoadPath, Origin};
 use sf_spots::{KeyDesk, KeyPlace, Spot};
 use sf_wait::{begin_wait, wait};
 use std::sync::Wait;
+
+/// What a get of a free caller comes to.
+pub(crate) enum Found<V: Fit> {
+    /// A letter of a cache.
+    Kept(Caller<V>, Letter<V>),
+    /// A cache has a letter, and memory for its copy was refused.
+    Uncopied(Caller<V>),
+    /// Memory for the key was refused, and nothing was asked.
+    Unmade(Caller<V>),
+    /// The caller has no generation left to ask with.
+    Spent(Caller<V>),
+    /// The letter of the key's open call, which another led.
+    Joined(Caller<V>, Letter<V>),
+    /// The caller led a call and settled it; and what that counts.
+    Led(Finished<V>, GetCounts),
+}
 
 const GET_ALONE: GetCounts = GetCounts {
     gets: 1,
@@ -90,25 +104,22 @@ fn reply<'d, D: Naming, O: Origin>(
 
 impl<'d, D: Naming, N: Naming, O: Origin> Fill<'d, D, N, O> {
     // Looks for the key's letter in the caches, and else asks the group.
-    fn find<R: Wait, P, F, L, C>(
+    fn find<R: Wait, L>(
         &self,
         rt: &R,
         caller: Caller<FillValue<'d, D, O>>,
         at: &mut KeyPlace<'d>,
         key: &[u8],
-        loaders: &mut Loaders<P, F, L, C>,
+        loaders: &mut L,
         log: &mut Log,
     ) -> Found<FillValue<'d, D, O>>
     where
-        P: Picker,
-        F: Peer<Origin = O>,
-        L: Local<Origin = O>,
-        C: Chance,
+        L: LoadPath<Origin = O>,
         requires caller { caller.group ≡ N.group }
         requires space { IsInSpace D.space (spot_at key.now at.old) }
         requires keyed { spot_key (spot_at key.now at.old) ≡ key.now }
         requires place { IsPlaceOf N.group (place_at at.old) }
-        ensures found { HasFound N.space key.now (IsLoadOf P.pick_gives F.fetch_gives L.load_gives key.now) (IsDraw C.draw_gives) (spot_at key.now at.old) caller.entry loaders.old loaders.new result }
+        ensures found { HasFound N.space key.now (L.run_gives key.now) (IsDraw L.draw_gives) (spot_at key.now at.old) caller.entry loaders.old loaders.new result }
         ensures of_place { IsOfPlace (place_at at.old) result }
         ensures of_key { IsOfKey key.now result }
         ensures one { IsOfOneGet (counts_of result) }
@@ -127,23 +138,20 @@ impl<'d, D: Naming, N: Naming, O: Origin> Fill<'d, D, N, O> {
 
     // Asks the group: loads the key where the caller leads, and else waits for the letter. Where that is of another key, it asks
     // again.
-    fn ask<R: Wait, P, F, L, C>(
+    fn ask<R: Wait, L>(
         &self,
         rt: &R,
         caller: Caller<FillValue<'d, D, O>>,
         spot: Spot<'d>,
         key: &[u8],
-        loaders: &mut Loaders<P, F, L, C>,
+        loaders: &mut L,
         log: &mut Log,
     ) -> Found<FillValue<'d, D, O>>
     where
-        P: Picker,
-        F: Peer<Origin = O>,
-        L: Local<Origin = O>,
-        C: Chance,
+        L: LoadPath<Origin = O>,
         requires caller { caller.group ≡ N.group }
         requires spot { IsInSpace D.space spot × (spot_key spot ≡ key.now) × IsPlaceOf N.group (spot_place spot) }
-        ensures found { HasFoundFrom N.space key.now (IsLoadOf P.pick_gives F.fetch_gives L.load_gives key.now) (IsDraw C.draw_gives) spot.entry caller.entry loaders.old loaders.new result }
+        ensures found { HasFoundFrom N.space key.now (L.run_gives key.now) (IsDraw L.draw_gives) spot.entry caller.entry loaders.old loaders.new result }
         ensures of_place { IsOfPlace (spot_place spot.entry) result }
         ensures of_key { IsOfKey key.now result }
         ensures one { IsOfOneGet (counts_of result) }
@@ -182,24 +190,21 @@ impl<'d, D: Naming, N: Naming, O: Origin> Fill<'d, D, N, O> {
     }
 
     // Settles the call that is led, with what its source gives.
-    fn lead<R: Wait, P, F, L, C>(
+    fn lead<R: Wait, L>(
         &self,
         rt: &R,
         flight: Flight<FillValue<'d, D, O>>,
         spot: Spot<'d>,
         key: &[u8],
-        loaders: &mut Loaders<P, F, L, C>,
+        loaders: &mut L,
         log: &mut Log,
     ) -> (Finished<FillValue<'d, D, O>>, GetCounts)
     where
-        P: Picker,
-        F: Peer<Origin = O>,
-        L: Local<Origin = O>,
-        C: Chance,
+        L: LoadPath<Origin = O>,
         requires flight { (flight.group ≡ N.group) × IsLawful N.group.sizes flight.seen × IsPlaceOf N.group flight.place }
         requires led { IsRooted flight.place flight.call flight.call flight.seen }
         requires spot { IsInSpace D.space spot × (spot_key spot ≡ key.now) × (spot_place spot ≡ flight.place) }
-        ensures run { HasRunFrom (IsLoadOf P.pick_gives F.fetch_gives L.load_gives key.now) (IsDraw C.draw_gives) spot.entry flight.entry loaders.old loaders.new result.0 result.1 }
+        ensures run { HasRunFrom (L.run_gives key.now) (IsDraw L.draw_gives) spot.entry flight.entry loaders.old loaders.new result.0 result.1 }
         ensures of_place { IfDone (λ letter. letter.place ≡ flight.entry.place) result.0 }
         ensures of_key { IfDone (λ letter. MayBe letter.value.spot key.now) result.0 }
         ensures one { IsOfOneGet result.1 }
@@ -217,23 +222,20 @@ impl<'d, D: Naming, N: Naming, O: Origin> Fill<'d, D, N, O> {
     }
 
     // Gets the key's value for a free caller.
-    fn get_free<R: Wait, P, F, L, C>(
+    fn get_free<R: Wait, L>(
         &self,
         rt: &R,
         caller: Caller<FillValue<'d, D, O>>,
         desk: &mut KeyDesk,
         key: &[u8],
-        loaders: &mut Loaders<P, F, L, C>,
+        loaders: &mut L,
         log: &mut Log,
     ) -> Reply<'d, D, O>
     where
-        P: Picker,
-        F: Peer<Origin = O>,
-        L: Local<Origin = O>,
-        C: Chance,
+        L: LoadPath<Origin = O>,
         requires caller { caller.group ≡ N.group }
         requires desk { IsDeskOf N.space desk.old }
-        ensures reply { HasReplied (IsLoadOf P.pick_gives F.fetch_gives L.load_gives key.now) (IsDraw C.draw_gives) N.space key.now caller.entry desk.old desk.new loaders.old loaders.new result }
+        ensures reply { HasReplied (L.run_gives key.now) (IsDraw L.draw_gives) N.space key.now caller.entry desk.old desk.new loaders.old loaders.new result }
         ensures group { IsOfGroup N.group result.0 }
         ensures desk { IsDeskOf N.space desk.new }
         ensures seeing { IsSeeingSpace N.space desk.old desk.new }
@@ -251,23 +253,20 @@ impl<'d, D: Naming, N: Naming, O: Origin> Fill<'d, D, N, O> {
     }
 
     // Gets the key's value, unless the caller owes letters.
-    fn get_standing<R: Wait, P, F, L, C>(
+    fn get_standing<R: Wait, L>(
         &self,
         rt: &R,
         standing: Standing<FillValue<'d, D, O>>,
         desk: &mut KeyDesk,
         key: &[u8],
-        loaders: &mut Loaders<P, F, L, C>,
+        loaders: &mut L,
         log: &mut Log,
     ) -> Reply<'d, D, O>
     where
-        P: Picker,
-        F: Peer<Origin = O>,
-        L: Local<Origin = O>,
-        C: Chance,
+        L: LoadPath<Origin = O>,
         requires group { IsOfGroup N.group standing }
         requires desk { IsDeskOf N.space desk.old }
-        ensures reply { GetsFrom (IsLoadOf P.pick_gives F.fetch_gives L.load_gives key.now) (IsDraw C.draw_gives) N.space key.now standing.entry desk.old desk.new loaders.old loaders.new result }
+        ensures reply { GetsFrom (L.run_gives key.now) (IsDraw L.draw_gives) N.space key.now standing.entry desk.old desk.new loaders.old loaders.new result }
         ensures group { IsOfGroup N.group result.0 }
         ensures desk { IsDeskOf N.space desk.new }
         ensures keyed { IfOk result.2 (λ view. spot_key view.value.spot ≡ key.now) }
@@ -285,21 +284,15 @@ impl<'d, D: Naming, N: Naming, O: Origin> Fill<'d, D, N, O> {
     /// Gets the key's value: from a cache, or by leading the key's call, or from the call that another leads. What the getter
     /// owes is delivered first; where that is refused memory, so is the get. One whose Gets stand at the greatest `u64` is
     /// refused, and not counted.
-    pub fn get<R: Wait, P, F, L, C>(
+    pub fn get<R: Wait, L>(
         &self,
         rt: &R,
-        getter: Getter<'d, D, N, O, P, F, L, C>,
+        getter: Getter<'d, D, N, O, L>,
         key: &[u8],
-    ) -> (
-        Getter<'d, D, N, O, P, F, L, C>,
-        Result<View<'d, D, O>, LoadFault>,
-    )
+    ) -> (Getter<'d, D, N, O, L>, Result<View<'d, D, O>, LoadFault>)
     where
-        P: Picker,
-        F: Peer<Origin = O>,
-        L: Local<Origin = O>,
-        C: Chance,
-        ensures got { getter.entry.counted.gets < 2 ^ 64 - 1 → HasGot (IsLoadOf P.pick_gives F.fetch_gives L.load_gives key.now) (IsDraw C.draw_gives) N.space key.now getter.entry result.0 result.1 }
+        L: LoadPath<Origin = O>,
+        ensures got { getter.entry.counted.gets < 2 ^ 64 - 1 → HasGot (L.run_gives key.now) (IsDraw L.draw_gives) N.space key.now getter.entry result.0 result.1 }
         ensures counted { getter.entry.counted.gets < 2 ^ 64 - 1 → IsCounted getter.entry result.0 result.1 }
         ensures fresh { getter.entry.counted.gets < 2 ^ 64 - 1 → IsFreshGet N.space key.now getter.entry result.0 result.1 }
         ensures keyed { IfOk result.1 (λ view. spot_key view.value.spot ≡ key.now) }

@@ -1,4 +1,4 @@
-//! How a fill is made.
+//! What a fill is made of, and how it is made.
 ghost use Rattle.std.specs.Prelude.{◌≡◌, ◌≤◌, [], All, IfOk, IfErr, vec_len, vec_capacity};
 ghost use Rattle.sf_calls.specs.Making.{IsNewCaller};
 ghost use Rattle.sf_words.specs.declared.limits.TheConstants.{LARGEST_PLACE};
@@ -6,24 +6,23 @@ ghost use Rattle.sf_spots.specs.Spaces.{AreDesksOf, places_in, space_of};
 ghost use Rattle.sf_fill.specs.Made.{AreParts, new_getters};
 ghost use Rattle.sf_fill.specs.Totals.{names_of};
 
-use crate::cached::Cached;
-use crate::fill::{Fill, Kept};
-use crate::getter::Getter;
+use crate::fill::Fill;
+use crate::getter::{Getter, Standing};
+use crate::kept::{Cached, Kept};
 use crate::log::Log;
 use crate::naming::Naming;
-use crate::standing::Standing;
 use crate::totals::{Accounts, Ledgers};
 use crate::value::FillValue;
 use sf_caches::Caches;
 use sf_group::{Caller, Group, Memory};
-use sf_loaders::{Loaders, Origin};
+use sf_loaders::Origin;
 use sf_spots::{KeyDesk, KeySpace};
 use std::alloc::Global;
 use std::sync::Mutex;
 
 /// What a fill is made of, which comes back where memory is refused.
 #[derive(Drop)]
-pub struct FillParts<'d, D: Naming, O: Origin, P, F, L, C> {
+pub struct FillParts<'d, D: Naming, O: Origin, L> {
     /// Look keys up, one a getter.
     pub desks: Vec<KeyDesk>,
     /// Whose letters are kept.
@@ -31,15 +30,15 @@ pub struct FillParts<'d, D: Naming, O: Origin, P, F, L, C> {
     /// Ask the group, one a getter.
     pub callers: Vec<Caller<FillValue<'d, D, O>>>,
     /// What getters ask for values, a set a getter.
-    pub loaders: Vec<Loaders<P, F, L, C>>,
+    pub loaders: Vec<L>,
     /// One a counter.
     pub ledgers: Ledgers,
 }
 
 /// All memory that a fill takes when it is made.
-struct Rooms<'d, D: Naming, N: Naming, O: Origin, P, F, L, C> {
+struct Rooms<'d, D: Naming, N: Naming, O: Origin, L> {
     caches: Caches<Cached<'d, D, N, O>>,
-    getters: Vec<Getter<'d, D, N, O, P, F, L, C>>,
+    getters: Vec<Getter<'d, D, N, O, L>>,
     logs: Vec<Log>,
 }
 
@@ -56,13 +55,13 @@ fn logs_with_room(alloc: Global, count: usize, room: usize) -> Result<Vec<Log>, 
 }
 
 // Takes all memory that a fill needs.
-fn reserve<'d, D: Naming, N: Naming, O: Origin, P, F, L, C>(
+fn reserve<'d, D: Naming, N: Naming, O: Origin, L>(
     alloc: Global,
     limit: i64,
     places: u32,
     getters: usize,
     log: usize,
-) -> Result<Rooms<'d, D, N, O, P, F, L, C>, Memory>
+) -> Result<Rooms<'d, D, N, O, L>, Memory>
     requires { 1 ≤ places }
     ensures getters { IfOk result (λ r. (r.getters.items ≡ []) × (getters ≤ vec_capacity r.getters)) }
     ensures places { IfOk result (λ r. r.caches.places ≡ places) }
@@ -80,14 +79,14 @@ fn reserve<'d, D: Naming, N: Naming, O: Origin, P, F, L, C>(
     })
 }
 
-impl<'d, D: Naming, O: Origin, P: Drop, F: Drop, L: Drop, C: Drop> FillParts<'d, D, O, P, F, L, C> {
+impl<'d, D: Naming, O: Origin, L: Drop> FillParts<'d, D, O, L> {
     /// The parts of a fill over the key space, which has at most 1,048,576 places, with a getter for each set of loaders, 1 to
     /// 65,535: a group whose callers' first generation is this one, from 1 on, and its ledgers. Refused where there is no memory.
     pub fn new(
         alloc: Global,
         space: KeySpace<'d>,
         desks: Vec<KeyDesk>,
-        loaders: Vec<Loaders<P, F, L, C>>,
+        loaders: Vec<L>,
         first_generation: u32,
     ) -> Result<Self, Memory>
         requires space { space_of space ≡ D.space }
@@ -121,16 +120,13 @@ impl<'d, D: Naming, N: Naming, O: Origin> Fill<'d, D, N, O> {
     /// A fill of the key space and the group, which have as many places, at most 1,048,576, and its getters, one for each desk, caller and set
     /// of loaders, 1 to 65,535. What the caches keep is within `limit` bytes, and nothing where that is 0 or less. Each
     /// getter logs `log` events at most. Where memory is refused, all comes back.
-    pub fn new<P: Drop, F: Drop, L: Drop, C: Drop>(
+    pub fn new<L: Drop>(
         alloc: Global,
         space: KeySpace<'d>,
-        parts: FillParts<'d, D, O, P, F, L, C>,
+        parts: FillParts<'d, D, O, L>,
         limit: i64,
         log: usize,
-    ) -> Result<
-        (Fill<'d, D, N, O>, Vec<Getter<'d, D, N, O, P, F, L, C>>),
-        FillParts<'d, D, O, P, F, L, C>,
-    >
+    ) -> Result<(Fill<'d, D, N, O>, Vec<Getter<'d, D, N, O, L>>), FillParts<'d, D, O, L>>
         requires space { (space_of space ≡ N.space) × (D.space ≡ N.space) }
         requires parts { AreParts N.space N.group N.getters N.ledgers parts }
         ensures made { IfOk result (λ made. (made.0 ≡ N.group) × (made.1.items ≡ new_getters parts.entry.desks.items parts.entry.callers.items parts.entry.loaders.items)) }

@@ -1,6 +1,6 @@
 use Rattle.std.proofs.Common.{rules}
 use Rattle.sf_fill.proofs.Looks.{current_letter, looked}
-use Rattle.sf_fill.proofs.fill.Kept.copy_current.Goals as goal
+use Rattle.sf_fill.proofs.kept.Kept.copy_current.Goals as goal
 
 pub returns-then-is_current-clause-looked : goal.returns-then-is_current-clause-looked
 returns-then-is_current-clause-looked g c =

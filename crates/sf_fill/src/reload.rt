@@ -1,24 +1,49 @@
 //! Reloads.
 ghost use Rattle.std.specs.Prelude.{◌≡◌};
+ghost use Rattle.sf_fill.specs.Reloads.{forgot_of, ForgetsNamed, HasReloaded, ReloadsFrom};
 ghost use Rattle.sf_calls.specs.Same.{IsPlaceOf};
 ghost use Rattle.sf_spots.specs.Spaces.{IsDeskOf};
 ghost use Rattle.sf_fill.specs.Fresh.{IsReloading};
 ghost use Rattle.sf_fill.specs.GetterValue.{IsOfGroup};
-ghost use Rattle.sf_fill.specs.Reloads.{ForgetsNamed, HasReloaded, ReloadsFrom};
 
 use crate::fault::{LoadFault, of_key};
 use crate::fill::Fill;
-use crate::forgot::Forgot;
-use crate::getter::Getter;
+use crate::getter::{Getter, Standing};
 use crate::log::Log;
 use crate::naming::Naming;
-use crate::standing::Standing;
 use crate::value::FillValue;
 use sf_group::Caller;
+use sf_history::{CallId, Hit};
 use sf_loaders::Origin;
 use sf_spots::KeyDesk;
 use sf_wait::forget_call_wait;
 use std::sync::Wait;
+
+/// What became of the call that a key named.
+#[derive(Clone, Copy)]
+pub enum Forgot {
+    /// It was open, and takes no more callers.
+    Closed(CallId),
+    /// It was settled and current, and is current no more.
+    Cleared(CallId),
+    /// It was not current any more.
+    Missed(CallId),
+    /// The key named no call.
+    Idle,
+}
+
+impl Forgot {
+    // What a Forget of this call came to.
+    pub(crate) fn of(call: CallId, hit: Hit) -> Forgot
+        ensures { result ≡ forgot_of call hit }
+    {
+        match hit {
+            Hit::Closed => Forgot::Closed(call),
+            Hit::Cleared => Forgot::Cleared(call),
+            Hit::Missed => Forgot::Missed(call),
+        }
+    }
+}
 
 impl<'d, D: Naming, N: Naming, O: Origin> Fill<'d, D, N, O> {
     // Forgets the call that the place names, whose entries then leave both caches.
@@ -75,12 +100,12 @@ impl<'d, D: Naming, N: Naming, O: Origin> Fill<'d, D, N, O> {
     /// Forgets the call that the key names, whose entries then leave both caches; a newer call, and what is kept of it,
     /// stays. A key that names none is idle. What the getter owes is delivered first; where that is refused memory, so is the
     /// reload.
-    pub fn reload<R: Wait, P, F, L, C>(
+    pub fn reload<R: Wait, L>(
         &self,
         rt: &R,
-        getter: Getter<'d, D, N, O, P, F, L, C>,
+        getter: Getter<'d, D, N, O, L>,
         key: &[u8],
-    ) -> (Getter<'d, D, N, O, P, F, L, C>, Result<Forgot, LoadFault>)
+    ) -> (Getter<'d, D, N, O, L>, Result<Forgot, LoadFault>)
         ensures reloaded { HasReloaded N.space key.now getter.entry result.0 result.1 }
         ensures adds { IsReloading N.space key.now getter.entry result.0 result.1 }
     {

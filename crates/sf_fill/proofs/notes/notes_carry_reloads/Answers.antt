@@ -1,5 +1,0 @@
-use Rattle.sf_fill.proofs.Told.{notes_carry_reloads}
-use Rattle.sf_fill.proofs.notes.notes_carry_reloads.Goals as goal
-
-pub returns : goal.returns
-returns g c = notes_carry_reloads _ _ _ _ _ _ _ _
