@@ -1,0 +1,15 @@
+//! One call that makes a fill, for who has loaders and something to do with getters.
+//!
+//! Implement [`Body`] for a struct of your own, and hand it to [`with_fill`] with a set of loaders for each getter. The names
+//! under which contracts speak of the fill's key space, its group and its ledgers are picked inside, and last as long as
+//! the body runs.
+#![tactic(auto)]
+
+mod body;
+mod door;
+mod sizes;
+
+pub use body::Body;
+pub use door::with_fill;
+pub use sf_keys::Places;
+pub use sizes::{DirectoryKeys, FillSizes, Keys};

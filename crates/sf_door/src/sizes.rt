@@ -1,0 +1,44 @@
+//! How large a fill is, and where its keys have their places.
+ghost use Rattle.std.specs.Prelude.{◌≤◌};
+ghost use Rattle.sf_words.specs.declared.limits.TheConstants.{LARGEST_PLACE, LONGEST_KEY};
+
+use sf_keys::Places;
+use sf_words::{LARGEST_PLACE, LONGEST_KEY};
+
+/// Where the keys of a fill have their places.
+#[derive(Clone, Copy)]
+pub enum Keys {
+    /// In a directory: each key has a place of its own for good, and is refused once each place has one.
+    Directory(DirectoryKeys),
+    /// By a seeded hash, 1 to 1,048,576 places: no key is refused, and keys share places.
+    Hashed(Places),
+}
+
+/// How many keys a directory takes. Its seed is to be drawn at random and kept secret, where strangers choose the keys.
+#[derive(Clone, Copy)]
+pub struct DirectoryKeys {
+    /// How many keys have a place, 1 to 1,048,576.
+    pub keys: u32,
+    /// The longest key, in bytes, 0 to 250.
+    pub key_bytes: u32,
+    /// The first half of the seed.
+    pub seed0: u64,
+    /// The other half.
+    pub seed1: u64,
+    ghost many: { (1 ≤ keys) × (keys ≤ LARGEST_PLACE) },
+    ghost long: { key_bytes ≤ LONGEST_KEY },
+}
+
+/// How large a fill is.
+#[derive(Clone, Copy)]
+pub struct FillSizes {
+    /// Where its keys have their places.
+    pub keys: Keys,
+    /// What the caches keep, in bytes of keys and values; nothing where it is 0 or less.
+    pub limit: i64,
+    /// How many events each getter logs.
+    pub log: usize,
+    /// The generation of each getter's first asking, from 1 on; a getter has 4,294,967,295 of them in all.
+    pub first_generation: u32,
+    ghost first: { 1 ≤ first_generation },
+}
