@@ -7,7 +7,7 @@ ghost use Rattle.sf_caches.specs.LendingBoth.{LendsFrom};
 ghost use Rattle.sf_caches.specs.Looks.{item_at};
 ghost use Rattle.sf_caches.specs.Weights.{weight_of};
 
-use crate::shelf::{Kept, Shelf};
+use crate::shelf::{CacheStats, Kept, Shelf};
 use std::alloc::{AllocError, Global};
 use std::marker::Model;
 use std::num::NonZeroUsize;
@@ -59,18 +59,15 @@ impl<T: Drop> Caches<T> {
         })
     }
 
-    /// What the entries of main weigh, in bytes.
-    pub fn main_bytes(&self) -> u128
-        ensures { result ≡ weight_of self.now.main }
+    /// What the cache holds.
+    pub fn stats(&self, which: Which) -> CacheStats
+        ensures bytes { result.bytes ≡ weight_of (entries_of which self.now) }
+        ensures items { result.items ≡ length (entries_of which self.now) }
     {
-        self.main.bytes()
-    }
-
-    /// What the entries of hot weigh, in bytes.
-    pub fn hot_bytes(&self) -> u128
-        ensures { result ≡ weight_of self.now.hot }
-    {
-        self.hot.bytes()
+        match which {
+            Which::Main => self.main.stats(),
+            Which::Hot => self.hot.stats(),
+        }
     }
 
     /// The item of the place, to read or to write, whose entry becomes the cache's most recent. It takes no memory.

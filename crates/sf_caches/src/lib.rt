@@ -9,5 +9,5 @@ mod caches;
 mod shelf;
 
 pub use caches::{Caches, Which};
-pub use shelf::Kept;
+pub use shelf::{CacheStats, Kept};
 pub use std::alloc::AllocError as Memory;

@@ -36,11 +36,23 @@ impl<T> Kept<T> {
     }
 }
 
-// One cache, and what its entries weigh together.
+/// What one cache holds, as groupcache's `CacheStats` has it.
+#[derive(Clone, Copy, PartialEq, Eq)]
+pub struct CacheStats {
+    /// What its entries weigh, in bytes of keys and values.
+    pub bytes: u128,
+    /// How many entries it has.
+    pub items: usize,
+    /// How many it has dropped since the limit was exceeded; the greatest `u64` stays.
+    pub evictions: u64,
+}
+
+// One cache, what its entries weigh together, and how many were dropped by the limit.
 #[derive(Drop)]
 pub(crate) struct Shelf<T> {
     entries: LruCache<u32, Kept<T>>,
     bytes: u128,
+    evictions: u64,
 }
 
 impl<T> Model for Shelf<T> {
@@ -64,6 +76,7 @@ impl<T: Drop> Shelf<T> {
         Ok(Shelf {
             entries: LruCache::new(alloc, places)?,
             bytes: 0,
+            evictions: 0,
         })
     }
 
@@ -72,6 +85,18 @@ impl<T: Drop> Shelf<T> {
         ensures { result ≡ weight_of self.now.entries }
     {
         self.bytes
+    }
+
+    // What it holds.
+    pub(crate) fn stats(&self) -> CacheStats
+        ensures bytes { result.bytes ≡ weight_of self.now.entries }
+        ensures items { result.items ≡ length self.now.entries }
+    {
+        CacheStats {
+            bytes: self.bytes,
+            items: self.entries.len(),
+            evictions: self.evictions,
+        }
     }
 
     // The place's item, which becomes the most recent.
@@ -104,6 +129,7 @@ impl<T: Drop> Shelf<T> {
     {
         if let Some((_, kept)) = self.entries.pop_lru() {
             self.bytes -= kept.key_len as u128 + kept.value_len as u128;
+            self.evictions = self.evictions.saturating_add(1);
         }
     }
 

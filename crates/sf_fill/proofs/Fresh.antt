@@ -73,10 +73,10 @@ askings_on : (x y : Seen) → askings_in (x ++ y) ≡ askings_in x + askings_in 
 askings_on x y = sum_by-append (λ (e : Event ℕ Filled). cond (is_asking e) 1 0) x y
 
 -- a token of this group and number made these events, and became one of that group and number
-record Moved (g : GroupValue) (a : ℕ) (p : Seen) (h : GroupValue) (b : ℕ) (q x : Seen) (n : ℕ) : Type 0 where
-  group : h ≡ g
-  number : b ≡ a
-  adds : Adds g a p q x n
+pub record Moved (g : GroupValue) (a : ℕ) (p : Seen) (h : GroupValue) (b : ℕ) (q x : Seen) (n : ℕ) : Type 0 where
+  pub group : h ≡ g
+  pub number : b ≡ a
+  pub adds : Adds g a p q x n
 
 moved_again : (g h j : GroupValue) (a b c : ℕ) (p q r x y : Seen) (m n : ℕ) → Moved g a p h b q x m → Moved h b q j c r y n → Moved g a p j c r (x ++ y) (m + n)
 moved_again g h j a b c p q r x y m n first second = record {
@@ -116,10 +116,10 @@ none_asked (Free c) b = refl
 none_asked (Owing s) true = refl
 none_asked (Owing s) false = refl
 
-added_none : (s m : Standing Filled) (x : Seen) → HasAdded s m x → HasAdded s m (x ++ [])
+pub added_none : (s m : Standing Filled) (x : Seen) → HasAdded s m x → HasAdded s m (x ++ [])
 added_none s m x h = subst (λ (y : Seen). HasAdded s m y) (sym (append-nil x)) h
 
-added_more : (s m t : Standing Filled) (x y : Seen) (n : ℕ) → HasAdded s m x → Moved (group_of m) (number_of m) (seen_of m) (group_of t) (number_of t) (seen_of t) y n
+pub added_more : (s m t : Standing Filled) (x y : Seen) (n : ℕ) → HasAdded s m x → Moved (group_of m) (number_of m) (seen_of m) (group_of t) (number_of t) (seen_of t) y n
     → n ≡ askings_in y → HasAdded s t (x ++ y)
 added_more s m t x y n first second count =
     let adds : Adds (group_of s) (number_of s) (seen_of m) (seen_of t) y n =
@@ -171,7 +171,7 @@ fresh_lent k old h l m lent fresh =
 answered : (k : ℕ) (call : CallId) (old new added : Seen) (l : LetterValue Filled) (r : Result (List ℕ) LocalFault) → l.value.result ≡ r → l.call ≡ call → IsFresh k old new l → IsAnswer k call old new added (answer_by l r)
 answered k call old new added l (Ok bytes) is of fresh = (of, fresh)
 answered k call old new added l (Err (local.Failed text)) is of fresh = (l, is, of, fresh)
-answered k call old new added l (Err local.Memory) is of fresh = tt
+answered k call old new added l (Err local.Memory) is of fresh = (l, is, of, fresh)
 
 -- an answer after more had been seen is one after less
 answer_before : (k : ℕ) (call : CallId) (p old new added : Seen) (answer : GetAnswer) → StartsWith old p → IsAnswer k call old new added answer → IsAnswer k call p new added answer
@@ -180,6 +180,9 @@ answer_before k call p old new added (Ok l) w a = (a.0, fresh_before a.1)
     fresh_before : IsFresh k old new l → IsFresh k p new l
     fresh_before f = record { place = f.place; settled = f.settled; moment = f.moment; begins = starts_again p old f.moment w f.begins; within = f.within; current = f.current; rooted = f.rooted }
 answer_before k call p old new added (Err (fault.Local text)) w a =
+    let f = a.3 in
+    (a.0, a.1, a.2, record { place = f.place; settled = f.settled; moment = f.moment; begins = starts_again p old f.moment w f.begins; within = f.within; current = f.current; rooted = f.rooted })
+answer_before k call p old new added (Err fault.LeaderMemory) w a =
     let f = a.3 in
     (a.0, a.1, a.2, record { place = f.place; settled = f.settled; moment = f.moment; begins = starts_again p old f.moment w f.begins; within = f.within; current = f.current; rooted = f.rooted })
 answer_before k call p old new added (Err (fault.Refused r)) w a = a
@@ -351,14 +354,14 @@ forgot_named c back k x h w =
     subst (λ (i : ℕ). Moved c.group c.number c.seen back.group back.number back.seen (event.ForgetCall i k x h ∷ []) 0) w.1.nothing.number
     (moved_again _ _ _ _ _ _ _ _ _ _ _ _ _ (nothing_moved c m w.1.nothing) one)
 
-forget_moved : (c back : CallerValue Filled) (k : ℕ) (f : Forgot) → ForgetsNamed c k f back → Moved c.group c.number c.seen back.group back.number back.seen (forgot_by c.number k f) 0
+pub forget_moved : (c back : CallerValue Filled) (k : ℕ) (f : Forgot) → ForgetsNamed c k f back → Moved c.group c.number c.seen back.group back.number back.seen (forgot_by c.number k f) 0
 forget_moved c back k (forgot.Closed x) w = forgot_named c back k x hit.Closed w
 forget_moved c back k (forgot.Cleared x) w = forgot_named c back k x hit.Cleared w
 forget_moved c back k (forgot.Missed x) w = forgot_named c back k x hit.Missed w
 forget_moved c back k forgot.Idle w = nothing_moved c back w.nothing
 
 -- a reload asks for nothing
-none_forgot : (a k : ℕ) (f : Forgot) → ◌≡◌ {A = ℕ} 0 (askings_in (forgot_by a k f))
+pub none_forgot : (a k : ℕ) (f : Forgot) → ◌≡◌ {A = ℕ} 0 (askings_in (forgot_by a k f))
 none_forgot a k (forgot.Closed x) = refl
 none_forgot a k (forgot.Cleared x) = refl
 none_forgot a k (forgot.Missed x) = refl

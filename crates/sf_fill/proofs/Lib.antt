@@ -10,3 +10,5 @@ pub mod Rooting
 pub mod Spots
 pub mod Sums
 pub mod Told
+pub mod Purges
+pub mod Given

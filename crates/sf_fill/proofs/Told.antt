@@ -19,7 +19,7 @@ use Rattle.sf_fill.specs.FillValue.{Filled}
 use Rattle.sf_fill.specs.Fresh.{handed_by, forgot_by}
 use Rattle.sf_spots.specs.Spots.{spot_place}
 use Rattle.sf_fill.specs.GetterValue.{number_of, seen_of}
-use Rattle.sf_fill.specs.Notes.{IsLedAfter, IsLoadedAfter, NotesCarryReloads}
+use Rattle.sf_fill.specs.Notes.{IsLedAfter, IsLoadedAfter, NotesCarryReloads, NotesCarryPurges}
 use Rattle.sf_fill.proofs.Outdated.{current_names, names_more, past_after}
 
 abbrev Seen : Type 0
@@ -85,4 +85,13 @@ notes_carry_reloads L M d key old new after delivered came_to r n told other lea
     record {
       other = other_call k (seen_of old.standing) (seen_of new.standing) fresh.moment l.call (legal_before then fresh.moment legal fresh.within) r.adds.grows.begins begins (r.outdated l.call) fresh.current;
       loaded = loaded_after (number_of old.standing) k came_to (seen_of old.standing) (seen_of new.standing) (handed_by old.standing delivered) fresh.moment l.value.root r.adds.grows.own begins fresh.rooted;
+    }
+
+pub notes_carry_purges : (L M : Type 0) → NotesCarryPurges L M
+notes_carry_purges L M places handed old new after p n told other learnt has k some few then l legal fresh =
+    let shown : StartsWith (seen_of learnt.standing) (seen_of new.standing) = subst (λ (h : Seen). StartsWith (seen_of learnt.standing) h) told.shown has.shows in
+    let begins : StartsWith fresh.moment (seen_of new.standing) = starts_again (seen_of new.standing) (seen_of learnt.standing) fresh.moment shown fresh.begins in
+    record {
+      other = other_call k (seen_of old.standing) (seen_of new.standing) fresh.moment l.call (legal_before then fresh.moment legal fresh.within) p.adds.grows.begins begins (p.outdated k some few l.call) fresh.current;
+      loaded = λ e on stands. led_after k l.value.root e fresh.moment on (stands_more e (seen_of new.standing) fresh.moment begins stands) fresh.rooted;
     }

@@ -1,10 +1,11 @@
 -- what a fill settles its calls with
-use Rattle.std.proofs.Common.{◌≡◌, ℕ, List, [], ◌∷◌, ◌++◌, Result, ap, ◌∙◌, append_assoc}
+use Rattle.std.proofs.Common.{◌≡◌, ℕ, List, [], ◌∷◌, ◌++◌, Option, Some, None, Result, ap, ◌∙◌, append_assoc}
 use Rattle.sf_history.specs.declared.call.CallId.{CallId}
 use Rattle.sf_history.specs.declared.event.Event.{Event}
 use Rattle.sf_history.specs.declared.event.Event.TheVariants.{Lead}
 use Rattle.sf_loaders.specs.declared.faults.LocalFault.{LocalFault}
 use Rattle.sf_spots.specs.declared.spot.Spot.{Spot}
+use Rattle.sf_spots.specs.declared.spot.Spot.TheVariants.{Directory, Hashed}
 use Rattle.sf_spots.specs.Spots.{spot_place}
 use Rattle.sf_fill.specs.Rooted.{IsRooted}
 
@@ -13,6 +14,11 @@ pub record Filled : Type 0 where
   pub spot : Spot
   pub root : CallId
   pub result : Result (List ℕ) LocalFault
+
+-- the key's bytes, where the spot has them itself
+abbrev pub own_key : Spot → Option (List ℕ)
+own_key (Directory place) = None
+own_key (Hashed hashed) = Some hashed.key
 
 -- the value is of the call's place, and the call is rooted in the one whose run loaded the bytes
 abbrev pub FitsFill : ℕ → CallId → Filled → List (Event ℕ Filled) → Type 0

@@ -76,17 +76,19 @@ abbrev pub AreMissed : SpaceId → ℕ → ℕ → List ℕ → List (Event ℕ 
 AreMissed (inl directory) by k key seen missed = missed ≡ []
 AreMissed (inr places) by k key seen missed = All (IsMissedEnter by k key seen) missed
 
--- what a get answers with this call: a fresh letter of it, or the text of one; a refusal adds nothing
+-- what a get answers with this call: a fresh letter of it, or the fault of one; a refusal adds nothing
 abbrev pub IsAnswer : ℕ → CallId → List (Event ℕ Filled) → List (Event ℕ Filled) → List (Event ℕ Filled) → GetAnswer → Type 0
 IsAnswer k call old new added (Ok l) = (l.call ≡ call) × IsFresh k old new l
 IsAnswer k call old new added (Err (fault.Local text)) = (l : LetterValue Filled) × (l.value.result ≡ Err (local.Failed text)) × (l.call ≡ call) × IsFresh k old new l
 IsAnswer k call old new added (Err (fault.Refused refusal)) = added ≡ []
+IsAnswer k call old new added (Err fault.LeaderMemory) = (l : LetterValue Filled) × (l.value.result ≡ Err local.Memory) × (l.call ≡ call) × IsFresh k old new l
 IsAnswer k call old new added (Err fault.Memory) = Unit {0}
 
 -- a get that neither asks nor answers a letter
 abbrev pub IsUnanswered : List (Event ℕ Filled) → GetAnswer → Type 0
 IsUnanswered added (Ok l) = ⊥
 IsUnanswered added (Err (fault.Local text)) = ⊥
+IsUnanswered added (Err fault.LeaderMemory) = ⊥
 IsUnanswered added (Err (fault.Refused refusal)) = added ≡ []
 IsUnanswered added (Err fault.Memory) = added ≡ []
 

@@ -33,7 +33,7 @@ GetAnswer = Result (LetterValue Filled) LoadFault
 abbrev pub answer_by : LetterValue Filled → Result (List ℕ) LocalFault → GetAnswer
 answer_by l (Ok bytes) = Ok l
 answer_by l (Err (local.Failed text)) = Err (fault.Local text)
-answer_by l (Err local.Memory) = Err fault.Memory
+answer_by l (Err local.Memory) = Err fault.LeaderMemory
 
 abbrev pub answer_in : LetterValue Filled → GetAnswer
 answer_in l = answer_by l l.value.result

@@ -1,5 +1,5 @@
 -- what contracts see of a getter
-use Rattle.std.specs.Prelude.{◌≡◌, ℕ, Bool, true, false, List}
+use Rattle.std.specs.Prelude.{◌≡◌, ℕ, Bool, true, false, List, Option, Some, None}
 use Rattle.sf_history.specs.declared.event.Event.{Event}
 use Rattle.sf_calls.specs.Tokens.{GroupValue, CallerValue}
 use Rattle.sf_spots.specs.declared.key_space.KeyDesk.{KeyDesk}
@@ -33,9 +33,17 @@ module _ {V : Type 0} where
   IsOfGroup g (Free caller) = caller.group ≡ g
   IsOfGroup g (Owing settled) = settled.group ≡ g
 
+  abbrev pub free_caller : Standing V → Option (CallerValue V)
+  free_caller (Free caller) = Some caller
+  free_caller (Owing settled) = None
+
   abbrev pub is_owing : Standing V → Bool
   is_owing (Free caller) = false
   is_owing (Owing settled) = true
+
+-- the getter with other loaders
+abbrev pub with_loaders : {L M : Type 0} → GetterValue L → M → GetterValue M
+with_loaders getter loaders = record { desk = getter.desk; standing = getter.standing; loaders = loaders; counted = getter.counted }
 
 module _ {L : Type 0} where
   -- the getter of a desk, a caller and loaders, which has counted nothing

@@ -16,3 +16,5 @@ pub mod Reloads
 pub mod Counted
 pub mod Fresh
 pub mod Notes
+pub mod Purges
+pub mod Puts

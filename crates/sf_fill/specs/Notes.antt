@@ -1,5 +1,5 @@
 -- how getters pass on what they have seen
-use Rattle.std.specs.Prelude.{◌≡◌, ◌≢◌, ℕ, nat_eq, Bool, List, [], ◌∷◌, ◌++◌, Option, Some}
+use Rattle.std.specs.Prelude.{◌≡◌, ◌≢◌, ℕ, ◌≤◌, nat_eq, Bool, true, List, [], ◌∷◌, ◌++◌, Option, Some}
 use Rattle.sf_history.specs.declared.call.CallId.{CallId}
 use Rattle.sf_history.specs.declared.event.Event.{Event}
 use Rattle.sf_history.specs.declared.event.Event.TheVariants.{Lead, ForgetCall}
@@ -14,6 +14,8 @@ use Rattle.sf_fill.specs.declared.reload.Forgot.{Forgot}
 use Rattle.sf_fill.specs.declared.reload.Forgot.TheVariants as forgot
 use Rattle.sf_fill.specs.FillValue.{Filled}
 use Rattle.sf_fill.specs.Fresh.{HasAdded, IsFresh, IsForgetOf}
+use Rattle.sf_calls.specs.Unforgotten.{forgets}
+use Rattle.sf_fill.specs.Purges.{HasForgottenFirst}
 use Rattle.sf_fill.specs.GetterValue.{GetterValue, group_of, number_of, seen_of, is_owing}
 
 module _ {L : Type 0} where
@@ -61,3 +63,16 @@ NotesCarryReloads L M = (space : SpaceId) (key : List ℕ) (old new after : Gett
     → (other learnt : GetterValue M) → HasLearntNote other n.seen learnt
     → (then : List (Event ℕ Filled)) (l : LetterValue Filled) → IsLegal nat_eq then → (fresh : IsFresh (spot_place r.spot) (seen_of learnt.standing) then l)
     → IsAfterReload (number_of old.standing) (spot_place r.spot) came_to (seen_of old.standing) fresh.moment l
+
+-- what a letter of the place tells that is fresh for one who learnt of a Forget of all places: its call is not the one that was current
+-- when that began, and its bytes were loaded after each Forget of the place that was seen
+pub record IsAfterPurge (k : ℕ) (old new moment : List (Event ℕ Filled)) (l : LetterValue Filled) : Type 0 where
+  pub other : current_call nat_eq old k ≢ Some l.call
+  pub loaded : (e : Event ℕ Filled) → forgets k e ≡ true → Stands e new → IsLedAfter e k l.value.root moment
+
+-- A getter forgets all places and tells a note, which another one learns. What that gets fresh from a place then is after the purge.
+abbrev pub NotesCarryPurges : (L M : Type 0) → Type 0
+NotesCarryPurges L M = (places : ℕ) (handed : List (Event ℕ Filled)) (old new after : GetterValue L) → HasForgottenFirst places handed old.standing new.standing → (n : NoteValue Filled) → HasToldNote new after n
+    → (other learnt : GetterValue M) → HasLearntNote other n.seen learnt → (k : ℕ) → 1 ≤ k → k ≤ places
+    → (then : List (Event ℕ Filled)) (l : LetterValue Filled) → IsLegal nat_eq then → (fresh : IsFresh k (seen_of learnt.standing) then l)
+    → IsAfterPurge k (seen_of old.standing) (seen_of new.standing) fresh.moment l

@@ -14,8 +14,10 @@ pub enum LoadFault {
     Refused(GetRefusal),
     /// The letter says that the local getter failed, for the reason that the text gives.
     Local(ByteStr),
-    /// Memory was refused, to this getter or to the one that loaded.
+    /// Memory was refused to this getter: for its key, for the letter, or for what it owes.
     Memory,
+    /// The letter says that memory was refused to the one that led and loaded.
+    LeaderMemory,
 }
 
 /// Why a get is refused.
@@ -40,6 +42,7 @@ impl fmt::Display for LoadFault {
             LoadFault::Refused(refusal) => write!(f, "{refusal}"),
             LoadFault::Local(text) => f.write_str(text.as_str()),
             LoadFault::Memory => f.write_str("out of memory"),
+            LoadFault::LeaderMemory => f.write_str("out of memory in the load"),
         }
     }
 }

@@ -1,10 +1,10 @@
 //! Getters: what they owe, and what they tell each other.
-ghost use Rattle.std.specs.Prelude.{◌≡◌, ◌↔◌, ◌-◌, ◌^◌, IsTrue, is_ok, not};
-ghost use Rattle.sf_fill.specs.GetterValue.{is_owing};
+ghost use Rattle.std.specs.Prelude.{IfSome, ◌≡◌, ◌↔◌, ◌-◌, ◌^◌, IsTrue, is_ok, not};
+ghost use Rattle.sf_fill.specs.GetterValue.{free_caller, is_owing};
 ghost use Rattle.sf_fill.specs.Fresh.{HasAdded, delivered_by};
 ghost use Rattle.sf_fill.specs.Owing.{HasSettledUp};
 ghost use Rattle.sf_calls.specs.Notes.{HasGrown};
-ghost use Rattle.sf_fill.specs.Notes.{HasToldNote, HasLearntNote, NotesCarryReloads};
+ghost use Rattle.sf_fill.specs.Notes.{HasToldNote, HasLearntNote, NotesCarryPurges, NotesCarryReloads};
 
 use crate::fill::Fill;
 use crate::log::Log;
@@ -87,6 +87,37 @@ impl<'d, D: Naming, N: Naming, O: Origin, L> Getter<'d, D, N, O, L> {
         ensures { self.new ≡ self.old }
     {
         self.log.take()
+    }
+
+    /// What the getter loads with, to look at.
+    pub fn loaders(&self) -> &L
+        ensures { result.now ≡ self.now.loaders }
+    {
+        &self.loaders
+    }
+
+    /// Spends the getter, and gives its caller to who asks and forgets in the fill's group without the fill. One that owes letters
+    /// gives none, and abandons them.
+    pub fn into_caller(self) -> Option<Caller<FillValue<'d, D, O>>>
+    where
+        L: Drop,
+        ensures caller { result ≡ free_caller self.entry.standing }
+        ensures group { IfSome result (λ caller. caller.group ≡ N.group) }
+    {
+        let Getter {
+            desk: _,
+            standing,
+            loaders: _,
+            tallies: _,
+            log: _,
+        } = self;
+        match standing {
+            Standing::Free(caller) => Some(caller),
+            Standing::Owing(settled) => {
+                settled.abandon();
+                None
+            }
+        }
     }
 
     /// Spends the getter; what it owes is abandoned.
@@ -188,4 +219,11 @@ impl<'d, D: Naming, N: Naming, O: Origin, L> Getter<'d, D, N, O, L> {
 /// Forget. This function has no code, and its contract is the law.
 pub fn notes_carry_reloads<L, M>()
     ensures { NotesCarryReloads L M }
+{}
+
+/// Who learns the note of a getter that forgot all places gets nothing from before: no letter of a call that was current when
+/// that began, and no bytes that were loaded before a Forget of their place that the note shows. This function has no code,
+/// and its contract is the law.
+pub fn notes_carry_purges<L, M>()
+    ensures { NotesCarryPurges L M }
 {}

@@ -1,6 +1,9 @@
 //! What lies under the lock: letters that two caches keep, and what all getters have counted.
-ghost use Rattle.std.specs.Prelude.{◌≡◌, ◌↔◌, IfOk, IsTrue, ◌≤◌, ◌<◌, ◌^◌, ◌-◌, IfSome};
-ghost use Rattle.sf_spots.specs.Spots.{MayBe};
+ghost use Rattle.std.specs.Prelude.{◌≡◌, ◌↔◌, IfOk, IsTrue, ◌≤◌, ◌<◌, ◌^◌, ◌-◌, IfSome, IfErr};
+ghost use Rattle.sf_dir.specs.declared.refusal.Refusal.{Refusal};
+ghost use Rattle.sf_spots.specs.declared.spot.Spot.{Spot};
+ghost use Rattle.sf_spots.specs.Spots.{MayBe, IsSpotOfKey, IsRefusedSpot};
+ghost use Rattle.sf_fill.specs.Gets.{refusal_of};
 ghost use Rattle.sf_calls.specs.Currents.{HasQuestioned};
 ghost use Rattle.sf_calls.specs.Notes.{HasCopied, HasLent};
 ghost use Rattle.sf_fill.specs.FillValue.{FitsFill};
@@ -8,12 +11,13 @@ ghost use Rattle.sf_fill.specs.Settled.{IsKeptLetter, IsSettled, IsCopyOf, Copie
 ghost use Rattle.sf_calls.specs.Same.{IsPlaceOf};
 ghost use Rattle.sf_fill.specs.Totals.{with_counts, IsOfOneGet};
 
+use crate::fault::{LoadFault, of_key};
 use crate::fill::Fill;
 use crate::getter::Getter;
 use crate::naming::Naming;
 use crate::totals::{Accounts, AllParts, GetCounts, Tallies, Totals};
 use crate::value::FillValue;
-use sf_caches::{Caches, Which};
+use sf_caches::{CacheStats, Caches, Which};
 use sf_group::{Caller, Flight, Group, Letter, Memory};
 use sf_history::CallId;
 use sf_loaders::Origin;
@@ -202,10 +206,20 @@ impl<'d, D: Naming, N: Naming, O: Origin> Kept<'d, D, N, O> {
     }
 
     // Takes the letters of the place's call out of both caches; those of a newer call stay.
-    fn remove(&mut self, place: u32, call: CallId) {
+    fn remove_call(&mut self, place: u32, call: CallId) {
         for which in [Which::Main, Which::Hot] {
             let kept = self.caches.peek(which, place);
             if kept.is_some_and(|cached| cached.call() == call) {
+                self.caches.remove(which, place);
+            }
+        }
+    }
+
+    // Takes the letters of the key at the place out of both caches.
+    fn remove_key(&mut self, place: u32, key: &[u8]) {
+        for which in [Which::Main, Which::Hot] {
+            let kept = self.caches.peek(which, place);
+            if kept.is_some_and(|cached| cached.is_of(key)) {
                 self.caches.remove(which, place);
             }
         }
@@ -287,7 +301,7 @@ impl<'d, D: Naming, N: Naming, O: Origin> Fill<'d, D, N, O> {
 
     // Puts a copy of the letter into a cache; where memory for it is refused, nothing is put. The letter's note may show
     // more then.
-    pub(crate) fn put<R: Wait>(
+    pub(crate) fn put_letter<R: Wait>(
         &self,
         rt: &R,
         which: Which,
@@ -308,9 +322,36 @@ impl<'d, D: Naming, N: Naming, O: Origin> Fill<'d, D, N, O> {
     }
 
     // Takes the letters of the place's call out of both caches; those of a newer call stay.
-    pub(crate) fn remove<R: Wait>(&self, rt: &R, place: u32, call: CallId) {
+    pub(crate) fn remove_call<R: Wait>(&self, rt: &R, place: u32, call: CallId) {
         let mut kept = self.kept.lock(rt);
-        kept.remove(place, call);
+        kept.remove_call(place, call);
+    }
+
+    /// Takes what the caches keep of the key out of them, without a Forget: the next get of it asks the group. A call that is
+    /// open stays so, and one that others have letters of stays current.
+    pub fn remove<R: Wait, L>(
+        &self,
+        rt: &R,
+        getter: &mut Getter<'d, D, N, O, L>,
+        key: &[u8],
+    ) -> Result<(), LoadFault>
+        ensures found { IfOk result (λ _. (spot : Spot) × IsSpotOfKey N.space key.now getter.old.desk getter.new.desk spot) }
+        ensures refused { IfErr result (λ fault. (refusal : Refusal) × IsRefusedSpot N.space key.now getter.old.desk getter.new.desk refusal × (fault ≡ refusal_of refusal)) }
+        ensures rest { getter.new ≡ record getter.old { desk = getter.new.desk } }
+    {
+        match self.space.find(&mut getter.desk, key) {
+            Ok(place) => {
+                let mut kept = self.kept.lock(rt);
+                kept.remove_key(place.number().number(), key);
+                Ok(())
+            }
+            Err(refusal) => Err(of_key(refusal)),
+        }
+    }
+
+    /// What main or hot holds now.
+    pub fn cache_stats<R: Wait>(&self, rt: &R, which: Which) -> CacheStats {
+        self.kept.lock(rt).caches.stats(which)
     }
 
     // Enters what a get counted.

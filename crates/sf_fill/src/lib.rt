@@ -24,6 +24,7 @@ mod load;
 mod log;
 mod naming;
 mod parts;
+mod put;
 mod reload;
 mod totals;
 mod value;
@@ -38,7 +39,9 @@ pub use naming::{
     PeerLoads,
 };
 pub use parts::FillParts;
+pub use put::Put;
 pub use reload::Forgot;
+pub use sf_caches::{CacheStats, Which};
 pub use totals::{Accounts, AllParts, GetCounts, Ledgers, Tallies, Totals};
 pub use value::FillValue;
 pub use view::View;

@@ -205,7 +205,7 @@ impl<'d, D: Naming, N: Naming, O: Origin> Fill<'d, D, N, O> {
             return;
         };
         if self.group.is_current(caller, letter) {
-            self.put(rt, which, key_len, value_len, letter);
+            self.put_letter(rt, which, key_len, value_len, letter);
         }
     }
 }

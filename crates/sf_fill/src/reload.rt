@@ -4,6 +4,7 @@ ghost use Rattle.sf_fill.specs.Reloads.{forgot_of, ForgetsNamed, HasReloaded, Re
 ghost use Rattle.sf_calls.specs.Same.{IsPlaceOf};
 ghost use Rattle.sf_spots.specs.Spaces.{IsDeskOf};
 ghost use Rattle.sf_fill.specs.Fresh.{IsReloading};
+ghost use Rattle.sf_fill.specs.Purges.{ForgetsAll};
 ghost use Rattle.sf_fill.specs.GetterValue.{IsOfGroup};
 
 use crate::fault::{LoadFault, of_key};
@@ -12,11 +13,12 @@ use crate::getter::{Getter, Standing};
 use crate::log::Log;
 use crate::naming::Naming;
 use crate::value::FillValue;
-use sf_group::Caller;
+use sf_group::{Caller, Memory};
 use sf_history::{CallId, Hit};
 use sf_loaders::Origin;
 use sf_spots::KeyDesk;
 use sf_wait::forget_call_wait;
+use sf_words::PlaceNo;
 use std::sync::Wait;
 
 /// What became of the call that a key named.
@@ -61,7 +63,7 @@ impl<'d, D: Naming, N: Naming, O: Origin> Fill<'d, D, N, O> {
             return Forgot::Idle;
         };
         let hit = forget_call_wait(rt, &self.group, caller, place, call);
-        self.remove(rt, place, call);
+        self.remove_call(rt, place, call);
         Forgot::of(call, hit)
     }
 
@@ -126,5 +128,45 @@ impl<'d, D: Naming, N: Naming, O: Origin> Fill<'d, D, N, O> {
             log,
         };
         (getter, answer)
+    }
+
+    /// Forgets the call that each place names, in turn, whose entries then leave both caches; a call that is led meanwhile at a
+    /// place whose turn was before stays. What the getter owes is delivered first; where that is refused memory, nothing is
+    /// forgotten. Who learns the getter's note then gets nothing from before.
+    pub fn forget_all<R: Wait, L>(
+        &self,
+        rt: &R,
+        getter: Getter<'d, D, N, O, L>,
+    ) -> (Getter<'d, D, N, O, L>, Result<(), Memory>)
+        ensures { ForgetsAll N.group.sizes.places getter.entry result.0 result.1 }
+    {
+        let (getter, _delivered) = getter.settle_up(rt, self);
+        let Getter {
+            desk,
+            standing,
+            loaders,
+            tallies,
+            mut log,
+        } = getter;
+        let (standing, outcome) = match standing {
+            Standing::Owing(settled) => (Standing::Owing(settled), Err(Memory)),
+            Standing::Free(caller) => {
+                let mut caller = caller;
+                for index in 0..self.space.place_count() {
+                    let place = PlaceNo::from_index(index as usize);
+                    let forgot = self.forget_named(rt, &mut caller, place.number());
+                    log.add_forgot(caller.number(), place, forgot);
+                }
+                (Standing::Free(caller), Ok(()))
+            }
+        };
+        let getter = Getter {
+            desk,
+            standing,
+            loaders,
+            tallies,
+            log,
+        };
+        (getter, outcome)
     }
 }

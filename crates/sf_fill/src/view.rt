@@ -1,8 +1,9 @@
 //! What a get answers.
 ghost use Rattle.std.specs.Prelude.{◌≡◌, Ok, IfOk, nat_lt};
+ghost use Rattle.std.specs.Option.{option_copied};
 ghost use Rattle.sf_calls.specs.Finishes.{FitsLetter};
 ghost use Rattle.sf_spots.specs.Spots.{IsInSpace, MayBe, place_at, spot_at, spot_key};
-ghost use Rattle.sf_fill.specs.FillValue.{FitsFill};
+ghost use Rattle.sf_fill.specs.FillValue.{FitsFill, own_key};
 ghost use Rattle.sf_fill.specs.Gets.{IsLoadedFor, answer_in};
 
 use crate::fault::LoadFault;
@@ -45,6 +46,54 @@ impl<'d, D: Naming, O: Origin> View<'d, D, O> {
         ensures { Ok result.now ≡ self.now.value.result }
     {
         &self.bytes
+    }
+
+    /// The bytes alone, which are not copied.
+    pub fn into_bytes(self) -> Bytes
+        ensures { Ok result ≡ self.entry.value.result }
+    {
+        let View {
+            spot: _,
+            root: _,
+            bytes,
+            call: _,
+            joiners: _,
+            note: _,
+        } = self;
+        bytes
+    }
+
+    /// The bytes, and a note that shows what the letter shows: who learns it has seen that the call was settled.
+    pub fn into_parts(self) -> (Bytes, Note<FillValue<'d, D, O>>)
+        ensures bytes { Ok result.0 ≡ self.entry.value.result }
+        ensures note { (result.1.group ≡ self.entry.group) × (result.1.seen ≡ self.entry.seen) }
+    {
+        let View {
+            spot: _,
+            root: _,
+            bytes,
+            call: _,
+            joiners: _,
+            note,
+        } = self;
+        (bytes, note)
+    }
+
+    /// The key's bytes, where its place is hashed. A directory keeps them in its own words; the key that was got is the one.
+    pub fn key(&self) -> Option<&Bytes>
+        ensures { option_copied result ≡ own_key self.now.value.spot }
+    {
+        match &self.spot {
+            Spot::Directory(_) => None,
+            Spot::Hashed(hashed) => Some(&hashed.key),
+        }
+    }
+
+    /// The number of the key's place, 1 to 1,048,576.
+    pub fn place(&self) -> u32
+        ensures { result ≡ self.now.place }
+    {
+        self.spot.number().number()
     }
 
     /// The call that was settled with them.
@@ -105,6 +154,6 @@ pub(crate) fn show<'d, D: Naming, O: Origin>(
             note,
         }),
         Err(LocalFault::Failed(text)) => Err(LoadFault::Local(text)),
-        Err(LocalFault::Memory) => Err(LoadFault::Memory),
+        Err(LocalFault::Memory) => Err(LoadFault::LeaderMemory),
     }
 }

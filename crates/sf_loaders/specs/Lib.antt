@@ -1,3 +1,4 @@
 pub mod FaultText
+pub mod Given
 pub mod LoadPath
 pub mod Scripted

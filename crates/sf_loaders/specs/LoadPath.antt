@@ -1,5 +1,5 @@
 -- the load path of a cache fill, by cases
-use Rattle.std.specs.Prelude.{◌≡◌, ℕ, ◌≤◌, List, Option, Result, Ok, Err, MatchOption, MatchResult}
+use Rattle.std.specs.Prelude.{◌≡◌, ℕ, ◌≤◌, List, Option, Some, Result, Ok, Err, MatchOption, MatchResult}
 use Rattle.sf_history.specs.declared.call.CallId.{CallId}
 use Rattle.sf_loaders.specs.declared.counts.Counts.{Counts}
 use Rattle.sf_loaders.specs.declared.counts.Source.{Source}
@@ -44,18 +44,18 @@ module _ {P F L C : Type 0}
     pub asked : load_gives old.local key call answer new.local
     pub result : outcome ≡ from_local faults answer
 
-  -- the peer is asked once: its value is the result, and after its fault the rest is as without a peer
+  -- the peer is asked once: its value is the result, and its fault is kept, and after it the rest is as without a peer
   pub record AsksPeer (peer : ℕ) : Type 0 where
     pub answer : Result (List ℕ) PeerFault
     pub asked : fetch_gives old.peer peer key call answer new.peer
     pub rest : MatchResult answer
-        (λ value. (outcome ≡ from_peer value) × (new.local ≡ old.local))
-        (λ fault. AsksLocal 1)
+        (λ value. (outcome ≡ from_peer value) × (new.local ≡ old.local) × (new.peer_fault ≡ old.peer_fault))
+        (λ fault. AsksLocal 1 × (new.peer_fault ≡ Some fault))
 
   -- the load path: the picker is asked once; where it names no peer, none is asked
   pub record IsLoadOf : Type 0 where
     pub picked : Option ℕ
     pub asked : pick_gives old.picker key picked new.picker
     pub rest : MatchOption picked
-        ((new.peer ≡ old.peer) × AsksLocal 0)
+        ((new.peer ≡ old.peer) × (new.peer_fault ≡ old.peer_fault) × AsksLocal 0)
         AsksPeer

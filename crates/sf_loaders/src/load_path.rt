@@ -1,11 +1,11 @@
 //! The load path.
 
-ghost use Rattle.std.specs.Prelude.{◌≡◌, ◌<◌, ℕ, List, IfOk};
+ghost use Rattle.std.specs.Prelude.{◌≡◌, ◌<◌, ℕ, List, None, IfOk};
 ghost use Rattle.sf_history.specs.declared.call.CallId.{CallId};
 ghost use Rattle.sf_loaders.specs.LoadPath.{IsLoadOf, IsOfOneRun, LoadAnswer};
 
 use crate::counts::{Counts, Source};
-use crate::faults::LocalFault;
+use crate::faults::{LocalFault, PeerFault};
 use crate::traits::{Chance, Local, Origin, Peer, Picker};
 use bytes::Bytes;
 use sf_history::CallId;
@@ -21,12 +21,29 @@ pub struct Loaders<P, F, L, C> {
     pub local: L,
     /// Draws which of the peers' values are kept; a load draws nothing.
     pub chance: C,
+    /// Why the last fetch from a peer failed that did; a load goes on with the local getter then.
+    pub peer_fault: Option<PeerFault>,
+}
+
+impl<P, F, L, C> Loaders<P, F, L, C> {
+    /// A set of loaders, of which no peer has failed yet.
+    pub fn new(picker: P, peer: F, local: L, chance: C) -> Self
+        ensures { result ≡ record { picker = picker; peer = peer; local = local; chance = chance; peer_fault = None } }
+    {
+        Loaders {
+            picker,
+            peer,
+            local,
+            chance,
+            peer_fault: None,
+        }
+    }
 }
 
 /// Loads the key's value for the run of the call, and says what that adds to the counters.
 ///
-/// A fault of the peer, want of memory too, is counted and falls through to the local getter; one of the local getter
-/// is the result.
+/// A fault of the peer, want of memory too, is counted and kept in `peer_fault`, and falls through to the local getter; one of
+/// the local getter is the result. (groupcache drops the peer's fault.)
 pub fn load_once<P, F, L, C, O>(
     loaders: &mut Loaders<P, F, L, C>,
     key: &[u8],
@@ -48,11 +65,16 @@ where
         ..Counts::default()
     };
     if let Some(peer) = loaders.picker.pick(key) {
-        if let Ok(value) = loaders.peer.fetch(peer, key, call) {
-            counts.peer_loads = 1;
-            return (Ok((value, Source::Peer)), counts);
+        match loaders.peer.fetch(peer, key, call) {
+            Ok(value) => {
+                counts.peer_loads = 1;
+                return (Ok((value, Source::Peer)), counts);
+            }
+            Err(fault) => {
+                counts.peer_errors = 1;
+                loaders.peer_fault = Some(fault);
+            }
         }
-        counts.peer_errors = 1;
     }
     match loaders.local.load(key, call) {
         Ok(value) => {

@@ -1,0 +1,102 @@
+//! Puts of known bytes.
+ghost use Rattle.std.specs.Prelude.{◌≡◌, ◌<◌, ◌-◌, ◌^◌};
+ghost use Rattle.sf_history.specs.declared.call.CallId.{CallId};
+ghost use Rattle.sf_fill.specs.Puts.{GetsGiven, HasPut};
+
+use crate::fault::{GetRefusal, LoadFault};
+use crate::fill::Fill;
+use crate::getter::Getter;
+use crate::naming::Naming;
+use crate::view::View;
+use bytes::Bytes;
+use sf_loaders::{Given, Origin};
+use std::sync::Wait;
+
+/// What a put came to.
+#[derive(Drop)]
+pub enum Put<V> {
+    /// A call of the key was led and settled with the bytes.
+    Settled(V),
+    /// Another call of the key was met, which was current after the Forget of the put; the bytes were not needed.
+    Met(V),
+}
+
+impl<'d, D: Naming, N: Naming, O: Origin> Fill<'d, D, N, O> {
+    /// Forgets the key's call, and settles a new one with the bytes: a write-through. Write the origin first: who leads between
+    /// the Forget and the put has loaded since, and that answer is met. It is counted as a get whose local getter has the bytes.
+    /// A reload that is refused refuses the put.
+    pub fn put<R: Wait, L>(
+        &self,
+        rt: &R,
+        getter: Getter<'d, D, N, O, L>,
+        key: &[u8],
+        bytes: Bytes,
+    ) -> (
+        Getter<'d, D, N, O, L>,
+        Result<Put<View<'d, D, O>>, LoadFault>,
+    )
+        requires stated { (call : CallId) → O.loaded key.now call bytes }
+        ensures { HasPut N.space key.now bytes getter.entry result.0 result.1 }
+    {
+        if getter.is_full() {
+            return (getter, Err(LoadFault::Refused(GetRefusal::Spent)));
+        }
+        let (getter, forgot) = self.reload(rt, getter, key);
+        if let Err(fault) = forgot {
+            return (getter, Err(fault));
+        }
+        self.put_new(rt, getter, key, bytes)
+    }
+
+    // Settles a new call with the bytes, or meets another's.
+    fn put_new<R: Wait, L>(
+        &self,
+        rt: &R,
+        getter: Getter<'d, D, N, O, L>,
+        key: &[u8],
+        bytes: Bytes,
+    ) -> (
+        Getter<'d, D, N, O, L>,
+        Result<Put<View<'d, D, O>>, LoadFault>,
+    )
+        requires room { getter.counted.gets < 2 ^ 64 - 1 }
+        requires stated { (call : CallId) → O.loaded key.now call bytes }
+        ensures { GetsGiven N.space key.now bytes getter.entry result.0 result.1 }
+    {
+        let Getter {
+            desk,
+            standing,
+            loaders,
+            tallies,
+            log,
+        } = getter;
+        let giving = Getter {
+            desk,
+            standing,
+            loaders: Given::new(key, bytes),
+            tallies,
+            log,
+        };
+        let (gave, answer) = self.get(rt, giving, key);
+        let Getter {
+            desk,
+            standing,
+            loaders: given,
+            tallies,
+            log,
+        } = gave;
+        let getter = Getter {
+            desk,
+            standing,
+            loaders,
+            tallies,
+            log,
+        };
+        let put = match answer {
+            Ok(view) if given.is_left() => Ok(Put::Met(view)),
+            Ok(view) => Ok(Put::Settled(view)),
+            Err(fault) => Err(fault),
+        };
+        (getter, put)
+    }
+}
