@@ -1,5 +1,5 @@
 //! What lies under the lock: letters that two caches keep, and what all getters have counted.
-ghost use Rattle.std.specs.Prelude.{◌≡◌, ◌↔◌, IfOk, IsTrue, ◌≤◌, ◌<◌, ◌^◌, ◌-◌, IfSome, IfErr};
+ghost use Rattle.std.specs.Prelude.{◌≡◌, ◌↔◌, IfOk, IsTrue, ◌<◌, ◌^◌, ◌-◌, IfSome, IfErr};
 ghost use Rattle.sf_dir.specs.declared.refusal.Refusal.{Refusal};
 ghost use Rattle.sf_spots.specs.declared.spot.Spot.{Spot};
 ghost use Rattle.sf_spots.specs.Spots.{MayBe, IsSpotOfKey, IsRefusedSpot};
@@ -15,16 +15,14 @@ use crate::fault::{LoadFault, of_key};
 use crate::fill::Fill;
 use crate::getter::Getter;
 use crate::naming::Naming;
-use crate::totals::{Accounts, AllParts, GetCounts, Tallies, Totals};
+use crate::totals::{Accounts, GetCounts, Tallies};
 use crate::value::FillValue;
 use sf_caches::{CacheStats, Caches, Which};
 use sf_group::{Caller, Flight, Group, Letter, Memory};
 use sf_history::CallId;
 use sf_loaders::Origin;
-use sf_spots::KeySpace;
-use std::alloc::Global;
 use std::marker::{Model, PhantomData};
-use std::sync::{Mutex, Wait};
+use std::sync::Wait;
 
 /// A letter of the fill's group, whose call was settled so.
 #[derive(Drop)]

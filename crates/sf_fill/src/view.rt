@@ -1,9 +1,8 @@
 //! What a get answers.
 ghost use Rattle.std.specs.Prelude.{◌≡◌, Ok, IfOk, nat_lt};
 ghost use Rattle.std.specs.Option.{option_copied};
-ghost use Rattle.sf_calls.specs.Finishes.{FitsLetter};
 ghost use Rattle.sf_spots.specs.Spots.{IsInSpace, MayBe, place_at, spot_at, spot_key};
-ghost use Rattle.sf_fill.specs.FillValue.{FitsFill, own_key};
+ghost use Rattle.sf_fill.specs.FillValue.{own_key};
 ghost use Rattle.sf_fill.specs.Gets.{IsLoadedFor, answer_in};
 
 use crate::fault::LoadFault;
