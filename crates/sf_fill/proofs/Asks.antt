@@ -1,5 +1,5 @@
 -- askings that met other keys' calls, and how the last one ends
-use Rattle.std.proofs.Common.{◌≡◌, ℕ, ◌+◌, suc, List, sym, ap, ◌∙◌, subst, refl, add-one}
+use Rattle.std.proofs.Common.{ℕ, suc, List}
 use Rattle.sf_calls.specs.declared.outcomes.Finished.{Finished}
 use Rattle.sf_calls.specs.declared.outcomes.Finished.TheVariants.{Done, Held}
 use Rattle.sf_calls.specs.Tokens.{CallerValue, TicketValue, LetterValue, SettledValue}
@@ -8,9 +8,9 @@ use Rattle.sf_calls.specs.Finishes.{IsReady}
 use Rattle.sf_spots.specs.Spaces.{SpaceId}
 use Rattle.sf_spots.specs.Spots.{IsInSpace, IsOther}
 use Rattle.sf_fill.specs.declared.get.Found.TheVariants.{Led}
-use Rattle.sf_fill.specs.declared.totals.GetCounts.{GetCounts}
+use Rattle.sf_fill.specs.declared.counters.totals.GetCounts.{GetCounts}
 use Rattle.sf_fill.specs.FillValue.{Filled, FitsFill}
-use Rattle.sf_fill.specs.Found.{HasMissed, IsMiss}
+use Rattle.sf_fill.specs.Found.{HasMissed}
 use Rattle.sf_fill.specs.Gets.{counts_of}
 use Rattle.sf_fill.specs.Totals.{IsOfOneGet}
 

@@ -39,8 +39,8 @@ use Rattle.sf_fill.specs.declared.reload.Forgot.{Forgot}
 use Rattle.sf_fill.specs.declared.reload.Forgot.TheVariants as forgot
 use Rattle.sf_fill.specs.declared.getter.Standing.{Standing}
 use Rattle.sf_fill.specs.declared.getter.Standing.TheVariants.{Free, Owing}
-use Rattle.sf_fill.specs.declared.totals.GetCounts.{GetCounts}
-use Rattle.sf_fill.specs.declared.totals.Totals.{Totals}
+use Rattle.sf_fill.specs.declared.counters.totals.GetCounts.{GetCounts}
+use Rattle.sf_fill.specs.declared.counters.totals.Totals.{Totals}
 use Rattle.sf_fill.specs.Counted.{has_asking, is_asking, askings_in, IsCounted}
 use Rattle.sf_fill.specs.FillValue.{Filled, FitsFill, fill_lasts}
 use Rattle.sf_fill.specs.Found.{get_alone, HasFound, HasFoundFrom, HasMissed, AfterMisses, HasRun, IsMiss, IsSource}

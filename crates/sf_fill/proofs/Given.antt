@@ -16,8 +16,8 @@ use Rattle.sf_fill.specs.declared.get.Found.TheVariants.{Kept, Uncopied, Unmade,
 use Rattle.sf_fill.specs.declared.getter.Standing.{Standing}
 use Rattle.sf_fill.specs.declared.getter.Standing.TheVariants.{Free, Owing}
 use Rattle.sf_fill.specs.declared.put.Put.TheVariants.{Settled, Met}
-use Rattle.sf_fill.specs.declared.totals.GetCounts.{GetCounts}
-use Rattle.sf_fill.specs.declared.totals.Totals.{Totals}
+use Rattle.sf_fill.specs.declared.counters.totals.GetCounts.{GetCounts}
+use Rattle.sf_fill.specs.declared.counters.totals.Totals.{Totals}
 use Rattle.sf_fill.specs.Counted.{IsCounted}
 use Rattle.sf_fill.specs.FillValue.{Filled}
 use Rattle.sf_fill.specs.Found.{HasFoundFrom, HasRun, bytes_in}

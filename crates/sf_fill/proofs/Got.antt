@@ -7,7 +7,7 @@ use Rattle.sf_loaders.specs.LoadPath.{LoadAnswer}
 use Rattle.sf_fill.specs.declared.fault.LoadFault.{LoadFault}
 use Rattle.sf_fill.specs.declared.reload.Forgot.{Forgot}
 use Rattle.sf_fill.specs.declared.getter.Standing.{Standing}
-use Rattle.sf_fill.specs.declared.totals.Totals.{Totals}
+use Rattle.sf_fill.specs.declared.counters.totals.Totals.{Totals}
 use Rattle.sf_fill.specs.FillValue.{Filled}
 use Rattle.sf_fill.specs.Gets.{GetsFrom, HasGot, Reply}
 use Rattle.sf_fill.specs.GetterValue.{GetterValue}

@@ -18,7 +18,7 @@ use Rattle.sf_loaders.specs.declared.counts.Source.TheVariants.{Peer, Local}
 use Rattle.sf_loaders.specs.declared.faults.LocalFault.{LocalFault}
 use Rattle.sf_fill.specs.declared.get.Found.{Found}
 use Rattle.sf_fill.specs.declared.get.Found.TheVariants.{Kept, Uncopied, Unmade, Spent, Joined, Led}
-use Rattle.sf_fill.specs.declared.totals.GetCounts.{GetCounts}
+use Rattle.sf_fill.specs.declared.counters.totals.GetCounts.{GetCounts}
 use Rattle.sf_fill.specs.FillValue.{Filled, FitsFill}
 use Rattle.sf_fill.specs.Settled.{HasOnlyLooked, IsCurrentLetter, IsFollowed}
 

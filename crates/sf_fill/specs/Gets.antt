@@ -6,7 +6,7 @@ use Rattle.sf_calls.specs.Tokens.{CallerValue, LetterValue}
 use Rattle.sf_spots.specs.declared.key_space.KeyDesk.{KeyDesk}
 use Rattle.sf_spots.specs.declared.spot.Spot.{Spot}
 use Rattle.sf_spots.specs.Spaces.{SpaceId}
-use Rattle.sf_spots.specs.Spots.{IsSpotOfKey, IsRefusedSpot, IsSeeingSpace, MayBe, spot_place}
+use Rattle.sf_spots.specs.Spots.{IsSpotOfKey, IsRefusedSpot, IsSeeingSpace, MayBe}
 use Rattle.sf_dir.specs.declared.refusal.Refusal.{Refusal}
 use Rattle.sf_dir.specs.declared.refusal.Refusal.TheVariants as refusal
 use Rattle.sf_loaders.specs.LoadPath.{LoadAnswer}
@@ -19,7 +19,7 @@ use Rattle.sf_fill.specs.declared.get.Found.{Found}
 use Rattle.sf_fill.specs.declared.get.Found.TheVariants.{Kept, Uncopied, Unmade, Spent, Joined, Led}
 use Rattle.sf_fill.specs.declared.getter.Standing.{Standing}
 use Rattle.sf_fill.specs.declared.getter.Standing.TheVariants.{Free, Owing}
-use Rattle.sf_fill.specs.declared.totals.GetCounts.{GetCounts}
+use Rattle.sf_fill.specs.declared.counters.totals.GetCounts.{GetCounts}
 use Rattle.sf_fill.specs.FillValue.{Filled}
 use Rattle.sf_fill.specs.Found.{HasFound, hit_counts, load_counts, get_alone, no_run}
 use Rattle.sf_fill.specs.GetterValue.{GetterValue}

@@ -5,7 +5,7 @@ use Rattle.sf_calls.specs.Tokens.{GroupValue, CallerValue}
 use Rattle.sf_spots.specs.declared.key_space.KeyDesk.{KeyDesk}
 use Rattle.sf_fill.specs.declared.getter.Standing.{Standing}
 use Rattle.sf_fill.specs.declared.getter.Standing.TheVariants.{Free, Owing}
-use Rattle.sf_fill.specs.declared.totals.Totals.{Totals}
+use Rattle.sf_fill.specs.declared.counters.totals.Totals.{Totals}
 use Rattle.sf_fill.specs.FillValue.{Filled}
 use Rattle.sf_fill.specs.Ledgers.{nothing_counted}
 

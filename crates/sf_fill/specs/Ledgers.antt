@@ -1,11 +1,12 @@
 -- the ledgers of a fill, and what is counted in them
 use Rattle.std.specs.Prelude.{ℕ}
-use Rattle.sf_fill.specs.declared.totals.Totals.{Totals}
+use Rattle.sf_fill.specs.declared.counters.totals.Totals.{Totals}
+use Rattle.sf_fill.specs.Totals.{each}
 
 abbrev pub nothing_counted : Totals
-nothing_counted = record { gets = 0; cache_hits = 0; loads = 0; loads_deduped = 0; peer_loads = 0; peer_errors = 0; local_loads = 0; local_load_errors = 0 }
+nothing_counted = each (λ counter. 0)
 
--- parts of a ledger, and what those who had them counted
+-- parts of a ledger, and what those who had them counted in it
 pub record Held : Type 0 where
   pub parts : ℕ
   pub counted : ℕ

@@ -1,11 +1,11 @@
 pub mod ByteCounts
 pub mod Names
 pub mod FaultText
-pub mod Nowhere
 pub mod Rooted
 pub mod FillValue
-pub mod Ledgers
 pub mod Totals
+pub mod Ledgers
+pub mod Nowhere
 pub mod Settled
 pub mod GetterValue
 pub mod Made

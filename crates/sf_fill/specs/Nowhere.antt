@@ -4,6 +4,7 @@ use Rattle.atomic_table.specs.Seated.{TableId}
 use Rattle.sf_calls.specs.Tokens.{GroupValue}
 use Rattle.sf_spots.specs.Spaces.{SpaceId}
 use Rattle.sf_fill.specs.Names.{LedgerNames}
+use Rattle.sf_fill.specs.Ledgers.{nothing_counted}
 
 abbrev pub no_table : TableId
 no_table = record { words = 0; slots = 0; views_name = 0; atom = 0; block = 0; offset = 0; slot_names = [] }
@@ -15,4 +16,4 @@ abbrev pub no_group : GroupValue
 no_group = record { table = no_table; sizes = record { places = 0; callers = 0; first = 0 } }
 
 abbrev pub no_ledgers : LedgerNames
-no_ledgers = record { gets = 0; cache_hits = 0; loads = 0; loads_deduped = 0; peer_loads = 0; peer_errors = 0; local_loads = 0; local_load_errors = 0 }
+no_ledgers = nothing_counted

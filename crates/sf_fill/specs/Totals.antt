@@ -1,10 +1,17 @@
 -- what a fill counts, over all its getters
 use Rattle.std.specs.Prelude.{◌≡◌, ℕ, ◌+◌, ◌≤◌, List}
 use Rattle.std.specs.List.{sum_by}
-use Rattle.sf_fill.specs.declared.totals.Totals.{Totals}
-use Rattle.sf_fill.specs.declared.totals.GetCounts.{GetCounts}
-use Rattle.sf_fill.specs.declared.totals.Ledgers.{Ledgers}
+use Rattle.sf_fill.specs.declared.counters.totals.Totals.{Totals}
+use Rattle.sf_fill.specs.declared.counters.totals.GetCounts.{GetCounts}
+use Rattle.sf_fill.specs.declared.counters.totals.Ledgers.{Ledgers}
 use Rattle.sf_fill.specs.Names.{LedgerNames}
+
+-- what is said of each counter, in the order in which they are printed
+abbrev pub each : ((Totals → ℕ) → ℕ) → Totals
+each f = record { gets = f (λ t. t.gets); cache_hits = f (λ t. t.cache_hits); loads = f (λ t. t.loads); loads_deduped = f (λ t. t.loads_deduped); peer_loads = f (λ t. t.peer_loads); peer_errors = f (λ t. t.peer_errors); local_loads = f (λ t. t.local_loads); local_load_errors = f (λ t. t.local_load_errors) }
+
+pub same_each : (f g : (Totals → ℕ) → ℕ) → ((counter : Totals → ℕ) → f counter ≡ g counter) → each f ≡ each g
+same_each f g same = λ i. each (λ counter. same counter i)
 
 -- no counter is above Gets
 pub record IsWithinGets (c : Totals) : Type 0 where
@@ -16,13 +23,24 @@ pub record IsWithinGets (c : Totals) : Type 0 where
   pub local_loads : c.local_loads ≤ c.gets
   pub local_load_errors : c.local_load_errors ≤ c.gets
 
+-- no counter of the first is above the second's
+pub record IsUpTo (a b : Totals) : Type 0 where
+  pub gets : a.gets ≤ b.gets
+  pub cache_hits : a.cache_hits ≤ b.cache_hits
+  pub loads : a.loads ≤ b.loads
+  pub loads_deduped : a.loads_deduped ≤ b.loads_deduped
+  pub peer_loads : a.peer_loads ≤ b.peer_loads
+  pub peer_errors : a.peer_errors ≤ b.peer_errors
+  pub local_loads : a.local_loads ≤ b.local_loads
+  pub local_load_errors : a.local_load_errors ≤ b.local_load_errors
+
 -- each counter rose by as much
 abbrev pub plus : Totals → Totals → Totals
-plus a b = record { gets = a.gets + b.gets; cache_hits = a.cache_hits + b.cache_hits; loads = a.loads + b.loads; loads_deduped = a.loads_deduped + b.loads_deduped; peer_loads = a.peer_loads + b.peer_loads; peer_errors = a.peer_errors + b.peer_errors; local_loads = a.local_loads + b.local_loads; local_load_errors = a.local_load_errors + b.local_load_errors }
+plus a b = each (λ counter. counter a + counter b)
 
 -- for each counter, the sum over all
 abbrev pub sums_of : List Totals → Totals
-sums_of all = record { gets = sum_by (λ (t : Totals). t.gets) all; cache_hits = sum_by (λ (t : Totals). t.cache_hits) all; loads = sum_by (λ (t : Totals). t.loads) all; loads_deduped = sum_by (λ (t : Totals). t.loads_deduped) all; peer_loads = sum_by (λ (t : Totals). t.peer_loads) all; peer_errors = sum_by (λ (t : Totals). t.peer_errors) all; local_loads = sum_by (λ (t : Totals). t.local_loads) all; local_load_errors = sum_by (λ (t : Totals). t.local_load_errors) all }
+sums_of all = each (λ counter. sum_by counter all)
 
 -- a get is counted once, and no other counter rises by more
 pub record IsOfOneGet (c : GetCounts) : Type 0 where
@@ -34,6 +52,10 @@ pub record IsOfOneGet (c : GetCounts) : Type 0 where
   pub peer_errors : c.run.peer_errors ≤ 1
   pub local_loads : c.run.local_loads ≤ 1
   pub local_load_errors : c.run.local_load_errors ≤ 1
+
+-- what each counter rises by
+abbrev pub counts_in : GetCounts → Totals
+counts_in c = record { gets = c.gets; cache_hits = c.cache_hits; loads = c.loads; loads_deduped = c.run.loads_deduped; peer_loads = c.run.peer_loads; peer_errors = c.run.peer_errors; local_loads = c.run.local_loads; local_load_errors = c.run.local_load_errors }
 
 abbrev pub with_counts : Totals → GetCounts → Totals
 with_counts a c = record { gets = a.gets + c.gets; cache_hits = a.cache_hits + c.cache_hits; loads = a.loads + c.loads; loads_deduped = a.loads_deduped + c.run.loads_deduped; peer_loads = a.peer_loads + c.run.peer_loads; peer_errors = a.peer_errors + c.run.peer_errors; local_loads = a.local_loads + c.run.local_loads; local_load_errors = a.local_load_errors + c.run.local_load_errors }

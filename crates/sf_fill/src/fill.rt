@@ -3,10 +3,10 @@ ghost use Rattle.std.specs.Prelude.{◌≡◌, ◌<◌, map, vec_len};
 ghost use Rattle.sf_fill.specs.Totals.{sums_of};
 ghost use Rattle.sf_fill.specs.GetterValue.{GetterValue};
 
+use crate::counters::{Accounts, AllParts, Totals};
 use crate::getter::Getter;
 use crate::kept::Kept;
 use crate::naming::Naming;
-use crate::totals::{AllParts, Totals};
 use crate::value::FillValue;
 use sf_group::Group;
 use sf_loaders::Origin;
@@ -60,13 +60,15 @@ impl<'d, D: Naming, N: Naming, O: Origin> Fill<'d, D, N, O> {
         requires some { 0 < vec_len getters }
         ensures { result ≡ sums_of (map (λ (g : GetterValue L). g.counted) getters.entry.items) }
     {
-        let mut all = sum_up(getters);
-        self.kept.lock(rt).accounts.gathered(&mut all)
+        let mut kept = self.kept.lock(rt);
+        let mut all = sum_up(&mut kept.accounts, getters);
+        kept.accounts.gathered(&mut all)
     }
 }
 
-// The parts of all these getters, which are spent.
+// The parts of all these getters, which are spent. What they counted is all entered.
 fn sum_up<'d, D: Naming, N: Naming, O: Origin, L: Drop>(
+    accounts: &mut Accounts<N>,
     getters: Vec<Getter<'d, D, N, O, L>>,
 ) -> AllParts<N>
     requires { 0 < vec_len getters }
@@ -76,9 +78,10 @@ fn sum_up<'d, D: Naming, N: Naming, O: Origin, L: Drop>(
     let Some(last) = getters.pop() else {
         unreachable!()
     };
-    let mut all = AllParts::of(last.into_tallies());
+    let mut all = accounts.end(last.into_tallies());
     'rest: while let Some(getter) = getters.pop() {
-        all.take(getter.into_tallies());
+        let part = accounts.end(getter.into_tallies());
+        all.take(part);
     }
     getters.destroy_empty();
     all

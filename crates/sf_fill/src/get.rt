@@ -14,13 +14,13 @@ ghost use Rattle.sf_fill.specs.GetterValue.{IsOfGroup};
 ghost use Rattle.sf_fill.specs.Rooted.{IsRooted};
 ghost use Rattle.sf_fill.specs.Totals.{IsOfOneGet};
 
+use crate::counters::GetCounts;
 use crate::fault::{GetRefusal, LoadFault, of_key};
 use crate::fill::Fill;
 use crate::getter::{Getter, Standing};
 use crate::load::{NO_RUN, Sourced};
 use crate::log::Log;
 use crate::naming::Naming;
-use crate::totals::GetCounts;
 use crate::value::FillValue;
 use crate::view::{View, show};
 use sf_calls::Fit;

@@ -6,10 +6,10 @@ ghost use Rattle.sf_fill.specs.Owing.{HasSettledUp};
 ghost use Rattle.sf_calls.specs.Notes.{HasGrown};
 ghost use Rattle.sf_fill.specs.Notes.{HasToldNote, HasLearntNote, NotesCarryPurges, NotesCarryReloads};
 
+use crate::counters::Tallies;
 use crate::fill::Fill;
 use crate::log::Log;
 use crate::naming::Naming;
-use crate::totals::Tallies;
 use crate::value::FillValue;
 use sf_calls::Fit;
 use sf_group::{Caller, Event, Finished, Memory, Note, Settled};

@@ -11,11 +11,11 @@ ghost use Rattle.sf_fill.specs.Settled.{IsKeptLetter, IsSettled, IsCopyOf, Copie
 ghost use Rattle.sf_calls.specs.Same.{IsPlaceOf};
 ghost use Rattle.sf_fill.specs.Totals.{with_counts, IsOfOneGet};
 
+use crate::counters::{Accounts, GetCounts, Tallies};
 use crate::fault::{LoadFault, of_key};
 use crate::fill::Fill;
 use crate::getter::Getter;
 use crate::naming::Naming;
-use crate::totals::{Accounts, GetCounts, Tallies};
 use crate::value::FillValue;
 use sf_caches::{CacheStats, Caches, Which};
 use sf_group::{Caller, Flight, Group, Letter, Memory};
@@ -229,7 +229,8 @@ impl<'d, D: Naming, N: Naming, O: Origin> Kept<'d, D, N, O> {
         requires one { IsOfOneGet counts }
         ensures { tallies.new ≡ with_counts tallies.old counts }
     {
-        self.accounts.enter(tallies, counts);
+        tallies.count(counts);
+        self.accounts.enter(tallies);
     }
 }
 

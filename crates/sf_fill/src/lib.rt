@@ -14,7 +14,7 @@
 //! | spend a getter | `end`, or `gather` |
 #![tactic(auto)]
 
-mod counting;
+mod counters;
 mod fault;
 mod fill;
 mod get;
@@ -26,22 +26,20 @@ mod naming;
 mod parts;
 mod put;
 mod reload;
-mod totals;
 mod value;
 mod view;
 
-pub use counting::{Account, Parts, Tally, open};
+pub use counters::{
+    Account, Accounts, AllParts, CacheHits, Counter, GetCounts, Gets, Ledgers, Loads, LoadsDeduped,
+    LocalLoadErrors, LocalLoads, Of, Parts, PeerErrors, PeerLoads, Tallies, Totals, open,
+};
 pub use fault::{GetRefusal, LoadFault};
 pub use fill::Fill;
 pub use getter::Getter;
-pub use naming::{
-    CacheHits, Gets, Loads, LoadsDeduped, LocalLoadErrors, LocalLoads, Naming, PeerErrors,
-    PeerLoads,
-};
+pub use naming::Naming;
 pub use parts::FillParts;
 pub use put::Put;
 pub use reload::Forgot;
 pub use sf_caches::{CacheStats, Which};
-pub use totals::{Accounts, AllParts, GetCounts, Ledgers, Tallies, Totals};
 pub use value::FillValue;
 pub use view::View;

@@ -10,10 +10,10 @@ ghost use Rattle.sf_fill.specs.Rooted.{IsRooted};
 ghost use Rattle.sf_fill.specs.Settled.{CopiesFollowed, IsSettled};
 ghost use Rattle.sf_fill.specs.Totals.{IsOfOneGet};
 
+use crate::counters::GetCounts;
 use crate::fill::Fill;
 use crate::kept::InCache;
 use crate::naming::Naming;
-use crate::totals::GetCounts;
 use crate::value::FillValue;
 use sf_caches::Which;
 use sf_group::{Caller, Finished, Flight, Letter};

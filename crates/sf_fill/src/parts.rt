@@ -6,12 +6,12 @@ ghost use Rattle.sf_spots.specs.Spaces.{AreDesksOf, places_in, space_of};
 ghost use Rattle.sf_fill.specs.Made.{AreParts, new_getters};
 ghost use Rattle.sf_fill.specs.Totals.{names_of};
 
+use crate::counters::{Accounts, Ledgers};
 use crate::fill::Fill;
 use crate::getter::{Getter, Standing};
 use crate::kept::{Cached, Kept};
 use crate::log::Log;
 use crate::naming::Naming;
-use crate::totals::{Accounts, Ledgers};
 use crate::value::FillValue;
 use sf_caches::Caches;
 use sf_group::{Caller, Group, Memory};

@@ -3,7 +3,7 @@
 ghost use Rattle.std.specs.Prelude.{◌≡◌};
 ghost use Rattle.sf_fill.specs.Totals.{AreNamed};
 
-use sf_fill::{Accounts, AllParts, GetCounts, Ledgers, Naming, Totals};
+use sf_fill::{Accounts, GetCounts, Ledgers, Naming, Totals};
 use sf_loaders::Counts;
 use std::marker::Brand;
 
@@ -31,11 +31,15 @@ fn two_getters<N: Naming>(ledgers: Ledgers) -> (Totals, Totals)
             ..Counts::default()
         },
     };
-    accounts.enter(&mut one, hit);
-    accounts.enter(&mut other, load);
-    let mut all = AllParts::of(one);
-    all.take(other);
-    (accounts.totals(), accounts.gathered(&mut all))
+    one.count(hit);
+    accounts.enter(&mut one);
+    other.count(load);
+    accounts.enter(&mut other);
+    let book = accounts.totals();
+    let mut all = accounts.end(one);
+    let last = accounts.end(other);
+    all.take(last);
+    (book, accounts.gathered(&mut all))
 }
 
 fn counted() -> (Totals, Totals) {

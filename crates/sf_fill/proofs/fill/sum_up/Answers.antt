@@ -10,7 +10,7 @@ rest-preserved g c =
     let was : c.rest.getters.items ≡ rest ++ x ∷ [] = c.pop-in-rest.ensures.items ∙ ap (λ (o : Option (GetterValue g.row.L.Denot)). rest ++ option_to_list o) c.in-Some-pop.is in
     let len = c.pop-in-rest.ensures.cases in
     let parts = c.rest.invariant.parts in
-    rw (c.take.ensures, c.into_tallies-in-Some-pop.ensures) (record {
+    rw (c.take.ensures, c.end-part.ensures, c.into_tallies-in-Some-pop.ensures) (record {
       parts = omega (arith, parts, rw c.in-Some-pop.is at len);
       counted = sums_on all rest x ∙ ap (λ es. plus all (sums_of (map (λ (y : GetterValue g.row.L.Denot). y.counted) es))) (sym was) ∙ c.rest.invariant.counted;
     })

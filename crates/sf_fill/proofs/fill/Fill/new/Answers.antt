@@ -1,7 +1,7 @@
 use Rattle.std.proofs.Common.{◌≡◌, ◌+◌, ap, ◌∙◌, arith, vec_len}
 use Rattle.sf_spots.specs.Spaces.{IsDeskOf}
 use Rattle.sf_calls.specs.Tokens.{CallerValue}
-use Rattle.sf_fill.specs.declared.totals.Totals.{Totals}
+use Rattle.sf_fill.specs.declared.counters.totals.Totals.{Totals}
 use Rattle.sf_fill.specs.declared.getter.Standing.TheVariants.{Free}
 use Rattle.sf_fill.specs.FillValue.{Filled}
 use Rattle.sf_fill.specs.GetterValue.{GetterValue}
