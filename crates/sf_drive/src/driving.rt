@@ -1,33 +1,30 @@
 //! A drive: its fill, its threads, and what comes of them.
-ghost use Rattle.std.specs.Prelude.{◌≡◌, ◌≢◌, ◌*◌, ◌<◌, ◌≤◌, List, IfOk, codes, string_bytes, vec_len, vec_capacity};
+ghost use Rattle.std.specs.Prelude.{◌≡◌, ◌≢◌, ◌*◌, ◌<◌, ◌≤◌, All, List, IfOk, codes, string_bytes, vec_len, vec_capacity};
 ghost use Rattle.std.specs.Io.KnownBytes.{Appends};
 ghost use Rattle.sf_drive.specs.declared.report.DriveEnding.{DriveEnding};
 ghost use Rattle.sf_drive.specs.declared.report.Report.{Report};
 ghost use Rattle.sf_drive.specs.Found.{DriveEvent, IsFound, said_text};
 ghost use Rattle.sf_drive.specs.Reports.{ending_of};
 ghost use Rattle.sf_words.specs.declared.limits.TheConstants.{LARGEST_PLACE};
-ghost use Rattle.sf_spots.specs.Spaces.{AreDesksOf, places_in, space_of};
-ghost use Rattle.sf_fill.specs.Made.{AreParts};
+ghost use Rattle.sf_door.specs.Opened.{IsNewGetter, places_for};
 
 use crate::found::{Found, said, verdict};
-use crate::jobs::{DriveGetter, Ended, Entry, Job};
+use crate::jobs::{Ended, Entry, Job};
 use crate::line::DriveLine;
-use crate::loaders::{AnyKey, OddPicker, ThirdFails, Values};
+use crate::loaders::{AnyKey, OddPicker, ThirdFails};
 use crate::report::{DriveEnding, Report};
 use sf_dir::LONGEST_KEY;
-use sf_fill::{Fill, FillParts, Naming};
+use sf_door::{Body, DirectoryKeys, FillSizes, Keys, Places, with_fill};
+use sf_fill::{Fill, Getter, Naming};
 use sf_group::{Event, Memory};
-use sf_keys::Places;
-use sf_loaders::Loaders;
 use sf_loaders::scripted::RoundChance;
+use sf_loaders::{LoadPath, Loaders, Origin};
 use sf_replay::merge;
-use sf_spots::{KeyDesk, KeySpace, hash_desks, open_directory};
 use sf_text::{StreamFault, write_all};
 use sf_words::PlaceNo;
 use std::alloc::Global;
 use std::fmt::Write as _;
 use std::io::Write;
-use std::marker::Brand;
 use std::sync::Wait;
 use std::thread::{Threads, map_vec};
 use std::time::Clock;
@@ -37,9 +34,6 @@ const LIMIT: i64 = 1_000;
 
 /// How many places an open drive has a key. Its seed is fixed, so that it can be made again.
 const PLACES_A_KEY: u32 = 16;
-
-/// What a drive's getters are made of.
-type DriveParts<'d, D> = FillParts<'d, D, Values, OddPicker, ThirdFails, AnyKey, RoundChance>;
 
 // The keys `k0`, `k1` and so on, with their values.
 fn entries(alloc: Global, keys: u32) -> Result<Vec<Entry>, Memory> {
@@ -56,7 +50,7 @@ fn entries(alloc: Global, keys: u32) -> Result<Vec<Entry>, Memory> {
 }
 
 // Spends all getters.
-fn end_all<'d, D: Naming, N: Naming>(getters: Vec<DriveGetter<'d, D, N>>) {
+fn end_all<'d, D: Naming, N: Naming, O: Origin, L: Drop>(getters: Vec<Getter<'d, D, N, O, L>>) {
     let mut getters = getters;
     'rest: while let Some(getter) = getters.pop() {
         getter.end();
@@ -65,16 +59,16 @@ fn end_all<'d, D: Naming, N: Naming>(getters: Vec<DriveGetter<'d, D, N>>) {
 }
 
 /// The jobs of the threads, and the list in which their getters were, which has room for them still.
-type HandedOut<'a, 'd, D, N> = (Vec<Job<'a, 'd, D, N>>, Vec<DriveGetter<'d, D, N>>);
+type HandedOut<'a, 'd, D, N, O, L> = (Vec<Job<'a, 'd, D, N, O, L>>, Vec<Getter<'d, D, N, O, L>>);
 
 // A job for each getter.
-fn hand_out<'a, 'd, D: Naming, N: Naming>(
+fn hand_out<'a, 'd, D: Naming, N: Naming, O: Origin, L: Drop>(
     alloc: Global,
-    fill: &'a Fill<'d, D, N, Values>,
-    getters: Vec<DriveGetter<'d, D, N>>,
+    fill: &'a Fill<'d, D, N, O>,
+    getters: Vec<Getter<'d, D, N, O, L>>,
     entries: &'a [Entry],
     line: DriveLine,
-) -> Result<HandedOut<'a, 'd, D, N>, Memory>
+) -> Result<HandedOut<'a, 'd, D, N, O, L>, Memory>
     requires { vec_len getters ≡ line.threads }
     ensures jobs { IfOk result (λ out. vec_len out.0 ≡ line.threads) }
     ensures getters { IfOk result (λ out. (vec_len out.1 ≡ 0) × (line.threads ≤ vec_capacity out.1)) }
@@ -97,8 +91,8 @@ fn hand_out<'a, 'd, D: Naming, N: Naming>(
 }
 
 /// What the threads did, in all.
-struct Back<'d, D: Naming, N: Naming> {
-    getters: Vec<DriveGetter<'d, D, N>>,
+struct Back<'d, D: Naming, N: Naming, O: Origin, L> {
+    getters: Vec<Getter<'d, D, N, O, L>>,
     logs: Vec<Vec<Event<PlaceNo, ()>>>,
     /// How many gets answered the key's value.
     answers: u64,
@@ -107,11 +101,11 @@ struct Back<'d, D: Naming, N: Naming> {
 }
 
 // Takes all getters back, with their logs.
-fn take_back<'d, D: Naming, N: Naming>(
-    ended: Vec<Ended<'d, D, N>>,
-    getters: Vec<DriveGetter<'d, D, N>>,
+fn take_back<'d, D: Naming, N: Naming, O: Origin, L: Drop>(
+    ended: Vec<Ended<'d, D, N, O, L>>,
+    getters: Vec<Getter<'d, D, N, O, L>>,
     logs: Vec<Vec<Event<PlaceNo, ()>>>,
-) -> Back<'d, D, N>
+) -> Back<'d, D, N, O, L>
     requires getters { (vec_len getters ≡ 0) × (vec_len ended ≤ vec_capacity getters) }
     requires logs { (vec_len logs ≡ 0) × (vec_len ended ≤ vec_capacity logs) }
     ensures { vec_len result.getters ≡ vec_len ended.entry }
@@ -136,46 +130,84 @@ fn take_back<'d, D: Naming, N: Naming>(
     }
 }
 
-// All is named here: the fill, its threads, and what they found.
-fn with_all<
+/// A drive's threads, over its fill.
+#[derive(Drop)]
+struct Crew<'a, R> {
+    rt: &'a R,
+    alloc: Global,
+    entries: &'a [Entry],
+    line: DriveLine,
+}
+
+impl<'a, R: Wait + Threads + Clock + Eprint + Sync> Body for Crew<'a, R> {
+    type Answer = Result<Found, Memory>;
+
+    ghost use Rattle.std.specs.Prelude.{◌≡◌, ◌*◌, IfOk};
+    ghost use Rattle.sf_drive.specs.Found.{IsFound};
+
+    ghost wants = { λ crew getters. getters ≡ crew.line.threads };
+
+    ghost ends = { λ crew answer. IfOk answer (λ found. IsFound (crew.line.threads * crew.line.gets) found.report found.history) };
+
+    fn run<
+        'd,
+        D: Naming + Send + Sync,
+        N: Naming + Send + Sync,
+        O: Origin + Send + Sync,
+        L: LoadPath<Origin = O> + Send + Drop,
+    >(self, fill: &Fill<'d, D, N, O>, getters: Vec<Getter<'d, D, N, O, L>>) -> Result<Found, Memory>
+        requires wants { N.getters ≡ self.line.threads }
+        requires getters { vec_len getters ≡ N.getters }
+        requires new { All (IsNewGetter N.group) getters.items }
+        ensures { IfOk result (λ found. IsFound (self.entry.line.threads * self.entry.line.gets) found.report found.history) }
+    {
+        let Crew {
+            rt,
+            alloc,
+            entries,
+            line,
+        } = self;
+        run_all(rt, alloc, fill, getters, entries, line)
+    }
+}
+
+// Lets the threads run, and takes the getters back.
+fn run_all<
     'd,
     D: Naming + Send + Sync,
     N: Naming + Send + Sync,
+    O: Origin + Send + Sync,
+    L: LoadPath<Origin = O> + Send + Drop,
     R: Wait + Threads + Clock + Eprint + Sync,
 >(
     rt: &R,
     alloc: Global,
-    space: KeySpace<'d>,
-    parts: DriveParts<'d, D>,
+    fill: &Fill<'d, D, N, O>,
+    getters: Vec<Getter<'d, D, N, O, L>>,
     entries: &[Entry],
     line: DriveLine,
 ) -> Result<Found, Memory>
-    requires space { (space_of space ≡ N.space) × (D.space ≡ N.space) }
-    requires parts { AreParts N.space N.group N.getters N.ledgers parts }
-    requires getters { N.getters ≡ line.threads }
+    requires getters { (vec_len getters ≡ N.getters) × (N.getters ≡ line.threads) }
     ensures { IfOk result (λ found. IsFound (line.threads * line.gets) found.report found.history) }
 {
-    let logs = Vec::with_capacity(alloc, line.threads as usize)?;
-    // A get adds three events at most, and one for each call of another key that it met; a reload adds one.
-    let room = 8 * line.gets as usize;
-    let made = Fill::<'d, D, N, Values>::new(alloc, space, parts, LIMIT, room);
-    let Ok((fill, getters)) = made else {
+    let Ok(logs) = Vec::with_capacity(alloc, line.threads as usize) else {
+        end_all(getters);
         return Err(Memory);
     };
-    let (jobs, getters) = hand_out(alloc, &fill, getters, entries, line)?;
-    let Ok(ended) = map_vec(rt, jobs, &|job: Job<D, N>| job.run(rt)) else {
+    let (jobs, getters) = hand_out(alloc, fill, getters, entries, line)?;
+    let Ok(ended) = map_vec(rt, jobs, &|job: Job<D, N, O, L>| job.run(rt)) else {
         getters.destroy_empty();
         return Err(Memory);
     };
-    found(rt, alloc, &fill, take_back(ended, getters, logs), line)
+    found(rt, alloc, fill, take_back(ended, getters, logs), line)
 }
 
 // What the threads found, of a fill whose getters are all back.
-fn found<'d, D: Naming, N: Naming>(
+fn found<'d, D: Naming, N: Naming, O: Origin, L: Drop>(
     rt: &impl Wait,
     alloc: Global,
-    fill: &Fill<'d, D, N, Values>,
-    back: Back<'d, D, N>,
+    fill: &Fill<'d, D, N, O>,
+    back: Back<'d, D, N, O, L>,
     line: DriveLine,
 ) -> Result<Found, Memory>
     requires all { vec_len back.getters ≡ N.getters }
@@ -213,34 +245,37 @@ fn loaders(
     let mut sets = Vec::new(alloc);
     for getter in 0..getters {
         let _ = getter;
-        sets.push(Loaders {
-            picker: OddPicker,
-            peer: ThirdFails { alloc, fetched: 0 },
-            local: AnyKey { alloc },
-            chance: RoundChance::default(),
-        })?;
+        sets.push(Loaders::new(
+            OddPicker,
+            ThirdFails { alloc, fetched: 0 },
+            AnyKey { alloc },
+            RoundChance::default(),
+        ))?;
     }
     Ok(sets)
 }
 
-// The key space is named here, and the group made.
-fn with_space<'d, D: Naming + Send + Sync, R: Wait + Threads + Clock + Eprint + Sync>(
-    rt: &R,
-    alloc: Global,
-    space: KeySpace<'d>,
-    desks: Vec<KeyDesk>,
-    line: DriveLine,
-) -> Result<Found, Memory>
-    requires space { (space_of space ≡ D.space) × (places_in D.space ≤ LARGEST_PLACE) }
-    requires desks { (vec_len desks ≡ line.threads) × AreDesksOf D.space desks.items }
-    ensures { IfOk result (λ found. IsFound (line.threads * line.gets) found.report found.history) }
+// Where the keys of a drive have their places.
+fn keys_of(line: DriveLine) -> Keys
+    ensures { places_for result ≤ LARGEST_PLACE }
 {
-    let parts = FillParts::new(alloc, space, desks, loaders(alloc, line.threads)?, 1)?;
-    let entries = entries(alloc, line.keys)?;
-    with_all::<D, Brand, R>(rt, alloc, space, parts, entries.as_slice(), line)
+    if line.open {
+        Keys::Hashed(Places {
+            count: PLACES_A_KEY * line.keys,
+            seed0: 0,
+            seed1: 0,
+        })
+    } else {
+        Keys::Directory(DirectoryKeys {
+            keys: line.keys,
+            key_bytes: LONGEST_KEY,
+            seed0: 0,
+            seed1: 0,
+        })
+    }
 }
 
-// What a drive finds. Nothing is named here.
+// What a drive finds.
 fn report<R: Wait + Threads + Clock + Eprint + Sync>(
     rt: &R,
     alloc: Global,
@@ -248,17 +283,21 @@ fn report<R: Wait + Threads + Clock + Eprint + Sync>(
 ) -> Result<Found, Memory>
     ensures { IfOk result (λ found. IsFound (line.threads * line.gets) found.report found.history) }
 {
-    if line.open {
-        let places = Places {
-            count: PLACES_A_KEY * line.keys,
-            seed0: 0,
-            seed1: 0,
-        };
-        let desks = hash_desks(alloc, places, line.threads)?;
-        return with_space::<Brand, R>(rt, alloc, KeySpace::Hashed(places), desks, line);
-    }
-    let (directory, desks) = open_directory(alloc, line.keys, LONGEST_KEY, line.threads, 0, 0)?;
-    with_space::<Brand, R>(rt, alloc, KeySpace::Directory(&directory), desks, line)
+    let entries = entries(alloc, line.keys)?;
+    let sizes = FillSizes {
+        keys: keys_of(line),
+        limit: LIMIT,
+        // A get adds three events at most, and one for each call of another key that it met; a reload adds one.
+        log: 8 * line.gets as usize,
+        first_generation: 1,
+    };
+    let crew = Crew {
+        rt,
+        alloc,
+        entries: entries.as_slice(),
+        line,
+    };
+    with_fill(alloc, sizes, loaders(alloc, line.threads)?, crew)?
 }
 
 /// `sfctl drive`: one getter a thread gets keys of one fill, and reloads some. Writes four lines: how many gets there were,

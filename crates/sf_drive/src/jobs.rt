@@ -1,10 +1,9 @@
 //! What each thread of a drive does.
 
 use crate::line::DriveLine;
-use crate::loaders::{AnyKey, OddPicker, ThirdFails, Values};
 use crate::progress::Progress;
 use sf_fill::{Fill, Getter, Naming};
-use sf_loaders::scripted::RoundChance;
+use sf_loaders::{LoadPath, Origin};
 use std::sync::Wait;
 use std::thread::yield_now;
 use std::time::Clock;
@@ -16,29 +15,17 @@ pub(crate) struct Entry {
     pub(crate) value: String,
 }
 
-/// A getter of a drive.
-pub(crate) type DriveGetter<'d, D, N> = Getter<
-    'd,
-    D,
-    N,
-    Values,
-    OddPicker,
-    ThirdFails,
-    AnyKey,
-    RoundChance,
->;
-
 /// What one thread is to do.
-pub(crate) struct Job<'a, 'd, D: Naming, N: Naming> {
-    pub(crate) fill: &'a Fill<'d, D, N, Values>,
-    pub(crate) getter: DriveGetter<'d, D, N>,
+pub(crate) struct Job<'a, 'd, D: Naming, N: Naming, O: Origin, L> {
+    pub(crate) fill: &'a Fill<'d, D, N, O>,
+    pub(crate) getter: Getter<'d, D, N, O, L>,
     pub(crate) entries: &'a [Entry],
     /// Which thread it is, from 0.
     pub(crate) thread: u32,
     pub(crate) line: DriveLine,
 }
 
-impl<'a, 'd, D: Naming, N: Naming> Drop for Job<'a, 'd, D, N> {
+impl<'a, 'd, D: Naming, N: Naming, O: Origin, L: Drop> Drop for Job<'a, 'd, D, N, O, L> {
     fn drop(self) {
         let Job {
             fill: _,
@@ -52,15 +39,15 @@ impl<'a, 'd, D: Naming, N: Naming> Drop for Job<'a, 'd, D, N> {
 }
 
 /// What one thread did.
-pub(crate) struct Ended<'d, D: Naming, N: Naming> {
-    getter: DriveGetter<'d, D, N>,
+pub(crate) struct Ended<'d, D: Naming, N: Naming, O: Origin, L> {
+    getter: Getter<'d, D, N, O, L>,
     /// How many of its gets answered the key's value.
     answers: u32,
     /// Whether it owes nothing.
     settled: bool,
 }
 
-impl<'d, D: Naming, N: Naming> Drop for Ended<'d, D, N> {
+impl<'d, D: Naming, N: Naming, O: Origin, L: Drop> Drop for Ended<'d, D, N, O, L> {
     fn drop(self) {
         let Ended {
             getter,
@@ -71,9 +58,9 @@ impl<'d, D: Naming, N: Naming> Drop for Ended<'d, D, N> {
     }
 }
 
-impl<'d, D: Naming, N: Naming> Ended<'d, D, N> {
+impl<'d, D: Naming, N: Naming, O: Origin, L> Ended<'d, D, N, O, L> {
     /// The getter, how many of its gets answered the key's value, and whether it owes nothing.
-    pub(crate) fn into_parts(self) -> (DriveGetter<'d, D, N>, u32, bool) {
+    pub(crate) fn into_parts(self) -> (Getter<'d, D, N, O, L>, u32, bool) {
         let Ended {
             getter,
             answers,
@@ -83,9 +70,9 @@ impl<'d, D: Naming, N: Naming> Ended<'d, D, N> {
     }
 }
 
-impl<'a, 'd, D: Naming, N: Naming> Job<'a, 'd, D, N> {
+impl<'a, 'd, D: Naming, N: Naming, O: Origin, L: LoadPath<Origin = O>> Job<'a, 'd, D, N, O, L> {
     /// Makes the gets and the reloads, and delivers what is owed then, so that no other thread waits for it.
-    pub(crate) fn run(self, rt: &(impl Wait + Clock + Eprint)) -> Ended<'d, D, N> {
+    pub(crate) fn run(self, rt: &(impl Wait + Clock + Eprint)) -> Ended<'d, D, N, O, L> {
         let Job {
             fill,
             getter,
@@ -131,11 +118,11 @@ impl<'a, 'd, D: Naming, N: Naming> Job<'a, 'd, D, N> {
 }
 
 // Delivers what is owed, in 1,000 tries at most; whether it is done.
-fn settle_up_often<'d, D: Naming, N: Naming>(
+fn settle_up_often<'d, D: Naming, N: Naming, O: Origin, L>(
     rt: &impl Wait,
-    fill: &Fill<'d, D, N, Values>,
-    getter: DriveGetter<'d, D, N>,
-) -> (DriveGetter<'d, D, N>, bool) {
+    fill: &Fill<'d, D, N, O>,
+    getter: Getter<'d, D, N, O, L>,
+) -> (Getter<'d, D, N, O, L>, bool) {
     let mut getter = getter;
     for _ in 0..1_000 {
         let (back, settled) = getter.settle_up(rt, fill);

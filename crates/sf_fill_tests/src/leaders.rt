@@ -1,21 +1,18 @@
 //! What a leader's second look finds. No getters can be made to show it by turns, since the first look of a get finds the same
 //! letters; so a caller of the group that is no getter leads.
-ghost use Rattle.std.specs.Prelude.{◌≡◌, ◌≤◌, IfSome, vec_len};
-ghost use Rattle.sf_words.specs.declared.limits.TheConstants.{LARGEST_PLACE};
-ghost use Rattle.sf_spots.specs.Spaces.{AreDesksOf, places_in, space_of};
-ghost use Rattle.sf_fill.specs.Made.{AreOfGroup, AreParts};
+ghost use Rattle.std.specs.Prelude.{◌≡◌, All, vec_len};
+ghost use Rattle.sf_calls.specs.Same.{IsPlaceOf};
+ghost use Rattle.sf_door.specs.Opened.{IsNewGetter};
 
 use bytes::Bytes;
-use sf_fill::{Fill, FillParts, FillValue, Ledgers, Naming};
-use sf_group::{Begun, Caller, Group, Memory};
+use sf_door::{Body, FillSizes, Keys, Places, with_fill};
+use sf_fill::{Fill, FillValue, Getter, Naming};
+use sf_group::{Begun, Caller, Memory};
 use sf_history::CallId;
-use sf_keys::Places;
-use sf_loaders::Loaders;
-use sf_loaders::scripted::{Answer, AnyValue, FixedPicker, RoundChance, Script};
-use sf_spots::{KeyDesk, KeySpace, hash_desks};
+use sf_loaders::scripted::{Answer, FixedPicker, RoundChance, Script};
+use sf_loaders::{LoadPath, Loaders, Origin};
 use sf_wait::{begin_wait, forget_wait};
 use std::alloc::Global;
-use std::marker::Brand;
 use std::sync::Wait;
 use std::test::Fail;
 
@@ -27,14 +24,14 @@ struct Case {
 }
 
 // The call of the letter that the second look of a leader of place 1 finds.
-fn found_by<'d, D: Naming, N: Naming, R: Wait>(
+fn found_by<'d, D: Naming, N: Naming, O: Origin, R: Wait>(
     rt: &R,
-    fill: &Fill<'d, D, N, AnyValue>,
-    leader: Caller<FillValue<'d, D, AnyValue>>,
+    fill: &Fill<'d, D, N, O>,
+    leader: Caller<FillValue<'d, D, O>>,
     key: &[u8],
 ) -> Option<CallId>
     requires leader { leader.group ≡ N.group }
-    requires place { 1 ≤ N.group.sizes.places }
+    requires place { IsPlaceOf N.group 1 }
 {
     match begin_wait(rt, fill.group(), leader, 1) {
         Ok(Begun::Lead(flight)) => {
@@ -53,104 +50,78 @@ fn found_by<'d, D: Naming, N: Naming, R: Wait>(
     }
 }
 
-// The same, once a getter's letter of the key `a` lies in main; and maybe a Forget came before.
-fn with_all<'d, D: Naming, N: Naming, R: Wait>(
-    rt: &R,
-    alloc: Global,
-    space: KeySpace<'d>,
-    parts: FillParts<'d, D, AnyValue, FixedPicker, Script, Script, RoundChance>,
-    leader: Caller<FillValue<'d, D, AnyValue>>,
+/// The call that the second look finds, once the first getter's letter of the key `a` lies in main, and the other's caller leads;
+/// and maybe a Forget came before.
+#[derive(Drop)]
+struct SecondLook<'a, R> {
+    rt: &'a R,
     case: Case,
-) -> Result<Option<CallId>, Memory>
-    requires space { (space_of space ≡ N.space) × (D.space ≡ N.space) }
-    requires parts { AreParts N.space N.group N.getters N.ledgers parts }
-    requires getters { N.getters ≡ 1 }
-    requires leader { leader.group ≡ N.group }
-    requires place { 1 ≤ N.group.sizes.places }
-{
-    let Ok((fill, mut getters)) = Fill::<'d, D, N, AnyValue>::new(alloc, space, parts, 100, 0)
-    else {
-        return Err(Memory);
-    };
-    let Some(one) = getters.pop() else {
-        unreachable!()
-    };
-    getters.destroy_empty();
-    let (one, _view) = fill.get(rt, one, b"a");
-    one.end();
-    let mut leader = leader;
-    if case.forgets {
-        let _ = forget_wait(rt, fill.group(), &mut leader, 1);
+}
+
+impl<'a, R: Wait> Body for SecondLook<'a, R> {
+    type Answer = Option<CallId>;
+
+    ghost use Rattle.std.specs.Prelude.{◌≡◌, ⊤};
+
+    ghost wants = { λ look getters. getters ≡ 2 };
+
+    ghost ends = { λ look found. ⊤ };
+
+    fn run<
+        'd,
+        D: Naming + Send + Sync,
+        N: Naming + Send + Sync,
+        O: Origin + Send + Sync,
+        L: LoadPath<Origin = O> + Send + Drop,
+    >(self, fill: &Fill<'d, D, N, O>, getters: Vec<Getter<'d, D, N, O, L>>) -> Option<CallId>
+        requires wants { N.getters ≡ 2 }
+        requires getters { vec_len getters ≡ N.getters }
+        requires new { All (IsNewGetter N.group) getters.items }
+    {
+        let SecondLook { rt, case } = self;
+        let mut getters = getters;
+        let Some(two) = getters.pop() else {
+            unreachable!()
+        };
+        let Some(one) = getters.pop() else {
+            unreachable!()
+        };
+        getters.destroy_empty();
+        let (one, _view) = fill.get(rt, one, b"a");
+        one.end();
+        let mut leader = two.into_caller()?;
+        if !fill.group().has(1) {
+            return None;
+        }
+        if case.forgets {
+            let _ = forget_wait(rt, fill.group(), &mut leader, 1);
+        }
+        found_by(rt, fill, leader, case.key.as_bytes())
     }
-    Ok(found_by(rt, &fill, leader, case.key.as_bytes()))
 }
 
 fn loaders(alloc: Global) -> Result<Loaders<FixedPicker, Script, Script, RoundChance>, Memory> {
-    Ok(Loaders {
-        picker: FixedPicker::new(None),
-        peer: Script::new(vec![in alloc; Answer::Value(Bytes::from("v"))]?),
-        local: Script::new(vec![in alloc; Answer::Value(Bytes::from("v"))]?),
-        chance: RoundChance::default(),
-    })
-}
-
-// The last caller, and the one before it.
-fn take_leader<'d, D: Naming>(
-    group: &Group<FillValue<'d, D, AnyValue>>,
-    callers: Vec<Caller<FillValue<'d, D, AnyValue>>>,
-) -> Option<
-    (
-        Vec<Caller<FillValue<'d, D, AnyValue>>>,
-        Caller<FillValue<'d, D, AnyValue>>,
-    ),
->
-    requires { AreOfGroup group.now callers.items }
-    ensures one { IfSome result (λ taken. (vec_len taken.0 ≡ 1) × AreOfGroup group.now taken.0.items) }
-    ensures leader { IfSome result (λ taken. taken.1.group ≡ group.now) }
-{
-    let _ = group;
-    let mut callers = callers;
-    let leader = callers.pop()?;
-    if callers.len() != 1 {
-        return None;
-    }
-    Some((callers, leader))
-}
-
-// The key space is named here. The last of two callers leads.
-fn with_space<'d, D: Naming, R: Wait>(
-    rt: &R,
-    alloc: Global,
-    space: KeySpace<'d>,
-    desks: Vec<KeyDesk>,
-    case: Case,
-) -> Result<Option<CallId>, Memory>
-    requires space { (space_of space ≡ D.space) × (places_in D.space ≤ LARGEST_PLACE) }
-    requires desks { (vec_len desks ≡ 1) × AreDesksOf D.space desks.items }
-{
-    let places = space.place_count();
-    let (group, callers) = Group::<FillValue<'d, D, AnyValue>>::new(alloc, places, 2, 1)?;
-    let Some((callers, leader)) = take_leader(&group, callers) else {
-        return Err(Memory);
-    };
-    let parts = FillParts {
-        desks,
-        group,
-        callers,
-        loaders: vec![in alloc; loaders(alloc)?]?,
-        ledgers: Ledgers::new(1),
-    };
-    with_all::<D, Brand, R>(rt, alloc, space, parts, leader, case)
+    Ok(Loaders::new(
+        FixedPicker::new(None),
+        Script::new(vec![in alloc; Answer::Value(Bytes::from("v"))]?),
+        Script::new(vec![in alloc; Answer::Value(Bytes::from("v"))]?),
+        RoundChance::default(),
+    ))
 }
 
 fn try_out<R: Wait>(rt: &R, alloc: Global, case: Case) -> Result<Option<CallId>, Memory> {
-    let places = Places {
-        count: 1,
-        seed0: 0,
-        seed1: 0,
+    let sizes = FillSizes {
+        keys: Keys::Hashed(Places {
+            count: 1,
+            seed0: 0,
+            seed1: 0,
+        }),
+        limit: 100,
+        log: 0,
+        first_generation: 1,
     };
-    let desks = hash_desks(alloc, places, 1)?;
-    with_space::<Brand, R>(rt, alloc, KeySpace::Hashed(places), desks, case)
+    let sets = vec![in alloc; loaders(alloc)?, loaders(alloc)?]?;
+    with_fill(alloc, sizes, sets, SecondLook { rt, case })
 }
 
 // The settled letter 1.1 of the key `a` lies in main. The next leader's second look finds it, unless the place was forgotten

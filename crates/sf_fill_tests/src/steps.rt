@@ -1,10 +1,10 @@
 //! What getters do in a test, and what they say of it.
 
-use crate::loaders::{Flags, TestLocal};
+use crate::loaders::Flags;
 use bytes::Bytes;
 use sf_fill::{Fill, Forgot, Getter, LoadFault, Naming, View};
 use sf_group::Event;
-use sf_loaders::scripted::{AnyValue, FixedPicker, RoundChance, Script};
+use sf_loaders::{LoadPath, Origin};
 use sf_words::PlaceNo;
 use std::alloc::Global;
 use std::fmt::Write;
@@ -41,28 +41,16 @@ pub enum Step {
 /// The keys whose sources change.
 const KEYS: [&str; 2] = ["a", "b"];
 
-/// A getter of a test.
-pub type TestGetter<'d, 'f, D, N> = Getter<
-    'd,
-    D,
-    N,
-    AnyValue,
-    FixedPicker,
-    Script,
-    TestLocal<'f>,
-    RoundChance,
->;
-
 /// A getter that is to make these steps.
-pub struct Turns<'a, 'd, 'f, D: Naming, N: Naming> {
-    pub fill: &'a Fill<'d, D, N, AnyValue>,
-    pub getter: TestGetter<'d, 'f, D, N>,
+pub struct Turns<'a, 'd, 'f, D: Naming, N: Naming, O: Origin, L> {
+    pub fill: &'a Fill<'d, D, N, O>,
+    pub getter: Getter<'d, D, N, O, L>,
     pub steps: &'static [Step],
     pub flags: &'f Flags,
     pub alloc: Global,
 }
 
-impl<'a, 'd, 'f, D: Naming, N: Naming> Drop for Turns<'a, 'd, 'f, D, N> {
+impl<'a, 'd, 'f, D: Naming, N: Naming, O: Origin, L: Drop> Drop for Turns<'a, 'd, 'f, D, N, O, L> {
     fn drop(self) {
         let Turns {
             fill: _,
@@ -76,10 +64,10 @@ impl<'a, 'd, 'f, D: Naming, N: Naming> Drop for Turns<'a, 'd, 'f, D, N> {
 }
 
 // What a get answers: the bytes, the call and how many joined it. Where memory is refused, the text is short.
-fn say_view<'d, D: Naming>(
+fn say_view<'d, D: Naming, O: Origin>(
     said: &mut String,
     key: &str,
-    answer: &Result<View<'d, D, AnyValue>, LoadFault>,
+    answer: &Result<View<'d, D, O>, LoadFault>,
 ) {
     let _ = match answer {
         Ok(view) => {
@@ -130,7 +118,10 @@ fn say_events(said: &mut String, log: &[Event<PlaceNo, ()>]) {
 }
 
 // Whether the answer is of a version before this one.
-fn is_old<'d, D: Naming>(answer: &Result<View<'d, D, AnyValue>, LoadFault>, version: u8) -> bool {
+fn is_old<'d, D: Naming, O: Origin>(
+    answer: &Result<View<'d, D, O>, LoadFault>,
+    version: u8,
+) -> bool {
     match answer {
         Ok(view) => match view.bytes().as_slice() {
             [first] => *first < version,
@@ -141,14 +132,14 @@ fn is_old<'d, D: Naming>(answer: &Result<View<'d, D, AnyValue>, LoadFault>, vers
 }
 
 // Gets so often, and says how many answers were old.
-fn read<'d, 'f, D: Naming, N: Naming>(
+fn read<'d, D: Naming, N: Naming, O: Origin, L: LoadPath<Origin = O>>(
     rt: &impl Wait,
-    fill: &Fill<'d, D, N, AnyValue>,
-    getter: TestGetter<'d, 'f, D, N>,
+    fill: &Fill<'d, D, N, O>,
+    getter: Getter<'d, D, N, O, L>,
     flags: &Flags,
     gets: u32,
     said: &mut String,
-) -> TestGetter<'d, 'f, D, N> {
+) -> Getter<'d, D, N, O, L> {
     let mut getter = getter;
     let mut old = 0_u64;
     for _ in 0..gets {
@@ -169,13 +160,13 @@ fn read<'d, 'f, D: Naming, N: Naming>(
 }
 
 // Changes the sources so often, and reloads.
-fn change<'d, 'f, D: Naming, N: Naming>(
+fn change<'d, D: Naming, N: Naming, O: Origin, L>(
     rt: &impl Wait,
-    fill: &Fill<'d, D, N, AnyValue>,
-    getter: TestGetter<'d, 'f, D, N>,
+    fill: &Fill<'d, D, N, O>,
+    getter: Getter<'d, D, N, O, L>,
     flags: &Flags,
     changes: u8,
-) -> TestGetter<'d, 'f, D, N> {
+) -> Getter<'d, D, N, O, L> {
     let mut getter = getter;
     for version in 0..changes {
         for key in KEYS {
@@ -192,9 +183,17 @@ fn change<'d, 'f, D: Naming, N: Naming>(
     getter
 }
 
-impl<'a, 'd, 'f, D: Naming, N: Naming> Turns<'a, 'd, 'f, D, N> {
+impl<'a, 'd, 'f, D: Naming, N: Naming, O: Origin, L: LoadPath<Origin = O>> Turns<
+    'a,
+    'd,
+    'f,
+    D,
+    N,
+    O,
+    L,
+> {
     /// The getter when its steps are made, and what it says of them.
-    pub fn run(self, rt: &impl Wait) -> (TestGetter<'d, 'f, D, N>, String) {
+    pub fn run(self, rt: &impl Wait) -> (Getter<'d, D, N, O, L>, String) {
         let Turns {
             fill,
             getter,

@@ -1,20 +1,16 @@
 //! A fill with two getters, from nothing.
-ghost use Rattle.std.specs.Prelude.{◌≡◌, ◌≤◌, vec_len};
-ghost use Rattle.sf_words.specs.declared.limits.TheConstants.{LARGEST_PLACE};
-ghost use Rattle.sf_spots.specs.Spaces.{AreDesksOf, places_in, space_of};
-ghost use Rattle.sf_fill.specs.Made.{AreParts};
+ghost use Rattle.std.specs.Prelude.{◌≡◌, ◌≤◌, All, vec_len};
+ghost use Rattle.sf_door.specs.Opened.{IsNewGetter};
 
 use crate::loaders::{Flags, TestLoaders, TestLocal};
 use crate::steps::{Step, Turns};
 use bytes::{ByteStr, Bytes};
-use sf_fill::{Fill, FillParts, Naming, Totals};
+use sf_door::{Body, DirectoryKeys, FillSizes, Keys, Places, with_fill};
+use sf_fill::{Fill, Getter, Naming, Totals};
 use sf_group::Memory;
-use sf_keys::Places;
-use sf_loaders::Loaders;
-use sf_loaders::scripted::{Answer, AnyValue, FixedPicker, RoundChance, Script};
-use sf_spots::{KeyDesk, KeySpace, hash_desks, open_directory};
+use sf_loaders::scripted::{Answer, FixedPicker, RoundChance, Script};
+use sf_loaders::{LoadPath, Loaders, Origin};
 use std::alloc::Global;
-use std::marker::Brand;
 use std::sync::Wait;
 use std::sync::atomic::Ordering;
 use std::thread::{Threads, join};
@@ -56,87 +52,89 @@ pub struct Outcome {
     pub failed: bool,
 }
 
-// All is named here.
-fn with_all<'d, 'f, D: Naming + Send + Sync, N: Naming + Send + Sync, R: Wait + Threads + Sync>(
-    rt: &R,
+/// What the getters of a setting do.
+#[derive(Drop)]
+struct Play<'a, R> {
+    rt: &'a R,
     alloc: Global,
-    space: KeySpace<'d>,
-    parts: FillParts<'d, D, AnyValue, FixedPicker, Script, TestLocal<'f>, RoundChance>,
     setting: Setting,
-    flags: &'f Flags,
-) -> Result<Outcome, Memory>
-    requires space { (space_of space ≡ N.space) × (D.space ≡ N.space) }
-    requires parts { AreParts N.space N.group N.getters N.ledgers parts }
-    requires getters { N.getters ≡ 3 }
-{
-    let Ok((fill, mut getters)) = Fill::<'d, D, N, AnyValue>::new(
-        alloc,
-        space,
-        parts,
-        setting.limit,
-        64,
-    ) else {
-        return Err(Memory);
-    };
-    let Some(three) = getters.pop() else {
-        unreachable!()
-    };
-    let Some(two) = getters.pop() else {
-        unreachable!()
-    };
-    let Some(one) = getters.pop() else {
-        unreachable!()
-    };
-    let [first, second, third] = setting.steps;
-    let one = Turns {
-        fill: &fill,
-        getter: one,
-        steps: first,
-        flags,
-        alloc,
-    };
-    let two = Turns {
-        fill: &fill,
-        getter: two,
-        steps: second,
-        flags,
-        alloc,
-    };
-    let three = Turns {
-        fill: &fill,
-        getter: three,
-        steps: third,
-        flags,
-        alloc,
-    };
-    let ((one, first), ((two, second), (three, third))) = if setting.beside {
-        join(
+    flags: &'a Flags,
+}
+
+impl<'a, R: Wait + Threads + Sync> Body for Play<'a, R> {
+    type Answer = Outcome;
+
+    ghost use Rattle.std.specs.Prelude.{◌≡◌, ⊤};
+
+    ghost wants = { λ play getters. getters ≡ 3 };
+
+    ghost ends = { λ play outcome. ⊤ };
+
+    fn run<
+        'd,
+        D: Naming + Send + Sync,
+        N: Naming + Send + Sync,
+        O: Origin + Send + Sync,
+        L: LoadPath<Origin = O> + Send + Drop,
+    >(self, fill: &Fill<'d, D, N, O>, getters: Vec<Getter<'d, D, N, O, L>>) -> Outcome
+        requires wants { N.getters ≡ 3 }
+        requires getters { vec_len getters ≡ N.getters }
+        requires new { All (IsNewGetter N.group) getters.items }
+    {
+        let Play {
             rt,
-            || one.run(rt),
-            || join(rt, || two.run(rt), || three.run(rt)),
-        )
-    } else {
-        (one.run(rt), (two.run(rt), three.run(rt)))
-    };
-    let book = fill.book(rt);
-    let gathered = if setting.ends {
-        one.end();
-        two.end();
-        three.end();
-        getters.destroy_empty();
-        fill.book(rt)
-    } else {
-        getters.push_reserved(one);
-        getters.push_reserved(two);
-        getters.push_reserved(three);
-        fill.gather(rt, getters)
-    };
-    Ok(Outcome {
-        said: [first, second, third],
-        book,
-        gathered,
-        failed: false,
-    })
+            alloc,
+            setting,
+            flags,
+        } = self;
+        let mut getters = getters;
+        let Some(three) = getters.pop() else {
+            unreachable!()
+        };
+        let Some(two) = getters.pop() else {
+            unreachable!()
+        };
+        let Some(one) = getters.pop() else {
+            unreachable!()
+        };
+        let [first, second, third] = setting.steps;
+        let turns = |getter, steps| Turns {
+            fill,
+            getter,
+            steps,
+            flags,
+            alloc,
+        };
+        let (one, two, three) = (turns(one, first), turns(two, second), turns(three, third));
+        let ((one, first), ((two, second), (three, third))) = if setting.beside {
+            join(
+                rt,
+                || one.run(rt),
+                || join(rt, || two.run(rt), || three.run(rt)),
+            )
+        } else {
+            (one.run(rt), (two.run(rt), three.run(rt)))
+        };
+        let book = fill.book(rt);
+        let gathered = if setting.ends {
+            one.end();
+            two.end();
+            three.end();
+            getters.destroy_empty();
+            fill.book(rt)
+        } else {
+            getters.push_reserved(one);
+            getters.push_reserved(two);
+            getters.push_reserved(three);
+            fill.gather(rt, getters)
+        };
+        Outcome {
+            said: [first, second, third],
+            book,
+            gathered,
+            failed: false,
+        }
+    }
 }
 
 fn answers(alloc: Global, gives: Gives) -> Result<Script, Memory> {
@@ -163,62 +161,12 @@ fn loaders<'f>(
         _ if waits => TestLocal::Waits(script, flags),
         _ => TestLocal::Plays(script),
     };
-    Ok(Loaders {
-        picker: FixedPicker::new(picked),
-        peer: answers(alloc, setting.peer)?,
+    Ok(Loaders::new(
+        FixedPicker::new(picked),
+        answers(alloc, setting.peer)?,
         local,
-        chance: RoundChance::default(),
-    })
-}
-
-// The key space is named here.
-fn with_space<'d, 'f, D: Naming + Send + Sync, R: Wait + Threads + Sync>(
-    rt: &R,
-    alloc: Global,
-    space: KeySpace<'d>,
-    desks: Vec<KeyDesk>,
-    setting: Setting,
-    flags: &'f Flags,
-) -> Result<Outcome, Memory>
-    requires space { (space_of space ≡ D.space) × (places_in D.space ≤ LARGEST_PLACE) }
-    requires desks { (vec_len desks ≡ 3) × AreDesksOf D.space desks.items }
-{
-    let mut sets = Vec::with_capacity(alloc, 3)?;
-    sets.push_reserved(loaders(alloc, setting, flags, setting.beside)?);
-    sets.push_reserved(loaders(alloc, setting, flags, false)?);
-    sets.push_reserved(loaders(alloc, setting, flags, false)?);
-    let parts = FillParts::new(alloc, space, desks, sets, 1)?;
-    with_all::<D, Brand, R>(rt, alloc, space, parts, setting, flags)
-}
-
-fn in_directory<R: Wait + Threads + Sync>(
-    rt: &R,
-    alloc: Global,
-    setting: Setting,
-    flags: &Flags,
-) -> Result<Outcome, Memory>
-    requires { (1 ≤ setting.places) × (setting.places ≤ 8) × (setting.key_bytes ≤ 250) }
-{
-    let (directory, desks) = open_directory(alloc, setting.places, setting.key_bytes, 3, 0, 0)?;
-    let space = KeySpace::Directory(&directory);
-    with_space::<Brand, R>(rt, alloc, space, desks, setting, flags)
-}
-
-fn in_open<R: Wait + Threads + Sync>(
-    rt: &R,
-    alloc: Global,
-    setting: Setting,
-    flags: &Flags,
-) -> Result<Outcome, Memory>
-    requires { (1 ≤ setting.places) × (setting.places ≤ 8) }
-{
-    let places = Places {
-        count: setting.places,
-        seed0: 0,
-        seed1: 0,
-    };
-    let desks = hash_desks(alloc, places, 3)?;
-    with_space::<Brand, R>(rt, alloc, KeySpace::Hashed(places), desks, setting, flags)
+        RoundChance::default(),
+    ))
 }
 
 /// What comes of the setting.
@@ -230,11 +178,37 @@ pub fn try_out<R: Wait + Threads + Sync>(
     requires { (1 ≤ setting.places) × (setting.places ≤ 8) × (setting.key_bytes ≤ 250) }
 {
     let flags = Flags::new();
-    let mut outcome = if setting.open {
-        in_open(rt, alloc, setting, &flags)?
+    let keys = if setting.open {
+        Keys::Hashed(Places {
+            count: setting.places,
+            seed0: 0,
+            seed1: 0,
+        })
     } else {
-        in_directory(rt, alloc, setting, &flags)?
+        Keys::Directory(DirectoryKeys {
+            keys: setting.places,
+            key_bytes: setting.key_bytes,
+            seed0: 0,
+            seed1: 0,
+        })
     };
+    let sizes = FillSizes {
+        keys,
+        limit: setting.limit,
+        log: 64,
+        first_generation: 1,
+    };
+    let mut sets = Vec::with_capacity(alloc, 3)?;
+    sets.push_reserved(loaders(alloc, setting, &flags, setting.beside)?);
+    sets.push_reserved(loaders(alloc, setting, &flags, false)?);
+    sets.push_reserved(loaders(alloc, setting, &flags, false)?);
+    let play = Play {
+        rt,
+        alloc,
+        setting,
+        flags: &flags,
+    };
+    let mut outcome = with_fill(alloc, sizes, sets, play)?;
     outcome.failed = flags.failed.load(Ordering::SeqCst);
     Ok(outcome)
 }

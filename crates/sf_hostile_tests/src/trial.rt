@@ -1,18 +1,15 @@
 //! A fill with one getter, from nothing.
-ghost use Rattle.std.specs.Prelude.{◌≡◌, ◌≤◌, vec_len};
-ghost use Rattle.sf_words.specs.declared.limits.TheConstants.{LARGEST_PLACE};
-ghost use Rattle.sf_spots.specs.Spaces.{AreDesksOf, places_in, space_of};
-ghost use Rattle.sf_fill.specs.Made.{AreParts};
+ghost use Rattle.std.specs.Prelude.{◌≡◌, ◌≤◌, All, vec_len};
+ghost use Rattle.sf_door.specs.Opened.{IsNewGetter};
 
 use bytes::{ByteStr, Bytes};
-use sf_fill::{Fill, FillParts, Getter, LoadFault, Naming, Totals, View};
+use sf_door::{Body, DirectoryKeys, FillSizes, Keys, with_fill};
+use sf_fill::{Fill, Getter, LoadFault, Naming, Totals, View};
 use sf_group::Memory;
-use sf_loaders::Loaders;
-use sf_loaders::scripted::{Answer, AnyValue, FixedPicker, RoundChance, Script};
-use sf_spots::{KeyDesk, KeySpace, open_directory};
+use sf_loaders::scripted::{Answer, FixedPicker, RoundChance, Script};
+use sf_loaders::{LoadPath, Loaders, Origin};
 use std::alloc::Global;
 use std::fmt::Write;
-use std::marker::Brand;
 use std::sync::Wait;
 
 /// A fill, and the keys that its getter gets in turn.
@@ -34,8 +31,6 @@ pub struct Outcome {
     pub said: String,
     pub book: Totals,
 }
-
-type Parts<'d, D> = FillParts<'d, D, AnyValue, FixedPicker, Script, Script, RoundChance>;
 
 fn answer(turn: u32, fails: u32, text: &'static str) -> Answer {
     if turn == fails {
@@ -65,7 +60,7 @@ fn text_of(bytes: &Bytes) -> &'static str {
 }
 
 // The value and its call, or the fault. Where memory is refused, the text is short.
-fn say<'d, D: Naming>(said: &mut String, answer: &Result<View<'d, D, AnyValue>, LoadFault>) {
+fn say<'d, D: Naming, O: Origin>(said: &mut String, answer: &Result<View<'d, D, O>, LoadFault>) {
     let _ = match answer {
         Ok(view) => {
             let text = text_of(view.bytes());
@@ -76,49 +71,56 @@ fn say<'d, D: Naming>(said: &mut String, answer: &Result<View<'d, D, AnyValue>, 
     };
 }
 
-// All is named here. A fill that is refused memory hands its parts back, of which the second asking makes one.
-fn with_all<'d, D: Naming, N: Naming, R: Wait>(
-    rt: &R,
+/// Gets of keys in turn.
+#[derive(Drop)]
+struct GetAll<'a, R> {
+    rt: &'a R,
     alloc: Global,
-    space: KeySpace<'d>,
-    parts: Parts<'d, D>,
-    setting: Setting,
-) -> Result<Outcome, Memory>
-    requires space { (space_of space ≡ N.space) × (D.space ≡ N.space) }
-    requires parts { AreParts N.space N.group N.getters N.ledgers parts }
-    requires getters { N.getters ≡ 1 }
-{
-    let limit = setting.limit;
-    let made = match Fill::<'d, D, N, AnyValue>::new(alloc, space, parts, limit, 0) {
-        Ok(made) => made,
-        Err(parts) => match Fill::<'d, D, N, AnyValue>::new(alloc, space, parts, limit, 0) {
-            Ok(made) => made,
-            Err(_) => return Err(Memory),
-        },
-    };
-    let (fill, mut getters) = made;
-    let Some(getter) = getters.pop() else {
-        unreachable!()
-    };
-    getters.destroy_empty();
-    let (getter, said) = get_all(rt, alloc, &fill, getter, setting.keys);
-    getter.end();
-    Ok(Outcome {
-        said,
-        book: fill.book(rt),
-    })
+    keys: &'static [&'static str],
 }
 
-/// The getter of a trial.
-type TestGetter<'d, D, N> = Getter<'d, D, N, AnyValue, FixedPicker, Script, Script, RoundChance>;
+impl<'a, R: Wait> Body for GetAll<'a, R> {
+    type Answer = Outcome;
 
-fn get_all<'d, D: Naming, N: Naming, R: Wait>(
+    ghost use Rattle.std.specs.Prelude.{◌≡◌, ⊤};
+
+    ghost wants = { λ all getters. getters ≡ 1 };
+
+    ghost ends = { λ all outcome. ⊤ };
+
+    fn run<
+        'd,
+        D: Naming + Send + Sync,
+        N: Naming + Send + Sync,
+        O: Origin + Send + Sync,
+        L: LoadPath<Origin = O> + Send + Drop,
+    >(self, fill: &Fill<'d, D, N, O>, getters: Vec<Getter<'d, D, N, O, L>>) -> Outcome
+        requires wants { N.getters ≡ 1 }
+        requires getters { vec_len getters ≡ N.getters }
+        requires new { All (IsNewGetter N.group) getters.items }
+    {
+        let GetAll { rt, alloc, keys } = self;
+        let mut getters = getters;
+        let Some(getter) = getters.pop() else {
+            unreachable!()
+        };
+        getters.destroy_empty();
+        let (getter, said) = get_all(rt, alloc, fill, getter, keys);
+        getter.end();
+        Outcome {
+            said,
+            book: fill.book(rt),
+        }
+    }
+}
+
+fn get_all<'d, D: Naming, N: Naming, O: Origin, L: LoadPath<Origin = O>, R: Wait>(
     rt: &R,
     alloc: Global,
-    fill: &Fill<'d, D, N, AnyValue>,
-    getter: TestGetter<'d, D, N>,
+    fill: &Fill<'d, D, N, O>,
+    getter: Getter<'d, D, N, O, L>,
     keys: &[&'static str],
-) -> (TestGetter<'d, D, N>, String) {
+) -> (Getter<'d, D, N, O, L>, String) {
     let mut getter = getter;
     let mut said = String::new(alloc);
     for key in keys {
@@ -129,39 +131,32 @@ fn get_all<'d, D: Naming, N: Naming, R: Wait>(
     (getter, said)
 }
 
-// The key space is named here.
-fn with_space<'d, D: Naming, R: Wait>(
-    rt: &R,
-    alloc: Global,
-    space: KeySpace<'d>,
-    desks: Vec<KeyDesk>,
-    setting: Setting,
-) -> Result<Outcome, Memory>
-    requires space { (space_of space ≡ D.space) × (places_in D.space ≤ LARGEST_PLACE) }
-    requires desks { (vec_len desks ≡ 1) × AreDesksOf D.space desks.items }
-    requires first_generation { 1 ≤ setting.first_generation }
-{
-    let set = Loaders {
-        picker: FixedPicker::new(setting.peer_fails.map(|_| 0)),
-        peer: script(alloc, setting.peer_fails.unwrap_or(0), "p")?,
-        local: script(alloc, setting.local_fails, "v")?,
-        chance: RoundChance::default(),
-    };
-    let parts = FillParts::new(
-        alloc,
-        space,
-        desks,
-        vec![in alloc; set]?,
-        setting.first_generation,
-    )?;
-    with_all::<D, Brand, R>(rt, alloc, space, parts, setting)
-}
-
 /// What comes of the setting.
 pub fn try_out<R: Wait>(rt: &R, alloc: Global, setting: Setting) -> Result<Outcome, Memory>
     requires places { (1 ≤ setting.places) × (setting.places ≤ 8) }
     requires first_generation { 1 ≤ setting.first_generation }
 {
-    let (directory, desks) = open_directory(alloc, setting.places, 250, 1, 0, 0)?;
-    with_space::<Brand, R>(rt, alloc, KeySpace::Directory(&directory), desks, setting)
+    let set = Loaders::new(
+        FixedPicker::new(setting.peer_fails.map(|_| 0)),
+        script(alloc, setting.peer_fails.unwrap_or(0), "p")?,
+        script(alloc, setting.local_fails, "v")?,
+        RoundChance::default(),
+    );
+    let sizes = FillSizes {
+        keys: Keys::Directory(DirectoryKeys {
+            keys: setting.places,
+            key_bytes: 250,
+            seed0: 0,
+            seed1: 0,
+        }),
+        limit: setting.limit,
+        log: 0,
+        first_generation: setting.first_generation,
+    };
+    let all = GetAll {
+        rt,
+        alloc,
+        keys: setting.keys,
+    };
+    with_fill(alloc, sizes, vec![in alloc; set]?, all)
 }

@@ -5,9 +5,20 @@ use std::alloc::AllocError;
 use std::process::Abort;
 
 fn assert_bytes(rt: &impl Abort, caches: &Caches<u8>, main: u128, hot: u128) {
-    let (main_bytes, hot_bytes) = (caches.main_bytes(), caches.hot_bytes());
+    let (main_bytes, hot_bytes) = (
+        caches.stats(Which::Main).bytes,
+        caches.stats(Which::Hot).bytes,
+    );
     assert!(rt; main_bytes == main, "main weighs {main_bytes}");
     assert!(rt; hot_bytes == hot, "hot weighs {hot_bytes}");
+}
+
+// What a cache has by now, and how many it had to drop.
+fn assert_items(rt: &impl Abort, caches: &Caches<u8>, which: Which, items: usize, evictions: u64) {
+    let stats = caches.stats(which);
+    let (is, dropped) = (stats.items, stats.evictions);
+    assert!(rt; is == items, "{is} items");
+    assert!(rt; dropped == evictions, "{dropped} evictions");
 }
 
 #[test]
@@ -21,6 +32,10 @@ fn caches_trim_hot_then_main(rt: HostRuntime) -> Result<(), AllocError> {
     assert_bytes(&rt, &caches, 10, 0);
     assert!(rt; caches.look(Which::Hot, 3).is_none());
     assert!(rt; caches.look(Which::Main, 1).is_some());
+    assert_items(&rt, &caches, Which::Main, 2, 0);
+    assert_items(&rt, &caches, Which::Hot, 0, 1);
+    caches.remove(Which::Main, 1);
+    assert_items(&rt, &caches, Which::Main, 1, 0);
     Ok(())
 }
 

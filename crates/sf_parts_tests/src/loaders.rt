@@ -24,6 +24,7 @@ struct Run {
     counts: Counts,
     asked: [u64; 3],
     next_draw: u32,
+    peer_fault: Option<PeerFault>,
 }
 
 /// One run of the load path over a picker, a peer and a local getter of one answer each.
@@ -33,12 +34,12 @@ fn run_once(
     fetched: Answer,
     loaded: Answer,
 ) -> Result<Run, AllocError> {
-    let mut loaders = Loaders {
-        picker: FixedPicker::new(picked),
-        peer: Script::new(vec![in alloc; fetched]?),
-        local: Script::new(vec![in alloc; loaded]?),
-        chance: RoundChance::default(),
-    };
+    let mut loaders = Loaders::new(
+        FixedPicker::new(picked),
+        Script::new(vec![in alloc; fetched]?),
+        Script::new(vec![in alloc; loaded]?),
+        RoundChance::default(),
+    );
     let (result, counts) = load_once(&mut loaders, b"k", CALL);
     Ok(Run {
         result,
@@ -49,6 +50,7 @@ fn run_once(
             loaders.local.asked(),
         ],
         next_draw: loaders.chance.draw(),
+        peer_fault: loaders.peer_fault,
     })
 }
 
@@ -99,6 +101,7 @@ fn local_value_without_a_peer(rt: HostRuntime) -> Result<(), AllocError> {
 fn peer_value(rt: HostRuntime) -> Result<(), AllocError> {
     let run = run_once(rt.alloc(), Some(0), value("p"), value("v"))?;
     assert_value(&rt, &run, "p", Source::Peer);
+    assert!(rt; run.peer_fault.is_none(), "a fault of the peer");
     let counts = Counts {
         loads_deduped: 1,
         peer_loads: 1,
@@ -112,6 +115,10 @@ fn peer_value(rt: HostRuntime) -> Result<(), AllocError> {
 fn peer_and_local_fail(rt: HostRuntime) -> Result<(), AllocError> {
     let run = run_once(rt.alloc(), Some(0), failed("away"), failed("down"))?;
     assert!(rt; matches!(&run.result, Err(LocalFault::Failed(text)) if text.as_str() == "down"));
+    assert!(rt;
+        matches!(&run.peer_fault, Some(PeerFault::Failed(text)) if text.as_str() == "away"),
+        "the peer's fault is lost"
+    );
     let counts = Counts {
         loads_deduped: 1,
         peer_errors: 1,
@@ -190,12 +197,12 @@ impl Local for Echo {
 fn echoed(alloc: Global, picked: Option<u32>, key: &[u8]) -> Result<(Bytes, Source), LocalFault>
     ensures { IfOk result (λ found. found.0 ≡ key.now) }
 {
-    let mut loaders = Loaders {
-        picker: FixedPicker::new(picked),
-        peer: Echo { alloc },
-        local: Echo { alloc },
-        chance: RoundChance::default(),
-    };
+    let mut loaders = Loaders::new(
+        FixedPicker::new(picked),
+        Echo { alloc },
+        Echo { alloc },
+        RoundChance::default(),
+    );
     load_once(&mut loaders, key, CALL).0
 }
 
