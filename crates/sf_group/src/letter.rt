@@ -92,4 +92,25 @@ impl<V: Fit> Letter<V> {
         } = self;
         (value, note)
     }
+
+    /// The letter with another copy of its value, such as one that shares no memory.
+    pub fn with_value(self, value: V) -> Letter<V>
+        requires { value ≡ self.value }
+        ensures { result ≡ self }
+    {
+        let Letter {
+            place,
+            call,
+            value: _,
+            joiners,
+            note,
+        } = self;
+        Letter {
+            place,
+            call,
+            value,
+            joiners,
+            note,
+        }
+    }
 }
