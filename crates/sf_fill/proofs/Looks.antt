@@ -11,7 +11,7 @@ use Rattle.sf_calls.specs.Currents.{WasCurrent, HasQuestioned}
 use Rattle.sf_calls.proofs.AddsAgain.{starts_again, grows_none, adds_again, still}
 use Rattle.sf_fill.specs.FillValue.{Filled, FitsFill, fill_lasts}
 use Rattle.sf_fill.specs.Rooted.{IsRooted}
-use Rattle.sf_fill.specs.Settled.{HasOnlyLooked, IsKeptLetter, IsCurrentLetter, IsFollowed, HasLooked}
+use Rattle.sf_fill.specs.Settled.{HasOnlyLooked, IsKeptLetter, IsCurrentLetter, IsFollowed, HasLooked, HasLookedOn}
 use Rattle.sf_calls.proofs.Moments.{first_added}
 use Rattle.sf_fill.proofs.Rooting.{rooted_itself, rooted_after}
 
@@ -40,6 +40,9 @@ looked_again c d e (inr n) (inr m) = inr (nothing_again c d e n m)
 pub looked_twice : (c d : CallerValue Filled) → (u : CallerValue Filled) × HasOnlyLooked c u × HasOnlyLooked u d → HasOnlyLooked c d
 looked_twice c d h = looked_again c h.0 d h.1 h.2
 
+pub looked_on_none : (c u d : CallerValue Filled) → HasOnlyLooked c u → (x : CallerValue Filled) × HasOnlyLooked u x × HasOnlyLooked x d → (x : CallerValue Filled) × HasOnlyLooked c x × HasOnlyLooked x d
+looked_on_none c u d only on = (on.0, looked_again c u on.0 only on.1, on.2)
+
 -- so the caller is still the same
 pub still_looked : (c d : CallerValue Filled) → HasOnlyLooked c d → IsStill c d
 still_looked c d (inl is) = subst (λ (x : CallerValue Filled). IsStill c x) (sym is) (still c)
@@ -58,6 +61,21 @@ module _ (E : Type 0) where
   pub looked : (c d : CallerValue Filled) (place : ℕ) (l m o : LetterValue Filled) (copy : Result (LetterValue Filled) E) → IsCurrentLetter c place l d → HasLent l m → IfOk copy (λ n. HasCopied FitsFill m o n) → HasLooked c place (Some copy) d
   looked c d place l m o (Ok n) current lent copied = (l, current, lent_again l m n lent copied.1)
   looked c d place l m o (Err e) current lent copied = (l, current)
+
+  -- the note of what a look found may show more
+  looked_lent : (c d : CallerValue Filled) (place : ℕ) (m n : LetterValue Filled) → HasLooked {E = E} c place (Some (Ok m)) d → HasLent m n → HasLooked {E = E} c place (Some (Ok n)) d
+  looked_lent c d place m n h lent = (h.0, h.1, lent_again h.0 m n h.2 lent)
+
+  -- a look after one that found none; the note of what it found may show more
+  pub looked_on_lent : (c u d : CallerValue Filled) (place : ℕ) (r : Result (LetterValue Filled) E) (m n : LetterValue Filled) → r ≡ Ok m → HasOnlyLooked c u → HasLookedOn u place (Some r) d → HasLent m n → HasLookedOn {E = E} c place (Some (Ok n)) d
+  looked_on_lent c u d place r m n is only h lent =
+      let on : HasLookedOn {E = E} u place (Some (Ok m)) d = subst (λ (x : Result (LetterValue Filled) E). HasLookedOn u place (Some x) d) is h in
+      (on.0, looked_again c u on.0 only on.1, looked_lent on.0 d place m n on.2 lent)
+
+  pub looked_on_refused : (c u d : CallerValue Filled) (place : ℕ) (r : Result (LetterValue Filled) E) (e : E) → r ≡ Err e → HasOnlyLooked c u → HasLookedOn u place (Some r) d → HasLookedOn {E = E} c place (Some (Err e)) d
+  looked_on_refused c u d place r e is only h =
+      let on : HasLookedOn {E = E} u place (Some (Err e)) d = subst (λ (x : Result (LetterValue Filled) E). HasLookedOn u place (Some x) d) is h in
+      (on.0, looked_again c u on.0 only on.1, on.2)
 
 -- a flight may be settled with the value of the call that it follows, once it has learnt that call's letter
 pub follows_fit : (f h : FlightValue Filled) (l : LetterValue Filled) (v : Filled) → IsFollowed f l → HasLearntLeading f l.seen h → v ≡ l.value → FitsFill h.place h.call v h.seen

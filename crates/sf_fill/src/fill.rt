@@ -41,7 +41,8 @@ impl<'d, D: Naming, N: Naming, O: Origin> Model for Fill<'d, D, N, O> {
 }
 
 impl<'d, D: Naming, N: Naming, O: Origin> Fill<'d, D, N, O> {
-    /// What all getters have counted so far.
+    /// What all getters have entered so far. A getter that runs has entered all that it counted but its last 63 gets at most; one
+    /// that has ended, and one that was just told to `enter`, all.
     pub fn book<R: Wait>(&self, rt: &R) -> Totals {
         self.kept.lock(rt).accounts.totals()
     }

@@ -14,13 +14,14 @@ ghost use Rattle.sf_fill.specs.GetterValue.{IsOfGroup};
 ghost use Rattle.sf_fill.specs.Rooted.{IsRooted};
 ghost use Rattle.sf_fill.specs.Totals.{IsOfOneGet};
 
-use crate::counters::GetCounts;
+use crate::counters::{GetCounts, Tallies};
 use crate::fault::{GetRefusal, LoadFault, of_key};
 use crate::fill::Fill;
 use crate::getter::{Getter, Standing};
 use crate::load::{NO_RUN, Sourced};
 use crate::log::Log;
 use crate::naming::Naming;
+use crate::near::Near;
 use crate::value::FillValue;
 use crate::view::{View, show};
 use sf_calls::Fit;
@@ -112,6 +113,8 @@ impl<'d, D: Naming, N: Naming, O: Origin> Fill<'d, D, N, O> {
         key: &[u8],
         loaders: &mut L,
         log: &mut Log,
+        near: &mut Near<'d, D, N, O>,
+        tallies: &mut Tallies<N>,
     ) -> Found<FillValue<'d, D, O>>
     where
         L: LoadPath<Origin = O>,
@@ -124,9 +127,11 @@ impl<'d, D: Naming, N: Naming, O: Origin> Fill<'d, D, N, O> {
         ensures of_key { IsOfKey key.now result }
         ensures one { IsOfOneGet (counts_of result) }
         ensures same { at.new ≡ at.old }
+        ensures tallies { tallies.new ≡ tallies.old }
     {
         let mut caller = caller;
-        match self.look(rt, at.number().number(), key, &mut caller) {
+        let place = at.number().number();
+        match self.look_near(rt, near, tallies, place, key, &mut caller) {
             Some(Ok(letter)) => Found::Kept(caller, letter),
             Some(Err(_)) => Found::Uncopied(caller),
             None => match at.spot(self.alloc, key) {
@@ -230,6 +235,8 @@ impl<'d, D: Naming, N: Naming, O: Origin> Fill<'d, D, N, O> {
         key: &[u8],
         loaders: &mut L,
         log: &mut Log,
+        near: &mut Near<'d, D, N, O>,
+        tallies: &mut Tallies<N>,
     ) -> Reply<'d, D, O>
     where
         L: LoadPath<Origin = O>,
@@ -242,11 +249,12 @@ impl<'d, D: Naming, N: Naming, O: Origin> Fill<'d, D, N, O> {
         ensures keyed { IfOk result.2 (λ view. spot_key view.value.spot ≡ key.now) }
         ensures loaded { IfOk result.2 (IsLoadedFor O.loaded key.now) }
         ensures one { IsOfOneGet result.1 }
+        ensures tallies { tallies.new ≡ tallies.old }
     {
         match self.space.find(desk, key) {
             Err(refusal) => (Standing::Free(caller), GET_ALONE, Err(of_key(refusal))),
             Ok(mut at) => {
-                let found = self.find(rt, caller, &mut at, key, loaders, log);
+                let found = self.find(rt, caller, &mut at, key, loaders, log, near, tallies);
                 reply(found, &mut at, key)
             }
         }
@@ -261,6 +269,8 @@ impl<'d, D: Naming, N: Naming, O: Origin> Fill<'d, D, N, O> {
         key: &[u8],
         loaders: &mut L,
         log: &mut Log,
+        near: &mut Near<'d, D, N, O>,
+        tallies: &mut Tallies<N>,
     ) -> Reply<'d, D, O>
     where
         L: LoadPath<Origin = O>,
@@ -272,12 +282,15 @@ impl<'d, D: Naming, N: Naming, O: Origin> Fill<'d, D, N, O> {
         ensures keyed { IfOk result.2 (λ view. spot_key view.value.spot ≡ key.now) }
         ensures loaded { IfOk result.2 (IsLoadedFor O.loaded key.now) }
         ensures one { IsOfOneGet result.1 }
+        ensures tallies { tallies.new ≡ tallies.old }
     {
         match standing {
             Standing::Owing(settled) => {
                 (Standing::Owing(settled), GET_ALONE, Err(LoadFault::Memory))
             }
-            Standing::Free(caller) => self.get_free(rt, caller, desk, key, loaders, log),
+            Standing::Free(caller) => self.get_free(
+                rt, caller, desk, key, loaders, log, near, tallies,
+            ),
         }
     }
 
@@ -309,6 +322,7 @@ impl<'d, D: Naming, N: Naming, O: Origin> Fill<'d, D, N, O> {
             mut loaders,
             mut tallies,
             mut log,
+            mut near,
         } = getter;
         let (standing, counts, answer) = self.get_standing(
             rt,
@@ -317,14 +331,17 @@ impl<'d, D: Naming, N: Naming, O: Origin> Fill<'d, D, N, O> {
             key,
             &mut loaders,
             &mut log,
+            &mut near,
+            &mut tallies,
         );
-        self.enter(rt, &mut tallies, counts);
+        self.count(rt, &mut tallies, counts);
         let getter = Getter {
             desk,
             standing,
             loaders,
             tallies,
             log,
+            near,
         };
         (getter, answer)
     }

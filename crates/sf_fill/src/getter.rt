@@ -10,6 +10,7 @@ use crate::counters::Tallies;
 use crate::fill::Fill;
 use crate::log::Log;
 use crate::naming::Naming;
+use crate::near::Near;
 use crate::value::FillValue;
 use sf_calls::Fit;
 use sf_group::{Caller, Event, Finished, Memory, Note, Settled};
@@ -53,6 +54,7 @@ pub struct Getter<'d, D: Naming, N: Naming, O: Origin, L> {
     pub(crate) loaders: L,
     pub(crate) tallies: Tallies<N>,
     pub(crate) log: Log,
+    pub(crate) near: Near<'d, D, N, O>,
 }
 
 impl<'d, D: Naming, N: Naming, O: Origin, L> Model for Getter<'d, D, N, O, L> {
@@ -96,9 +98,13 @@ impl<'d, D: Naming, N: Naming, O: Origin, L> Getter<'d, D, N, O, L> {
         &self.loaders
     }
 
-    /// Spends the getter, and gives its caller to who asks and forgets in the fill's group without the fill. One that owes letters
-    /// gives none, and abandons them.
-    pub fn into_caller(self) -> Option<Caller<FillValue<'d, D, O>>>
+    /// Spends the getter, once all that it counted is entered in the fill's book, and gives its caller to who asks and forgets in
+    /// the fill's group without the fill. One that owes letters gives none, and abandons them.
+    pub fn into_caller<R: Wait>(
+        self,
+        rt: &R,
+        fill: &Fill<'d, D, N, O>,
+    ) -> Option<Caller<FillValue<'d, D, O>>>
     where
         L: Drop,
         ensures caller { result ≡ free_caller self.entry.standing }
@@ -108,9 +114,11 @@ impl<'d, D: Naming, N: Naming, O: Origin, L> Getter<'d, D, N, O, L> {
             desk: _,
             standing,
             loaders: _,
-            tallies: _,
+            mut tallies,
             log: _,
+            near: _,
         } = self;
+        fill.enter(rt, &mut tallies);
         match standing {
             Standing::Free(caller) => Some(caller),
             Standing::Owing(settled) => {
@@ -120,8 +128,25 @@ impl<'d, D: Naming, N: Naming, O: Origin, L> Getter<'d, D, N, O, L> {
         }
     }
 
-    /// Spends the getter; what it owes is abandoned.
-    pub fn end(self)
+    /// Enters in the fill's book what the getter has counted and not entered yet: its last 63 gets at most.
+    pub fn enter<R: Wait>(&mut self, rt: &R, fill: &Fill<'d, D, N, O>)
+        ensures { self.new ≡ self.old }
+    {
+        fill.enter(rt, &mut self.tallies);
+    }
+
+    /// Spends the getter, once all that it counted is entered in the fill's book; what it owes is abandoned.
+    pub fn end<R: Wait>(self, rt: &R, fill: &Fill<'d, D, N, O>)
+    where
+        L: Drop,
+    {
+        let mut tallies = self.into_tallies();
+        fill.enter(rt, &mut tallies);
+    }
+
+    /// Spends the getter where there is no fill at hand: what it owes is abandoned, and so are its last 63 gets at most that are not
+    /// entered in the book.
+    pub fn abandon(self)
     where
         L: Drop,
     {
@@ -140,6 +165,7 @@ impl<'d, D: Naming, N: Naming, O: Origin, L> Getter<'d, D, N, O, L> {
             loaders: _,
             tallies,
             log: _,
+            near: _,
         } = self;
         standing.end();
         tallies
@@ -163,6 +189,7 @@ impl<'d, D: Naming, N: Naming, O: Origin, L> Getter<'d, D, N, O, L> {
             loaders,
             tallies,
             mut log,
+            near,
         } = self;
         let (standing, outcome) = match standing {
             Standing::Free(caller) => (Standing::Free(caller), Ok(())),
@@ -183,6 +210,7 @@ impl<'d, D: Naming, N: Naming, O: Origin, L> Getter<'d, D, N, O, L> {
             loaders,
             tallies,
             log,
+            near,
         };
         (getter, outcome)
     }

@@ -24,6 +24,9 @@ use sf_loaders::Origin;
 use std::marker::{Model, PhantomData};
 use std::sync::Wait;
 
+/// How many gets a getter counts alone before it enters them.
+const MOST_PENDING: u128 = 64;
+
 /// A letter of the fill's group, whose call was settled so.
 #[derive(Drop)]
 pub(crate) struct Cached<'d, D: Naming, N: Naming, O: Origin> {
@@ -222,24 +225,15 @@ impl<'d, D: Naming, N: Naming, O: Origin> Kept<'d, D, N, O> {
             }
         }
     }
-
-    // Enters what a get counted.
-    fn enter(&mut self, tallies: &mut Tallies<N>, counts: GetCounts)
-        requires room { tallies.old.gets < 2 ^ 64 - 1 }
-        requires one { IsOfOneGet counts }
-        ensures { tallies.new ≡ with_counts tallies.old counts }
-    {
-        tallies.count(counts);
-        self.accounts.enter(tallies);
-    }
 }
 
 impl<'d, D: Naming, N: Naming, O: Origin> Fill<'d, D, N, O> {
     // A copy of the current letter that main, or else hot, has for the key at the place; entries of the key that are not
-    // current are dropped. A limit that keeps nothing skips the look.
+    // current are dropped. A limit that keeps nothing skips the look. What the getter counted is entered with it.
     pub(crate) fn look<R: Wait>(
         &self,
         rt: &R,
+        tallies: &mut Tallies<N>,
         place: u32,
         key: &[u8],
         caller: &mut Caller<FillValue<'d, D, O>>,
@@ -247,11 +241,13 @@ impl<'d, D: Naming, N: Naming, O: Origin> Fill<'d, D, N, O> {
         requires { caller.old.group ≡ N.group }
         ensures looked { HasLookedOn caller.old place result caller.new }
         ensures of_key { IfSome result (λ found. IfOk found (λ letter. MayBe letter.value.spot key.now)) }
+        ensures tallies { tallies.new ≡ tallies.old }
     {
         if self.limit <= 0 {
             return None;
         }
         let mut kept = self.kept.lock(rt);
+        kept.accounts.enter(tallies);
         if let Some(copy) = kept.copy_current(&self.group, Which::Main, place, key, caller) {
             return Some(copy);
         }
@@ -326,8 +322,8 @@ impl<'d, D: Naming, N: Naming, O: Origin> Fill<'d, D, N, O> {
         kept.remove_call(place, call);
     }
 
-    /// Takes what the caches keep of the key out of them, without a Forget: the next get of it asks the group. A call that is
-    /// open stays so, and one that others have letters of stays current.
+    /// Takes what the caches and this getter keep of the key out of them, without a Forget: the getter's next get of it asks the
+    /// group. A call that is open stays so, one that others have letters of stays current, and so do letters that they keep near.
     pub fn remove<R: Wait, L>(
         &self,
         rt: &R,
@@ -340,6 +336,7 @@ impl<'d, D: Naming, N: Naming, O: Origin> Fill<'d, D, N, O> {
     {
         match self.space.find(&mut getter.desk, key) {
             Ok(place) => {
+                getter.near.remove(place.number().number());
                 let mut kept = self.kept.lock(rt);
                 kept.remove_key(place.number().number(), key);
                 Ok(())
@@ -353,13 +350,22 @@ impl<'d, D: Naming, N: Naming, O: Origin> Fill<'d, D, N, O> {
         self.kept.lock(rt).caches.stats(which)
     }
 
-    // Enters what a get counted.
-    pub(crate) fn enter<R: Wait>(&self, rt: &R, tallies: &mut Tallies<N>, counts: GetCounts)
+    // Counts a get in the getter's tallies, and enters what 64 gets counted that were not entered yet.
+    pub(crate) fn count<R: Wait>(&self, rt: &R, tallies: &mut Tallies<N>, counts: GetCounts)
         requires room { tallies.old.gets < 2 ^ 64 - 1 }
         requires one { IsOfOneGet counts }
         ensures { tallies.new ≡ with_counts tallies.old counts }
     {
-        let mut kept = self.kept.lock(rt);
-        kept.enter(tallies, counts);
+        tallies.count(counts);
+        if tallies.pending() >= MOST_PENDING {
+            self.enter(rt, tallies);
+        }
+    }
+
+    // Enters what the getter has counted and not entered yet.
+    pub(crate) fn enter<R: Wait>(&self, rt: &R, tallies: &mut Tallies<N>)
+        ensures { tallies.new ≡ tallies.old }
+    {
+        self.kept.lock(rt).accounts.enter(tallies);
     }
 }

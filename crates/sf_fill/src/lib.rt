@@ -2,14 +2,14 @@
 //!
 //! A getter gets a key: it looks in two caches, and else leads the key's call and loads, or waits for the one that leads it.
 //! A reload forgets a key, so that the next get loads it again. Getters stand side by side, one a thread; a lock is held to
-//! look, to put and to count, and never while one loads or waits.
+//! look, to put and to enter what was counted, and never while one loads or waits.
 //!
 //! | To | Call |
 //! | --- | --- |
 //! | make a fill and its getters | `Fill::new`, with all its parts; which directory, group and ledgers they are is named by `Naming` |
 //! | get, reload | `get`, `reload` |
 //! | go on with a delivery that was refused memory | `owes`, `settle_up` |
-//! | count | `Fill::book` while it runs, `gather` at the end |
+//! | count | `Fill::book` while it runs, `enter` for a getter's last gets in it, `gather` at the end |
 //! | see what happened | `take_log` |
 //! | spend a getter | `end`, or `gather` |
 #![tactic(auto)]
@@ -23,9 +23,11 @@ mod kept;
 mod load;
 mod log;
 mod naming;
+mod near;
 mod parts;
 mod put;
 mod reload;
+mod sizes;
 mod value;
 mod view;
 
@@ -41,5 +43,6 @@ pub use parts::FillParts;
 pub use put::Put;
 pub use reload::Forgot;
 pub use sf_caches::{CacheStats, Which};
+pub use sizes::Sizes;
 pub use value::FillValue;
 pub use view::View;

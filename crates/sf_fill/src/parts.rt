@@ -12,6 +12,8 @@ use crate::getter::{Getter, Standing};
 use crate::kept::{Cached, Kept};
 use crate::log::Log;
 use crate::naming::Naming;
+use crate::near::Near;
+use crate::sizes::Sizes;
 use crate::value::FillValue;
 use sf_caches::Caches;
 use sf_group::{Caller, Group, Memory};
@@ -118,14 +120,13 @@ impl<'d, D: Naming, O: Origin, L: Drop> FillParts<'d, D, O, L> {
 
 impl<'d, D: Naming, N: Naming, O: Origin> Fill<'d, D, N, O> {
     /// A fill of the key space and the group, which have as many places, at most 1,048,576, and its getters, one for each desk, caller and set
-    /// of loaders, 1 to 65,535. What the caches keep is within `limit` bytes, and nothing where that is 0 or less. Each
-    /// getter logs `log` events at most. Where memory is refused, all comes back.
+    /// of loaders, 1 to 65,535. Caches, logs and the letters that getters keep near are within the sizes. Where memory is refused,
+    /// all comes back.
     pub fn new<L: Drop>(
         alloc: Global,
         space: KeySpace<'d>,
         parts: FillParts<'d, D, O, L>,
-        limit: i64,
-        log: usize,
+        sizes: Sizes,
     ) -> Result<(Fill<'d, D, N, O>, Vec<Getter<'d, D, N, O, L>>), FillParts<'d, D, O, L>>
         requires space { (space_of space ≡ N.space) × (D.space ≡ N.space) }
         requires parts { AreParts N.space N.group N.getters N.ledgers parts }
@@ -140,6 +141,12 @@ impl<'d, D: Naming, N: Naming, O: Origin> Fill<'d, D, N, O> {
             mut loaders,
             ledgers,
         } = parts;
+        let Sizes {
+            limit,
+            log,
+            near,
+            near_limit,
+        } = sizes;
         let count = desks.len();
         let Ok(rooms) = reserve(alloc, limit, space.place_count(), count, log) else {
             return Err(FillParts {
@@ -172,6 +179,7 @@ impl<'d, D: Naming, N: Naming, O: Origin> Fill<'d, D, N, O> {
                 loaders,
                 tallies: all.deal(),
                 log,
+                near: Near::new(alloc, near as usize, near_limit),
             });
         }
         getters.reverse();

@@ -69,6 +69,7 @@ impl<'d, D: Naming, N: Naming, O: Origin> Fill<'d, D, N, O> {
             loaders,
             tallies,
             log,
+            near,
         } = getter;
         let giving = Getter {
             desk,
@@ -76,6 +77,7 @@ impl<'d, D: Naming, N: Naming, O: Origin> Fill<'d, D, N, O> {
             loaders: Given::new(key, bytes),
             tallies,
             log,
+            near,
         };
         let (gave, answer) = self.get(rt, giving, key);
         let Getter {
@@ -84,6 +86,7 @@ impl<'d, D: Naming, N: Naming, O: Origin> Fill<'d, D, N, O> {
             loaders: given,
             tallies,
             log,
+            near,
         } = gave;
         let getter = Getter {
             desk,
@@ -91,6 +94,7 @@ impl<'d, D: Naming, N: Naming, O: Origin> Fill<'d, D, N, O> {
             loaders,
             tallies,
             log,
+            near,
         };
         let put = match answer {
             Ok(view) if given.is_left() => Ok(Put::Met(view)),

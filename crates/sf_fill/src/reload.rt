@@ -12,6 +12,7 @@ use crate::fill::Fill;
 use crate::getter::{Getter, Standing};
 use crate::log::Log;
 use crate::naming::Naming;
+use crate::near::Near;
 use crate::value::FillValue;
 use sf_group::{Caller, Memory};
 use sf_history::{CallId, Hit};
@@ -67,7 +68,7 @@ impl<'d, D: Naming, N: Naming, O: Origin> Fill<'d, D, N, O> {
         Forgot::of(call, hit)
     }
 
-    // Forgets the call that the key names, unless the caller owes letters.
+    // Forgets the call that the key names, unless the caller owes letters. The getter's own letter of its place leaves too.
     fn forget<R: Wait>(
         &self,
         rt: &R,
@@ -75,6 +76,7 @@ impl<'d, D: Naming, N: Naming, O: Origin> Fill<'d, D, N, O> {
         desk: &mut KeyDesk,
         key: &[u8],
         log: &mut Log,
+        near: &mut Near<'d, D, N, O>,
     ) -> (Standing<FillValue<'d, D, O>>, Result<Forgot, LoadFault>)
         requires group { IsOfGroup N.group standing }
         requires desk { IsDeskOf N.space desk.old }
@@ -92,6 +94,7 @@ impl<'d, D: Naming, N: Naming, O: Origin> Fill<'d, D, N, O> {
             Err(refusal) => (Standing::Free(caller), Err(of_key(refusal))),
             Ok(place) => {
                 let number = place.number();
+                near.remove(number.number());
                 let forgot = self.forget_named(rt, &mut caller, number.number());
                 log.add_forgot(caller.number(), number, forgot);
                 (Standing::Free(caller), Ok(forgot))
@@ -118,14 +121,16 @@ impl<'d, D: Naming, N: Naming, O: Origin> Fill<'d, D, N, O> {
             loaders,
             tallies,
             mut log,
+            mut near,
         } = getter;
-        let (standing, answer) = self.forget(rt, standing, &mut desk, key, &mut log);
+        let (standing, answer) = self.forget(rt, standing, &mut desk, key, &mut log, &mut near);
         let getter = Getter {
             desk,
             standing,
             loaders,
             tallies,
             log,
+            near,
         };
         (getter, answer)
     }
@@ -147,11 +152,13 @@ impl<'d, D: Naming, N: Naming, O: Origin> Fill<'d, D, N, O> {
             loaders,
             tallies,
             mut log,
+            mut near,
         } = getter;
         let (standing, outcome) = match standing {
             Standing::Owing(settled) => (Standing::Owing(settled), Err(Memory)),
             Standing::Free(caller) => {
                 let mut caller = caller;
+                near.empty();
                 for index in 0..self.space.place_count() {
                     let place = PlaceNo::from_index(index as usize);
                     let forgot = self.forget_named(rt, &mut caller, place.number());
@@ -166,6 +173,7 @@ impl<'d, D: Naming, N: Naming, O: Origin> Fill<'d, D, N, O> {
             loaders,
             tallies,
             log,
+            near,
         };
         (getter, outcome)
     }

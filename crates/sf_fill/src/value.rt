@@ -8,7 +8,8 @@ use bytes::Bytes;
 use sf_calls::Fit;
 use sf_history::{CallId, Memory, Share};
 use sf_loaders::{LocalFault, Origin};
-use sf_spots::{KeyPlace, Spot};
+use sf_spots::{HashedKey, KeyPlace, Spot};
+use std::alloc::Global;
 use std::marker::{Model, PhantomData};
 
 /// The bytes of a key, or why there are none: with the key and its place, and the call whose run loaded them.
@@ -64,6 +65,37 @@ impl<'d, D: Naming, O: Origin> FillValue<'d, D, O> {
             from: _,
         } = self;
         (spot, root, result)
+    }
+
+    // The same, with bytes that no other value shares.
+    pub(crate) fn into_own(self, alloc: Global) -> Result<Self, Memory>
+        ensures { IfOk result (λ own. own ≡ self.entry) }
+    {
+        let FillValue {
+            spot,
+            root,
+            result,
+            of: _,
+            from: _,
+        } = self;
+        let spot = match spot {
+            Spot::Directory(place) => Spot::Directory(place),
+            Spot::Hashed(hashed) => Spot::Hashed(HashedKey {
+                key: Bytes::copy_from_slice(alloc, hashed.key.as_slice())?,
+                place: hashed.place,
+            }),
+        };
+        let result = match result {
+            Ok(bytes) => Ok(Bytes::copy_from_slice(alloc, bytes.as_slice())?),
+            Err(fault) => Err(fault),
+        };
+        Ok(FillValue {
+            spot,
+            root,
+            result,
+            of: PhantomData,
+            from: PhantomData,
+        })
     }
 
     /// How many bytes there are; none where there is a fault in their place.

@@ -237,6 +237,11 @@ impl<N: Naming> Tallies<N> {
         self.counted.gets == u64::MAX as u128
     }
 
+    /// How many gets are counted and not entered yet.
+    pub fn pending(&self) -> u128 {
+        self.counted.gets - self.entered.gets
+    }
+
     /// Counts a get, which is to be entered.
     pub fn count(&mut self, counts: GetCounts)
         requires room { self.old.gets < 2 ^ 64 - 1 }
