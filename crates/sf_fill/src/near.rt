@@ -137,7 +137,8 @@ impl<'d, D: Naming, N: Naming, O: Origin> Near<'d, D, N, O> {
             return None;
         }
         cached.known();
-        if cached.is_current(group, caller) {
+        let current = cached.is_current(group, caller);
+        if current {
             letter.hits += 1;
             return Some(cached.copy(group));
         }
