@@ -96,7 +96,7 @@ fn with_all<
     requires wants { B.wants body N.getters }
     ensures { IfOk result (λ answer. B.ends body answer) }
 {
-    let made = Fill::<'d, D, N, O>::new(alloc, space, parts, sizes.limit, sizes.log);
+    let made = Fill::<'d, D, N, O>::new(alloc, space, parts, sizes.keeps);
     let Ok((fill, getters)) = made else {
         return Err(Memory);
     };

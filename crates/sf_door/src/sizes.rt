@@ -1,7 +1,8 @@
 //! How large a fill is, and where its keys have their places.
-ghost use Rattle.std.specs.Prelude.{◌≤◌};
+ghost use Rattle.std.specs.Prelude.{◌≡◌, ◌≤◌};
 ghost use Rattle.sf_words.specs.declared.limits.TheConstants.{LARGEST_PLACE, LONGEST_KEY};
 
+use sf_fill::Sizes;
 use sf_keys::Places;
 use sf_words::{LARGEST_PLACE, LONGEST_KEY};
 
@@ -34,11 +35,22 @@ pub struct DirectoryKeys {
 pub struct FillSizes {
     /// Where its keys have their places.
     pub keys: Keys,
-    /// What the caches keep, in bytes of keys and values; nothing where it is 0 or less.
-    pub limit: i64,
-    /// How many events each getter logs.
-    pub log: usize,
-    /// The generation of each getter's first asking, from 1 on; a getter has 4,294,967,295 of them in all.
+    /// How much its caches and its getters keep.
+    pub keeps: Sizes,
+    /// The generation of each getter's first asking, from 1 on; a getter has those up to 4,294,967,295.
     pub first_generation: u32,
     ghost first: { 1 ≤ first_generation },
+}
+
+impl FillSizes {
+    /// A fill of these keys, whose caches keep so many bytes of keys and values; getters log nothing, and keep no letter near.
+    pub fn new(keys: Keys, limit: i64) -> FillSizes
+        ensures { result.keys ≡ keys }
+    {
+        FillSizes {
+            keys,
+            keeps: Sizes::new(limit, 0),
+            first_generation: 1,
+        }
+    }
 }

@@ -1,0 +1,13 @@
+use Rattle.std.specs.Prelude.{◌≡◌, ◌+◌, ◌≤◌, vec_len, vec_capacity}
+use Rattle.sf_door.proofs.team.take_back.Given as goal
+
+abbrev pub invariant-back : goal.invariant-back
+invariant-back g l = record {
+  getters : vec_len l.getters + vec_len l.ended ≡ vec_len l.fn.ended;
+  parts : vec_len l.parts + vec_len l.ended ≡ vec_len l.fn.ended;
+  getter_room : vec_len l.fn.ended ≤ vec_capacity l.getters;
+  part_room : vec_len l.fn.ended ≤ vec_capacity l.parts;
+}
+
+abbrev pub decreases-back : goal.decreases-back
+decreases-back g l = vec_len l.ended
