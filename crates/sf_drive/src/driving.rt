@@ -1,32 +1,31 @@
 //! A drive: its fill, its threads, and what comes of them.
-ghost use Rattle.std.specs.Prelude.{◌≡◌, ◌≢◌, ◌*◌, ◌<◌, ◌≤◌, All, List, IfOk, codes, string_bytes, vec_len, vec_capacity};
+ghost use Rattle.std.specs.Prelude.{◌≡◌, ◌≢◌, ◌*◌, ◌<◌, ◌≤◌, List, IfOk, codes, string_bytes, vec_len};
 ghost use Rattle.std.specs.Io.KnownBytes.{Appends};
 ghost use Rattle.sf_drive.specs.declared.report.DriveEnding.{DriveEnding};
 ghost use Rattle.sf_drive.specs.declared.report.Report.{Report};
 ghost use Rattle.sf_drive.specs.Found.{DriveEvent, IsFound, said_text};
 ghost use Rattle.sf_drive.specs.Reports.{ending_of};
 ghost use Rattle.sf_words.specs.declared.limits.TheConstants.{LARGEST_PLACE};
-ghost use Rattle.sf_door.specs.Opened.{IsNewGetter, places_for};
+ghost use Rattle.sf_door.specs.Opened.{places_for};
 
 use crate::found::{Found, said, verdict};
-use crate::jobs::{Ended, Entry, Job};
+use crate::jobs::{Crew, Ended, Entry};
 use crate::line::DriveLine;
 use crate::loaders::{AnyKey, OddPicker, ThirdFails};
 use crate::report::{DriveEnding, Report};
 use sf_dir::LONGEST_KEY;
-use sf_door::{Body, DirectoryKeys, FillSizes, Keys, Places, with_fill};
+use sf_door::{DirectoryKeys, FillSizes, Keys, Places, Sizes, Team, with_team};
 use sf_fill::{Fill, Getter, Naming};
-use sf_group::{Event, Memory};
+use sf_group::Memory;
 use sf_loaders::scripted::RoundChance;
 use sf_loaders::{LoadPath, Loaders, Origin};
 use sf_replay::merge;
 use sf_text::{StreamFault, write_all};
-use sf_words::PlaceNo;
 use std::alloc::Global;
 use std::fmt::Write as _;
 use std::io::Write;
 use std::sync::Wait;
-use std::thread::{Threads, map_vec};
+use std::thread::Threads;
 use std::time::Clock;
 
 /// What the caches of a drive keep, in bytes.
@@ -49,97 +48,9 @@ fn entries(alloc: Global, keys: u32) -> Result<Vec<Entry>, Memory> {
     Ok(entries)
 }
 
-// Spends all getters.
-fn end_all<'d, D: Naming, N: Naming, O: Origin, L: Drop>(getters: Vec<Getter<'d, D, N, O, L>>) {
-    let mut getters = getters;
-    'rest: while let Some(getter) = getters.pop() {
-        getter.end();
-    }
-    getters.destroy_empty();
-}
+impl<'a, R: Wait + Clock + Eprint> Team for Crew<'a, R> {
+    type Part = Ended;
 
-/// The jobs of the threads, and the list in which their getters were, which has room for them still.
-type HandedOut<'a, 'd, D, N, O, L> = (Vec<Job<'a, 'd, D, N, O, L>>, Vec<Getter<'d, D, N, O, L>>);
-
-// A job for each getter.
-fn hand_out<'a, 'd, D: Naming, N: Naming, O: Origin, L: Drop>(
-    alloc: Global,
-    fill: &'a Fill<'d, D, N, O>,
-    getters: Vec<Getter<'d, D, N, O, L>>,
-    entries: &'a [Entry],
-    line: DriveLine,
-) -> Result<HandedOut<'a, 'd, D, N, O, L>, Memory>
-    requires { vec_len getters ≡ line.threads }
-    ensures jobs { IfOk result (λ out. vec_len out.0 ≡ line.threads) }
-    ensures getters { IfOk result (λ out. (vec_len out.1 ≡ 0) × (line.threads ≤ vec_capacity out.1)) }
-{
-    let mut getters = getters;
-    let Ok(mut jobs) = Vec::with_capacity(alloc, getters.len()) else {
-        end_all(getters);
-        return Err(Memory);
-    };
-    'hand: while let Some(getter) = getters.pop() {
-        jobs.push_reserved(Job {
-            fill,
-            getter,
-            entries,
-            thread: getters.len() as u32,
-            line,
-        });
-    }
-    Ok((jobs, getters))
-}
-
-/// What the threads did, in all.
-struct Back<'d, D: Naming, N: Naming, O: Origin, L> {
-    getters: Vec<Getter<'d, D, N, O, L>>,
-    logs: Vec<Vec<Event<PlaceNo, ()>>>,
-    /// How many gets answered the key's value.
-    answers: u64,
-    /// Whether no getter owes.
-    settled: bool,
-}
-
-// Takes all getters back, with their logs.
-fn take_back<'d, D: Naming, N: Naming, O: Origin, L: Drop>(
-    ended: Vec<Ended<'d, D, N, O, L>>,
-    getters: Vec<Getter<'d, D, N, O, L>>,
-    logs: Vec<Vec<Event<PlaceNo, ()>>>,
-) -> Back<'d, D, N, O, L>
-    requires getters { (vec_len getters ≡ 0) × (vec_len ended ≤ vec_capacity getters) }
-    requires logs { (vec_len logs ≡ 0) × (vec_len ended ≤ vec_capacity logs) }
-    ensures { vec_len result.getters ≡ vec_len ended.entry }
-{
-    let mut ended = ended;
-    let mut getters = getters;
-    let mut logs = logs;
-    let mut answers: u64 = 0;
-    let mut settled = true;
-    'back: while let Some(end) = ended.pop() {
-        let (mut getter, right, owes_nothing) = end.into_parts();
-        answers = answers.saturating_add(right as u64);
-        settled = settled && owes_nothing;
-        logs.push_reserved(getter.take_log());
-        getters.push_reserved(getter);
-    }
-    Back {
-        getters,
-        logs,
-        answers,
-        settled,
-    }
-}
-
-/// A drive's threads, over its fill.
-#[derive(Drop)]
-struct Crew<'a, R> {
-    rt: &'a R,
-    alloc: Global,
-    entries: &'a [Entry],
-    line: DriveLine,
-}
-
-impl<'a, R: Wait + Threads + Clock + Eprint + Sync> Body for Crew<'a, R> {
     type Answer = Result<Found, Memory>;
 
     ghost use Rattle.std.specs.Prelude.{◌≡◌, ◌*◌, IfOk};
@@ -149,79 +60,54 @@ impl<'a, R: Wait + Threads + Clock + Eprint + Sync> Body for Crew<'a, R> {
 
     ghost ends = { λ crew answer. IfOk answer (λ found. IsFound (crew.line.threads * crew.line.gets) found.report found.history) };
 
-    fn run<
-        'd,
-        D: Naming + Send + Sync,
-        N: Naming + Send + Sync,
-        O: Origin + Send + Sync,
-        L: LoadPath<Origin = O> + Send + Drop,
-    >(self, fill: &Fill<'d, D, N, O>, getters: Vec<Getter<'d, D, N, O, L>>) -> Result<Found, Memory>
-        requires wants { N.getters ≡ self.line.threads }
+    fn work<'d, D: Naming, N: Naming, O: Origin, L: LoadPath<Origin = O> + Drop>(
+        &self,
+        fill: &Fill<'d, D, N, O>,
+        getter: Getter<'d, D, N, O, L>,
+        index: u32,
+    ) -> (Getter<'d, D, N, O, L>, Ended) {
+        self.get_all(fill, getter, index)
+    }
+
+    fn finish<'d, D: Naming, N: Naming, O: Origin, L: LoadPath<Origin = O> + Drop>(
+        &self,
+        fill: &Fill<'d, D, N, O>,
+        getters: Vec<Getter<'d, D, N, O, L>>,
+        parts: Vec<Ended>,
+    ) -> Result<Found, Memory>
+        requires wants { N.getters ≡ self.now.line.threads }
         requires getters { vec_len getters ≡ N.getters }
-        requires new { All (IsNewGetter N.group) getters.items }
-        ensures { IfOk result (λ found. IsFound (self.entry.line.threads * self.entry.line.gets) found.report found.history) }
+        requires parts { vec_len parts ≡ N.getters }
+        ensures { IfOk result (λ found. IsFound (self.now.line.threads * self.now.line.gets) found.report found.history) }
     {
-        let Crew {
-            rt,
-            alloc,
-            entries,
-            line,
-        } = self;
-        run_all(rt, alloc, fill, getters, entries, line)
+        let book = fill.book(self.rt);
+        let gathered = fill.gather(self.rt, getters);
+        found(self.alloc, parts, gathered == book, self.line)
     }
 }
 
-// Lets the threads run, and takes the getters back.
-fn run_all<
-    'd,
-    D: Naming + Send + Sync,
-    N: Naming + Send + Sync,
-    O: Origin + Send + Sync,
-    L: LoadPath<Origin = O> + Send + Drop,
-    R: Wait + Threads + Clock + Eprint + Sync,
->(
-    rt: &R,
+// What the threads found.
+fn found(
     alloc: Global,
-    fill: &Fill<'d, D, N, O>,
-    getters: Vec<Getter<'d, D, N, O, L>>,
-    entries: &[Entry],
+    parts: Vec<Ended>,
+    totals_equal: bool,
     line: DriveLine,
 ) -> Result<Found, Memory>
-    requires getters { (vec_len getters ≡ N.getters) × (N.getters ≡ line.threads) }
     ensures { IfOk result (λ found. IsFound (line.threads * line.gets) found.report found.history) }
 {
-    let Ok(logs) = Vec::with_capacity(alloc, line.threads as usize) else {
-        end_all(getters);
-        return Err(Memory);
-    };
-    let (jobs, getters) = hand_out(alloc, fill, getters, entries, line)?;
-    let Ok(ended) = map_vec(rt, jobs, &|job: Job<D, N, O, L>| job.run(rt)) else {
-        getters.destroy_empty();
-        return Err(Memory);
-    };
-    found(rt, alloc, fill, take_back(ended, getters, logs), line)
-}
-
-// What the threads found, of a fill whose getters are all back.
-fn found<'d, D: Naming, N: Naming, O: Origin, L: Drop>(
-    rt: &impl Wait,
-    alloc: Global,
-    fill: &Fill<'d, D, N, O>,
-    back: Back<'d, D, N, O, L>,
-    line: DriveLine,
-) -> Result<Found, Memory>
-    requires all { vec_len back.getters ≡ N.getters }
-    requires some { 0 < vec_len back.getters }
-    ensures { IfOk result (λ found. IsFound (line.threads * line.gets) found.report found.history) }
-{
-    let Back {
-        getters,
-        logs,
-        answers,
-        settled,
-    } = back;
-    let book = fill.book(rt);
-    let gathered = fill.gather(rt, getters);
+    let mut logs = Vec::with_capacity(alloc, parts.len())?;
+    let mut answers: u64 = 0;
+    let mut settled = true;
+    for part in parts {
+        let Ended {
+            answers: right,
+            settled: owes_nothing,
+            log,
+        } = part;
+        answers = answers.saturating_add(right as u64);
+        settled = settled && owes_nothing;
+        logs.push(log)?;
+    }
     if !settled {
         return Err(Memory);
     }
@@ -229,7 +115,7 @@ fn found<'d, D: Naming, N: Naming, O: Origin, L: Drop>(
     let report = Report {
         gets: line.threads as u64 * line.gets as u64,
         answers,
-        totals_equal: gathered == book,
+        totals_equal,
         verdict: verdict(alloc, &history),
     };
     Ok(Found { report, history })
@@ -286,9 +172,8 @@ fn report<R: Wait + Threads + Clock + Eprint + Sync>(
     let entries = entries(alloc, line.keys)?;
     let sizes = FillSizes {
         keys: keys_of(line),
-        limit: LIMIT,
         // A get adds three events at most, and one for each call of another key that it met; a reload adds one.
-        log: 8 * line.gets as usize,
+        keeps: Sizes::new(LIMIT, 8 * line.gets as usize),
         first_generation: 1,
     };
     let crew = Crew {
@@ -297,7 +182,7 @@ fn report<R: Wait + Threads + Clock + Eprint + Sync>(
         entries: entries.as_slice(),
         line,
     };
-    with_fill(alloc, sizes, loaders(alloc, line.threads)?, crew)?
+    with_team(rt, alloc, sizes, loaders(alloc, line.threads)?, &crew)?
 }
 
 /// `sfctl drive`: one getter a thread gets keys of one fill, and reloads some. Writes four lines: how many gets there were,

@@ -3,7 +3,10 @@
 use crate::line::DriveLine;
 use crate::progress::Progress;
 use sf_fill::{Fill, Getter, Naming};
+use sf_group::Event;
 use sf_loaders::{LoadPath, Origin};
+use sf_words::PlaceNo;
+use std::alloc::Global;
 use std::sync::Wait;
 use std::thread::yield_now;
 use std::time::Clock;
@@ -15,71 +18,35 @@ pub(crate) struct Entry {
     pub(crate) value: String,
 }
 
-/// What one thread is to do.
-pub(crate) struct Job<'a, 'd, D: Naming, N: Naming, O: Origin, L> {
-    pub(crate) fill: &'a Fill<'d, D, N, O>,
-    pub(crate) getter: Getter<'d, D, N, O, L>,
+/// What one thread did.
+#[derive(Drop)]
+pub(crate) struct Ended {
+    /// How many of its gets answered the key's value.
+    pub(crate) answers: u32,
+    /// Whether it owes nothing.
+    pub(crate) settled: bool,
+    /// What its calls added.
+    pub(crate) log: Vec<Event<PlaceNo, ()>>,
+}
+
+/// The threads of a drive.
+#[derive(Drop)]
+pub(crate) struct Crew<'a, R> {
+    pub(crate) rt: &'a R,
+    pub(crate) alloc: Global,
     pub(crate) entries: &'a [Entry],
-    /// Which thread it is, from 0.
-    pub(crate) thread: u32,
     pub(crate) line: DriveLine,
 }
 
-impl<'a, 'd, D: Naming, N: Naming, O: Origin, L: Drop> Drop for Job<'a, 'd, D, N, O, L> {
-    fn drop(self) {
-        let Job {
-            fill: _,
-            getter,
-            entries: _,
-            thread: _,
-            line: _,
-        } = self;
-        getter.end();
-    }
-}
-
-/// What one thread did.
-pub(crate) struct Ended<'d, D: Naming, N: Naming, O: Origin, L> {
-    getter: Getter<'d, D, N, O, L>,
-    /// How many of its gets answered the key's value.
-    answers: u32,
-    /// Whether it owes nothing.
-    settled: bool,
-}
-
-impl<'d, D: Naming, N: Naming, O: Origin, L: Drop> Drop for Ended<'d, D, N, O, L> {
-    fn drop(self) {
-        let Ended {
-            getter,
-            answers: _,
-            settled: _,
-        } = self;
-        getter.end();
-    }
-}
-
-impl<'d, D: Naming, N: Naming, O: Origin, L> Ended<'d, D, N, O, L> {
-    /// The getter, how many of its gets answered the key's value, and whether it owes nothing.
-    pub(crate) fn into_parts(self) -> (Getter<'d, D, N, O, L>, u32, bool) {
-        let Ended {
-            getter,
-            answers,
-            settled,
-        } = self;
-        (getter, answers, settled)
-    }
-}
-
-impl<'a, 'd, D: Naming, N: Naming, O: Origin, L: LoadPath<Origin = O>> Job<'a, 'd, D, N, O, L> {
-    /// Makes the gets and the reloads, and delivers what is owed then, so that no other thread waits for it.
-    pub(crate) fn run(self, rt: &(impl Wait + Clock + Eprint)) -> Ended<'d, D, N, O, L> {
-        let Job {
-            fill,
-            getter,
-            entries,
-            thread,
-            line,
-        } = self;
+impl<'a, R: Wait + Clock + Eprint> Crew<'a, R> {
+    // Makes the gets and the reloads, and delivers what is owed then, so that no other thread waits for it.
+    pub(crate) fn get_all<'d, D: Naming, N: Naming, O: Origin, L: LoadPath<Origin = O>>(
+        &self,
+        fill: &Fill<'d, D, N, O>,
+        getter: Getter<'d, D, N, O, L>,
+        thread: u32,
+    ) -> (Getter<'d, D, N, O, L>, Ended) {
+        let (rt, line) = (self.rt, self.line);
         let mut getter = getter;
         let mut answers: u32 = 0;
         let mut progress = if line.progress && thread == 0 {
@@ -92,7 +59,7 @@ impl<'a, 'd, D: Naming, N: Naming, O: Origin, L: LoadPath<Origin = O>> Job<'a, '
                 progress.say(rt, turn, line.gets);
             }
             let next = 7 * turn as u64 + thread as u64;
-            let Some(entry) = entries.get((next % line.keys as u64) as usize) else {
+            let Some(entry) = self.entries.get((next % line.keys as u64) as usize) else {
                 continue;
             };
             let key = entry.key.as_bytes();
@@ -108,12 +75,15 @@ impl<'a, 'd, D: Naming, N: Naming, O: Origin, L: LoadPath<Origin = O>> Job<'a, '
                 back
             };
         }
-        let (getter, settled) = settle_up_often(rt, fill, getter);
-        Ended {
-            getter,
+        let (mut getter, settled) = settle_up_often(rt, fill, getter);
+        getter.enter(rt, fill);
+        let log = getter.take_log();
+        let ended = Ended {
             answers,
             settled,
-        }
+            log,
+        };
+        (getter, ended)
     }
 }
 

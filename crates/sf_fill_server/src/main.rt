@@ -2,19 +2,17 @@
 //! and tells a note, and who learns the note gets the new page.
 #![tactic(auto)]
 
-ghost use Rattle.std.specs.Prelude.{◌≡◌, All, vec_len};
-ghost use Rattle.sf_door.specs.Opened.{IsNewGetter};
+ghost use Rattle.std.specs.Prelude.{◌≡◌, vec_len};
 
 mod pages;
 
 use crate::pages::{Pages, loaders};
-use sf_door::{Body, FillSizes, Keys, Places, with_fill};
+use sf_door::{FillSizes, Keys, Places, Team, with_team};
 use sf_fill::{Fill, Getter, Naming, Totals};
 use sf_loaders::{LoadPath, Origin};
 use std::io;
 use std::process::ExitCode;
 use std::sync::Wait;
-use std::thread::{Threads, join};
 
 const PAGE: &[u8] = b"/index.html";
 
@@ -25,7 +23,10 @@ struct Serve<'a, R> {
     pages: &'a Pages,
 }
 
-impl<'a, R: Wait + Threads + Sync> Body for Serve<'a, R> {
+impl<'a, R: Wait> Team for Serve<'a, R> {
+    type Part = ();
+
+    /// Whether the last get had the new page, and what was counted.
     type Answer = (bool, Totals);
 
     ghost use Rattle.std.specs.Prelude.{◌≡◌, ⊤};
@@ -34,29 +35,36 @@ impl<'a, R: Wait + Threads + Sync> Body for Serve<'a, R> {
 
     ghost ends = { λ serve answer. ⊤ };
 
-    fn run<
-        'd,
-        D: Naming + Send + Sync,
-        N: Naming + Send + Sync,
-        O: Origin + Send + Sync,
-        L: LoadPath<Origin = O> + Send + Drop,
-    >(self, fill: &Fill<'d, D, N, O>, getters: Vec<Getter<'d, D, N, O, L>>) -> (bool, Totals)
+    fn work<'d, D: Naming, N: Naming, O: Origin, L: LoadPath<Origin = O> + Drop>(
+        &self,
+        fill: &Fill<'d, D, N, O>,
+        getter: Getter<'d, D, N, O, L>,
+        _index: u32,
+    ) -> (Getter<'d, D, N, O, L>, ()) {
+        let (getter, _page) = fill.get(self.rt, getter, PAGE);
+        (getter, ())
+    }
+
+    fn finish<'d, D: Naming, N: Naming, O: Origin, L: LoadPath<Origin = O> + Drop>(
+        &self,
+        fill: &Fill<'d, D, N, O>,
+        getters: Vec<Getter<'d, D, N, O, L>>,
+        parts: Vec<()>,
+    ) -> (bool, Totals)
         requires wants { N.getters ≡ 2 }
         requires getters { vec_len getters ≡ N.getters }
-        requires new { All (IsNewGetter N.group) getters.items }
+        requires parts { vec_len parts ≡ N.getters }
     {
-        let Serve { rt, pages } = self;
+        let rt = self.rt;
         let mut getters = getters;
-        let (Some(two), Some(one)) = (getters.pop(), getters.pop()) else {
+        let Some(two) = getters.pop() else {
             unreachable!()
         };
-        let ((mut one, _page), (two, _same)) = join(
-            rt,
-            || fill.get(rt, one, PAGE),
-            || fill.get(rt, two, PAGE),
-        );
+        let Some(mut one) = getters.pop() else {
+            unreachable!()
+        };
 
-        pages.change();
+        self.pages.change();
         let (mut two, _forgot) = fill.reload(rt, two, PAGE);
         let mut note = two.tell(fill);
         one.learn(fill, &mut note);
@@ -72,22 +80,14 @@ impl<'a, R: Wait + Threads + Sync> Body for Serve<'a, R> {
 fn main(rt: HostRuntime) -> io::Result<ExitCode> {
     let alloc = rt.alloc();
     let pages = Pages::new();
-    let sizes = FillSizes {
-        keys: Keys::Hashed(Places {
-            count: 1_024,
-            seed0: 7,
-            seed1: 11,
-        }),
-        limit: 1_000_000,
-        log: 0,
-        first_generation: 1,
-    };
+    let places = Places::new(&rt, 1_024)?;
+    let sizes = FillSizes::new(Keys::Hashed(places), 1_000_000);
     let sets = vec![in alloc; loaders(&pages), loaders(&pages)]?;
     let serve = Serve {
         rt: &rt,
         pages: &pages,
     };
-    let (is_new, totals) = with_fill(alloc, sizes, sets, serve)?;
+    let (is_new, totals) = with_team(&rt, alloc, sizes, sets, &serve)?;
     let Totals {
         gets,
         local_loads,

@@ -88,8 +88,8 @@ impl<'a, R: Wait> Body for SecondLook<'a, R> {
         };
         getters.destroy_empty();
         let (one, _view) = fill.get(rt, one, b"a");
-        one.end();
-        let mut leader = two.into_caller()?;
+        one.end(rt, fill);
+        let mut leader = two.into_caller(rt, fill)?;
         if !fill.group().has(1) {
             return None;
         }
@@ -110,16 +110,12 @@ fn loaders(alloc: Global) -> Result<Loaders<FixedPicker, Script, Script, RoundCh
 }
 
 fn try_out<R: Wait>(rt: &R, alloc: Global, case: Case) -> Result<Option<CallId>, Memory> {
-    let sizes = FillSizes {
-        keys: Keys::Hashed(Places {
-            count: 1,
-            seed0: 0,
-            seed1: 0,
-        }),
-        limit: 100,
-        log: 0,
-        first_generation: 1,
+    let places = Places {
+        count: 1,
+        seed0: 0,
+        seed1: 0,
     };
+    let sizes = FillSizes::new(Keys::Hashed(places), 100);
     let sets = vec![in alloc; loaders(alloc)?, loaders(alloc)?]?;
     with_fill(alloc, sizes, sets, SecondLook { rt, case })
 }

@@ -41,28 +41,6 @@ pub enum Step {
 /// The keys whose sources change.
 const KEYS: [&str; 2] = ["a", "b"];
 
-/// A getter that is to make these steps.
-pub struct Turns<'a, 'd, 'f, D: Naming, N: Naming, O: Origin, L> {
-    pub fill: &'a Fill<'d, D, N, O>,
-    pub getter: Getter<'d, D, N, O, L>,
-    pub steps: &'static [Step],
-    pub flags: &'f Flags,
-    pub alloc: Global,
-}
-
-impl<'a, 'd, 'f, D: Naming, N: Naming, O: Origin, L: Drop> Drop for Turns<'a, 'd, 'f, D, N, O, L> {
-    fn drop(self) {
-        let Turns {
-            fill: _,
-            getter,
-            steps: _,
-            flags: _,
-            alloc: _,
-        } = self;
-        getter.end();
-    }
-}
-
 // What a get answers: the bytes, the call and how many joined it. Where memory is refused, the text is short.
 fn say_view<'d, D: Naming, O: Origin>(
     said: &mut String,
@@ -183,54 +161,44 @@ fn change<'d, D: Naming, N: Naming, O: Origin, L>(
     getter
 }
 
-impl<'a, 'd, 'f, D: Naming, N: Naming, O: Origin, L: LoadPath<Origin = O>> Turns<
-    'a,
-    'd,
-    'f,
-    D,
-    N,
-    O,
-    L,
-> {
-    /// The getter when its steps are made, and what it says of them.
-    pub fn run(self, rt: &impl Wait) -> (Getter<'d, D, N, O, L>, String) {
-        let Turns {
-            fill,
-            getter,
-            steps,
-            flags,
-            alloc,
-        } = self;
-        let mut getter = getter;
-        let mut said = String::new(alloc);
-        for step in steps {
-            match *step {
-                Step::Get(key) => {
-                    let (back, answer) = fill.get(rt, getter, key.as_bytes());
-                    say_view(&mut said, key, &answer);
-                    getter = back;
-                }
-                Step::Reload(key) => {
-                    let (back, answer) = fill.reload(rt, getter, key.as_bytes());
-                    say_forgot(&mut said, key, &answer);
-                    getter = back;
-                }
-                Step::SettleUp => {
-                    let owed = getter.owes();
-                    let (back, outcome) = getter.settle_up(rt, fill);
-                    let settled = outcome.is_ok();
-                    let _ = write!(&mut said, "owes={owed} settled={settled}\n");
-                    getter = back;
-                }
-                Step::TakeLog => say_events(&mut said, getter.take_log().as_slice()),
-                Step::AwaitLoad => flags.wait_for(&flags.loading),
-                Step::TellAnswered => flags.answered.store(true, Ordering::SeqCst),
-                Step::TellGot => flags.got.store(true, Ordering::SeqCst),
-                Step::AwaitGot => flags.wait_for(&flags.got),
-                Step::Read(gets) => getter = read(rt, fill, getter, flags, gets, &mut said),
-                Step::Change(versions) => getter = change(rt, fill, getter, flags, versions),
+/// The getter when its steps are made, and what it says of them.
+pub fn run<'d, D: Naming, N: Naming, O: Origin, L: LoadPath<Origin = O>>(
+    rt: &impl Wait,
+    fill: &Fill<'d, D, N, O>,
+    getter: Getter<'d, D, N, O, L>,
+    steps: &[Step],
+    flags: &Flags,
+    alloc: Global,
+) -> (Getter<'d, D, N, O, L>, String) {
+    let mut getter = getter;
+    let mut said = String::new(alloc);
+    for step in steps {
+        match *step {
+            Step::Get(key) => {
+                let (back, answer) = fill.get(rt, getter, key.as_bytes());
+                say_view(&mut said, key, &answer);
+                getter = back;
             }
+            Step::Reload(key) => {
+                let (back, answer) = fill.reload(rt, getter, key.as_bytes());
+                say_forgot(&mut said, key, &answer);
+                getter = back;
+            }
+            Step::SettleUp => {
+                let owed = getter.owes();
+                let (back, outcome) = getter.settle_up(rt, fill);
+                let settled = outcome.is_ok();
+                let _ = write!(&mut said, "owes={owed} settled={settled}\n");
+                getter = back;
+            }
+            Step::TakeLog => say_events(&mut said, getter.take_log().as_slice()),
+            Step::AwaitLoad => flags.wait_for(&flags.loading),
+            Step::TellAnswered => flags.answered.store(true, Ordering::SeqCst),
+            Step::TellGot => flags.got.store(true, Ordering::SeqCst),
+            Step::AwaitGot => flags.wait_for(&flags.got),
+            Step::Read(gets) => getter = read(rt, fill, getter, flags, gets, &mut said),
+            Step::Change(versions) => getter = change(rt, fill, getter, flags, versions),
         }
-        (getter, said)
     }
+    (getter, said)
 }

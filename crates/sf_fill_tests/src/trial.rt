@@ -1,11 +1,10 @@
 //! A fill with two getters, from nothing.
-ghost use Rattle.std.specs.Prelude.{◌≡◌, ◌≤◌, All, vec_len};
-ghost use Rattle.sf_door.specs.Opened.{IsNewGetter};
+ghost use Rattle.std.specs.Prelude.{◌≡◌, ◌≤◌, vec_len};
 
 use crate::loaders::{Flags, TestLoaders, TestLocal};
-use crate::steps::{Step, Turns};
+use crate::steps::{Step, run};
 use bytes::{ByteStr, Bytes};
-use sf_door::{Body, DirectoryKeys, FillSizes, Keys, Places, with_fill};
+use sf_door::{DirectoryKeys, FillSizes, Keys, Places, Sizes, Team, with_team};
 use sf_fill::{Fill, Getter, Naming, Totals};
 use sf_group::Memory;
 use sf_loaders::scripted::{Answer, FixedPicker, RoundChance, Script};
@@ -13,7 +12,7 @@ use sf_loaders::{LoadPath, Loaders, Origin};
 use std::alloc::Global;
 use std::sync::Wait;
 use std::sync::atomic::Ordering;
-use std::thread::{Threads, join};
+use std::thread::Threads;
 
 /// What a loader answers where there is one.
 #[derive(Clone, Copy)]
@@ -61,7 +60,27 @@ struct Play<'a, R> {
     flags: &'a Flags,
 }
 
-impl<'a, R: Wait + Threads + Sync> Body for Play<'a, R> {
+impl<'a, R: Wait> Play<'a, R> {
+    // What the getter of this index does, and says.
+    fn turns<'d, D: Naming, N: Naming, O: Origin, L: LoadPath<Origin = O> + Drop>(
+        &self,
+        fill: &Fill<'d, D, N, O>,
+        getter: Getter<'d, D, N, O, L>,
+        index: u32,
+    ) -> (Getter<'d, D, N, O, L>, String) {
+        let [first, second, third] = self.setting.steps;
+        let steps = match index {
+            0 => first,
+            1 => second,
+            _ => third,
+        };
+        run(self.rt, fill, getter, steps, self.flags, self.alloc)
+    }
+}
+
+impl<'a, R: Wait> Team for Play<'a, R> {
+    type Part = String;
+
     type Answer = Outcome;
 
     ghost use Rattle.std.specs.Prelude.{◌≡◌, ⊤};
@@ -70,23 +89,30 @@ impl<'a, R: Wait + Threads + Sync> Body for Play<'a, R> {
 
     ghost ends = { λ play outcome. ⊤ };
 
-    fn run<
-        'd,
-        D: Naming + Send + Sync,
-        N: Naming + Send + Sync,
-        O: Origin + Send + Sync,
-        L: LoadPath<Origin = O> + Send + Drop,
-    >(self, fill: &Fill<'d, D, N, O>, getters: Vec<Getter<'d, D, N, O, L>>) -> Outcome
+    fn work<'d, D: Naming, N: Naming, O: Origin, L: LoadPath<Origin = O> + Drop>(
+        &self,
+        fill: &Fill<'d, D, N, O>,
+        getter: Getter<'d, D, N, O, L>,
+        index: u32,
+    ) -> (Getter<'d, D, N, O, L>, String) {
+        if self.setting.beside {
+            self.turns(fill, getter, index)
+        } else {
+            (getter, String::new(self.alloc))
+        }
+    }
+
+    fn finish<'d, D: Naming, N: Naming, O: Origin, L: LoadPath<Origin = O> + Drop>(
+        &self,
+        fill: &Fill<'d, D, N, O>,
+        getters: Vec<Getter<'d, D, N, O, L>>,
+        parts: Vec<String>,
+    ) -> Outcome
         requires wants { N.getters ≡ 3 }
         requires getters { vec_len getters ≡ N.getters }
-        requires new { All (IsNewGetter N.group) getters.items }
+        requires parts { vec_len parts ≡ N.getters }
     {
-        let Play {
-            rt,
-            alloc,
-            setting,
-            flags,
-        } = self;
+        let rt = self.rt;
         let mut getters = getters;
         let Some(three) = getters.pop() else {
             unreachable!()
@@ -97,29 +123,28 @@ impl<'a, R: Wait + Threads + Sync> Body for Play<'a, R> {
         let Some(one) = getters.pop() else {
             unreachable!()
         };
-        let [first, second, third] = setting.steps;
-        let turns = |getter, steps| Turns {
-            fill,
-            getter,
-            steps,
-            flags,
-            alloc,
+        let mut parts = parts;
+        let (Some(third), Some(second), Some(first)) = (parts.pop(), parts.pop(), parts.pop())
+        else {
+            unreachable!()
         };
-        let (one, two, three) = (turns(one, first), turns(two, second), turns(three, third));
-        let ((one, first), ((two, second), (three, third))) = if setting.beside {
-            join(
-                rt,
-                || one.run(rt),
-                || join(rt, || two.run(rt), || three.run(rt)),
-            )
+        let ((mut one, first), (mut two, second), (mut three, third)) = if self.setting.beside {
+            ((one, first), (two, second), (three, third))
         } else {
-            (one.run(rt), (two.run(rt), three.run(rt)))
+            (
+                self.turns(fill, one, 0),
+                self.turns(fill, two, 1),
+                self.turns(fill, three, 2),
+            )
         };
+        one.enter(rt, fill);
+        two.enter(rt, fill);
+        three.enter(rt, fill);
         let book = fill.book(rt);
-        let gathered = if setting.ends {
-            one.end();
-            two.end();
-            three.end();
+        let gathered = if self.setting.ends {
+            one.end(rt, fill);
+            two.end(rt, fill);
+            three.end(rt, fill);
             getters.destroy_empty();
             fill.book(rt)
         } else {
@@ -194,8 +219,7 @@ pub fn try_out<R: Wait + Threads + Sync>(
     };
     let sizes = FillSizes {
         keys,
-        limit: setting.limit,
-        log: 64,
+        keeps: Sizes::new(setting.limit, 64),
         first_generation: 1,
     };
     let mut sets = Vec::with_capacity(alloc, 3)?;
@@ -208,7 +232,7 @@ pub fn try_out<R: Wait + Threads + Sync>(
         setting,
         flags: &flags,
     };
-    let mut outcome = with_fill(alloc, sizes, sets, play)?;
+    let mut outcome = with_team(rt, alloc, sizes, sets, &play)?;
     outcome.failed = flags.failed.load(Ordering::SeqCst);
     Ok(outcome)
 }

@@ -1,26 +1,32 @@
 //! Fills of two getters, and a spare caller that joins the first one's load. Wherever one allocation is refused, each get
 //! answers the value, and one at most the fault for want of memory; what is owed is delivered then.
-ghost use Rattle.std.specs.Prelude.{◌≡◌, All, IfSome, vec_len};
+ghost use Rattle.std.specs.Prelude.{◌≡◌, ◌≤◌, IfSome, vec_len};
 ghost use Rattle.sf_calls.specs.Same.{IsPlaceOf};
-ghost use Rattle.sf_door.specs.Opened.{IsNewGetter};
+ghost use Rattle.sf_words.specs.declared.limits.TheConstants.{LARGEST_PLACE};
+ghost use Rattle.sf_spots.specs.Spaces.{AreDesksOf, places_in, space_of};
+ghost use Rattle.sf_fill.specs.Made.{AreParts, AreOfGroup};
 
 use bytes::{ByteStr, Bytes};
-use sf_door::{Body, DirectoryKeys, FillSizes, Keys, with_fill};
-use sf_fill::{Fill, FillValue, Getter, LoadFault, Naming};
-use sf_group::{Begun, CallId, Caller, Memory, Polled, Ticket};
+use sf_fill::{Fill, FillParts, FillValue, Getter, Ledgers, LoadFault, Naming, Sizes};
+use sf_group::{Begun, CallId, Caller, Group, Memory, Polled, Ticket};
 use sf_loaders::scripted::{Answer, AnyValue, FixedPicker, RoundChance, Script};
-use sf_loaders::{LoadPath, Loaders, Local, LocalFault, Origin};
+use sf_loaders::{Loaders, Local, LocalFault};
+use sf_spots::{KeyDesk, KeySpace, open_directory};
 use sf_wait::begin_wait;
 use std::alloc::Global;
-use std::marker::Model;
+use std::marker::{Brand, Model};
 use std::process::Abort;
 use std::sync::Wait;
 use std::sync::atomic::{AtomicBool, Ordering};
 use std::test::Fail;
 use std::thread::{Threads, join, yield_now};
 
-/// The place of the key `a`, which is the only one.
-const PLACE: u32 = 1;
+const SIZES: Sizes = Sizes {
+    limit: 100,
+    log: 8,
+    near: 0,
+    near_limit: 0,
+};
 
 // What the first getter's load and the spare caller tell each other.
 #[derive(Drop)]
@@ -68,6 +74,10 @@ impl<'f> Local for Meeting<'f> {
 
 type PairLoaders<'f> = Loaders<FixedPicker, Script, Meeting<'f>, RoundChance>;
 
+type PairParts<'d, 'f, D> = FillParts<'d, D, AnyValue, PairLoaders<'f>>;
+
+type PairGetter<'d, 'f, D, N> = Getter<'d, D, N, AnyValue, PairLoaders<'f>>;
+
 /// What the two getters do.
 #[derive(Clone, Copy, PartialEq, Eq)]
 enum Scene {
@@ -80,21 +90,21 @@ enum Scene {
 }
 
 // A getter, and how often it was refused memory.
-struct Tried<'d, D: Naming, N: Naming, O: Origin, L> {
-    getter: Getter<'d, D, N, O, L>,
+struct Tried<'d, 'f, D: Naming, N: Naming> {
+    getter: PairGetter<'d, 'f, D, N>,
     refused: u32,
 }
 
-impl<'d, D: Naming, N: Naming, O: Origin, L: Drop> Drop for Tried<'d, D, N, O, L> {
+impl<'d, 'f, D: Naming, N: Naming> Drop for Tried<'d, 'f, D, N> {
     fn drop(self) {
         let Tried { getter, refused: _ } = self;
-        getter.end();
+        getter.abandon();
     }
 }
 
-impl<'d, D: Naming, N: Naming, O: Origin, L: LoadPath<Origin = O> + Drop> Tried<'d, D, N, O, L> {
+impl<'d, 'f, D: Naming, N: Naming> Tried<'d, 'f, D, N> {
     // The value, or the fault for want of memory.
-    fn get<R: Wait + Abort>(self, rt: &R, fill: &Fill<'d, D, N, O>) -> Self {
+    fn get<R: Wait + Abort>(self, rt: &R, fill: &Fill<'d, D, N, AnyValue>) -> Self {
         let Tried { getter, refused } = self;
         let (getter, answer) = fill.get(rt, getter, b"a");
         let refused = match &answer {
@@ -103,14 +113,14 @@ impl<'d, D: Naming, N: Naming, O: Origin, L: LoadPath<Origin = O> + Drop> Tried<
                 assert!(rt; bytes.as_slice() == b"v".as_slice(), "another value");
                 refused
             }
-            Err(LoadFault::Memory) | Err(LoadFault::LeaderMemory) => refused.wrapping_add(1),
+            Err(LoadFault::Memory | LoadFault::LeaderMemory) => refused.wrapping_add(1),
             Err(fault) => panic!(rt; "{fault}"),
         };
         Tried { getter, refused }
     }
 
     // A Forget, or the fault for want of memory where letters are owed.
-    fn reload<R: Wait + Abort>(self, rt: &R, fill: &Fill<'d, D, N, O>) -> Self {
+    fn reload<R: Wait + Abort>(self, rt: &R, fill: &Fill<'d, D, N, AnyValue>) -> Self {
         let Tried { getter, refused } = self;
         let (getter, answer) = fill.reload(rt, getter, b"a");
         let refused = match answer {
@@ -122,7 +132,7 @@ impl<'d, D: Naming, N: Naming, O: Origin, L: LoadPath<Origin = O> + Drop> Tried<
     }
 
     // What is owed is delivered, with memory, and then a get answers the value.
-    fn end<R: Wait + Abort>(self, rt: &R, fill: &Fill<'d, D, N, O>) -> u32 {
+    fn end<R: Wait + Abort>(self, rt: &R, fill: &Fill<'d, D, N, AnyValue>) -> u32 {
         let Tried { getter, refused } = self;
         let (getter, settled) = getter.settle_up(rt, fill);
         assert!(rt; settled.is_ok(), "it is refused memory again");
@@ -132,19 +142,19 @@ impl<'d, D: Naming, N: Naming, O: Origin, L: LoadPath<Origin = O> + Drop> Tried<
 }
 
 // A ticket of the spare caller.
-struct Waiting<'d, D: Naming, O: Origin> {
-    ticket: Ticket<FillValue<'d, D, O>>,
+struct Waiting<'d, D: Naming> {
+    ticket: Ticket<FillValue<'d, D, AnyValue>>,
 }
 
-impl<'d, D: Naming, O: Origin> Drop for Waiting<'d, D, O> {
+impl<'d, D: Naming> Drop for Waiting<'d, D> {
     fn drop(self) {
         let Waiting { ticket } = self;
         ticket.abandon();
     }
 }
 
-impl<'d, D: Naming, O: Origin> Waiting<'d, D, O> {
-    fn into_ticket(self) -> Ticket<FillValue<'d, D, O>>
+impl<'d, D: Naming> Waiting<'d, D> {
+    fn into_ticket(self) -> Ticket<FillValue<'d, D, AnyValue>>
         ensures { result ≡ self.entry.ticket }
     {
         let Waiting { ticket } = self;
@@ -153,13 +163,13 @@ impl<'d, D: Naming, O: Origin> Waiting<'d, D, O> {
 }
 
 // The first getter, which gets while the spare caller asks.
-struct First<'a, 'd, 'f, D: Naming, N: Naming, O: Origin, L> {
-    fill: &'a Fill<'d, D, N, O>,
-    tried: Tried<'d, D, N, O, L>,
+struct First<'a, 'd, 'f, D: Naming, N: Naming> {
+    fill: &'a Fill<'d, D, N, AnyValue>,
+    tried: Tried<'d, 'f, D, N>,
     flags: &'f Flags,
 }
 
-impl<'a, 'd, 'f, D: Naming, N: Naming, O: Origin, L: Drop> Drop for First<'a, 'd, 'f, D, N, O, L> {
+impl<'a, 'd, 'f, D: Naming, N: Naming> Drop for First<'a, 'd, 'f, D, N> {
     fn drop(self) {
         let First {
             fill: _,
@@ -169,16 +179,8 @@ impl<'a, 'd, 'f, D: Naming, N: Naming, O: Origin, L: Drop> Drop for First<'a, 'd
     }
 }
 
-impl<'a, 'd, 'f, D: Naming, N: Naming, O: Origin, L: LoadPath<Origin = O> + Drop> First<
-    'a,
-    'd,
-    'f,
-    D,
-    N,
-    O,
-    L,
-> {
-    fn get<R: Wait + Abort>(self, rt: &R) -> Tried<'d, D, N, O, L> {
+impl<'a, 'd, 'f, D: Naming, N: Naming> First<'a, 'd, 'f, D, N> {
+    fn get<R: Wait + Abort>(self, rt: &R) -> Tried<'d, 'f, D, N> {
         let First { fill, tried, flags } = self;
         let tried = tried.get(rt, fill);
         flags.answered.store(true, Ordering::SeqCst);
@@ -188,14 +190,14 @@ impl<'a, 'd, 'f, D: Naming, N: Naming, O: Origin, L: LoadPath<Origin = O> + Drop
 
 // The spare caller, which asks for the place while the first getter loads.
 #[derive(Drop)]
-struct Spare<'a, 'd, 'f, D: Naming, N: Naming, O: Origin> {
-    fill: &'a Fill<'d, D, N, O>,
-    caller: Caller<FillValue<'d, D, O>>,
+struct Spare<'a, 'd, 'f, D: Naming, N: Naming> {
+    fill: &'a Fill<'d, D, N, AnyValue>,
+    caller: Caller<FillValue<'d, D, AnyValue>>,
     place: u32,
     flags: &'f Flags,
 }
 
-impl<'a, 'd, 'f, D: Naming, N: Naming, O: Origin> Model for Spare<'a, 'd, 'f, D, N, O> {
+impl<'a, 'd, 'f, D: Naming, N: Naming> Model for Spare<'a, 'd, 'f, D, N> {
     ghost use Rattle.std.specs.Prelude.{◌≡◌};
     ghost use Rattle.sf_calls.specs.Same.{IsPlaceOf};
 
@@ -206,9 +208,9 @@ impl<'a, 'd, 'f, D: Naming, N: Naming, O: Origin> Model for Spare<'a, 'd, 'f, D,
     ghost invariant = { λ s. (s.caller.group ≡ N.group) × IsPlaceOf N.group s.place };
 }
 
-impl<'a, 'd, 'f, D: Naming, N: Naming, O: Origin> Spare<'a, 'd, 'f, D, N, O> {
+impl<'a, 'd, 'f, D: Naming, N: Naming> Spare<'a, 'd, 'f, D, N> {
     // Its ticket, if the first getter loaded then.
-    fn ask<R: Wait + Abort>(self, rt: &R) -> Option<Waiting<'d, D, O>>
+    fn ask<R: Wait + Abort>(self, rt: &R) -> Option<Waiting<'d, D>>
         ensures { IfSome result (λ w. w.ticket.group ≡ N.group) }
     {
         let Spare {
@@ -235,10 +237,10 @@ impl<'a, 'd, 'f, D: Naming, N: Naming, O: Origin> Spare<'a, 'd, 'f, D, N, O> {
 }
 
 // The letter is there.
-fn take_letter<'d, D: Naming, N: Naming, O: Origin>(
+fn take_letter<'d, D: Naming, N: Naming>(
     rt: &impl Abort,
-    fill: &Fill<'d, D, N, O>,
-    waiting: Waiting<'d, D, O>,
+    fill: &Fill<'d, D, N, AnyValue>,
+    waiting: Waiting<'d, D>,
 )
     requires { waiting.ticket.group ≡ N.group }
 {
@@ -259,18 +261,11 @@ fn take_letter<'d, D: Naming, N: Naming, O: Origin>(
 }
 
 // What the getters of a fill do, one after the other.
-fn play_in_turn<
-    'd,
-    D: Naming,
-    N: Naming,
-    O: Origin,
-    L: LoadPath<Origin = O> + Drop,
-    R: Wait + Abort,
->(
+fn play_in_turn<'d, 'f, D: Naming, N: Naming, R: Wait + Abort>(
     rt: &R,
-    fill: &Fill<'d, D, N, O>,
-    one: Tried<'d, D, N, O, L>,
-    two: Tried<'d, D, N, O, L>,
+    fill: &Fill<'d, D, N, AnyValue>,
+    one: Tried<'d, 'f, D, N>,
+    two: Tried<'d, 'f, D, N>,
     scene: Scene,
 ) -> u32 {
     let one = one.get(rt, fill);
@@ -290,14 +285,12 @@ fn play_beside<
     'f,
     D: Naming + Send + Sync,
     N: Naming + Send + Sync,
-    O: Origin + Send + Sync,
-    L: LoadPath<Origin = O> + Send + Drop,
     R: Wait + Threads + Abort + Sync,
 >(
     rt: &R,
-    fill: &Fill<'d, D, N, O>,
-    tried: Tried<'d, D, N, O, L>,
-    caller: Caller<FillValue<'d, D, O>>,
+    fill: &Fill<'d, D, N, AnyValue>,
+    tried: Tried<'d, 'f, D, N>,
+    caller: Caller<FillValue<'d, D, AnyValue>>,
     place: u32,
     flags: &'f Flags,
 ) -> u32
@@ -319,62 +312,57 @@ fn play_beside<
     refused
 }
 
-/// What the getters of a scene do; in `Joined`, the second one's caller is spare.
-#[derive(Drop)]
-struct Play<'a, R> {
-    rt: &'a R,
+// All is named here.
+fn with_all<
+    'd,
+    'f,
+    D: Naming + Send + Sync,
+    N: Naming + Send + Sync,
+    R: Wait + Threads + Abort + Sync,
+>(
+    rt: &R,
+    alloc: Global,
+    space: KeySpace<'d>,
+    parts: PairParts<'d, 'f, D>,
+    caller: Caller<FillValue<'d, D, AnyValue>>,
+    place: u32,
     scene: Scene,
-    flags: &'a Flags,
-}
-
-impl<'a, R: Wait + Threads + Abort + Sync> Body for Play<'a, R> {
-    type Answer = u32;
-
-    ghost use Rattle.std.specs.Prelude.{◌≡◌, ⊤};
-
-    ghost wants = { λ play getters. getters ≡ 2 };
-
-    ghost ends = { λ play refused. ⊤ };
-
-    fn run<
-        'd,
-        D: Naming + Send + Sync,
-        N: Naming + Send + Sync,
-        O: Origin + Send + Sync,
-        L: LoadPath<Origin = O> + Send + Drop,
-    >(self, fill: &Fill<'d, D, N, O>, getters: Vec<Getter<'d, D, N, O, L>>) -> u32
-        requires wants { N.getters ≡ 2 }
-        requires getters { vec_len getters ≡ N.getters }
-        requires new { All (IsNewGetter N.group) getters.items }
-    {
-        let Play { rt, scene, flags } = self;
-        let mut getters = getters;
-        let Some(two) = getters.pop() else {
-            unreachable!()
-        };
-        let Some(one) = getters.pop() else {
-            unreachable!()
-        };
-        getters.destroy_empty();
-        let one = Tried {
-            getter: one,
-            refused: 0,
-        };
-        if scene != Scene::Joined {
-            let two = Tried {
-                getter: two,
-                refused: 0,
-            };
-            return play_in_turn(rt, fill, one, two, scene);
-        }
-        let Some(caller) = two.into_caller() else {
-            panic!(rt; "a new getter owes letters")
-        };
-        if !fill.group().has(PLACE) {
-            panic!(rt; "the group has no such place")
-        }
-        play_beside(rt, fill, one, caller, PLACE, flags)
+    flags: &'f Flags,
+) -> Result<u32, Memory>
+    requires space { (space_of space ≡ N.space) × (D.space ≡ N.space) }
+    requires parts { AreParts N.space N.group N.getters N.ledgers parts }
+    requires getters { N.getters ≡ 2 }
+    requires own { caller.group ≡ N.group }
+    requires place { IsPlaceOf N.group place }
+{
+    let made = match Fill::<'d, D, N, AnyValue>::new(alloc, space, parts, SIZES) {
+        Ok(made) => made,
+        Err(parts) => match Fill::<'d, D, N, AnyValue>::new(alloc, space, parts, SIZES) {
+            Ok(made) => made,
+            Err(_) => return Err(Memory),
+        },
+    };
+    let (fill, mut getters) = made;
+    let Some(two) = getters.pop() else {
+        unreachable!()
+    };
+    let Some(one) = getters.pop() else {
+        unreachable!()
+    };
+    getters.destroy_empty();
+    let one = Tried {
+        getter: one,
+        refused: 0,
+    };
+    let two = Tried {
+        getter: two,
+        refused: 0,
+    };
+    if scene == Scene::Joined {
+        drop(two);
+        return Ok(play_beside(rt, &fill, one, caller, place, flags));
     }
+    Ok(play_in_turn(rt, &fill, one, two, scene))
 }
 
 fn loaders<'f>(
@@ -396,6 +384,79 @@ fn loaders<'f>(
     ))
 }
 
+// The last caller, and the two before it.
+fn take_spare<'d, D: Naming>(
+    group: &Group<FillValue<'d, D, AnyValue>>,
+    callers: Vec<Caller<FillValue<'d, D, AnyValue>>>,
+) -> Option<
+    (
+        Vec<Caller<FillValue<'d, D, AnyValue>>>,
+        Caller<FillValue<'d, D, AnyValue>>,
+    ),
+>
+    requires { AreOfGroup group.now callers.items }
+    ensures two { IfSome result (λ taken. (vec_len taken.0 ≡ 2) × AreOfGroup group.now taken.0.items) }
+    ensures spare { IfSome result (λ taken. taken.1.group ≡ group.now) }
+{
+    let _ = group;
+    let mut callers = callers;
+    let spare = callers.pop()?;
+    if callers.len() != 2 {
+        return None;
+    }
+    Some((callers, spare))
+}
+
+// The key space is named here. The last caller and the last desk are spare.
+fn with_space<'d, 'f, D: Naming + Send + Sync, R: Wait + Threads + Abort + Sync>(
+    rt: &R,
+    alloc: Global,
+    space: KeySpace<'d>,
+    desks: Vec<KeyDesk>,
+    scene: Scene,
+    flags: &'f Flags,
+) -> Result<u32, Memory>
+    requires space { (space_of space ≡ D.space) × (places_in D.space ≤ LARGEST_PLACE) }
+    requires desks { (vec_len desks ≡ 3) × AreDesksOf D.space desks.items }
+{
+    let (group, callers) = Group::<FillValue<'d, D, AnyValue>>::new(
+        alloc,
+        space.place_count(),
+        3,
+        1,
+    )?;
+    let mut desks = desks;
+    let Some(mut desk) = desks.pop() else {
+        unreachable!()
+    };
+    if desks.len() != 2 {
+        panic!(rt; "other desks")
+    }
+    let Some((callers, caller)) = take_spare(&group, callers) else {
+        panic!(rt; "other callers")
+    };
+    let Ok(at) = space.find(&mut desk, b"a") else {
+        panic!(rt; "the key has no place")
+    };
+    let place = at.number().number();
+    if !group.has(place) {
+        panic!(rt; "the group has no such place")
+    }
+    let peer = (scene == Scene::FailedPeer).then_some(0);
+    let mut sets = Vec::with_capacity(alloc, 2)?;
+    let met = (scene == Scene::Joined).then_some(flags);
+    sets.push_reserved(loaders(alloc, peer, met)?);
+    sets.push_reserved(loaders(alloc, peer, None)?);
+    let parts = FillParts {
+        desks,
+        group,
+        callers,
+        loaders: sets,
+        ledgers: Ledgers::new(2),
+    };
+    with_all::<D, Brand, R>(rt, alloc, space, parts, caller, place, scene, flags)
+}
+
 // How many gets and reloads were refused memory.
 fn try_out<R: Wait + Threads + Abort + Sync>(
     rt: &R,
@@ -407,26 +468,15 @@ fn try_out<R: Wait + Threads + Abort + Sync>(
         asked: AtomicBool::new(false),
         answered: AtomicBool::new(false),
     };
-    let sizes = FillSizes {
-        keys: Keys::Directory(DirectoryKeys {
-            keys: 1,
-            key_bytes: 4,
-            seed0: 0,
-            seed1: 0,
-        }),
-        limit: 100,
-        log: 8,
-        first_generation: 1,
-    };
-    let peer = (scene == Scene::FailedPeer).then_some(0);
-    let met = (scene == Scene::Joined).then_some(&flags);
-    let sets = vec![in alloc; loaders(alloc, peer, met)?, loaders(alloc, peer, None)?]?;
-    let play = Play {
+    let (directory, desks) = open_directory(alloc, 8, 4, 3, 0, 0)?;
+    with_space::<Brand, R>(
         rt,
+        alloc,
+        KeySpace::Directory(&directory),
+        desks,
         scene,
-        flags: &flags,
-    };
-    with_fill(alloc, sizes, sets, play)
+        &flags,
+    )
 }
 
 // One that is refused memory before its fill stands is tried out once more, and meets no refusal then.

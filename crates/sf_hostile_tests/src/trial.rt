@@ -3,7 +3,7 @@ ghost use Rattle.std.specs.Prelude.{◌≡◌, ◌≤◌, All, vec_len};
 ghost use Rattle.sf_door.specs.Opened.{IsNewGetter};
 
 use bytes::{ByteStr, Bytes};
-use sf_door::{Body, DirectoryKeys, FillSizes, Keys, with_fill};
+use sf_door::{Body, DirectoryKeys, FillSizes, Keys, Sizes, with_fill};
 use sf_fill::{Fill, Getter, LoadFault, Naming, Totals, View};
 use sf_group::Memory;
 use sf_loaders::scripted::{Answer, FixedPicker, RoundChance, Script};
@@ -106,7 +106,7 @@ impl<'a, R: Wait> Body for GetAll<'a, R> {
         };
         getters.destroy_empty();
         let (getter, said) = get_all(rt, alloc, fill, getter, keys);
-        getter.end();
+        getter.end(rt, fill);
         Outcome {
             said,
             book: fill.book(rt),
@@ -142,15 +142,15 @@ pub fn try_out<R: Wait>(rt: &R, alloc: Global, setting: Setting) -> Result<Outco
         script(alloc, setting.local_fails, "v")?,
         RoundChance::default(),
     );
+    let keys = Keys::Directory(DirectoryKeys {
+        keys: setting.places,
+        key_bytes: 250,
+        seed0: 0,
+        seed1: 0,
+    });
     let sizes = FillSizes {
-        keys: Keys::Directory(DirectoryKeys {
-            keys: setting.places,
-            key_bytes: 250,
-            seed0: 0,
-            seed1: 0,
-        }),
-        limit: setting.limit,
-        log: 0,
+        keys,
+        keeps: Sizes::new(setting.limit, 0),
         first_generation: setting.first_generation,
     };
     let all = GetAll {
