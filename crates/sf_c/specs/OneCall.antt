@@ -10,6 +10,7 @@ use Rattle.sf_c.specs.declared.part.Part.TheVariants.{Free, Leads, Waits, Owes, 
 use Rattle.sf_c.specs.declared.codes.TheConstants.{DONE, OTHERWISE, CLEARED, WRONG_STATE}
 use Rattle.sf_keys.specs.Places.{place_of}
 use Rattle.sf_c.specs.Keys.{WordValue}
+use Rattle.sf_group.specs.Calls.{HasTriedAtMost}
 use Rattle.sf_c.specs.Rows.{Seat, IsOther, IsForgetBusy, IsFree, IsNotFree, AreTries, HasNotCalled}
 
 -- the code of what a Forget of one call found
@@ -25,7 +26,7 @@ pub record HasHitCall (c : CallerValue WordValue) (k : ℕ) (x : CallId) (d : Ca
   pub row : HasForgotCall c k x found d
 
 abbrev pub HasForgotCallPart : Part → ℕ → CallId → ℕ → Part → ℕ → Type 0
-HasForgotCallPart (Free c) k x tries (Free d) code = HasHitCall c k x d code ⊎ IsForgetBusy c k tries d code
+HasForgotCallPart (Free c) k x tries (Free d) code = (HasHitCall c k x d code × HasTriedAtMost c tries d.turns) ⊎ IsForgetBusy c k tries d code
 HasForgotCallPart (Free c) k x tries (Leads f) code = ⊥
 HasForgotCallPart (Free c) k x tries (Waits t) code = ⊥
 HasForgotCallPart (Free c) k x tries (Owes s) code = ⊥

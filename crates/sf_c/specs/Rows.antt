@@ -10,7 +10,7 @@ use Rattle.sf_calls.specs.declared.limits.TheConstants.{MOST_CALLERS, MOST_PLACE
 use Rattle.sf_calls.specs.Notes.{HasLearnt, HasLearntLeading}
 use Rattle.sf_calls.specs.Making.{IsNewCaller}
 use Rattle.sf_calls.specs.declared.outcomes.NotBegun.TheVariants.{Busy}
-use Rattle.sf_group.specs.Calls.{HasNotBegun, HasNotBegunChan, HasNotForgotten}
+use Rattle.sf_group.specs.Calls.{HasTriedAtMost, HasNotBegun, HasNotBegunChan, HasNotForgotten}
 use Rattle.sf_group.specs.declared.group.TheConstants.{MOST_TRIES}
 use Rattle.sf_history.specs.declared.call.CallId.{CallId}
 use Rattle.sf_keys.specs.declared.places.Places.{Places}
@@ -65,10 +65,10 @@ pub record IsAskedBusy (c : CallerValue WordValue) (k tries : ℕ) (d : CallerVa
   pub failed : ℕ
   pub row : HasNotBegun c k tries (Busy failed d)
 
--- how an asking of a place ends
+-- how an asking of a place ends, and how often it tried
 abbrev pub HasAsked : Part → ℕ → ℕ → Part → ℕ → Type 0
-HasAsked (Free c) k tries (Leads f) code = (code ≡ DONE) × HasLed c k f
-HasAsked (Free c) k tries (Waits t) code = (code ≡ OTHERWISE) × HasJoined c k t
+HasAsked (Free c) k tries (Leads f) code = (code ≡ DONE) × HasLed c k f × HasTriedAtMost c tries f.turns
+HasAsked (Free c) k tries (Waits t) code = (code ≡ OTHERWISE) × HasJoined c k t × HasTriedAtMost c tries t.turns
 HasAsked (Free c) k tries (Free d) code = IsAskedSpent c d code ⊎ IsAskedBusy c k tries d code
 HasAsked (Free c) k tries (Owes s) code = ⊥
 HasAsked (Free c) k tries Gone code = ⊥
@@ -87,14 +87,14 @@ pub record AreAskedBusy (a b : CallerValue WordValue) (k tries : ℕ) (c d : Cal
   pub failed : ℕ
   pub row : HasNotBegunChan a b k tries (Busy failed (c, d))
 
--- how an asking of a place by two free callers ends
+-- how an asking of a place by two free callers ends, and how often the first tried
 abbrev pub HasAskedBoth : CallerValue WordValue → CallerValue WordValue → ℕ → ℕ → Part → Part → ℕ → Type 0
-HasAskedBoth a b k tries (Leads f) (Waits t) code = (code ≡ DONE) × HasLedChan a b k f t
+HasAskedBoth a b k tries (Leads f) (Waits t) code = (code ≡ DONE) × HasLedChan a b k f t × HasTriedAtMost a tries f.turns × HasTriedAtMost b 0 t.turns
 HasAskedBoth a b k tries (Leads f) (Free c) code = ⊥
 HasAskedBoth a b k tries (Leads f) (Leads h) code = ⊥
 HasAskedBoth a b k tries (Leads f) (Owes s) code = ⊥
 HasAskedBoth a b k tries (Leads f) Gone code = ⊥
-HasAskedBoth a b k tries (Free c) (Waits t) code = (code ≡ OTHERWISE) × HasJoinedChan a b k t c
+HasAskedBoth a b k tries (Free c) (Waits t) code = (code ≡ OTHERWISE) × HasJoinedChan a b k t c × HasTriedAtMost a tries c.turns × HasTriedAtMost b 0 t.turns
 HasAskedBoth a b k tries (Free c) (Free d) code = AreAskedSpent a b c d code ⊎ AreAskedBusy a b k tries c d code
 HasAskedBoth a b k tries (Free c) (Leads f) code = ⊥
 HasAskedBoth a b k tries (Free c) (Owes s) code = ⊥
@@ -189,7 +189,7 @@ HasPolledPart (Leads f) key q code u v m n a b = IsOther (Leads f) q code × (v 
 HasPolledPart (Owes s) key q code u v m n a b = IsOther (Owes s) q code × (v ≡ u) × HasNoLetter m n a b
 HasPolledPart Gone key q code u v m n a b = IsOther Gone q code × (v ≡ u) × HasNoLetter m n a b
 
--- how a Forget of a free caller ends: it closed a call, found none, or all tries failed
+-- how a Forget of a free caller ends: it closed a call, found none, or all tries failed; and how often it tried
 pub record HasClosedCall (c : CallerValue WordValue) (k : ℕ) (d : CallerValue WordValue) (code : ℕ) : Type 0 where
   pub code_is : code ≡ DONE
   pub closed : CallId
@@ -205,7 +205,7 @@ pub record IsForgetBusy (c : CallerValue WordValue) (k tries : ℕ) (d : CallerV
   pub row : HasNotForgotten c k tries d failed
 
 abbrev pub HasForgotPart : Part → ℕ → ℕ → Part → ℕ → Type 0
-HasForgotPart (Free c) k tries (Free d) code = HasClosedCall c k d code ⊎ HasFoundNone c k d code ⊎ IsForgetBusy c k tries d code
+HasForgotPart (Free c) k tries (Free d) code = (HasClosedCall c k d code × HasTriedAtMost c tries d.turns) ⊎ (HasFoundNone c k d code × HasTriedAtMost c tries d.turns) ⊎ IsForgetBusy c k tries d code
 HasForgotPart (Free c) k tries (Leads f) code = ⊥
 HasForgotPart (Free c) k tries (Waits t) code = ⊥
 HasForgotPart (Free c) k tries (Owes s) code = ⊥

@@ -12,7 +12,7 @@ pub record GroupValue : Type 0 where
   pub sizes : Sizes
 
 -- What a token's seat has seen is its list of events. The turns are those that the seat knows, in a group whose words
--- change by turns, and else none. Only the refusal as busy and the bound of a finish name them.
+-- change by turns, and else none. Only the refusal as busy and the bounds of tries name them.
 pub record CallerValue (V : Type 0) : Type 0 where
   pub group : GroupValue
   pub number : ℕ
@@ -43,6 +43,7 @@ pub record TicketValue (V : Type 0) : Type 0 where
   pub group : GroupValue
   pub number : ℕ
   pub seen : List (Event ℕ V)
+  pub turns : List (Turn V)
   pub place : ℕ
   pub call : CallId
   pub member : CallId

@@ -17,8 +17,9 @@ use Rattle.sf_word_steps.specs.Stands.{Sits, next_in, Goes}
 use Rattle.sf_word_chans.specs.Changes.{HaveChanged}
 use Rattle.sf_word_steps.proofs.Trying.{goes_none}
 use Rattle.sf_group.specs.Known.{group_of, caller_of, flight_of, ticket_of}
+use Rattle.sf_word_steps.specs.Exchanges.{HasExchanged}
 use Rattle.sf_group.specs.Calls.{HaveSeenChanges}
-use Rattle.sf_group.proofs.Rows.{next_is, sizes_are, group_is, added, nothing_row}
+use Rattle.sf_group.proofs.Rows.{next_is, sizes_are, group_is, added, nothing_row, few_row, just_row}
 use Rattle.sf_calls.proofs.Moments.{stands_own}
 
 -- the call or member of this caller and generation
@@ -113,9 +114,9 @@ module _ {V : Type 0} where
       }
 
   pub busy_chan_row : (t t' t₁ t₂ : TableId) (a b g h k tries : ℕ) (v w v' w' : View V) → t₁ ≡ t → t₂ ≡ t' → sizes_of w ≡ sizes_of v → Sits (sizes_of v) a v stage.Free → next_in (sizes_of v) v a ≡ g → g ≤ 4294967295 → Sits (sizes_of w) b w stage.Free → next_in (sizes_of w) w b ≡ h → h ≤ 4294967295
-      → Goes (sizes_of v) a v v' stage.Free [] 0 → Goes (sizes_of w) b w w' stage.Free [] 0 → w'.known.turns ≡ v'.known.turns → HaveChanged (sizes_of v) a b k tries v.known.turns w.known.turns v'.known.turns
+      → Goes (sizes_of v) a v v' stage.Free [] 0 → Goes (sizes_of w) b w w' stage.Free [] 0 → w'.known.turns ≡ v'.known.turns → HaveChanged (sizes_of v) a b k tries v.known.turns w.known.turns v'.known.turns → HasExchanged (sizes_of v) a tries v v' → HasExchanged (sizes_of w) b 0 w w'
       → AreRefusedBusy (caller_of t v a) (caller_of t' w b) tries tries (caller_of t₁ v' a) (caller_of t₂ w' b) × HaveSeenChanges (caller_of t v a) (caller_of t' w b) k tries (caller_of t₁ v' a) (caller_of t₂ w' b)
-  busy_chan_row t t' t₁ t₂ a b g h k tries v w v' w' table second_table same sits is left second_sits second_is second_left first second turns changed =
+  busy_chan_row t t' t₁ t₂ a b g h k tries v w v' w' table second_table same sits is left second_sits second_is second_left first second turns changed all none =
       let seen = same_seen a b 0 0 v w v' w' stage.Free stage.Free [] [] same first second turns in
       let adds = added t a 0 v v' stage.Free [] first in
       let second_adds = added t' b 0 w w' stage.Free [] second in (
@@ -128,7 +129,7 @@ module _ {V : Type 0} where
           second_begins = subst (λ l. StartsWith l (history_of (sizes_of v) v.known.turns)) (sym seen) adds.grows.begins;
           failed = refl;
         },
-        record { together = turns; changes = changed },
+        record { together = turns; changes = changed; tried = just_row t a tries v v' first all; second = few_row t' b 0 0 w w' stage.Free [] second (omega (arith, none)) },
       )
 
   pub spent_chan_row : (t t' : TableId) (a b m n : ℕ) (v w : View V) → Sits (sizes_of v) a v stage.Free → m ≡ next_in (sizes_of v) v a → Sits (sizes_of w) b w stage.Free → n ≡ next_in (sizes_of w) w b → (4294967295 < m) ⊎ (4294967295 < n)

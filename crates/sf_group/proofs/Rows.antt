@@ -16,16 +16,18 @@ use Rattle.sf_calls.specs.declared.outcomes.NotBegun.TheVariants as not_begun
 use Rattle.sf_word_steps.specs.View.{setting_of, sizes_of, history_of}
 use Rattle.sf_calls.specs.Tokens.{GroupValue}
 use Rattle.sf_calls.specs.Seen.{Adds}
-use Rattle.sf_word_steps.specs.Stands.{Sits, next_in, Goes}
+use Rattle.sf_word_steps.specs.Stands.{Sits, next_in, GoesWith, Goes}
 use Rattle.sf_word_steps.specs.Changes.{Tries}
+use Rattle.sf_word_steps.specs.Exchanges.{exchanges_of, HasExchanged}
 use Rattle.sf_word_steps.specs.Attempts.{IsAfter}
 use Rattle.sf_calls.specs.Afters.{FollowsCall}
 use Rattle.sf_group.specs.Known.{IsPlaceIn, group_of, caller_of, flight_of, ticket_of}
 use Rattle.sf_calls.specs.Same.{call_of, HasNothing}
 use Rattle.sf_calls.specs.Begins.{HasLed, HasJoined, IsRefusedSpent}
 use Rattle.sf_calls.specs.Forgets.{HasForgot, HasForgotCall}
-use Rattle.sf_group.specs.Calls.{HasNotBegun, HasNotForgotten}
+use Rattle.sf_group.specs.Calls.{HasTriedJust, HasTriedAtMost, HasNotBegun, HasNotForgotten}
 use Rattle.sf_word_steps.proofs.Trying.{goes_none, busy_after}
+use Rattle.sf_word_steps.proofs.Exchanging.{tries_at_most, tries_just}
 
 module _ {V : Type 0} where
   -- the next generation, as the history says it
@@ -92,15 +94,23 @@ module _ {V : Type 0} where
   pub nothing_row : (t t' : TableId) (a : ℕ) (v w : View V) → t' ≡ t → Goes (sizes_of v) a v w stage.Free [] 0 → HasNothing (caller_of t v a) (caller_of t' w a)
   nothing_row t t' a v w table goes = record { group = group_is t t' v w a stage.Free table goes.sits; number = refl; adds = added t a 0 v w stage.Free [] goes }
 
-  pub busy_row : (t t' : TableId) (a g k tries : ℕ) (v w : View V) → t' ≡ t → Sits (sizes_of v) a v stage.Free → next_in (sizes_of v) v a ≡ g → g ≤ 4294967295 → Tries (sizes_of v) a k tries v w stage.Free
+  -- how often it tried
+  pub few_row : {out : List ℕ} (t : TableId) (a n given : ℕ) (v w : View V) (p : Stage V) (es : List (Event ℕ V)) → GoesWith (sizes_of v) a v w p es given out → exchanges_of (sizes_of v) a w.known.turns ≤ exchanges_of (sizes_of v) a v.known.turns + n → HasTriedAtMost (caller_of t v a) n w.known.turns
+  few_row t a n given v w p es goes few = tries_at_most (sizes_of v) a n v.known.turns w.known.turns goes.turns goes.knows few
+
+  pub just_row : (t : TableId) (a n : ℕ) (v w : View V) → Goes (sizes_of v) a v w stage.Free [] 0 → HasExchanged (sizes_of v) a n v w → HasTriedJust (caller_of t v a) n w.known.turns
+  just_row t a n v w goes all = tries_just (sizes_of v) a n v.known.turns w.known.turns goes.turns goes.knows all
+
+  pub busy_row : (t t' : TableId) (a g k tries : ℕ) (v w : View V) → t' ≡ t → Sits (sizes_of v) a v stage.Free → next_in (sizes_of v) v a ≡ g → g ≤ 4294967295 → Tries (sizes_of v) a k tries v w stage.Free → HasExchanged (sizes_of v) a tries v w
       → HasNotBegun (caller_of t v a) k tries (not_begun.Busy tries (caller_of t' w a))
-  busy_row t t' a g k tries v w table sits is left done = (
+  busy_row t t' a g k tries v w table sits is left done all = (
     record {
       unspent = subst (λ n. n ≤ 4294967295) (sym (sym (next_is (sizes_of v) a v stage.Free sits) ∙ is)) left;
       nothing = nothing_row t t' a v w table done.goes;
       failed = refl;
     },
     busy_after (sizes_of v) a k tries v w stage.Free done,
+    just_row t a tries v w done.goes all,
   )
 
   pub spent_row : (t : TableId) (a : ℕ) (v : View V) → Sits (sizes_of v) a v stage.Free → 4294967295 < next_in (sizes_of v) v a → IsRefusedSpent (caller_of t v a) (caller_of t v a)
@@ -130,11 +140,12 @@ module _ {V : Type 0} where
   pub forget_meant_row : (t t' : TableId) (a k : ℕ) (c d : CallId) (found : Hit) (v w : View V) → t' ≡ t → c ≡ d → Goes (sizes_of v) a v w stage.Free (event.ForgetCall a k d found ∷ []) 0 → HasForgotCall (caller_of t v a) k c found (caller_of t' w a)
   forget_meant_row t t' a k c d found v w table same goes = subst (λ (x : CallId). HasForgotCall (caller_of t v a) k x found (caller_of t' w a)) (sym same) (forget_call_row t t' a k d found v w table goes)
 
-  pub miss_row : (t t' : TableId) (a k tries : ℕ) (v w : View V) → t' ≡ t → Tries (sizes_of v) a k tries v w stage.Free → HasNotForgotten (caller_of t v a) k tries (caller_of t' w a) tries
-  miss_row t t' a k tries v w table done = record {
+  pub miss_row : (t t' : TableId) (a k tries : ℕ) (v w : View V) → t' ≡ t → Tries (sizes_of v) a k tries v w stage.Free → HasExchanged (sizes_of v) a tries v w → HasNotForgotten (caller_of t v a) k tries (caller_of t' w a) tries
+  miss_row t t' a k tries v w table done all = record {
     nothing = nothing_row t t' a v w table done.goes;
     failed = refl;
     changes = busy_after (sizes_of v) a k tries v w stage.Free done;
+    tried = just_row t a tries v w done.goes all;
   }
 
   -- a caller that is free again, with as many generations

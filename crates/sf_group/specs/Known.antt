@@ -31,7 +31,7 @@ module _ {V : Type 0} where
   settled_of t v a k c x joiners = record { group = group_of t v; number = a; seen = history_of (sizes_of v) v.known.turns; turns = v.known.turns; place = k; call = c; value = Some x; joiners = joiners }
 
   abbrev pub ticket_of : TableId → View V → ℕ → ℕ → CallId → CallId → TicketValue V
-  ticket_of t v a k c m = record { group = group_of t v; number = a; seen = history_of (sizes_of v) v.known.turns; place = k; call = c; member = m }
+  ticket_of t v a k c m = record { group = group_of t v; number = a; seen = history_of (sizes_of v) v.known.turns; turns = v.known.turns; place = k; call = c; member = m }
 
   abbrev pub note_value : TableId → View V → NoteValue V
   note_value t v = record { group = group_of t v; seen = history_of (sizes_of v) v.known.turns }

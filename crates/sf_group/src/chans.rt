@@ -2,7 +2,7 @@
 ghost use Rattle.std.specs.Prelude.{◌≡◌, ◌<◌, ◌≤◌, ◌⊎◌, IfOk, IfErr, IfSome, IfNone};
 ghost use Rattle.sf_calls.specs.Same.{IsPlaceOf};
 ghost use Rattle.sf_calls.specs.Begins.{HasChanBegun};
-ghost use Rattle.sf_group.specs.Calls.{HasNotBegunChan};
+ghost use Rattle.sf_group.specs.Calls.{HaveTriedToBegin, HasNotBegunChan};
 
 use crate::caller::Caller;
 use crate::flight::Flight;
@@ -44,6 +44,7 @@ impl<V: Fit> Group<V> {
         requires place { IsPlaceOf self.now place }
         requires tries { (1 ≤ tries) × (tries ≤ MOST_TRIES) }
         ensures begun { IfOk result (λ begun. HasChanBegun caller second place begun) }
+        ensures tried { IfOk result (λ begun. HaveTriedToBegin caller second tries begun) }
         ensures refused { IfErr result (λ refused. HasNotBegunChan caller second place tries refused) }
     {
         let Some((generation, second_generation)) = generations(caller.next, second.next) else {

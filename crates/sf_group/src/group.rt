@@ -6,7 +6,7 @@ ghost use Rattle.sf_calls.specs.Begins.{HasBegun};
 ghost use Rattle.sf_calls.specs.Forgets.{HasForgotten, HasForgotCall};
 ghost use Rattle.sf_calls.specs.Making.{IsNewCaller, new_caller, numbers_of};
 ghost use Rattle.sf_word_steps.specs.Stands.{IsSeatOf};
-ghost use Rattle.sf_group.specs.Calls.{HasNotBegun, HasNotForgotten};
+ghost use Rattle.sf_group.specs.Calls.{HasTriedAtMost, HasTriedToBegin, HasNotBegun, HasNotForgotten};
 ghost use Rattle.sf_group.specs.Dealing.{IsDealing};
 
 use crate::caller::Caller;
@@ -137,6 +137,7 @@ impl<V: Fit> Group<V> {
         requires place { IsPlaceOf self.now place }
         requires tries { (1 ≤ tries) × (tries ≤ MOST_TRIES) }
         ensures begun { IfOk result (λ begun. HasBegun caller place begun) }
+        ensures tried { IfOk result (λ begun. HasTriedToBegin caller tries begun) }
         ensures refused { IfErr result (λ refused. HasNotBegun caller place tries refused) }
     {
         let Caller {
@@ -186,6 +187,7 @@ impl<V: Fit> Group<V> {
         requires place { IsPlaceOf self.now place }
         requires tries { (1 ≤ tries) × (tries ≤ MOST_TRIES) }
         ensures forgotten { IfOk result (λ forgotten. HasForgotten caller.old place caller.new forgotten) }
+        ensures tried { IfOk result (λ _. HasTriedAtMost caller.old tries caller.new.turns) }
         ensures refused { IfErr result (λ failed. HasNotForgotten caller.old place tries caller.new failed) }
     {
         let actor = Actor {
@@ -217,6 +219,7 @@ impl<V: Fit> Group<V> {
         requires place { IsPlaceOf self.now place }
         requires tries { (1 ≤ tries) × (tries ≤ MOST_TRIES) }
         ensures forgot { IfOk result (λ hit. HasForgotCall caller.old place call hit caller.new) }
+        ensures tried { IfOk result (λ _. HasTriedAtMost caller.old tries caller.new.turns) }
         ensures refused { IfErr result (λ failed. HasNotForgotten caller.old place tries caller.new failed) }
     {
         let actor = Actor {

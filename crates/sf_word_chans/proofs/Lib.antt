@@ -2,6 +2,7 @@ pub mod Alone
 pub mod Going
 pub mod Counting
 pub mod LookSteps
+pub mod Exchanging
 pub mod PeekSteps
 pub mod LeadSteps
 pub mod EnterSteps

@@ -80,8 +80,15 @@ module _ {V : Type 0} where
       able : ((b == a) || is_spent w b) ≡ false
       able = ap (λ e. e || is_spent w b) (ne_eqb b a apart) ∙ le-ltb 4294967295 (w.generations b) second_left
 
-  abbrev chan_world : World V → Askers → World V
+  abbrev pub chan_world : World V → Askers → World V
   chan_world w c = with_stage (with_stage w c.second (stage.Seconding c.number)) c.number (stage.Asking c.place (Some c.second) (ask.Look false))
+
+  pub chan_begun : (c : Askers) (v : View V) (s : List (Turn V)) → AreAskers c → Ask c v stage.Free stage.Free → Stand c v stage.Free stage.Free s
+      → Ran (setting_of c.sizes) (history_of c.sizes s) (world_of c.sizes s) (turn.Start c.number (op.Chan c.second c.place) ∷ []) (chan_world (world_of c.sizes s) c) []
+  chan_begun c v s are asks at =
+      let left = subst (λ g. g ≤ 4294967295) (sym (at.next ∙ asks.next)) are.generation.1 in
+      let second_left = subst (λ g. g ≤ 4294967295) (sym (at.second_next ∙ asks.second_next)) are.second_generation.1 in
+      chan_ran (setting_of c.sizes) (history_of c.sizes s) (world_of c.sizes s) c.number c.second c.place asks.sit.first.caller asks.sit.second.caller asks.apart are.place at.first at.second left second_left
 
   started_look : (c : Askers) (v : View V) (s : List (Turn V)) → AreAskers c → Ask c v stage.Free stage.Free → Stand c v stage.Free stage.Free s
       → Ran (setting_of c.sizes) (history_of c.sizes s) (world_of c.sizes s) (turn.Start c.number (op.Chan c.second c.place) ∷ turn.Step c.number ∷ [])
@@ -89,10 +96,8 @@ module _ {V : Type 0} where
   started_look c v s are asks at =
       let w : World V = world_of c.sizes s in
       let u : World V = chan_world w c in
-      let left = subst (λ g. g ≤ 4294967295) (sym (at.next ∙ asks.next)) are.generation.1 in
-      let second_left = subst (λ g. g ≤ 4294967295) (sym (at.second_next ∙ asks.second_next)) are.second_generation.1 in
       ran_then (setting_of c.sizes) (history_of c.sizes s) w u (ask_stepped u c.number c.place (Some c.second) (ask.Look false)) (turn.Start c.number (op.Chan c.second c.place) ∷ []) (turn.Step c.number ∷ []) [] []
-      (chan_ran (setting_of c.sizes) (history_of c.sizes s) w c.number c.second c.place asks.sit.first.caller asks.sit.second.caller asks.apart are.place at.first at.second left second_left)
+      (chan_begun c v s are asks at)
       (step_ran (setting_of c.sizes) (history_of c.sizes s ++ []) u c.number (stage.Asking c.place (Some c.second) (ask.Look false)) asks.sit.first.caller tt
       (put_here (put w.stages c.second (stage.Seconding c.number)) c.number (stage.Asking c.place (Some c.second) (ask.Look false))))
 
@@ -106,7 +111,7 @@ module _ {V : Type 0} where
         second_used = omega arith;
       }
 
-  turns_are : (c : Askers) (v : View V) (p q : Stage V) → SitBoth c v p q → look_turns (stage_in v c.number) c ≡ look_turns p c
+  pub turns_are : (c : Askers) (v : View V) (p q : Stage V) → SitBoth c v p q → look_turns (stage_in v c.number) c ≡ look_turns p c
   turns_are c v p q sit = ap (λ s. look_turns s c) (stage_is c.sizes c.number (alone c.number v) p sit.first)
 
   pub may_sizes : (c : Askers) (v : View V) → MayLook c v → v.sizes ≡ Some c.sizes

@@ -14,7 +14,9 @@ use Rattle.sf_word_steps.specs.View.{AreApart, rest_of, first_of_all, claim, all
 use Rattle.sf_word_steps.specs.Plays.{view_after, Made}
 use Rattle.sf_word_steps.specs.Stands.{Sits, next_in, Goes}
 use Rattle.sf_word_steps.specs.Changes.{tried}
-use Rattle.sf_word_steps.proofs.Ways.{all_alone}
+use Rattle.sf_word_steps.specs.Exchanges.{HasExchanged, HasTriedSo}
+use Rattle.sf_word_steps.proofs.Ways.{all_alone, sits_has}
+use Rattle.sf_word_steps.proofs.Exchanging.{exchanged_by}
 use Rattle.sf_word_steps.proofs.Trying.{goes_after}
 use Rattle.sf_word_steps.proofs.LookSteps.{free_alone}
 use Rattle.sf_word_steps.proofs.HearSteps.{both_callers, comes_left, comes_right, heard_goes}
@@ -22,6 +24,7 @@ use Rattle.sf_word_chans.specs.declared.askers.Askers.{Askers}
 use Rattle.sf_word_chans.specs.Both.{call_of, member_of, alone, Ask, GoBoth}
 use Rattle.sf_word_chans.specs.Attempts.{HasTried}
 use Rattle.sf_word_chans.specs.Together.{GoTogether, HasAsked}
+use Rattle.sf_word_chans.specs.Exchanges.{HaveTriedSo, HaveAskedSo}
 
 module _ {V : Type 0} where
   -- what the two know, once joined
@@ -29,6 +32,8 @@ module _ {V : Type 0} where
     pub asks : Ask c x stage.Free stage.Free
     pub first : Goes c.sizes c.number v (alone c.number x) stage.Free [] 0
     pub second : Goes c.sizes c.second w (alone c.second x) stage.Free [] 0
+    pub exchanged : HasExchanged c.sizes c.number 0 v x
+    pub second_exchanged : HasExchanged c.sizes c.second 0 w x
 
   alone_made : (z : Sizes) (a : ℕ) (u v x : View V) → Made z u x [] → u.sizes ≡ v.sizes → all_of v ≡ a ∷ [] → ◌≡◌ {A = View V} (alone a x) (view_after v (x.known.turns))
   alone_made z a u v x m sizes callers = ap (λ o. of_sizes o) (ap (λ (y : View V). y.sizes) m.view ∙ sizes) ∙ ap (λ q. of_callers q) (sym callers)
@@ -58,6 +63,8 @@ module _ {V : Type 0} where
         };
         first = first;
         second = second;
+        exchanged = exchanged_by z c.number 0 v (alone c.number x) [] (sits_has z c.number v stage.Free sits) one refl;
+        second_exchanged = exchanged_by z c.second 0 w (alone c.second x) [] (sits_has z c.second w stage.Free second_sits) two refl;
       }
 
   -- the two seats after the cut
@@ -115,3 +122,17 @@ module _ {V : Type 0} where
       let all = whole c tries x y r t in
       subst (λ (u : View V). HasAsked c tries v w v' u r) (sym (second ∙ cut_second c y all.callers all.told))
       (subst (λ (u : View V). HasAsked c tries v w u (alone c.second y) r) (sym (first ∙ cut_first c y all.callers)) (asked_alone c tries v w x y r met t))
+
+  -- how often the two tried, from what each had known
+  so_from : (z : Sizes) (a tries : ℕ) (v x y : View V) (r : Attempt) → HasExchanged z a 0 v x → HasTriedSo z a tries x y r → HasTriedSo z a tries v y r
+  so_from z a tries v x y (Led after) none some = omega (arith, none, some)
+  so_from z a tries v x y (Joined d) none some = omega (arith, none, some)
+  so_from z a tries v x y Lost none some = omega (arith, none, some)
+
+  pub asked_so : (c : Askers) (tries : ℕ) (v w x y v' w' : View V) (r : Attempt) → Met c v w x → HaveTriedSo c tries x y r → v' ≡ first_alone y → w' ≡ without_first y → HaveAskedSo c tries v w v' w' r
+  asked_so c tries v w x y v' w' r met so first second =
+      let old = met.second_exchanged in
+      let none = so.1 in (
+        subst (λ (u : View V). HasTriedSo c.sizes c.number tries v u r) (sym first) (so_from c.sizes c.number tries v x y r met.exchanged so.0),
+        subst (λ (u : View V). HasExchanged c.sizes c.second 0 w u) (sym second) (omega (arith, old, none)),
+      )

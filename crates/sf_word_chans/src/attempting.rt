@@ -9,6 +9,7 @@ ghost use Rattle.sf_word_steps.specs.View.{world_of};
 ghost use Rattle.sf_word_steps.specs.Stands.{IsSeatOf};
 ghost use Rattle.sf_word_chans.specs.Both.{AreAskers, Ask, AskAt, MayLook};
 ghost use Rattle.sf_word_chans.specs.Attempts.{HasAttempted, HasLedOn, HasJoinedOn, HasTried};
+ghost use Rattle.sf_word_chans.specs.Exchanges.{HaveExchanged, HaveTriedSo};
 
 use crate::askers::Askers;
 use crate::entering::{enter, link, ready_join};
@@ -34,6 +35,7 @@ fn lead_on<V: Fit>(
     requires asks { AskAt askers seat.old.me.0 (ask.ReadyOwn seen forgot) }
     ensures own { (seat.new.table_id ≡ seat.old.table_id) × (seat.new.me.1 ≡ seat.old.me.1) }
     ensures led { HasLedOn askers last seen seat.old.me.0 seat.new.me.0 result }
+    ensures exchanged { HaveExchanged askers 1 seat.old.me.0 seat.new.me.0 }
 {
     ready_own(words, seat, askers, seen, forgot);
     ready(words, seat, askers, seen, forgot);
@@ -62,6 +64,7 @@ fn join_on<V: Fit>(
     requires asks { AskAt askers seat.old.me.0 (ask.ReadyJoin called seen) }
     ensures own { (seat.new.table_id ≡ seat.old.table_id) × (seat.new.me.1 ≡ seat.old.me.1) }
     ensures joined { HasJoinedOn askers called last (Open seen) seat.old.me.0 seat.new.me.0 result }
+    ensures exchanged { HaveExchanged askers 1 seat.old.me.0 seat.new.me.0 }
 {
     ready_join(words, seat, askers, called, seen);
     link(words, seat, askers, called, seen);
@@ -89,6 +92,7 @@ fn follow_on<V: Fit>(
     requires asks { AskAt askers seat.old.me.0 (ask.Peek called) }
     ensures own { (seat.new.table_id ≡ seat.old.table_id) × (seat.new.me.1 ≡ seat.old.me.1) }
     ensures attempted { HasAttempted askers last seat.old.me.0 seat.new.me.0 result }
+    ensures exchanged { HaveExchanged askers 1 seat.old.me.0 seat.new.me.0 }
 {
     let word = peek(words, seat, askers, called);
     match opened(word, called.generation) {
@@ -112,6 +116,7 @@ fn try_once<V: Fit>(words: &Words<V>, seat: &mut WordSeat<V>, askers: Askers, la
     requires may { MayLook askers seat.old.me.0 }
     ensures own { (seat.new.table_id ≡ seat.old.table_id) × (seat.new.me.1 ≡ seat.old.me.1) }
     ensures attempted { HasAttempted askers last seat.old.me.0 seat.new.me.0 result }
+    ensures exchanged { HaveExchanged askers 1 seat.old.me.0 seat.new.me.0 }
 {
     let seen = look(words, seat, askers);
     match seen {
@@ -141,6 +146,7 @@ pub(crate) fn try_both<V: Fit>(
     requires free { Ask askers seat.old.me.0 Free Free }
     ensures own { (seat.new.table_id ≡ seat.old.table_id) × (seat.new.me.1 ≡ seat.old.me.1) }
     ensures tried { HasTried askers tries seat.old.me.0 seat.new.me.0 result }
+    ensures exchanged { HaveTriedSo askers tries seat.old.me.0 seat.new.me.0 result }
 {
     for failed in 0..tries {
         let attempt = try_once(words, seat, askers, failed + 1 == tries);

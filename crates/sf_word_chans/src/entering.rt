@@ -7,6 +7,7 @@ ghost use Rattle.sf_word_steps.specs.Words.{call, IsCallFor};
 ghost use Rattle.sf_word_steps.specs.Stands.{IsSeatOf};
 ghost use Rattle.sf_word_chans.specs.Both.{AreAskers, AskAt, lost_first, lost_second};
 ghost use Rattle.sf_word_chans.specs.Changes.{StayAt, LoseBoth};
+ghost use Rattle.sf_word_chans.specs.Exchanges.{HaveExchanged};
 ghost use Rattle.sf_word_chans.specs.Attempts.{HasJoined};
 
 use crate::askers::Askers;
@@ -30,6 +31,7 @@ pub(crate) fn ready_join<V: Fit>(
     requires asks { AskAt askers seat.old.me.0 (ask.ReadyJoin called seen) }
     ensures own { (seat.new.table_id ≡ seat.old.table_id) × (seat.new.me.1 ≡ seat.old.me.1) }
     ensures told { StayAt askers seat.old.me.0 seat.new.me.0 (ask.Link called seen) }
+    ensures exchanged { HaveExchanged askers 0 seat.old.me.0 seat.new.me.0 }
 {
     let _ = called;
     let _ = seen;
@@ -63,6 +65,7 @@ pub(crate) fn link<V: Fit>(
     requires asks { AskAt askers seat.old.me.0 (ask.Link called seen) }
     ensures own { (seat.new.table_id ≡ seat.old.table_id) × (seat.new.me.1 ≡ seat.old.me.1) }
     ensures told { StayAt askers seat.old.me.0 seat.new.me.0 (ask.Enter called seen) }
+    ensures exchanged { HaveExchanged askers 0 seat.old.me.0 seat.new.me.0 }
 {
     let _ = called;
     let Some(word) = NextWord::new(seen.top) else {
@@ -97,6 +100,7 @@ pub(crate) fn enter<V: Fit>(
     ensures own { (seat.new.table_id ≡ seat.old.table_id) × (seat.new.me.1 ≡ seat.old.me.1) }
     ensures won { IsTrue result → HasJoined askers called seat.old.me.0 seat.new.me.0 }
     ensures lost { IsFalse result → LoseBoth askers (call called.caller) (call_code (Open seen)) seat.old.me.0 seat.new.me.0 (lost_first askers last) (lost_second askers last) }
+    ensures exchanged { HaveExchanged askers 1 seat.old.me.0 seat.new.me.0 }
 {
     let Some(old) = CallWord::new(CallState::Open(seen)) else {
         unreachable!()

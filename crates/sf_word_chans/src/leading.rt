@@ -11,6 +11,7 @@ ghost use Rattle.sf_word_steps.specs.View.{world_of};
 ghost use Rattle.sf_word_steps.specs.Stands.{IsSeatOf};
 ghost use Rattle.sf_word_chans.specs.Both.{AreAskers, AskAt, MayLook, lost_first, lost_second};
 ghost use Rattle.sf_word_chans.specs.Changes.{StayAt, LoseBoth};
+ghost use Rattle.sf_word_chans.specs.Exchanges.{HaveExchanged};
 ghost use Rattle.sf_word_chans.specs.Attempts.{HasLed};
 
 use crate::askers::Askers;
@@ -33,6 +34,7 @@ pub(crate) fn look<V: Fit>(words: &Words<V>, seat: &mut WordSeat<V>, askers: Ask
     requires may { MayLook askers seat.old.me.0 }
     ensures own { (seat.new.table_id ≡ seat.old.table_id) × (seat.new.me.1 ≡ seat.old.me.1) }
     ensures told { StayAt askers seat.old.me.0 seat.new.me.0 (looked (Some askers.second) result) }
+    ensures exchanged { HaveExchanged askers 0 seat.old.me.0 seat.new.me.0 }
     ensures shown { (world_of askers.sizes seat.new.me.0.known.turns).keys askers.place ≡ result }
     ensures range { IsKeyFor askers.sizes.callers result }
 {
@@ -63,6 +65,7 @@ pub(crate) fn peek<V: Fit>(
     requires asks { AskAt askers seat.old.me.0 (ask.Peek called) }
     ensures own { (seat.new.table_id ≡ seat.old.table_id) × (seat.new.me.1 ≡ seat.old.me.1) }
     ensures told { StayAt askers seat.old.me.0 seat.new.me.0 (peeked (Some askers.second) called (is_forgot_in called.generation result) (open_in called.generation result)) }
+    ensures exchanged { HaveExchanged askers 0 seat.old.me.0 seat.new.me.0 }
     ensures shown { (world_of askers.sizes seat.new.me.0.known.turns).calls called.caller ≡ result }
     ensures other { (seen : LeaderState) → open_in called.generation result ≡ Some seen → (called.caller ≢ askers.number) × (called.caller ≢ askers.second) }
     ensures range { IsCallFor askers.sizes.callers result }
@@ -94,6 +97,7 @@ pub(crate) fn ready_own<V: Fit>(
     requires asks { AskAt askers seat.old.me.0 (ask.ReadyOwn seen forgot) }
     ensures own { (seat.new.table_id ≡ seat.old.table_id) × (seat.new.me.1 ≡ seat.old.me.1) }
     ensures told { StayAt askers seat.old.me.0 seat.new.me.0 (ask.ReadyLead seen forgot) }
+    ensures exchanged { HaveExchanged askers 0 seat.old.me.0 seat.new.me.0 }
 {
     let _ = seen;
     let _ = forgot;
@@ -126,6 +130,7 @@ pub(crate) fn ready<V: Fit>(
     requires asks { AskAt askers seat.old.me.0 (ask.ReadyLead seen forgot) }
     ensures own { (seat.new.table_id ≡ seat.old.table_id) × (seat.new.me.1 ≡ seat.old.me.1) }
     ensures told { StayAt askers seat.old.me.0 seat.new.me.0 (ask.Lead seen forgot) }
+    ensures exchanged { HaveExchanged askers 0 seat.old.me.0 seat.new.me.0 }
 {
     let _ = seen;
     let _ = forgot;
@@ -163,6 +168,7 @@ pub(crate) fn lead<V: Fit>(
     ensures own { (seat.new.table_id ≡ seat.old.table_id) × (seat.new.me.1 ≡ seat.old.me.1) }
     ensures won { IsTrue result → HasLed askers (after_of seen forgot) seat.old.me.0 seat.new.me.0 }
     ensures lost { IsFalse result → LoseBoth askers (key askers.place) (key_code seen) seat.old.me.0 seat.new.me.0 (lost_first askers last) (lost_second askers last) }
+    ensures exchanged { HaveExchanged askers 1 seat.old.me.0 seat.new.me.0 }
 {
     let _ = forgot;
     let Some(old) = KeyWord::new(seen) else {

@@ -4,6 +4,7 @@ ghost use Rattle.sf_schedules.specs.declared.operation.Stage.TheVariants.{Free};
 ghost use Rattle.sf_word_steps.specs.Stands.{IsSeatOf, Sits, next_in};
 ghost use Rattle.sf_word_chans.specs.Both.{AreAskers};
 ghost use Rattle.sf_word_chans.specs.Together.{HasAsked};
+ghost use Rattle.sf_word_chans.specs.Exchanges.{HaveAskedSo};
 
 use crate::askers::Askers;
 use crate::attempting::try_both;
@@ -27,6 +28,7 @@ pub fn ask_together<V: Fit>(
     ensures first { (result.1.table_id ≡ words.now.table_id) × (result.1.me.1 ≡ []) }
     ensures second { (result.2.table_id ≡ words.now.table_id) × (result.2.me.1 ≡ []) }
     ensures asked { HasAsked askers tries seat.me.0 second.me.0 result.1.me.0 result.2.me.0 result.0 }
+    ensures exchanged { HaveAskedSo askers tries seat.me.0 second.me.0 result.1.me.0 result.2.me.0 result.0 }
 {
     take_in(words, &mut seat, second, askers.sizes, askers.number);
     let attempt = try_both(words, &mut seat, askers, tries);

@@ -8,6 +8,7 @@ pub mod LeadSteps
 pub mod EnterSteps
 pub mod Trying
 pub mod ForgetLooks
+pub mod Exchanging
 pub mod ForgetSteps
 pub mod ForgetClears
 pub mod Forgets

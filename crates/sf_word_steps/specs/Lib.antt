@@ -5,6 +5,7 @@ pub mod Shows
 pub mod Plays
 pub mod Stands
 pub mod Changes
+pub mod Exchanges
 pub mod Attempts
 pub mod Forgets
 pub mod Settles

@@ -10,6 +10,7 @@ ghost use Rattle.sf_word_steps.specs.Words.{IsKeyFor, IsCallFor};
 ghost use Rattle.sf_word_steps.specs.View.{setting_of, world_of};
 ghost use Rattle.sf_word_steps.specs.Stands.{IsSeatOf, Sits, next_in, MayLook};
 ghost use Rattle.sf_word_steps.specs.Attempts.{HasAttempted, HasLed, HasJoined, HasTried};
+ghost use Rattle.sf_word_steps.specs.Exchanges.{HasExchanged, HasTriedSo};
 
 use crate::actor::Actor;
 use crate::entering::{enter, link, ready_join};
@@ -82,6 +83,7 @@ fn lead_on<V: Fit>(
     requires asks { Sits actor.sizes actor.number seat.old.me.0 (Asking actor.place None (ask.ReadyLead seen forgot)) }
     ensures own { (seat.new.table_id ≡ seat.old.table_id) × (seat.new.me.1 ≡ seat.old.me.1) }
     ensures led { HasLed actor.sizes actor.number generation actor.place last seen seat.old.me.0 seat.new.me.0 result }
+    ensures exchanged { HasExchanged actor.sizes actor.number 1 seat.old.me.0 seat.new.me.0 }
 {
     ready(words, seat, actor, generation, seen, forgot);
     if lead(words, seat, actor, generation, seen, forgot, last) {
@@ -110,6 +112,7 @@ fn join_on<V: Fit>(
     requires asks { Sits actor.sizes actor.number seat.old.me.0 (Asking actor.place None (ask.ReadyJoin called seen)) }
     ensures own { (seat.new.table_id ≡ seat.old.table_id) × (seat.new.me.1 ≡ seat.old.me.1) }
     ensures joined { HasJoined actor.sizes actor.number generation actor.place called last (Open seen) seat.old.me.0 seat.new.me.0 result }
+    ensures exchanged { HasExchanged actor.sizes actor.number 1 seat.old.me.0 seat.new.me.0 }
 {
     ready_join(words, seat, actor, generation, called, seen);
     link(words, seat, actor, called, seen);
@@ -140,6 +143,7 @@ fn follow_on<V: Fit>(
     requires asks { Sits actor.sizes actor.number seat.old.me.0 (Asking actor.place None (ask.Peek called)) }
     ensures own { (seat.new.table_id ≡ seat.old.table_id) × (seat.new.me.1 ≡ seat.old.me.1) }
     ensures attempted { HasAttempted actor.sizes actor.number generation actor.place last seat.old.me.0 seat.new.me.0 result }
+    ensures exchanged { HasExchanged actor.sizes actor.number 1 seat.old.me.0 seat.new.me.0 }
 {
     let word = peek(words, seat, actor, called);
     match opened(word, called.generation) {
@@ -172,6 +176,7 @@ pub(crate) fn try_once<V: Fit>(
     requires may { MayLook actor.sizes actor.number actor.place seat.old.me.0 }
     ensures own { (seat.new.table_id ≡ seat.old.table_id) × (seat.new.me.1 ≡ seat.old.me.1) }
     ensures attempted { HasAttempted actor.sizes actor.number generation actor.place last seat.old.me.0 seat.new.me.0 result }
+    ensures exchanged { HasExchanged actor.sizes actor.number 1 seat.old.me.0 seat.new.me.0 }
 {
     let seen = look(words, seat, actor);
     match seen {
@@ -209,6 +214,7 @@ pub fn try_often<V: Fit>(
     requires free { Sits actor.sizes actor.number seat.old.me.0 Free }
     ensures own { (seat.new.table_id ≡ seat.old.table_id) × (seat.new.me.1 ≡ seat.old.me.1) }
     ensures tried { HasTried actor.sizes actor.number generation actor.place tries seat.old.me.0 seat.new.me.0 result }
+    ensures exchanged { HasTriedSo actor.sizes actor.number tries seat.old.me.0 seat.new.me.0 result }
 {
     for failed in 0..tries {
         let attempt = try_once(words, seat, actor, generation, failed + 1 == tries);

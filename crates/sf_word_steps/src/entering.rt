@@ -8,6 +8,7 @@ ghost use Rattle.sf_schedules.specs.declared.operation.AskStep.TheVariants as as
 ghost use Rattle.sf_word_steps.specs.Words.{call, next, index, IsCallFor};
 ghost use Rattle.sf_word_steps.specs.Stands.{IsSeatOf, Sits, next_in, Goes};
 ghost use Rattle.sf_word_steps.specs.Changes.{Stays, Loses};
+ghost use Rattle.sf_word_steps.specs.Exchanges.{HasExchanged};
 ghost use Rattle.sf_word_steps.specs.Attempts.{lost_stage};
 
 use crate::actor::Actor;
@@ -34,6 +35,7 @@ pub(crate) fn ready_join<V: Fit>(
     requires asks { Sits actor.sizes actor.number seat.old.me.0 (Asking actor.place None (ask.ReadyJoin called seen)) }
     ensures own { (seat.new.table_id ≡ seat.old.table_id) × (seat.new.me.1 ≡ seat.old.me.1) }
     ensures told { Stays actor.sizes actor.number seat.old.me.0 seat.new.me.0 (Asking actor.place None (ask.Link called seen)) }
+    ensures exchanged { HasExchanged actor.sizes actor.number 0 seat.old.me.0 seat.new.me.0 }
 {
     let _ = called;
     let _ = seen;
@@ -64,6 +66,7 @@ pub(crate) fn link<V: Fit>(
     requires asks { Sits actor.sizes actor.number seat.old.me.0 (Asking actor.place None (ask.Link called seen)) }
     ensures own { (seat.new.table_id ≡ seat.old.table_id) × (seat.new.me.1 ≡ seat.old.me.1) }
     ensures told { Stays actor.sizes actor.number seat.old.me.0 seat.new.me.0 (Asking actor.place None (ask.Enter called seen)) }
+    ensures exchanged { HasExchanged actor.sizes actor.number 0 seat.old.me.0 seat.new.me.0 }
 {
     let _ = called;
     let Some(word) = NextWord::new(seen.top) else {
@@ -99,6 +102,7 @@ pub(crate) fn enter<V: Fit>(
     ensures own { (seat.new.table_id ≡ seat.old.table_id) × (seat.new.me.1 ≡ seat.old.me.1) }
     ensures won { IsTrue result → Goes actor.sizes actor.number seat.old.me.0 seat.new.me.0 (Holding actor.place generation called) (Enter actor.number actor.place called (record { caller = actor.number; generation = generation }) ∷ []) 1 }
     ensures lost { IsFalse result → Loses actor.sizes actor.number (call called.caller) (call_code (Open seen)) seat.old.me.0 seat.new.me.0 (lost_stage actor.place last) }
+    ensures exchanged { HasExchanged actor.sizes actor.number 1 seat.old.me.0 seat.new.me.0 }
 {
     let _ = generation;
     let Some(old) = CallWord::new(CallState::Open(seen)) else {

@@ -15,6 +15,7 @@ ghost use Rattle.sf_word_steps.specs.Words.{key, call, IsKeyFor, IsCallFor};
 ghost use Rattle.sf_word_steps.specs.View.{setting_of, world_of};
 ghost use Rattle.sf_word_steps.specs.Stands.{IsSeatOf, Sits, Goes};
 ghost use Rattle.sf_word_steps.specs.Changes.{Loses, Went};
+ghost use Rattle.sf_word_steps.specs.Exchanges.{HasExchanged, HasForgotBy, HasForgotSo};
 ghost use Rattle.sf_word_steps.specs.Forgets as forgets;
 ghost use Rattle.sf_word_steps.specs.Forgets.{IsMeant, lost_forget, MayForget, peek_stage, peek_adds, HasForgot, HasCleared, HasClosed, HasForgottenOften};
 
@@ -77,6 +78,7 @@ fn forget_look<V: Fit>(
     requires may { MayForget actor.sizes actor.number actor.place target seat.old.me.0 }
     ensures own { (seat.new.table_id ≡ seat.old.table_id) × (seat.new.me.1 ≡ seat.old.me.1) }
     ensures told { Went actor.sizes actor.number seat.old.me.0 seat.new.me.0 (forget_looked actor.place target result) (look_events actor.number actor.place target result) }
+    ensures exchanged { HasExchanged actor.sizes actor.number 0 seat.old.me.0 seat.new.me.0 }
     ensures shown { (world_of actor.sizes seat.new.me.0.known.turns).keys actor.place ≡ result }
     ensures range { IsKeyFor actor.sizes.callers result }
 {
@@ -107,6 +109,7 @@ fn forget_peek<V: Fit>(
     requires asks { Sits actor.sizes actor.number seat.old.me.0 (Forgetting actor.place target (forget.Peek called)) }
     ensures own { (seat.new.table_id ≡ seat.old.table_id) × (seat.new.me.1 ≡ seat.old.me.1) }
     ensures told { Went actor.sizes actor.number seat.old.me.0 seat.new.me.0 (peek_stage actor.place target called result) (peek_adds actor.number actor.place target called result) }
+    ensures exchanged { HasExchanged actor.sizes actor.number 0 seat.old.me.0 seat.new.me.0 }
     ensures shown { (world_of actor.sizes seat.new.me.0.known.turns).calls called.caller ≡ result }
     ensures other { (seen : LeaderState) → open_in called.generation result ≡ Some seen → called.caller ≢ actor.number }
     ensures range { IsCallFor actor.sizes.callers result }
@@ -143,6 +146,7 @@ fn close_forgotten<V: Fit>(
     ensures own { (seat.new.table_id ≡ seat.old.table_id) × (seat.new.me.1 ≡ seat.old.me.1) }
     ensures won { IsTrue result → Goes actor.sizes actor.number seat.old.me.0 seat.new.me.0 (Forgetting actor.place target (forget.LastClear called)) (closes actor.number actor.place target called ∷ []) 0 }
     ensures lost { IsFalse result → Loses actor.sizes actor.number (call called.caller) (call_code (Open seen)) seat.old.me.0 seat.new.me.0 (lost_forget actor.place target last) }
+    ensures exchanged { HasExchanged actor.sizes actor.number 1 seat.old.me.0 seat.new.me.0 }
 {
     let Some(old) = CallWord::new(CallState::Open(seen)) else {
         unreachable!()
@@ -181,6 +185,7 @@ fn first_clear<V: Fit>(
     ensures own { (seat.new.table_id ≡ seat.old.table_id) × (seat.new.me.1 ≡ seat.old.me.1) }
     ensures won { IsTrue result → Goes actor.sizes actor.number seat.old.me.0 seat.new.me.0 Free (clears actor.number actor.place target called ∷ []) 0 }
     ensures lost { IsFalse result → Loses actor.sizes actor.number (key actor.place) (key_code (key_of called)) seat.old.me.0 seat.new.me.0 (lost_forget actor.place target last) }
+    ensures exchanged { HasExchanged actor.sizes actor.number 1 seat.old.me.0 seat.new.me.0 }
 {
     let Some(old) = KeyWord::new(KeyState::Names {
         caller: called.caller,
@@ -225,6 +230,7 @@ fn last_clear<V: Fit>(
     requires asks { Sits actor.sizes actor.number seat.old.me.0 (Forgetting actor.place target (forget.LastClear called)) }
     ensures own { (seat.new.table_id ≡ seat.old.table_id) × (seat.new.me.1 ≡ seat.old.me.1) }
     ensures told { Goes actor.sizes actor.number seat.old.me.0 seat.new.me.0 Free [] 0 }
+    ensures exchanged { HasExchanged actor.sizes actor.number 0 seat.old.me.0 seat.new.me.0 }
 {
     let Some(old) = KeyWord::new(KeyState::Names {
         caller: called.caller,
@@ -267,6 +273,7 @@ fn clear_on<V: Fit>(
     requires asks { Sits actor.sizes actor.number seat.old.me.0 (Forgetting actor.place target (forget.FirstClear called)) }
     ensures own { (seat.new.table_id ≡ seat.old.table_id) × (seat.new.me.1 ≡ seat.old.me.1) }
     ensures cleared { HasCleared actor.sizes actor.number actor.place target called last seat.old.me.0 seat.new.me.0 result }
+    ensures exchanged { HasExchanged actor.sizes actor.number 1 seat.old.me.0 seat.new.me.0 }
 {
     if first_clear(words, seat, actor, target, called, last) {
         ForgetAttempt::Cleared(called)
@@ -293,6 +300,7 @@ fn close_on<V: Fit>(
     requires asks { Sits actor.sizes actor.number seat.old.me.0 (Forgetting actor.place target (forget.Close called seen)) }
     ensures own { (seat.new.table_id ≡ seat.old.table_id) × (seat.new.me.1 ≡ seat.old.me.1) }
     ensures closed { HasClosed actor.sizes actor.number actor.place target called last (Open seen) seat.old.me.0 seat.new.me.0 result }
+    ensures exchanged { HasExchanged actor.sizes actor.number 1 seat.old.me.0 seat.new.me.0 }
 {
     if close_forgotten(words, seat, actor, target, called, seen, last) {
         last_clear(words, seat, actor, target, called);
@@ -321,6 +329,7 @@ fn forget_on<V: Fit>(
     requires asks { Sits actor.sizes actor.number seat.old.me.0 (Forgetting actor.place target (forget.Peek called)) }
     ensures own { (seat.new.table_id ≡ seat.old.table_id) × (seat.new.me.1 ≡ seat.old.me.1) }
     ensures forgot { HasForgot actor.sizes actor.number actor.place target last seat.old.me.0 seat.new.me.0 result }
+    ensures exchanged { HasForgotBy actor.sizes actor.number seat.old.me.0 seat.new.me.0 result }
 {
     let word = forget_peek(words, seat, actor, target, called);
     if misses(target, called, word) {
@@ -346,6 +355,7 @@ fn forget_once<V: Fit>(
     requires may { MayForget actor.sizes actor.number actor.place target seat.old.me.0 }
     ensures own { (seat.new.table_id ≡ seat.old.table_id) × (seat.new.me.1 ≡ seat.old.me.1) }
     ensures forgot { HasForgot actor.sizes actor.number actor.place target last seat.old.me.0 seat.new.me.0 result }
+    ensures exchanged { HasForgotBy actor.sizes actor.number seat.old.me.0 seat.new.me.0 result }
 {
     let seen = forget_look(words, seat, actor, target);
     match called_by(seen, target) {
@@ -369,6 +379,7 @@ pub fn forget_often<V: Fit>(
     requires free { Sits actor.sizes actor.number seat.old.me.0 Free }
     ensures own { (seat.new.table_id ≡ seat.old.table_id) × (seat.new.me.1 ≡ seat.old.me.1) }
     ensures forgot { HasForgottenOften actor.sizes actor.number actor.place target tries seat.old.me.0 seat.new.me.0 result }
+    ensures exchanged { HasForgotSo actor.sizes actor.number tries seat.old.me.0 seat.new.me.0 result }
 {
     for failed in 0..tries {
         let attempt = forget_once(words, seat, actor, target, failed + 1 == tries);

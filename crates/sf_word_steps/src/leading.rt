@@ -13,6 +13,7 @@ ghost use Rattle.sf_word_steps.specs.Words.{index, key, call, IsKeyFor, IsCallFo
 ghost use Rattle.sf_word_steps.specs.View.{setting_of, world_of};
 ghost use Rattle.sf_word_steps.specs.Stands.{IsSeatOf, Sits, next_in, MayLook};
 ghost use Rattle.sf_word_steps.specs.Changes.{Stays, Loses};
+ghost use Rattle.sf_word_steps.specs.Exchanges.{HasExchanged};
 ghost use Rattle.sf_word_steps.specs.Attempts.{lost_stage, HasLedAfter};
 
 use crate::actor::Actor;
@@ -35,6 +36,7 @@ pub(crate) fn look<V: Fit>(words: &Words<V>, seat: &mut WordSeat<V>, actor: Acto
     requires may { MayLook actor.sizes actor.number actor.place seat.old.me.0 }
     ensures own { (seat.new.table_id ≡ seat.old.table_id) × (seat.new.me.1 ≡ seat.old.me.1) }
     ensures told { Stays actor.sizes actor.number seat.old.me.0 seat.new.me.0 (Asking actor.place None (looked None result)) }
+    ensures exchanged { HasExchanged actor.sizes actor.number 0 seat.old.me.0 seat.new.me.0 }
     ensures shown { (world_of actor.sizes seat.new.me.0.known.turns).keys actor.place ≡ result }
     ensures range { IsKeyFor actor.sizes.callers result }
 {
@@ -64,6 +66,7 @@ pub(crate) fn peek<V: Fit>(
     requires asks { Sits actor.sizes actor.number seat.old.me.0 (Asking actor.place None (ask.Peek called)) }
     ensures own { (seat.new.table_id ≡ seat.old.table_id) × (seat.new.me.1 ≡ seat.old.me.1) }
     ensures told { Stays actor.sizes actor.number seat.old.me.0 seat.new.me.0 (Asking actor.place None (peeked None called (is_forgot_in called.generation result) (open_in called.generation result))) }
+    ensures exchanged { HasExchanged actor.sizes actor.number 0 seat.old.me.0 seat.new.me.0 }
     ensures shown { (world_of actor.sizes seat.new.me.0.known.turns).calls called.caller ≡ result }
     ensures other { (seen : LeaderState) → open_in called.generation result ≡ Some seen → called.caller ≢ actor.number }
     ensures range { IsCallFor actor.sizes.callers result }
@@ -96,6 +99,7 @@ pub(crate) fn ready<V: Fit>(
     requires asks { Sits actor.sizes actor.number seat.old.me.0 (Asking actor.place None (ask.ReadyLead seen forgot)) }
     ensures own { (seat.new.table_id ≡ seat.old.table_id) × (seat.new.me.1 ≡ seat.old.me.1) }
     ensures told { Stays actor.sizes actor.number seat.old.me.0 seat.new.me.0 (Asking actor.place None (ask.Lead seen forgot)) }
+    ensures exchanged { HasExchanged actor.sizes actor.number 0 seat.old.me.0 seat.new.me.0 }
 {
     let _ = seen;
     let _ = forgot;
@@ -136,6 +140,7 @@ pub(crate) fn lead<V: Fit>(
     ensures own { (seat.new.table_id ≡ seat.old.table_id) × (seat.new.me.1 ≡ seat.old.me.1) }
     ensures won { IsTrue result → HasLedAfter actor.sizes actor.number actor.place generation seat.old.me.0 seat.new.me.0 (after_of seen forgot) }
     ensures lost { IsFalse result → Loses actor.sizes actor.number (key actor.place) (key_code seen) seat.old.me.0 seat.new.me.0 (lost_stage actor.place last) }
+    ensures exchanged { HasExchanged actor.sizes actor.number 1 seat.old.me.0 seat.new.me.0 }
 {
     let _ = forgot;
     let Some(old) = KeyWord::new(seen) else {

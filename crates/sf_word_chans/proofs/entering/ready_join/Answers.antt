@@ -1,4 +1,4 @@
-use Rattle.std.proofs.Common.{◌≡◌, ◌∙◌, ap, subst, [], ◌∷◌, arith}
+use Rattle.std.proofs.Common.{◌≡◌, ◌∙◌, ap, subst, [], ◌∷◌, arith, refl}
 use Rattle.sf_words.specs.declared.call_word.CallState.TheVariants.{Listed}
 use Rattle.sf_words.specs.CallWord.{call_code}
 use Rattle.sf_schedules.specs.declared.turn.Turn.TheVariants.{Step}
@@ -6,6 +6,8 @@ use Rattle.sf_calls.specs.declared.sizes.Sizes.{Sizes}
 use Rattle.sf_word_steps.specs.Words.{call}
 use Rattle.sf_word_steps.specs.Plays.{Moves}
 use Rattle.sf_word_chans.proofs.EnterSteps.{ready_join_move, ready_join_told}
+use Rattle.sf_schedules.specs.declared.operation.AskStep.TheVariants as ask
+use Rattle.sf_word_chans.proofs.Exchanging.{exchanged_once}
 use Rattle.sf_word_chans.proofs.entering.ready_join.Goals as goal
 
 pub store_turns-requires-clause-moves : goal.store_turns-requires-clause-moves
@@ -19,3 +21,7 @@ pub returns-clause-told : goal.returns-clause-told
 returns-clause-told g c =
     let v = c.args.seat.now.me.0 in
     ready_join_told c.args.askers c.args.called c.args.seen v c.store_turns.new.seat.me.0 c.requires.asks.apart c.requires.asks (c.store_turns.ensures.told.0 c.args.askers.sizes c.requires.asks.sit.first.sizes)
+
+pub returns-clause-exchanged : goal.returns-clause-exchanged
+returns-clause-exchanged g c =
+    exchanged_once c.args.askers 0 c.args.seat.now.me.0 c.store_turns.new.seat.me.0 (ask.ReadyJoin c.args.called c.args.seen) c.requires.asks (c.store_turns.ensures.told.0 c.args.askers.sizes c.requires.asks.sit.first.sizes) refl

@@ -1,4 +1,4 @@
-use Rattle.std.proofs.Common.{◌≡◌, ◌≤◌, ◌==◌, ◌∙◌, ap, sym, subst, false, arith, eq-eqb}
+use Rattle.std.proofs.Common.{◌≡◌, ◌≤◌, ◌==◌, ◌∙◌, ap, sym, subst, false, arith, eq-eqb, refl}
 use Rattle.std.proofs.lemmas.Bool.{eqb-true, true≢false}
 use prog.Atomic.{either}
 use Rattle.sf_words.specs.declared.key_word.KeyState.TheVariants.{Names}
@@ -8,6 +8,8 @@ use Rattle.sf_word_steps.specs.Words.{key}
 use Rattle.sf_word_steps.specs.Plays.{Moves}
 use Rattle.sf_word_steps.proofs.LeadSteps.{lead_turns}
 use Rattle.sf_word_chans.proofs.LeadSteps.{lead_move, lead_won, lead_lost}
+use Rattle.sf_schedules.specs.declared.operation.AskStep.TheVariants as ask
+use Rattle.sf_word_chans.proofs.Exchanging.{exchanged_last}
 use Rattle.sf_word_chans.proofs.leading.lead.Goals as goal
 
 pub exchange_turns-found-requires-clause-moves : goal.exchange_turns-found-requires-clause-moves
@@ -36,3 +38,7 @@ returns-clause-lost g c lost =
     let found = c.exchange_turns-found.ensures.told.0 c.args.askers.sizes c.requires.asks.sit.first.sizes in
     lead_lost c.args.askers c.exchange_turns-found.result c.pack_key-old.result c.args.seen c.args.forgot c.args.last c.args.seat.now.me.0 c.exchange_turns-found.new.seat.me.0 c.requires.asks.apart c.requires.asks c.requires.seen.0
     (c.pack_key-old.ensures.code ∙ ap key_code old_is) found (λ e. true≢false (sym (eq-eqb c.exchange_turns-found.result c.pack_key-old.result e) ∙ lost))
+
+pub returns-clause-exchanged : goal.returns-clause-exchanged
+returns-clause-exchanged g c =
+    exchanged_last c.args.askers c.pack_key-old.result c.exchange_turns-found.result c.args.last c.args.seat.now.me.0 c.exchange_turns-found.new.seat.me.0 (ask.Lead c.args.seen c.args.forgot) c.requires.asks (c.exchange_turns-found.ensures.told.0 c.args.askers.sizes c.requires.asks.sit.first.sizes).0 refl

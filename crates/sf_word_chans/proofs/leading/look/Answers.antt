@@ -6,6 +6,7 @@ use Rattle.sf_word_steps.specs.Plays.{Moves}
 use Rattle.sf_word_steps.specs.Stands.{stage_in}
 use Rattle.sf_word_chans.specs.Both.{look_turns}
 use Rattle.sf_word_chans.proofs.LookSteps.{look_move, look_told, may_sizes}
+use Rattle.sf_word_chans.proofs.Exchanging.{exchanged_look}
 use Rattle.sf_word_chans.proofs.leading.look.Goals as goal
 
 pub load_turns-found-requires-clause-moves : goal.load_turns-found-requires-clause-moves
@@ -29,3 +30,7 @@ returns-clause-shown g c =
     let found = c.load_turns-found.ensures.told.0 a.sizes (may_sizes a v c.requires.may) in
     (look_told a c.load_turns-found.result v c.load_turns-found.new.seat.me.0 c.state.result c.requires.askers c.requires.may found
     (λ (y : KeyState) lawful code. let one = c.unpack_key.ensures.inverse y lawful.0 code in let is = c.in-Some.is in let same = c.state.ensures.same in cc)).1
+
+pub returns-clause-exchanged : goal.returns-clause-exchanged
+returns-clause-exchanged g c =
+    exchanged_look c.args.askers c.args.seat.now.me.0 c.load_turns-found.new.seat.me.0 c.requires.askers c.requires.may (c.load_turns-found.ensures.told.0 c.args.askers.sizes (may_sizes c.args.askers c.args.seat.now.me.0 c.requires.may)).0

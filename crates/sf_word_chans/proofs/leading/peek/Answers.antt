@@ -1,10 +1,12 @@
-use Rattle.std.proofs.Common.{subst, [], ◌∷◌}
+use Rattle.std.proofs.Common.{subst, [], ◌∷◌, refl}
 use Rattle.sf_words.specs.declared.call_word.CallState.{CallState}
 use Rattle.sf_schedules.specs.declared.turn.Turn.TheVariants.{Step}
 use Rattle.sf_calls.specs.declared.sizes.Sizes.{Sizes}
 use Rattle.sf_word_steps.specs.Words.{call}
 use Rattle.sf_word_steps.specs.Plays.{Moves}
 use Rattle.sf_word_chans.proofs.PeekSteps.{peek_move, peek_is, peek_told, peek_shown, opened_apart}
+use Rattle.sf_schedules.specs.declared.operation.AskStep.TheVariants as ask
+use Rattle.sf_word_chans.proofs.Exchanging.{exchanged_once}
 use Rattle.sf_word_chans.proofs.leading.peek.Goals as goal
 
 pub load_turns-found-requires-clause-moves : goal.load_turns-found-requires-clause-moves
@@ -38,3 +40,7 @@ returns-clause-other g c seen opened =
     let found = c.load_turns-found.ensures.told.0 c.args.askers.sizes c.requires.asks.sit.first.sizes in
     let is = peek_is c.args.askers n c.args.called v w c.state.result found (λ (y : CallState) lawful code. let one = c.unpack_call.ensures.inverse y lawful.0 code in let is = c.in-Some.is in let same = c.state.ensures.same in cc) in
     opened_apart c.args.askers c.args.called v w c.state.result seen c.requires.asks found.0 is opened
+
+pub returns-clause-exchanged : goal.returns-clause-exchanged
+returns-clause-exchanged g c =
+    exchanged_once c.args.askers 0 c.args.seat.now.me.0 c.load_turns-found.new.seat.me.0 (ask.Peek c.args.called) c.requires.asks (c.load_turns-found.ensures.told.0 c.args.askers.sizes c.requires.asks.sit.first.sizes).0 refl

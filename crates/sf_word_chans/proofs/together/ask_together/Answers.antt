@@ -3,7 +3,7 @@ use Rattle.atomic_table.specs.Table.{Me}
 use Rattle.sf_schedules.specs.declared.letter.Letter.{Letter}
 use Rattle.sf_word_steps.specs.declared.view.View.{View}
 use Rattle.sf_word_steps.proofs.Seats.{deals_split}
-use Rattle.sf_word_chans.proofs.Meeting.{meets, whole, asked}
+use Rattle.sf_word_chans.proofs.Meeting.{meets, whole, asked, asked_so}
 use Rattle.sf_word_chans.proofs.together.ask_together.Goals as goal
 
 pub try_both-attempt-requires-clause-free : goal.try_both-attempt-requires-clause-free
@@ -20,4 +20,10 @@ pub returns-clause-asked : goal.returns-clause-asked
 returns-clause-asked g c =
     let met = meets c.args.askers c.args.seat.me.0 c.args.second.me.0 c.take_in.new.seat.me.0 c.requires.free.0 c.requires.free.1 c.requires.second_free.0 c.requires.second_free.1 c.take_in.ensures.took in
     asked c.args.askers c.args.tries c.args.seat.me.0 c.args.second.me.0 c.take_in.new.seat.me.0 c.try_both-attempt.new.seat.me.0 c.split_seat-first.result.me.0 c.split_seat-first.new.seat.me.0 c.try_both-attempt.result met c.try_both-attempt.ensures.tried
+    (ap (λ (m : Me (Option (Letter _)) (View _)). m.0) c.split_seat-first.ensures.4) (ap (λ (m : Me (Option (Letter _)) (View _)). m.0) c.split_seat-first.ensures.2)
+
+pub returns-clause-exchanged : goal.returns-clause-exchanged
+returns-clause-exchanged g c =
+    let met = meets c.args.askers c.args.seat.me.0 c.args.second.me.0 c.take_in.new.seat.me.0 c.requires.free.0 c.requires.free.1 c.requires.second_free.0 c.requires.second_free.1 c.take_in.ensures.took in
+    asked_so c.args.askers c.args.tries c.args.seat.me.0 c.args.second.me.0 c.take_in.new.seat.me.0 c.try_both-attempt.new.seat.me.0 c.split_seat-first.result.me.0 c.split_seat-first.new.seat.me.0 c.try_both-attempt.result met c.try_both-attempt.ensures.exchanged
     (ap (λ (m : Me (Option (Letter _)) (View _)). m.0) c.split_seat-first.ensures.4) (ap (λ (m : Me (Option (Letter _)) (View _)). m.0) c.split_seat-first.ensures.2)

@@ -1,4 +1,4 @@
-use Rattle.std.proofs.Common.{◌≡◌, ◌==◌, ◌∙◌, ap, sym, subst, eq-eqb}
+use Rattle.std.proofs.Common.{◌≡◌, ◌==◌, ◌∙◌, ap, sym, subst, eq-eqb, refl, None}
 use Rattle.std.proofs.lemmas.Bool.{eqb-true, true≢false}
 use prog.Atomic.{either}
 use Rattle.sf_words.specs.declared.call_word.CallState.TheVariants.{Open}
@@ -9,6 +9,10 @@ use Rattle.sf_word_steps.specs.Words.{call, IsCallFor}
 use Rattle.sf_word_steps.specs.Plays.{Moves}
 use Rattle.sf_word_steps.proofs.LeadSteps.{lead_turns}
 use Rattle.sf_word_steps.proofs.EnterSteps.{enter_move, enter_won, enter_lost}
+use Rattle.sf_schedules.specs.declared.operation.Stage.TheVariants.{Asking}
+use Rattle.sf_schedules.specs.declared.operation.AskStep.TheVariants as ask
+use Rattle.sf_word_steps.proofs.LookSteps.{asking_alone}
+use Rattle.sf_word_steps.proofs.Exchanging.{exchanged_last}
 use Rattle.sf_word_steps.proofs.entering.enter.Goals as goal
 
 pub exchange_turns-found-requires-clause-moves : goal.exchange_turns-found-requires-clause-moves
@@ -36,3 +40,7 @@ returns-clause-lost g c lost =
     let found = c.exchange_turns-found.ensures.told.0 c.args.actor.sizes c.requires.asks.sizes in
     enter_lost c.args.actor.sizes c.args.actor.number c.args.actor.place c.exchange_turns-found.result c.pack_call-old.result c.args.called c.args.seen c.args.last v c.exchange_turns-found.new.seat.me.0 c.requires.asks c.requires.seen.0
     (c.pack_call-old.ensures.code ∙ ap call_code old_is) found (λ e. true≢false (sym (eq-eqb c.exchange_turns-found.result c.pack_call-old.result e) ∙ lost))
+
+pub returns-clause-exchanged : goal.returns-clause-exchanged
+returns-clause-exchanged g c =
+    exchanged_last c.args.actor.sizes c.args.actor.number c.pack_call-old.result c.exchange_turns-found.result c.args.last c.args.seat.now.me.0 c.exchange_turns-found.new.seat.me.0 (Asking c.args.actor.place None (ask.Enter c.args.called c.args.seen)) c.requires.asks (asking_alone c.args.actor.place None (ask.Enter c.args.called c.args.seen)) (c.exchange_turns-found.ensures.told.0 c.args.actor.sizes c.requires.asks.sizes).0 refl

@@ -1,4 +1,4 @@
-use Rattle.std.proofs.Common.{◌≡◌, ◌==◌, ◌∙◌, ap, sym, subst, eq-eqb}
+use Rattle.std.proofs.Common.{◌≡◌, ◌==◌, ◌∙◌, ap, sym, subst, eq-eqb, refl}
 use Rattle.std.proofs.lemmas.Bool.{eqb-true, true≢false}
 use prog.Atomic.{either}
 use Rattle.sf_calls.specs.declared.sizes.Sizes.{Sizes}
@@ -8,6 +8,10 @@ use Rattle.sf_words.specs.CallWord.{call_code}
 use Rattle.sf_word_steps.specs.Words.{call}
 use Rattle.sf_word_steps.proofs.LeadSteps.{lead_turns}
 use Rattle.sf_word_steps.proofs.ForgetSteps.{forget_close_move, forget_close_won, forget_close_lost}
+use Rattle.sf_schedules.specs.declared.operation.Stage.TheVariants.{Forgetting}
+use Rattle.sf_schedules.specs.declared.operation.ForgetStep.TheVariants as forget
+use Rattle.sf_word_steps.proofs.ForgetLooks.{forgetting_alone}
+use Rattle.sf_word_steps.proofs.Exchanging.{exchanged_last}
 use Rattle.sf_word_steps.proofs.forgetting.close_forgotten.Goals as goal
 
 pub exchange_turns-found-requires-clause-moves : goal.exchange_turns-found-requires-clause-moves
@@ -34,3 +38,7 @@ returns-clause-lost g c lost =
     let found = c.exchange_turns-found.ensures.told.0 c.args.actor.sizes c.requires.asks.sizes in
     forget_close_lost c.args.actor.sizes c.args.actor.number c.args.actor.place c.exchange_turns-found.result c.pack_call-old.result c.args.target c.args.called c.args.seen c.args.last v c.exchange_turns-found.new.seat.me.0 c.requires.asks c.requires.seen.0
     (c.pack_call-old.ensures.code ∙ ap call_code old_is) found (λ e. true≢false (sym (eq-eqb c.exchange_turns-found.result c.pack_call-old.result e) ∙ lost))
+
+pub returns-clause-exchanged : goal.returns-clause-exchanged
+returns-clause-exchanged g c =
+    exchanged_last c.args.actor.sizes c.args.actor.number c.pack_call-old.result c.exchange_turns-found.result c.args.last c.args.seat.now.me.0 c.exchange_turns-found.new.seat.me.0 (Forgetting c.args.actor.place c.args.target (forget.Close c.args.called c.args.seen)) c.requires.asks (forgetting_alone c.args.actor.place c.args.target (forget.Close c.args.called c.args.seen)) (c.exchange_turns-found.ensures.told.0 c.args.actor.sizes c.requires.asks.sizes).0 refl

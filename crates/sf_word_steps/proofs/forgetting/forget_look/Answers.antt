@@ -6,6 +6,7 @@ use Rattle.sf_word_steps.specs.Plays.{Moves}
 use Rattle.sf_word_steps.specs.Stands.{stage_in}
 use Rattle.sf_word_steps.specs.Forgets.{forget_turns}
 use Rattle.sf_word_steps.proofs.ForgetLooks.{forget_look_move, forget_look_told, forget_sizes}
+use Rattle.sf_word_steps.proofs.Exchanging.{exchanged_forget_look}
 use Rattle.sf_word_steps.proofs.forgetting.forget_look.Goals as goal
 
 pub load_turns-found-requires-clause-moves : goal.load_turns-found-requires-clause-moves
@@ -27,3 +28,8 @@ returns-clause-shown g c =
     let found = c.load_turns-found.ensures.told.0 c.args.actor.sizes (forget_sizes c.args.actor.sizes c.args.actor.number c.args.actor.place c.args.target v c.requires.may) in
     (forget_look_told c.args.actor.sizes c.args.actor.number c.args.actor.place c.load_turns-found.result c.args.target v c.load_turns-found.new.seat.me.0 c.state.result c.requires.place c.requires.may found
     (λ (y : KeyState) lawful code. let one = c.unpack_key.ensures.inverse y lawful.0 code in let is = c.in-Some.is in let same = c.state.ensures.same in cc)).1
+
+pub returns-clause-exchanged : goal.returns-clause-exchanged
+returns-clause-exchanged g c =
+    exchanged_forget_look c.args.actor.sizes c.args.actor.number c.args.actor.place c.args.target c.args.seat.now.me.0 c.load_turns-found.new.seat.me.0 c.requires.may
+    (c.load_turns-found.ensures.told.0 c.args.actor.sizes (forget_sizes c.args.actor.sizes c.args.actor.number c.args.actor.place c.args.target c.args.seat.now.me.0 c.requires.may)).0

@@ -1,10 +1,13 @@
-use Rattle.std.proofs.Common.{subst, [], ◌∷◌}
+use Rattle.std.proofs.Common.{subst, [], ◌∷◌, refl}
 use Rattle.sf_words.specs.declared.call_word.CallState.{CallState}
 use Rattle.sf_schedules.specs.declared.turn.Turn.TheVariants.{Step}
 use Rattle.sf_calls.specs.declared.sizes.Sizes.{Sizes}
 use Rattle.sf_word_steps.specs.Words.{call}
 use Rattle.sf_word_steps.specs.Plays.{Moves}
-use Rattle.sf_word_steps.proofs.ForgetLooks.{forget_peek_move, forget_peek_told}
+use Rattle.sf_schedules.specs.declared.operation.Stage.TheVariants.{Forgetting}
+use Rattle.sf_schedules.specs.declared.operation.ForgetStep.TheVariants as forget
+use Rattle.sf_word_steps.proofs.ForgetLooks.{forgetting_alone, forget_peek_move, forget_peek_told}
+use Rattle.sf_word_steps.proofs.Exchanging.{exchanged_once}
 use Rattle.sf_word_steps.proofs.forgetting.forget_peek.Goals as goal
 
 pub load_turns-found-requires-clause-moves : goal.load_turns-found-requires-clause-moves
@@ -33,3 +36,7 @@ returns-clause-other g c seen opened =
     let found = c.load_turns-found.ensures.told.0 c.args.actor.sizes c.requires.asks.sizes in
     (forget_peek_told c.args.actor.sizes c.args.actor.number c.args.actor.place c.load_turns-found.result c.args.target c.args.called v c.load_turns-found.new.seat.me.0 c.state.result c.requires.asks found
     (λ (y : CallState) lawful code. let one = c.unpack_call.ensures.inverse y lawful.0 code in let is = c.in-Some.is in let same = c.state.ensures.same in cc)).2 seen opened
+
+pub returns-clause-exchanged : goal.returns-clause-exchanged
+returns-clause-exchanged g c =
+    exchanged_once c.args.actor.sizes c.args.actor.number 0 c.args.seat.now.me.0 c.load_turns-found.new.seat.me.0 (Forgetting c.args.actor.place c.args.target (forget.Peek c.args.called)) c.requires.asks (forgetting_alone c.args.actor.place c.args.target (forget.Peek c.args.called)) (c.load_turns-found.ensures.told.0 c.args.actor.sizes c.requires.asks.sizes).0 refl

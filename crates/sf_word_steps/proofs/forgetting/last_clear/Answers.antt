@@ -1,4 +1,4 @@
-use Rattle.std.proofs.Common.{◌≡◌, ◌==◌, ◌∙◌, ap, subst, [], ◌∷◌}
+use Rattle.std.proofs.Common.{◌≡◌, ◌==◌, ◌∙◌, ap, subst, [], ◌∷◌, refl}
 use prog.Atomic.{either}
 use Rattle.sf_calls.specs.declared.sizes.Sizes.{Sizes}
 use Rattle.sf_word_steps.specs.Plays.{Moves}
@@ -7,6 +7,10 @@ use Rattle.sf_schedules.specs.World.{key_of, cleared_key_of}
 use Rattle.sf_schedules.specs.declared.turn.Turn.TheVariants.{Step}
 use Rattle.sf_word_steps.specs.Words.{key}
 use Rattle.sf_word_steps.proofs.ForgetClears.{last_clear_move, last_clear_told}
+use Rattle.sf_schedules.specs.declared.operation.Stage.TheVariants.{Forgetting}
+use Rattle.sf_schedules.specs.declared.operation.ForgetStep.TheVariants as forget
+use Rattle.sf_word_steps.proofs.ForgetLooks.{forgetting_alone}
+use Rattle.sf_word_steps.proofs.Exchanging.{exchanged_once}
 use Rattle.sf_word_steps.proofs.forgetting.last_clear.Goals as goal
 
 pub exchange_turns-requires-clause-moves : goal.exchange_turns-requires-clause-moves
@@ -22,3 +26,7 @@ pub returns-clause-told : goal.returns-clause-told
 returns-clause-told g c =
     let v = c.args.seat.now.me.0 in
     last_clear_told c.args.actor.sizes c.args.actor.number c.args.actor.place c.exchange_turns.result c.args.target c.args.called v c.exchange_turns.new.seat.me.0 c.requires.asks (c.exchange_turns.ensures.told.0 c.args.actor.sizes c.requires.asks.sizes)
+
+pub returns-clause-exchanged : goal.returns-clause-exchanged
+returns-clause-exchanged g c =
+    exchanged_once c.args.actor.sizes c.args.actor.number 0 c.args.seat.now.me.0 c.exchange_turns.new.seat.me.0 (Forgetting c.args.actor.place c.args.target (forget.LastClear c.args.called)) c.requires.asks (forgetting_alone c.args.actor.place c.args.target (forget.LastClear c.args.called)) (c.exchange_turns.ensures.told.0 c.args.actor.sizes c.requires.asks.sizes).0 refl

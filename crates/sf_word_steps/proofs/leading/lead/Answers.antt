@@ -1,4 +1,4 @@
-use Rattle.std.proofs.Common.{◌≡◌, ◌≤◌, ◌==◌, ◌∙◌, ap, sym, subst, false, arith, eq-eqb}
+use Rattle.std.proofs.Common.{◌≡◌, ◌≤◌, ◌==◌, ◌∙◌, ap, sym, subst, false, arith, eq-eqb, refl, None}
 use Rattle.std.proofs.lemmas.Bool.{eqb-true, true≢false}
 use prog.Atomic.{either}
 use Rattle.sf_words.specs.declared.key_word.KeyState.TheVariants.{Names}
@@ -7,6 +7,10 @@ use Rattle.sf_calls.specs.declared.sizes.Sizes.{Sizes}
 use Rattle.sf_word_steps.specs.Words.{key}
 use Rattle.sf_word_steps.specs.Plays.{Moves}
 use Rattle.sf_word_steps.proofs.LeadSteps.{lead_turns, lead_move, lead_won, lead_after, lead_lost}
+use Rattle.sf_schedules.specs.declared.operation.Stage.TheVariants.{Asking}
+use Rattle.sf_schedules.specs.declared.operation.AskStep.TheVariants as ask
+use Rattle.sf_word_steps.proofs.LookSteps.{asking_alone}
+use Rattle.sf_word_steps.proofs.Exchanging.{exchanged_last}
 use Rattle.sf_word_steps.proofs.leading.lead.Goals as goal
 
 pub exchange_turns-found-requires-clause-moves : goal.exchange_turns-found-requires-clause-moves
@@ -39,3 +43,7 @@ returns-clause-lost g c lost =
     let found = c.exchange_turns-found.ensures.told.0 c.args.actor.sizes c.requires.asks.sizes in
     lead_lost c.args.actor.sizes c.args.actor.number c.args.actor.place c.exchange_turns-found.result c.pack_key-old.result c.args.seen c.args.forgot c.args.last v c.exchange_turns-found.new.seat.me.0 c.requires.asks c.requires.seen.0
     (c.pack_key-old.ensures.code ∙ ap key_code old_is) found (λ e. true≢false (sym (eq-eqb c.exchange_turns-found.result c.pack_key-old.result e) ∙ lost))
+
+pub returns-clause-exchanged : goal.returns-clause-exchanged
+returns-clause-exchanged g c =
+    exchanged_last c.args.actor.sizes c.args.actor.number c.pack_key-old.result c.exchange_turns-found.result c.args.last c.args.seat.now.me.0 c.exchange_turns-found.new.seat.me.0 (Asking c.args.actor.place None (ask.Lead c.args.seen c.args.forgot)) c.requires.asks (asking_alone c.args.actor.place None (ask.Lead c.args.seen c.args.forgot)) (c.exchange_turns-found.ensures.told.0 c.args.actor.sizes c.requires.asks.sizes).0 refl

@@ -5,6 +5,7 @@ use Rattle.sf_word_steps.specs.Words.{key}
 use Rattle.sf_word_steps.specs.Plays.{Moves}
 use Rattle.sf_word_steps.specs.Stands.{stage_in, look_turns}
 use Rattle.sf_word_steps.proofs.LookSteps.{look_move, look_told, may_sizes}
+use Rattle.sf_word_steps.proofs.Exchanging.{exchanged_look}
 use Rattle.sf_word_steps.proofs.leading.look.Goals as goal
 
 pub load_turns-found-requires-clause-moves : goal.load_turns-found-requires-clause-moves
@@ -26,3 +27,8 @@ returns-clause-shown g c =
     let found = c.load_turns-found.ensures.told.0 c.args.actor.sizes (may_sizes c.args.actor.sizes c.args.actor.number c.args.actor.place v c.requires.may) in
     (look_told c.args.actor.sizes c.args.actor.number c.args.actor.place c.load_turns-found.result v c.load_turns-found.new.seat.me.0 c.state.result c.requires.place c.requires.may found
     (λ (y : KeyState) lawful code. let one = c.unpack_key.ensures.inverse y lawful.0 code in let is = c.in-Some.is in let same = c.state.ensures.same in cc)).1
+
+pub returns-clause-exchanged : goal.returns-clause-exchanged
+returns-clause-exchanged g c =
+    exchanged_look c.args.actor.sizes c.args.actor.number c.args.actor.place c.args.seat.now.me.0 c.load_turns-found.new.seat.me.0 c.requires.may
+    (c.load_turns-found.ensures.told.0 c.args.actor.sizes (may_sizes c.args.actor.sizes c.args.actor.number c.args.actor.place c.args.seat.now.me.0 c.requires.may)).0

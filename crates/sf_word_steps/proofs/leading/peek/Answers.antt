@@ -1,11 +1,14 @@
-use Rattle.std.proofs.Common.{subst, [], ◌∷◌}
+use Rattle.std.proofs.Common.{subst, [], ◌∷◌, refl, None}
 use Rattle.sf_words.specs.declared.call_word.CallState.{CallState}
 use Rattle.sf_schedules.specs.declared.turn.Turn.TheVariants.{Step}
 use Rattle.sf_calls.specs.declared.sizes.Sizes.{Sizes}
 use Rattle.sf_word_steps.specs.Words.{call}
 use Rattle.sf_word_steps.specs.Plays.{Moves}
-use Rattle.sf_word_steps.proofs.LookSteps.{peek_move, peek_told, peek_shown}
+use Rattle.sf_word_steps.proofs.LookSteps.{asking_alone, peek_move, peek_told, peek_shown}
 use Rattle.sf_word_steps.proofs.EnterSteps.{opened_other}
+use Rattle.sf_schedules.specs.declared.operation.Stage.TheVariants.{Asking}
+use Rattle.sf_schedules.specs.declared.operation.AskStep.TheVariants as ask
+use Rattle.sf_word_steps.proofs.Exchanging.{exchanged_once}
 use Rattle.sf_word_steps.proofs.leading.peek.Goals as goal
 
 pub load_turns-found-requires-clause-moves : goal.load_turns-found-requires-clause-moves
@@ -35,3 +38,7 @@ returns-clause-other g c seen opened =
     opened_other c.args.actor.sizes c.args.actor.number c.args.actor.place c.args.called v c.load_turns-found.new.seat.me.0 c.state.result seen c.requires.asks found.0
     (peek_shown c.args.actor.sizes c.args.actor.number c.args.actor.place c.load_turns-found.result c.args.called v c.load_turns-found.new.seat.me.0 c.state.result c.requires.asks found
     (λ (y : CallState) lawful code. let one = c.unpack_call.ensures.inverse y lawful.0 code in let is = c.in-Some.is in let same = c.state.ensures.same in cc)).1 opened
+
+pub returns-clause-exchanged : goal.returns-clause-exchanged
+returns-clause-exchanged g c =
+    exchanged_once c.args.actor.sizes c.args.actor.number 0 c.args.seat.now.me.0 c.load_turns-found.new.seat.me.0 (Asking c.args.actor.place None (ask.Peek c.args.called)) c.requires.asks (asking_alone c.args.actor.place None (ask.Peek c.args.called)) (c.load_turns-found.ensures.told.0 c.args.actor.sizes c.requires.asks.sizes).0 refl

@@ -1,10 +1,13 @@
-use Rattle.std.proofs.Common.{◌≡◌, ◌≤◌, ◌∙◌, ap, subst, [], ◌∷◌, arith}
+use Rattle.std.proofs.Common.{◌≡◌, ◌≤◌, ◌∙◌, ap, subst, [], ◌∷◌, arith, refl, None}
 use Rattle.sf_words.specs.CallWord.{IsCallState, call_code}
 use Rattle.sf_schedules.specs.declared.turn.Turn.TheVariants.{Step}
 use Rattle.sf_calls.specs.declared.sizes.Sizes.{Sizes}
 use Rattle.sf_word_steps.specs.Words.{call}
 use Rattle.sf_word_steps.specs.Plays.{Moves}
-use Rattle.sf_word_steps.proofs.LookSteps.{ready_state, ready_move, ready_told}
+use Rattle.sf_word_steps.proofs.LookSteps.{asking_alone, ready_state, ready_move, ready_told}
+use Rattle.sf_schedules.specs.declared.operation.Stage.TheVariants.{Asking}
+use Rattle.sf_schedules.specs.declared.operation.AskStep.TheVariants as ask
+use Rattle.sf_word_steps.proofs.Exchanging.{exchanged_once}
 use Rattle.sf_word_steps.proofs.leading.ready.Goals as goal
 
 pub store_turns-requires-clause-moves : goal.store_turns-requires-clause-moves
@@ -21,3 +24,7 @@ pub returns-clause-told : goal.returns-clause-told
 returns-clause-told g c =
     let v = c.args.seat.now.me.0 in
     ready_told c.args.actor.sizes c.args.actor.number c.args.actor.place c.args.seen c.args.forgot v c.store_turns.new.seat.me.0 c.requires.asks (c.store_turns.ensures.told.0 c.args.actor.sizes c.requires.asks.sizes)
+
+pub returns-clause-exchanged : goal.returns-clause-exchanged
+returns-clause-exchanged g c =
+    exchanged_once c.args.actor.sizes c.args.actor.number 0 c.args.seat.now.me.0 c.store_turns.new.seat.me.0 (Asking c.args.actor.place None (ask.ReadyLead c.args.seen c.args.forgot)) c.requires.asks (asking_alone c.args.actor.place None (ask.ReadyLead c.args.seen c.args.forgot)) (c.store_turns.ensures.told.0 c.args.actor.sizes c.requires.asks.sizes) refl

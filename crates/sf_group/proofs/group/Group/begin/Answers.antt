@@ -1,4 +1,4 @@
-use Rattle.std.proofs.Common.{◌≡◌, ◌≤◌, ◌<◌, ◌∙◌, [], ◌∷◌, None, refl, sym, ap, subst, arith}
+use Rattle.std.proofs.Common.{◌≡◌, ◌≤◌, ◌<◌, ◌+◌, ◌∙◌, [], ◌∷◌, None, refl, sym, ap, subst, arith}
 use Rattle.sf_history.specs.declared.event.Event.TheVariants as event
 use Rattle.sf_schedules.specs.declared.operation.Stage.TheVariants as stage
 use Rattle.sf_calls.specs.declared.sizes.Sizes.{Sizes}
@@ -10,8 +10,9 @@ use Rattle.sf_word_steps.specs.Stands.{next_in, Goes}
 use Rattle.sf_word_steps.specs.Changes.{Tries}
 use Rattle.sf_group.specs.Known.{IsPlaceIn, caller_of, flight_of, ticket_of}
 use Rattle.sf_calls.specs.Begins.{HasBegun, IsRefusedSpent}
-use Rattle.sf_group.specs.Calls.{HasNotBegun}
-use Rattle.sf_group.proofs.Rows.{sizes_are, follows_now, first_least, leads_now, lead_row, join_row, busy_row, spent_row}
+use Rattle.sf_word_steps.specs.Exchanges.{exchanges_of, HasExchanged}
+use Rattle.sf_group.specs.Calls.{HasTriedAtMost, HasNotBegun}
+use Rattle.sf_group.proofs.Rows.{sizes_are, follows_now, first_least, leads_now, lead_row, join_row, few_row, busy_row, spent_row}
 use Rattle.sf_group.proofs.group.Group.begin.Goals as goal
 
 pub returns-in_default-clause-refused : goal.returns-in_default-clause-refused
@@ -69,8 +70,9 @@ returns-in-Lost-clause-refused g c =
     let i = c.in-Ok.generation in
     let left : i ≤ 4294967295 = let low = c.in-Ok.ensures.0 in let is = c.in-Ok.ensures.1 in omega (arith, low, is) in
     let done = subst (λ (z : Sizes). Tries z a c.args.place c.args.tries v w stage.Free) (sym same) c.in-Lost.ensures.tried in
+    let all = subst (λ (z : Sizes). HasExchanged z a c.args.tries v w) (sym same) c.in-Lost.ensures.exchanged in
     subst (λ (x : CallerValue _). HasNotBegun x c.args.place c.args.tries (not_begun.Busy c.args.tries (caller_of c.try_often-attempt.new.seat.table_id w a))) c.caller.view_is
-    (busy_row seat.table_id c.try_often-attempt.new.seat.table_id a i c.args.place c.args.tries v w c.try_often-attempt.ensures.own.0 c.caller.invariant.0 (sym (c.in-Ok.ensures.1 ∙ c.caller.invariant.1)) left done)
+    (busy_row seat.table_id c.try_often-attempt.new.seat.table_id a i c.args.place c.args.tries v w c.try_often-attempt.ensures.own.0 c.caller.invariant.0 (sym (c.in-Ok.ensures.1 ∙ c.caller.invariant.1)) left done all)
 
 pub invariant_of-result-in-Led : goal.invariant_of-result-in-Led
 invariant_of-result-in-Led g c =
@@ -96,3 +98,27 @@ invariant_of-result-in-Led g c =
       low,
       follows_now c.self.inside.sizes c.try_often-attempt.new.seat.table_id a c.args.place (record { caller = a; generation = i }) None c.in-Led.after w (sizes_are c.self.inside.sizes a w (stage.Leading c.args.place i None) c.in-Led.ensures.tried.0.sits) c.in-Led.ensures.tried.1,
     )
+
+pub returns-in-Led-clause-tried : goal.returns-in-Led-clause-tried
+returns-in-Led-clause-tried g c =
+    let seat = c.caller.inside.seat in
+    let v = seat.me.0 in
+    let w = c.try_often-attempt.new.seat.me.0 in
+    let a = c.caller.inside.number in
+    let i = c.in-Ok.generation in
+    let same : sizes_of v ≡ c.self.inside.sizes = ap (λ (x : CallerValue _). x.group.sizes) c.caller.view_is ∙ (ap (λ (x : GroupValue). x.sizes) c.requires.own ∙ ap (λ (x : GroupValue). x.sizes) (sym c.self.view_is)) in
+    let goes = subst (λ (z : Sizes). Goes z a v w (stage.Leading c.args.place i None) (event.Lead a c.args.place (record { caller = a; generation = i }) None ∷ []) 1) (sym same) c.in-Led.ensures.tried.0 in
+    let few = subst (λ (z : Sizes). exchanges_of z a w.known.turns ≤ exchanges_of z a v.known.turns + c.args.tries) (sym same) c.in-Led.ensures.exchanged in
+    subst (λ (x : CallerValue _). HasTriedAtMost x c.args.tries w.known.turns) c.caller.view_is (few_row seat.table_id a c.args.tries 1 v w (stage.Leading c.args.place i None) (event.Lead a c.args.place (record { caller = a; generation = i }) None ∷ []) goes few)
+
+pub returns-in-Joined-clause-tried : goal.returns-in-Joined-clause-tried
+returns-in-Joined-clause-tried g c =
+    let seat = c.caller.inside.seat in
+    let v = seat.me.0 in
+    let w = c.try_often-attempt.new.seat.me.0 in
+    let a = c.caller.inside.number in
+    let i = c.in-Ok.generation in
+    let same : sizes_of v ≡ c.self.inside.sizes = ap (λ (x : CallerValue _). x.group.sizes) c.caller.view_is ∙ (ap (λ (x : GroupValue). x.sizes) c.requires.own ∙ ap (λ (x : GroupValue). x.sizes) (sym c.self.view_is)) in
+    let goes = subst (λ (z : Sizes). Goes z a v w (stage.Holding c.args.place i c.in-Joined.call) (event.Enter a c.args.place c.in-Joined.call (record { caller = a; generation = i }) ∷ []) 1) (sym same) c.in-Joined.ensures.tried in
+    let few = subst (λ (z : Sizes). exchanges_of z a w.known.turns ≤ exchanges_of z a v.known.turns + c.args.tries) (sym same) c.in-Joined.ensures.exchanged in
+    subst (λ (x : CallerValue _). HasTriedAtMost x c.args.tries w.known.turns) c.caller.view_is (few_row seat.table_id a c.args.tries 1 v w (stage.Holding c.args.place i c.in-Joined.call) (event.Enter a c.args.place c.in-Joined.call (record { caller = a; generation = i }) ∷ []) goes few)

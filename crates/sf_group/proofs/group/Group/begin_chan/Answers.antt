@@ -1,4 +1,4 @@
-use Rattle.std.proofs.Common.{◌≡◌, ◌≤◌, ◌∙◌, [], ◌∷◌, Some, refl, sym, ap, subst, arith}
+use Rattle.std.proofs.Common.{◌≡◌, ◌≤◌, ◌+◌, ◌∙◌, [], ◌∷◌, Some, refl, sym, ap, subst, arith}
 use Rattle.sf_history.specs.declared.event.Event.TheVariants as event
 use Rattle.sf_schedules.specs.declared.operation.Stage.TheVariants as stage
 use Rattle.sf_schedules.specs.Schedules.{IsPlace}
@@ -14,8 +14,10 @@ use Rattle.sf_word_chans.specs.declared.askers.Askers.{Askers}
 use Rattle.sf_word_chans.specs.Changes.{HaveChanged}
 use Rattle.sf_word_chans.specs.Together.{HasAsked}
 use Rattle.sf_group.specs.Known.{IsPlaceIn, caller_of, flight_of, ticket_of}
-use Rattle.sf_group.specs.Calls.{HasNotBegunChan}
-use Rattle.sf_group.proofs.Rows.{sizes_are, first_least, follows_now}
+use Rattle.sf_word_steps.specs.Exchanges.{exchanges_of, HasExchanged}
+use Rattle.sf_word_chans.specs.Exchanges.{HaveAskedSo}
+use Rattle.sf_group.specs.Calls.{HasTriedAtMost, HasNotBegunChan}
+use Rattle.sf_group.proofs.Rows.{sizes_are, first_least, follows_now, few_row}
 use Rattle.sf_group.proofs.ChanRows.{stands_now, led_chan_row, joined_chan_row, busy_chan_row, spent_chan_row}
 use Rattle.sf_group.proofs.group.Group.begin_chan.Goals as goal
 
@@ -174,6 +176,57 @@ returns-in-Lost-clause-refused g c =
     let first = subst (λ (z : Sizes). Goes z one.number v v' stage.Free [] 0) (sym same) asked.0.first in
     let second = subst (λ (z : Sizes). Goes z two.number w w' stage.Free [] 0) (sym second_same) asked.0.second in
     let changed = subst (λ (z : Sizes). HaveChanged z one.number two.number k c.args.tries v.known.turns w.known.turns v'.known.turns) (sym same) asked.1 in
+    let so = subst (λ (r : Attempt). HaveAskedSo askers c.args.tries v w v' w' r) c.in-Lost.is c.ask_together-attempt.ensures.exchanged in
+    let all = subst (λ (z : Sizes). HasExchanged z one.number c.args.tries v v') (sym same) so.0 in
+    let none = subst (λ (z : Sizes). HasExchanged z two.number 0 w w') (sym second_same) so.1 in
     subst (λ (x : CallerValue _). HasNotBegunChan x c.args.second k c.args.tries (not_begun.Busy c.args.tries (caller_of c.ask_together-attempt.result.1.table_id v' one.number, caller_of c.ask_together-attempt.result.2.table_id w' two.number))) c.caller.view_is
     (subst (λ (y : CallerValue _). HasNotBegunChan (caller_of one.seat.table_id v one.number) y k c.args.tries (not_begun.Busy c.args.tries (caller_of c.ask_together-attempt.result.1.table_id v' one.number, caller_of c.ask_together-attempt.result.2.table_id w' two.number))) c.second.view_is
-    (busy_chan_row one.seat.table_id two.seat.table_id c.ask_together-attempt.result.1.table_id c.ask_together-attempt.result.2.table_id one.number two.number i j k c.args.tries v w v' w' table second_table (second_same ∙ sym same) c.caller.invariant.0 next left c.second.invariant.0 second_next second_left first second asked.0.turns changed))
+    (busy_chan_row one.seat.table_id two.seat.table_id c.ask_together-attempt.result.1.table_id c.ask_together-attempt.result.2.table_id one.number two.number i j k c.args.tries v w v' w' table second_table (second_same ∙ sym same) c.caller.invariant.0 next left c.second.invariant.0 second_next second_left first second asked.0.turns changed all none))
+
+pub returns-in-Led-clause-tried : goal.returns-in-Led-clause-tried
+returns-in-Led-clause-tried g c =
+    let one = c.caller.inside in
+    let two = c.second.inside in
+    let v = one.seat.me.0 in
+    let w = two.seat.me.0 in
+    let v' = c.ask_together-attempt.result.1.me.0 in
+    let w' = c.ask_together-attempt.result.2.me.0 in
+    let i = c.in-Some.generation in
+    let j = c.in-Some.second_generation in
+    let k = c.args.place in
+    let askers : Askers = record { sizes = c.self.inside.sizes; number = one.number; second = two.number; place = k; generation = i; second_generation = j } in
+    let same : sizes_of v ≡ c.self.inside.sizes = ap (λ (x : CallerValue _). x.group.sizes) c.caller.view_is ∙ ap (λ (x : GroupValue). x.sizes) (c.requires.caller ∙ sym c.self.view_is) in
+    let second_same : sizes_of w ≡ c.self.inside.sizes = ap (λ (x : CallerValue _). x.group.sizes) c.second.view_is ∙ ap (λ (x : GroupValue). x.sizes) (c.requires.second ∙ sym c.self.view_is) in
+    let asked = subst (λ (r : Attempt). HasAsked askers c.args.tries v w v' w' r) c.in-Led.is c.ask_together-attempt.ensures.asked in
+    let so = subst (λ (r : Attempt). HaveAskedSo askers c.args.tries v w v' w' r) c.in-Led.is c.ask_together-attempt.ensures.exchanged in
+    let first = subst (λ (z : Sizes). Goes z one.number v v' (stage.Leading k i (Some (record { caller = two.number; generation = j }))) (event.Lead one.number k (record { caller = one.number; generation = i }) (Some (record { caller = two.number; generation = j })) ∷ []) 1) (sym same) asked.0.first in
+    let second = subst (λ (z : Sizes). Goes z two.number w w' (stage.Holding k j (record { caller = one.number; generation = i })) [] 1) (sym second_same) asked.0.second in
+    let few = subst (λ (z : Sizes). exchanges_of z one.number v'.known.turns ≤ exchanges_of z one.number v.known.turns + c.args.tries) (sym same) so.0 in
+    let none = subst (λ (z : Sizes). HasExchanged z two.number 0 w w') (sym second_same) so.1 in (
+      subst (λ (x : CallerValue _). HasTriedAtMost x c.args.tries v'.known.turns) c.caller.view_is (few_row one.seat.table_id one.number c.args.tries 1 v v' (stage.Leading k i (Some (record { caller = two.number; generation = j }))) (event.Lead one.number k (record { caller = one.number; generation = i }) (Some (record { caller = two.number; generation = j })) ∷ []) first few),
+      subst (λ (x : CallerValue _). HasTriedAtMost x 0 w'.known.turns) c.second.view_is (few_row two.seat.table_id two.number 0 1 w w' (stage.Holding k j (record { caller = one.number; generation = i })) [] second (omega (arith, none))),
+    )
+
+pub returns-in-Joined-clause-tried : goal.returns-in-Joined-clause-tried
+returns-in-Joined-clause-tried g c =
+    let one = c.caller.inside in
+    let two = c.second.inside in
+    let v = one.seat.me.0 in
+    let w = two.seat.me.0 in
+    let v' = c.ask_together-attempt.result.1.me.0 in
+    let w' = c.ask_together-attempt.result.2.me.0 in
+    let i = c.in-Some.generation in
+    let j = c.in-Some.second_generation in
+    let k = c.args.place in
+    let askers : Askers = record { sizes = c.self.inside.sizes; number = one.number; second = two.number; place = k; generation = i; second_generation = j } in
+    let same : sizes_of v ≡ c.self.inside.sizes = ap (λ (x : CallerValue _). x.group.sizes) c.caller.view_is ∙ ap (λ (x : GroupValue). x.sizes) (c.requires.caller ∙ sym c.self.view_is) in
+    let second_same : sizes_of w ≡ c.self.inside.sizes = ap (λ (x : CallerValue _). x.group.sizes) c.second.view_is ∙ ap (λ (x : GroupValue). x.sizes) (c.requires.second ∙ sym c.self.view_is) in
+    let asked = subst (λ (r : Attempt). HasAsked askers c.args.tries v w v' w' r) c.in-Joined.is c.ask_together-attempt.ensures.asked in
+    let so = subst (λ (r : Attempt). HaveAskedSo askers c.args.tries v w v' w' r) c.in-Joined.is c.ask_together-attempt.ensures.exchanged in
+    let first = subst (λ (z : Sizes). Goes z one.number v v' stage.Free [] 0) (sym same) asked.first in
+    let second = subst (λ (z : Sizes). Goes z two.number w w' (stage.Holding k j c.in-Joined.open) (event.Enter two.number k c.in-Joined.open (record { caller = two.number; generation = j }) ∷ []) 1) (sym second_same) asked.second in
+    let few = subst (λ (z : Sizes). exchanges_of z one.number v'.known.turns ≤ exchanges_of z one.number v.known.turns + c.args.tries) (sym same) so.0 in
+    let none = subst (λ (z : Sizes). HasExchanged z two.number 0 w w') (sym second_same) so.1 in (
+      subst (λ (x : CallerValue _). HasTriedAtMost x c.args.tries v'.known.turns) c.caller.view_is (few_row one.seat.table_id one.number c.args.tries 0 v v' stage.Free [] first few),
+      subst (λ (x : CallerValue _). HasTriedAtMost x 0 w'.known.turns) c.second.view_is (few_row two.seat.table_id two.number 0 1 w w' (stage.Holding k j c.in-Joined.open) (event.Enter two.number k c.in-Joined.open (record { caller = two.number; generation = j }) ∷ []) second (omega (arith, none))),
+    )
