@@ -267,8 +267,9 @@ impl<'a> Operation for Do<'a> {
             },
         ) = self;
         match do_with(rt, group, caller, place, || Number(1)) {
-            Ok((caller, letter)) => {
+            Ok((caller, letter, load)) => {
                 drop(letter);
+                drop(load);
                 Ok(Do(Asker {
                     group,
                     caller,

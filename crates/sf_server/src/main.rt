@@ -64,7 +64,7 @@ fn read(
     for _asking in 0..100 {
         // The one load that serves this asking is this caller's own, or another's.
         match do_with(rt, group, caller, place, || origin.load()) {
-            Ok((free, letter)) => {
+            Ok((free, letter, _load)) => {
                 caller = free;
                 right = right.wrapping_add((letter.value().0 == version) as u32);
             }

@@ -1,5 +1,5 @@
 -- how a do ends
-use Rattle.std.specs.Prelude.{◌≡◌, ℕ, ◌⊎◌}
+use Rattle.std.specs.Prelude.{◌≡◌, ℕ, ◌⊎◌, Option, Some, None}
 use Rattle.sf_calls.specs.Tokens.{CallerValue, FlightValue, TicketValue, LetterValue, SettledValue}
 use Rattle.sf_calls.specs.Fitting.{FitOf}
 use Rattle.sf_calls.specs.Begins.{HasLed, HasJoined, IsRefusedSpent}
@@ -36,6 +36,10 @@ module _ {V : Type 0} where
     pub finished : IsHeld flight value s
 
 module _ {V F : Type 0} where
+  -- it led, and its load is gone; or it joined, and has its load back, so that it cannot have called it
+  abbrev pub HasDoneWith : FitOf V → (V → Type 0) → CallerValue V → ℕ → F → CallerValue V → LetterValue V → Option F → Type 0
+  HasDoneWith fits answers c k load d l back = (HasLoaded fits answers c k d l × (back ≡ None)) ⊎ (HasWaited fits c k d l × (back ≡ Some load))
+
   abbrev pub HasFailed : (V → Type 0) → CallerValue V → ℕ → F → DoFault V F → Type 0
   HasFailed answers c k load (fault.Spent d f) = IsRefusedSpent c d × (f ≡ load)
   HasFailed answers c k load (fault.Held s) = OwesLoaded answers c k s

@@ -3,7 +3,7 @@ ghost use Rattle.std.specs.Prelude.{◌≡◌, IfOk, IfErr};
 ghost use Rattle.sf_calls.specs.Tokens.{FlightValue};
 ghost use Rattle.sf_calls.specs.Same.{IsPlaceOf};
 ghost use Rattle.sf_calls.specs.Begins.{HasLed};
-ghost use Rattle.sf_wait.specs.Doing.{HasAsked, HasDone, HasFailed};
+ghost use Rattle.sf_wait.specs.Doing.{HasAsked, HasDoneWith, HasFailed};
 
 use crate::waiting::{begin_wait, finish_wait, wait};
 use sf_calls::{Fit, Spent};
@@ -19,28 +19,28 @@ pub enum DoFault<V: Fit, F> {
 }
 
 /// The caller asks for the place. Where it leads, it calls `load` once, and settles its call with what that answers; where
-/// it joins, it waits for the letter, and `load` is not called.
-pub fn do_with<V: Fit, R: Wait, F: FnOnce() -> V + Drop>(
+/// it joins, it waits for the letter, and `load` is not called but comes back.
+pub fn do_with<V: Fit, R: Wait, F: FnOnce() -> V>(
     rt: &R,
     group: &Group<V>,
     caller: Caller<V>,
     place: u32,
     load: F,
-) -> Result<(Caller<V>, Letter<V>), DoFault<V, F>>
+) -> Result<(Caller<V>, Letter<V>, Option<F>), DoFault<V, F>>
     requires own { caller.group ≡ group.now }
     requires place { IsPlaceOf group.now place }
     requires callable { (flight : FlightValue V) → HasLed caller place flight → F.pre load }
     requires fits { (flight : FlightValue V) (value : V) → HasLed caller place flight → F.post load value
         → V.fits flight.place flight.call value flight.seen }
-    ensures done { IfOk result (λ done. HasDone V.fits (F.post load) caller place done.0 done.1) }
+    ensures done { IfOk result (λ done. HasDoneWith V.fits (F.post load) caller place load done.0 done.1 done.2) }
     ensures failed { IfErr result (λ fault. HasFailed (F.post load) caller place load fault) }
 {
     match ask_with(rt, group, caller, place, load) {
-        Did::Led(Finished::Done(caller, letter)) => Ok((caller, letter)),
+        Did::Led(Finished::Done(caller, letter)) => Ok((caller, letter, None)),
         Did::Led(Finished::Held(settled)) => Err(DoFault::Held(settled)),
         Did::Joined(ticket, load) => {
-            drop(load);
-            Ok(wait(rt, group, ticket))
+            let (caller, letter) = wait(rt, group, ticket);
+            Ok((caller, letter, Some(load)))
         }
         Did::Spent(caller, load) => Err(DoFault::Spent(caller, load)),
     }

@@ -63,7 +63,15 @@ pub(crate) fn do_once(
         Outcome(number)
     };
     match do_with(rt, group, caller, place, load) {
-        Ok(done) => Some(done),
+        Ok((caller, letter, load)) => {
+            // Its load comes back where another's served it.
+            let is_back = load.is_some();
+            drop(load);
+            if is_back != (letter.call().caller != number) {
+                return None;
+            }
+            Some((caller, letter))
+        }
         Err(DoFault::Held(settled)) => {
             settled.abandon();
             None
@@ -234,7 +242,7 @@ impl<'a> Asker<'a> {
             flags,
         } = self;
         match do_with(rt, group, caller, place, || flags.load()) {
-            Ok((_, letter)) => Some(letter),
+            Ok((_, letter, _)) => Some(letter),
             Err(DoFault::Held(settled)) => {
                 settled.abandon();
                 None

@@ -156,7 +156,8 @@ fn load_once(
         Outcome(7)
     };
     match do_with(rt, group, caller, 1, load) {
-        Ok((caller, letter)) => (caller, letter),
+        Ok((caller, letter, None)) => (caller, letter),
+        Ok((_, _, Some(_))) => panic!(rt; "its load is back"),
         Err(DoFault::Held(settled)) => {
             settled.abandon();
             panic!(rt; "it is held")
