@@ -31,6 +31,6 @@ loop-index-preserved g c =
       slots = was.slots;
       dealing = subst (λ (s : Sizes). IsDealing (c.loop-index.index + 1 + 1) s c.deal.new.first.me.0) was.key c.deal.ensures.first.0;
       empty = c.deal.ensures.first.1;
-      new = subst (All (IsNewCaller o)) (sym c.in_ok-push.ensures.items) (All-push (IsNewCaller o) c.loop-index.list.items c.deal.result was.new (ap (λ (x : CallerValue _). x.group) is, ap (λ (x : CallerValue _). x.seen) is));
+      new = subst (All (IsNewCaller o)) (sym c.in_ok-push.ensures.items) (All-push (IsNewCaller o) c.loop-index.list.items c.deal.result was.new (ap (λ (x : CallerValue _). x.group) is, ap (λ (x : CallerValue _). x.seen) is, ap (λ (x : CallerValue _). x.turns) is));
       numbers = ap numbers_of c.in_ok-push.ensures.items ∙ numbers_more c.loop-index.list.items c.deal.result c.loop-index.index was.numbers (ap (λ (x : CallerValue _). x.number) is);
     }
