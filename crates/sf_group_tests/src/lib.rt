@@ -6,11 +6,15 @@
 #[cfg(test)]
 mod afters;
 #[cfg(test)]
+mod busy;
+#[cfg(test)]
 mod calls;
 #[cfg(test)]
 mod chans;
 #[cfg(test)]
 mod currents;
+#[cfg(test)]
+mod error_values;
 #[cfg(test)]
 mod going_on;
 #[cfg(test)]

@@ -1,7 +1,7 @@
 //! Notes and letters that are passed on.
 
-use crate::calls::{Outcome, finish, id, lead, next_caller};
-use sf_group::{Finished, Group};
+use crate::calls::{Outcome, finish, id, join, lead, next_caller};
+use sf_group::{Finished, Group, Polled};
 use std::test::Fail;
 
 #[test]
@@ -47,6 +47,47 @@ fn letter_is_copied(rt: HostRuntime) -> Result<(), Fail> {
         Finished::Held(settled) => {
             settled.abandon();
             panic!(rt; "it is held")
+        }
+    }
+    Ok(())
+}
+
+// Letters of a joined call are copied as others are: the leader's, and the joiner's.
+#[test]
+fn shared_letters_are_copied(rt: HostRuntime) -> Result<(), Fail> {
+    let (group, mut callers) = Group::<Outcome>::new(rt.alloc(), 1, 2, 1)?;
+    let two = next_caller(&rt, &group, &mut callers, 2);
+    let one = next_caller(&rt, &group, &mut callers, 1);
+    let flight = lead(&rt, &group, one, 1, id(1, 1));
+    let ticket = join(&rt, &group, two, 1, id(1, 1), id(2, 1));
+    match group.finish(flight, Outcome(7)) {
+        Finished::Done(_leader, mut letter) => {
+            let Ok(copy) = group.copy(&mut letter) else {
+                panic!(rt; "the leader's copy is refused")
+            };
+            assert!(rt;
+                copy.joiners() == 1 && copy.value().0 == 7,
+                "another letter"
+            );
+        }
+        Finished::Held(settled) => {
+            settled.abandon();
+            panic!(rt; "it is held")
+        }
+    }
+    match group.poll(ticket) {
+        Polled::Ready(_caller, mut letter) => {
+            let Ok(copy) = group.copy(&mut letter) else {
+                panic!(rt; "the joiner's copy is refused")
+            };
+            assert!(rt;
+                copy.joiners() == 1 && copy.value().0 == 7,
+                "another letter"
+            );
+        }
+        Polled::Pending(ticket) => {
+            ticket.abandon();
+            panic!(rt; "it is pending")
         }
     }
     Ok(())

@@ -8,7 +8,7 @@ use sf_group::{Begun, Caller, Finished, Group, NotBegun};
 use std::alloc::Global;
 use std::process::Abort;
 use std::test::Fail;
-use std::thread::join;
+use std::thread::{join, yield_now};
 
 const EACH: u32 = 250;
 
@@ -48,6 +48,7 @@ fn ask(group: &Group<Outcome>, mut caller: Caller<Outcome>) -> End
             Err(NotBegun::Busy(_, back)) => caller = back,
             Err(NotBegun::Spent(_back)) => return End::GaveUp,
         }
+        yield_now();
     }
     End::GaveUp
 }

@@ -37,16 +37,19 @@ struct Flags {
     asked: AtomicBool,
     // The first getter was answered.
     answered: AtomicBool,
+    // The load was not met within its looks.
+    unmet: AtomicBool,
 }
 
-// Looks at the flag until it is set, 1,000,000 times at most.
-fn wait_for(flag: &AtomicBool) {
-    for _ in 0..1_000_000 {
-        if flag.load(Ordering::SeqCst) {
-            return;
+// Looks at the two flags until one is set, 10,000,000 times at most. Whether that came.
+fn is_set(flag: &AtomicBool, other: &AtomicBool) -> bool {
+    for _ in 0..10_000_000 {
+        if flag.load(Ordering::SeqCst) || other.load(Ordering::SeqCst) {
+            return true;
         }
         yield_now();
     }
+    false
 }
 
 // A local getter of a script, which says when it loads, and waits until the spare caller has asked, where there are flags.
@@ -66,7 +69,9 @@ impl<'f> Local for Meeting<'f> {
     fn load(&mut self, key: &[u8], call: CallId) -> Result<Bytes, LocalFault> {
         if let Some(flags) = self.flags {
             flags.loading.store(true, Ordering::SeqCst);
-            wait_for(&flags.asked);
+            if !is_set(&flags.asked, &flags.asked) {
+                flags.unmet.store(true, Ordering::SeqCst);
+            }
         }
         self.script.load(key, call)
     }
@@ -209,7 +214,7 @@ impl<'a, 'd, 'f, D: Naming, N: Naming> Model for Spare<'a, 'd, 'f, D, N> {
 }
 
 impl<'a, 'd, 'f, D: Naming, N: Naming> Spare<'a, 'd, 'f, D, N> {
-    // Its ticket, if the first getter loaded then.
+    // Its ticket. None where the first getter was answered without a load.
     fn ask<R: Wait + Abort>(self, rt: &R) -> Option<Waiting<'d, D>>
         ensures { IfSome result (λ w. w.ticket.group ≡ N.group) }
     {
@@ -219,8 +224,12 @@ impl<'a, 'd, 'f, D: Naming, N: Naming> Spare<'a, 'd, 'f, D, N> {
             place,
             flags,
         } = self;
-        wait_for(&flags.loading);
-        if !flags.loading.load(Ordering::SeqCst) || flags.answered.load(Ordering::SeqCst) {
+        if !is_set(&flags.loading, &flags.answered) {
+            flags.unmet.store(true, Ordering::SeqCst);
+        }
+        if !flags.loading.load(Ordering::SeqCst) {
+            // A later load need not wait.
+            flags.asked.store(true, Ordering::SeqCst);
             return None;
         }
         let begun = begin_wait(rt, fill.group(), caller, place);
@@ -236,11 +245,12 @@ impl<'a, 'd, 'f, D: Naming, N: Naming> Spare<'a, 'd, 'f, D, N> {
     }
 }
 
-// The letter is there.
+// The letter is there, with the value where no memory was refused.
 fn take_letter<'d, D: Naming, N: Naming>(
     rt: &impl Abort,
     fill: &Fill<'d, D, N, AnyValue>,
     waiting: Waiting<'d, D>,
+    refused: u32,
 )
     requires { waiting.ticket.group ≡ N.group }
 {
@@ -251,7 +261,9 @@ fn take_letter<'d, D: Naming, N: Naming>(
             assert!(rt;
                 letter.call() == call && letter.joiners() == 1,
                 "another letter"
-            )
+            );
+            let bytes = letter.value().byte_count();
+            assert!(rt; bytes == Some(1) || refused == 1, "another value");
         }
         Polled::Pending(ticket) => {
             ticket.abandon();
@@ -305,10 +317,17 @@ fn play_beside<
         flags,
     };
     let (tried, waiting) = join(rt, || first.get(rt), || spare.ask(rt));
+    let unmet = flags.unmet.load(Ordering::SeqCst);
     let refused = tried.end(rt, fill);
     if let Some(waiting) = waiting {
-        take_letter(rt, fill, waiting);
+        take_letter(rt, fill, waiting, refused);
+    } else {
+        assert!(rt;
+            refused == 1,
+            "nobody joined a load, and no memory was refused"
+        );
     }
+    assert!(rt; !unmet, "the load was not met");
     refused
 }
 
@@ -467,6 +486,7 @@ fn try_out<R: Wait + Threads + Abort + Sync>(
         loading: AtomicBool::new(false),
         asked: AtomicBool::new(false),
         answered: AtomicBool::new(false),
+        unmet: AtomicBool::new(false),
     };
     let (directory, desks) = open_directory(alloc, 8, 4, 3, 0, 0)?;
     with_space::<Brand, R>(

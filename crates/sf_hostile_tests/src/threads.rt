@@ -8,7 +8,7 @@ use sf_history::Memory;
 use std::alloc::Global;
 use std::process::Abort;
 use std::test::Fail;
-use std::thread::join;
+use std::thread::{join, yield_now};
 
 const EACH: u32 = 1000;
 
@@ -96,6 +96,7 @@ fn ask(group: &Group<Leader>, mut caller: Caller<Leader>) -> Result<Option<Kept>
             }
             Err(NotBegun::Spent(_)) => return Err(()),
         }
+        yield_now();
     }
     Err(())
 }

@@ -7,6 +7,8 @@
 #[cfg(test)]
 mod holding;
 #[cfg(test)]
+mod jobs;
+#[cfg(test)]
 mod outcome;
 #[cfg(test)]
 mod reloading;
@@ -16,3 +18,5 @@ mod serving;
 mod sharing;
 #[cfg(test)]
 mod waiting;
+#[cfg(test)]
+mod woken;

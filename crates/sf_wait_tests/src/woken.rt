@@ -1,0 +1,220 @@
+//! Who rests is woken: by the delivery to its own channel, and by one that goes on after memory was refused.
+ghost use Rattle.std.specs.Prelude.{◌≡◌, All};
+ghost use Rattle.sf_calls.specs.Same.{IsPlaceOf};
+
+use sf_group::{Begun, Caller, ChanBegun, Finished, Fit, Flight, Group, Memory, Share, Ticket};
+use sf_wait::{begin_wait, do_chan, finish_wait, go_on_wait, wait};
+use std::alloc::AllocError;
+use std::marker::Model;
+use std::process::Abort;
+use std::sync::Wait;
+use std::sync::atomic::{AtomicU32, Ordering};
+use std::test::Fail;
+use std::thread::{join, yield_now};
+
+// A number whose first copies are refused.
+#[derive(Drop)]
+struct Scarce {
+    value: u32,
+    refused: AtomicU32,
+}
+
+impl Share for Scarce {
+    fn share(&mut self) -> Result<Self, Memory> {
+        let refused = self.refused.load(Ordering::SeqCst);
+        if refused != 0 {
+            self.refused
+                .store(refused.wrapping_sub(1), Ordering::SeqCst);
+            return Err(AllocError);
+        }
+        Ok(Scarce {
+            value: self.value,
+            refused: AtomicU32::new(0),
+        })
+    }
+}
+
+impl Fit for Scarce {
+    ghost lasts = { λ _ _ _ _ _ f. f };
+}
+
+// A leader that settles its call while another rests.
+struct Leader<'a> {
+    group: &'a Group<Scarce>,
+    flight: Flight<Scarce>,
+    refused: u32,
+}
+
+impl<'a> Model for Leader<'a> {
+    ghost use Rattle.std.specs.Prelude.{◌≡◌};
+
+    ghost Value = { Unit {0} };
+
+    ghost view = { λ _. tt };
+
+    ghost invariant = { λ l. l.flight.group ≡ l.group.now };
+}
+
+impl<'a> Drop for Leader<'a> {
+    fn drop(self) {
+        let Leader {
+            group: _,
+            flight,
+            refused: _,
+        } = self;
+        flight.abandon();
+    }
+}
+
+// So long that the other rests by then.
+fn pause() {
+    for _ in 0..20_000 {
+        yield_now();
+    }
+}
+
+impl<'a> Leader<'a> {
+    // Settles after a while, and goes on after another while. Whether that ended as it was to.
+    fn finish(self, rt: &impl Wait) -> bool {
+        let Self {
+            group,
+            flight,
+            refused,
+        } = self;
+        pause();
+        let value = Scarce {
+            value: 7,
+            refused: AtomicU32::new(refused),
+        };
+        match finish_wait(rt, group, flight, value) {
+            Finished::Done(_, _) => refused == 0,
+            Finished::Held(settled) => {
+                pause();
+                match go_on_wait(rt, group, settled) {
+                    Finished::Done(_, _) => refused != 0,
+                    Finished::Held(settled) => {
+                        settled.abandon();
+                        false
+                    }
+                }
+            }
+        }
+    }
+}
+
+// One that waits for its letter.
+struct Rester<'a> {
+    group: &'a Group<Scarce>,
+    ticket: Ticket<Scarce>,
+}
+
+impl<'a> Model for Rester<'a> {
+    ghost use Rattle.std.specs.Prelude.{◌≡◌};
+
+    ghost Value = { Unit {0} };
+
+    ghost view = { λ _. tt };
+
+    ghost invariant = { λ r. r.ticket.group ≡ r.group.now };
+}
+
+impl<'a> Drop for Rester<'a> {
+    fn drop(self) {
+        let Rester { group: _, ticket } = self;
+        ticket.abandon();
+    }
+}
+
+impl<'a> Rester<'a> {
+    fn wait(self, rt: &impl Wait) -> u32 {
+        let Self { group, ticket } = self;
+        wait(rt, group, ticket).1.value().value
+    }
+}
+
+fn next(rt: &impl Abort, group: &Group<Scarce>, list: &mut Vec<Caller<Scarce>>) -> Caller<Scarce>
+    requires { All (λ c. c.group ≡ group.now) list.old.items }
+    ensures caller { result.group ≡ group.now }
+    ensures rest { All (λ c. c.group ≡ group.now) list.new.items }
+{
+    let Some(caller) = list.pop() else {
+        panic!(rt; "no more callers")
+    };
+    caller
+}
+
+#[test]
+fn own_channel_that_rests_is_woken(rt: HostRuntime) -> Result<(), Fail> {
+    let (group, mut callers) = Group::<Scarce>::new(rt.alloc(), 1, 2, 1)?;
+    let two = next(&rt, &group, &mut callers);
+    let one = next(&rt, &group, &mut callers);
+    match do_chan(&rt, &group, one, two, 1) {
+        Ok(ChanBegun::Led(flight, ticket)) => {
+            let leader = Leader {
+                group: &group,
+                flight,
+                refused: 0,
+            };
+            let rester = Rester {
+                group: &group,
+                ticket,
+            };
+            let (done, value) = join(&rt, || leader.finish(&rt), || rester.wait(&rt));
+            assert!(rt; done && value == 7, "its value is {value}");
+        }
+        Ok(ChanBegun::Joined(ticket, _)) => {
+            ticket.abandon();
+            panic!(rt; "it joins")
+        }
+        Err(_) => panic!(rt; "one is spent"),
+    }
+    Ok(())
+}
+
+fn lead(rt: &(impl Abort + Wait), group: &Group<Scarce>, caller: Caller<Scarce>) -> Flight<Scarce>
+    requires own { caller.group ≡ group.now }
+    requires place { IsPlaceOf group.now 1 }
+    ensures { result.group ≡ group.now }
+{
+    match begin_wait(rt, group, caller, 1) {
+        Ok(Begun::Lead(flight)) => flight,
+        Ok(Begun::Join(ticket)) => {
+            ticket.abandon();
+            panic!(rt; "it joins")
+        }
+        Err(_) => panic!(rt; "it is spent"),
+    }
+}
+
+#[test]
+fn delivery_that_goes_on_wakes(rt: HostRuntime) -> Result<(), Fail> {
+    let (group, mut callers) = Group::<Scarce>::new(rt.alloc(), 1, 2, 1)?;
+    let two = next(&rt, &group, &mut callers);
+    let one = next(&rt, &group, &mut callers);
+    let flight = lead(&rt, &group, one);
+    match begin_wait(&rt, &group, two, 1) {
+        Ok(Begun::Join(ticket)) => {
+            let leader = Leader {
+                group: &group,
+                flight,
+                refused: 1,
+            };
+            let rester = Rester {
+                group: &group,
+                ticket,
+            };
+            let (done, value) = join(&rt, || leader.finish(&rt), || rester.wait(&rt));
+            assert!(rt; done && value == 7, "its value is {value}");
+        }
+        Ok(Begun::Lead(other)) => {
+            other.abandon();
+            flight.abandon();
+            panic!(rt; "it leads")
+        }
+        Err(_) => {
+            flight.abandon();
+            panic!(rt; "it is spent")
+        }
+    }
+    Ok(())
+}
