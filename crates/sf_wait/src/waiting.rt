@@ -1,5 +1,5 @@
 //! The group's calls, each as a form that comes back when it is done.
-ghost use Rattle.std.specs.Prelude.{◌≡◌, IfOk, IfErr};
+ghost use Rattle.std.specs.Prelude.{◌≡◌, ◌≤◌, IfOk, IfErr};
 ghost use Rattle.sf_calls.specs.Same.{IsPlaceOf};
 ghost use Rattle.sf_calls.specs.Begins.{HasBegun, HasChanBegun, IsRefusedSpent, AreRefusedSpent};
 ghost use Rattle.sf_calls.specs.Forgets.{HasForgotten, HasForgotCall};
@@ -11,6 +11,9 @@ use sf_group::{
     Polled, Settled, Ticket,
 };
 use std::sync::Wait;
+
+#[cfg(test)]
+mod tests;
 
 /// The caller asks for the place: it leads a new call where the place has no open one, and else joins that. Refused is a
 /// caller that has no generation left.
@@ -25,9 +28,26 @@ pub fn begin_wait<V: Fit, R: Wait>(
     ensures begun { IfOk result (λ begun. HasBegun caller place begun) }
     ensures spent { IfErr result (λ refused. IsRefusedSpent caller refused.back) }
 {
+    begin_by(rt, group, caller, place, MOST_TRIES)
+}
+
+// Asks with so many tries at once.
+fn begin_by<V: Fit, R: Wait>(
+    rt: &R,
+    group: &Group<V>,
+    caller: Caller<V>,
+    place: u32,
+    tries: u32,
+) -> Result<Begun<V>, Spent<Caller<V>>>
+    requires own { caller.group ≡ group.now }
+    requires place { IsPlaceOf group.now place }
+    requires tries { (1 ≤ tries) × (tries ≤ MOST_TRIES) }
+    ensures begun { IfOk result (λ begun. HasBegun caller place begun) }
+    ensures spent { IfErr result (λ refused. IsRefusedSpent caller refused.back) }
+{
     let mut asking = caller;
     for _ in rt.forever() {
-        match group.begin(asking, place, MOST_TRIES) {
+        match group.begin(asking, place, tries) {
             Ok(begun) => return Ok(begun),
             Err(NotBegun::Busy(_, back)) => asking = back,
             Err(NotBegun::Spent(back)) => return Err(Spent { back }),
@@ -52,10 +72,29 @@ pub fn begin_chan_wait<V: Fit, R: Wait>(
     ensures begun { IfOk result (λ begun. HasChanBegun caller second place begun) }
     ensures spent { IfErr result (λ refused. AreRefusedSpent caller second refused.back.0 refused.back.1) }
 {
+    begin_chan_by(rt, group, caller, second, place, MOST_TRIES)
+}
+
+// The same with a second.
+fn begin_chan_by<V: Fit, R: Wait>(
+    rt: &R,
+    group: &Group<V>,
+    caller: Caller<V>,
+    second: Caller<V>,
+    place: u32,
+    tries: u32,
+) -> Result<ChanBegun<V>, Spent<(Caller<V>, Caller<V>)>>
+    requires caller { caller.group ≡ group.now }
+    requires second { second.group ≡ group.now }
+    requires place { IsPlaceOf group.now place }
+    requires tries { (1 ≤ tries) × (tries ≤ MOST_TRIES) }
+    ensures begun { IfOk result (λ begun. HasChanBegun caller second place begun) }
+    ensures spent { IfErr result (λ refused. AreRefusedSpent caller second refused.back.0 refused.back.1) }
+{
     let mut asking = caller;
     let mut other = second;
     for _ in rt.forever() {
-        match group.begin_chan(asking, other, place, MOST_TRIES) {
+        match group.begin_chan(asking, other, place, tries) {
             Ok(begun) => return Ok(begun),
             Err(NotBegun::Busy(_, (back, second_back))) => {
                 asking = back;
@@ -120,8 +159,24 @@ pub fn forget_wait<V: Fit, R: Wait>(
     requires place { IsPlaceOf group.now place }
     ensures { HasForgotten caller.old place caller.new result }
 {
+    forget_by(rt, group, caller, place, MOST_TRIES)
+}
+
+// Forgets with so many tries at once.
+fn forget_by<V: Fit, R: Wait>(
+    rt: &R,
+    group: &Group<V>,
+    caller: &mut Caller<V>,
+    place: u32,
+    tries: u32,
+) -> Forgotten
+    requires own { caller.old.group ≡ group.now }
+    requires place { IsPlaceOf group.now place }
+    requires tries { (1 ≤ tries) × (tries ≤ MOST_TRIES) }
+    ensures { HasForgotten caller.old place caller.new result }
+{
     for _ in rt.forever() {
-        if let Ok(forgotten) = group.forget(caller, place, MOST_TRIES) {
+        if let Ok(forgotten) = group.forget(caller, place, tries) {
             return forgotten;
         }
     }
@@ -140,8 +195,25 @@ pub fn forget_call_wait<V: Fit, R: Wait>(
     requires place { IsPlaceOf group.now place }
     ensures { HasForgotCall caller.old place call result caller.new }
 {
+    forget_call_by(rt, group, caller, place, call, MOST_TRIES)
+}
+
+// The same of one call.
+fn forget_call_by<V: Fit, R: Wait>(
+    rt: &R,
+    group: &Group<V>,
+    caller: &mut Caller<V>,
+    place: u32,
+    call: CallId,
+    tries: u32,
+) -> Hit
+    requires own { caller.old.group ≡ group.now }
+    requires place { IsPlaceOf group.now place }
+    requires tries { (1 ≤ tries) × (tries ≤ MOST_TRIES) }
+    ensures { HasForgotCall caller.old place call result caller.new }
+{
     for _ in rt.forever() {
-        if let Ok(hit) = group.forget_call(caller, place, call, MOST_TRIES) {
+        if let Ok(hit) = group.forget_call(caller, place, call, tries) {
             return hit;
         }
     }
