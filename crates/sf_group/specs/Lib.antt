@@ -11,3 +11,4 @@ pub use Rattle.sf_calls.specs.Making
 pub mod Known
 pub mod Dealing
 pub mod Calls
+pub mod Wide

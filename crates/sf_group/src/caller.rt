@@ -9,12 +9,12 @@ use std::marker::Model;
 #[derive(Drop)]
 pub struct Caller<V> {
     pub(crate) seat: WordSeat<V>,
-    pub(crate) number: u32,
+    pub(crate) number: u64,
     pub(crate) next: u64,
 }
 
 impl<V> Model for Caller<V> {
-    ghost use Rattle.std.specs.Prelude.{◌≡◌, []};
+    ghost use Rattle.std.specs.Prelude.{◌≡◌, ◌≤◌, []};
     ghost use Rattle.sf_schedules.specs.declared.operation.Stage.TheVariants.{Free};
     ghost use Rattle.sf_word_steps.specs.View.{sizes_of};
     ghost use Rattle.sf_word_steps.specs.Stands.{Sits, next_in};
@@ -25,7 +25,7 @@ impl<V> Model for Caller<V> {
 
     ghost view = { λ c. caller_of c.seat.table_id c.seat.me.0 c.number };
 
-    ghost invariant = { λ c. Sits (sizes_of c.seat.me.0) c.number c.seat.me.0 Free × (c.next ≡ next_in (sizes_of c.seat.me.0) c.seat.me.0 c.number) × (c.seat.me.1 ≡ []) };
+    ghost invariant = { λ c. Sits (sizes_of c.seat.me.0) c.number c.seat.me.0 Free × (c.next ≡ next_in (sizes_of c.seat.me.0) c.seat.me.0 c.number) × (c.seat.me.1 ≡ []) × (c.number ≤ 4294967295) };
 }
 
 impl<V> Caller<V> {
@@ -33,6 +33,6 @@ impl<V> Caller<V> {
     pub fn number(&self) -> u32
         ensures { result ≡ self.now.number }
     {
-        self.number
+        self.number as u32
     }
 }

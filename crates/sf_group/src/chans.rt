@@ -8,6 +8,7 @@ use crate::caller::Caller;
 use crate::flight::Flight;
 use crate::group::{Group, MOST_TRIES};
 use crate::ticket::Ticket;
+use crate::wide::MaybeCall;
 use sf_calls::{ChanBegun, Fit, NotBegun};
 use sf_history::CallId;
 use sf_word_chans::{Askers, ask_together};
@@ -58,18 +59,18 @@ impl<V: Fit> Group<V> {
         } = second;
         let askers = Askers {
             sizes: self.sizes,
-            number,
-            second: second_number,
+            number: number as u32,
+            second: second_number as u32,
             place,
             generation,
             second_generation,
         };
         let call = CallId {
-            caller: number,
+            caller: number as u32,
             generation,
         };
         let member = CallId {
-            caller: second_number,
+            caller: second_number as u32,
             generation: second_generation,
         };
         let (attempt, seat, second_seat) = ask_together(
@@ -85,16 +86,16 @@ impl<V: Fit> Group<V> {
                     seat,
                     number,
                     next: next + 1,
-                    place,
+                    place: place as u64,
                     call,
-                    own: Some(member),
-                    after,
+                    own: MaybeCall::of(Some(member)),
+                    after: MaybeCall::of(after),
                 },
                 Ticket {
                     seat: second_seat,
                     number: second_number,
                     next: second_next + 1,
-                    place,
+                    place: place as u64,
                     call,
                     member,
                 },
@@ -104,7 +105,7 @@ impl<V: Fit> Group<V> {
                     seat: second_seat,
                     number: second_number,
                     next: second_next + 1,
-                    place,
+                    place: place as u64,
                     call: open,
                     member,
                 },

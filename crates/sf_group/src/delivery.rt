@@ -1,5 +1,5 @@
 //! Calls that settle, and by which letters come: finish, go_on and poll.
-ghost use Rattle.std.specs.Prelude.{◌≡◌, true, Some};
+ghost use Rattle.std.specs.Prelude.{◌≡◌, ◌≤◌, true, Some};
 ghost use Rattle.sf_schedules.specs.Schedules.{was_led_on};
 ghost use Rattle.sf_calls.specs.Finishes.{HasFinished, HasGoneOn, HasPolled};
 ghost use Rattle.sf_word_steps.specs.View.{sizes_of, history_of};
@@ -13,6 +13,7 @@ use crate::letter::Letter;
 use crate::note::Note;
 use crate::settled::Settled;
 use crate::ticket::Ticket;
+use crate::wide::MaybeNumber;
 use sf_calls::{Finished, Fit, Polled};
 use sf_history::CallId;
 use sf_word_steps::{
@@ -80,8 +81,8 @@ impl<V: Fit> Group<V> {
         } = ticket;
         let actor = Actor {
             sizes: self.sizes,
-            number,
-            place,
+            number: number as u32,
+            place: place as u32,
         };
         let Some(cell) = collect(
             &self.table.shared,
@@ -99,7 +100,8 @@ impl<V: Fit> Group<V> {
                 member,
             });
         };
-        let letter = self.letter(&mut seat, place, call, cell.value, cell.joiners);
+        let joiners = cell.joiners as u64;
+        let letter = self.letter(&mut seat, place, call, cell.value, joiners);
         Polled::Ready(Caller { seat, number, next }, letter)
     }
 
@@ -135,18 +137,20 @@ impl<V: Fit> Group<V> {
         } = flight;
         let actor = Actor {
             sizes: self.sizes,
-            number,
-            place,
+            number: number as u32,
+            place: place as u32,
         };
+        let channel = own.get();
         let tally = settle_and_count(
             &self.table.shared,
             &mut seat,
             actor,
             call.generation,
-            own,
+            channel,
             &value,
         );
-        if tally.top.is_some() || own.is_some() {
+        let joiners = tally.joiners as u64;
+        if tally.top.is_some() || channel.is_some() {
             return self.hand_on(
                 resting,
                 Settled {
@@ -156,13 +160,13 @@ impl<V: Fit> Group<V> {
                     place,
                     call,
                     own,
+                    joiners,
+                    top: MaybeNumber::of(tally.top),
                     value,
-                    joiners: tally.joiners,
-                    top: tally.top,
                 },
             );
         }
-        let letter = self.letter(&mut seat, place, call, value, tally.joiners);
+        let letter = self.letter(&mut seat, place, call, value, joiners);
         Finished::Done(Caller { seat, number, next }, letter)
     }
 
@@ -183,19 +187,21 @@ impl<V: Fit> Group<V> {
             place,
             call,
             own,
-            mut value,
             joiners,
             top,
+            mut value,
         } = settled;
         let actor = Actor {
             sizes: self.sizes,
-            number,
-            place,
+            number: number as u32,
+            place: place as u32,
         };
+        let channel = own.get();
+        let list = top.get();
         let delivery = Delivery {
             generation: call.generation,
-            own,
-            joiners,
+            own: channel,
+            joiners: joiners as u32,
         };
         match hand_out(
             &self.table.shared,
@@ -204,7 +210,7 @@ impl<V: Fit> Group<V> {
             actor,
             delivery,
             &mut value,
-            top,
+            list,
         ) {
             Ok(()) => {}
             Err(left) => {
@@ -215,9 +221,9 @@ impl<V: Fit> Group<V> {
                     place,
                     call,
                     own,
-                    value,
                     joiners,
-                    top: left,
+                    top: MaybeNumber::of(left),
+                    value,
                 });
             }
         }
@@ -229,11 +235,12 @@ impl<V: Fit> Group<V> {
     fn letter(
         &self,
         seat: &mut WordSeat<V>,
-        place: u32,
+        place: u64,
         call: CallId,
         value: V,
-        joiners: u32,
+        joiners: u64,
     ) -> Letter<V>
+        requires small { (place ≤ 4294967295) × (joiners ≤ 4294967295) }
         requires own { seat.old.table_id ≡ self.now.table }
         requires seat { seat.old.me.0.sizes ≡ Some (sizes_of seat.old.me.0) }
         requires place { IsPlaceIn (sizes_of seat.old.me.0) place }
@@ -248,8 +255,8 @@ impl<V: Fit> Group<V> {
         Letter {
             place,
             call,
-            value,
             joiners,
+            value,
             note,
         }
     }

@@ -2,6 +2,7 @@
 ghost use Rattle.std.specs.Prelude.{◌≡◌};
 ghost use Rattle.sf_calls.specs.Afters.{FollowsCall};
 
+use crate::wide::MaybeCall;
 use sf_history::CallId;
 use sf_word_steps::WordSeat;
 use std::marker::Model;
@@ -9,12 +10,12 @@ use std::marker::Model;
 /// A caller that leads a call, until it settles that. It has to be spent.
 pub struct Flight<V> {
     pub(crate) seat: WordSeat<V>,
-    pub(crate) number: u32,
+    pub(crate) number: u64,
     pub(crate) next: u64,
-    pub(crate) place: u32,
+    pub(crate) place: u64,
     pub(crate) call: CallId,
-    pub(crate) own: Option<CallId>,
-    pub(crate) after: Option<CallId>,
+    pub(crate) own: MaybeCall,
+    pub(crate) after: MaybeCall,
 }
 
 impl<V> Model for Flight<V> {
@@ -32,7 +33,7 @@ impl<V> Model for Flight<V> {
 
     ghost invariant = { λ f. Sits (sizes_of f.seat.me.0) f.number f.seat.me.0 (Leading f.place f.call.generation f.own) × (f.call.caller ≡ f.number)
         × (f.next ≡ next_in (sizes_of f.seat.me.0) f.seat.me.0 f.number) × (f.seat.me.1 ≡ []) × IsPlaceIn (sizes_of f.seat.me.0) f.place × (1 ≤ f.call.generation)
-        × FollowsCall (flight_of f.seat.table_id f.seat.me.0 f.number f.place f.call f.own) f.after };
+        × FollowsCall (flight_of f.seat.table_id f.seat.me.0 f.number f.place f.call f.own) f.after × (f.number ≤ 4294967295) × (f.place ≤ 4294967295) };
 }
 
 impl<V> Flight<V> {
@@ -47,14 +48,14 @@ impl<V> Flight<V> {
     pub fn place(&self) -> u32
         ensures { result ≡ self.now.place }
     {
-        self.place
+        self.place as u32
     }
 
     /// The call that was current on its place before it, which no Forget had closed; it may have been settled.
     pub fn after(&self) -> Option<CallId>
         ensures { FollowsCall self.now result }
     {
-        self.after
+        self.after.get()
     }
 
     /// Gives the flight up for good: nothing is added, its call is never settled, and its caller does not come back.

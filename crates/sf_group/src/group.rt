@@ -12,6 +12,7 @@ ghost use Rattle.sf_group.specs.Dealing.{IsDealing};
 use crate::caller::Caller;
 use crate::flight::Flight;
 use crate::ticket::Ticket;
+use crate::wide::MaybeCall;
 use atomic_table::Table;
 use sf_calls::{Begun, Fit, MOST_CALLERS, MOST_PLACES, NotBegun, Sizes};
 use sf_history::{CallId, Forgotten, Hit};
@@ -60,7 +61,11 @@ fn deal<V: Fit>(words: &Words<V>, first: &mut WordSeat<V>, number: u32, next: u6
     ensures caller { result ≡ new_caller (record { table = words.now.table_id; sizes = words.now.key }) number }
 {
     let seat = words.split_seat::<Deals>(first);
-    Caller { seat, number, next }
+    Caller {
+        seat,
+        number: number as u64,
+        next,
+    }
 }
 
 impl<V: Fit> Group<V> {
@@ -149,12 +154,12 @@ impl<V: Fit> Group<V> {
             return Err(NotBegun::Spent(Caller { seat, number, next }));
         };
         let member = CallId {
-            caller: number,
+            caller: number as u32,
             generation,
         };
         let actor = Actor {
             sizes: self.sizes,
-            number,
+            number: number as u32,
             place,
         };
         let attempt = try_often(&self.table.shared, &mut seat, actor, generation, tries);
@@ -163,16 +168,16 @@ impl<V: Fit> Group<V> {
                 seat,
                 number,
                 next: next + 1,
-                place,
+                place: place as u64,
                 call: member,
-                own: None,
-                after,
+                own: MaybeCall::none(),
+                after: MaybeCall::of(after),
             })),
             Attempt::Joined(call) => Ok(Begun::Join(Ticket {
                 seat,
                 number,
                 next: next + 1,
-                place,
+                place: place as u64,
                 call,
                 member,
             })),
@@ -192,7 +197,7 @@ impl<V: Fit> Group<V> {
     {
         let actor = Actor {
             sizes: self.sizes,
-            number: caller.number,
+            number: caller.number as u32,
             place,
         };
         let attempt = forget_often(&self.table.shared, &mut caller.seat, actor, None, tries);
@@ -224,7 +229,7 @@ impl<V: Fit> Group<V> {
     {
         let actor = Actor {
             sizes: self.sizes,
-            number: caller.number,
+            number: caller.number as u32,
             place,
         };
         let attempt = forget_often(

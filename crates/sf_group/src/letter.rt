@@ -12,15 +12,15 @@ use std::marker::Model;
 /// in which the call was led on the place and is settled so, and with which the value fits.
 #[derive(Drop)]
 pub struct Letter<V: Fit> {
-    pub(crate) place: u32,
+    pub(crate) place: u64,
     pub(crate) call: CallId,
+    pub(crate) joiners: u64,
     pub(crate) value: V,
-    pub(crate) joiners: u32,
     pub(crate) note: Note<V>,
 }
 
 impl<V: Fit> Model for Letter<V> {
-    ghost use Rattle.std.specs.Prelude.{◌≡◌, true};
+    ghost use Rattle.std.specs.Prelude.{◌≡◌, ◌≤◌, true};
     ghost use Rattle.sf_schedules.specs.Schedules.{was_led_on};
     ghost use Rattle.sf_calls.specs.Same.{IsPlaceOf};
     ghost use Rattle.sf_calls.specs.Tokens.{LetterValue};
@@ -29,7 +29,7 @@ impl<V: Fit> Model for Letter<V> {
 
     ghost view = { λ l. record { group = l.note.group; seen = l.note.seen; place = l.place; call = l.call; value = l.value; joiners = l.joiners } };
 
-    ghost invariant = { λ l. V.fits l.place l.call l.value l.note.seen × IsPlaceOf l.note.group l.place × (was_led_on l.note.seen l.place l.call ≡ true) };
+    ghost invariant = { λ l. V.fits l.place l.call l.value l.note.seen × IsPlaceOf l.note.group l.place × (was_led_on l.note.seen l.place l.call ≡ true) × (l.place ≤ 4294967295) × (l.joiners ≤ 4294967295) };
 }
 
 impl<V: Fit> Letter<V> {
@@ -37,7 +37,7 @@ impl<V: Fit> Letter<V> {
     pub fn place(&self) -> u32
         ensures { result ≡ self.now.place }
     {
-        self.place
+        self.place as u32
     }
 
     /// The call.
@@ -58,7 +58,7 @@ impl<V: Fit> Letter<V> {
     pub fn joiners(&self) -> u32
         ensures { result ≡ self.now.joiners }
     {
-        self.joiners
+        self.joiners as u32
     }
 
     /// Whether somebody joined the call.

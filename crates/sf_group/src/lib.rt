@@ -50,6 +50,7 @@ mod outcomes;
 mod questions;
 mod settled;
 mod ticket;
+mod wide;
 
 pub use caller::Caller;
 pub use flight::Flight;

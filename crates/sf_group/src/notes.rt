@@ -37,7 +37,7 @@ impl<V: Fit> Group<V> {
             &mut caller.seat,
             &mut note.seat,
             self.sizes,
-            caller.number,
+            caller.number as u32,
         );
     }
 
@@ -75,8 +75,8 @@ impl<V: Fit> Group<V> {
         Ok(Letter {
             place: letter.place,
             call: letter.call,
-            value,
             joiners: letter.joiners,
+            value,
             note,
         })
     }
@@ -95,7 +95,7 @@ impl<V: Fit> Flight<V> {
             &mut self.seat,
             &mut note.seat,
             group.sizes,
-            self.number,
+            self.number as u32,
         );
     }
 }
@@ -123,7 +123,7 @@ impl<V: Fit> Settled<V> {
             &mut self.seat,
             &mut note.seat,
             group.sizes,
-            self.number,
+            self.number as u32,
         );
     }
 }

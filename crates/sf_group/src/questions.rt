@@ -27,8 +27,8 @@ impl<V: Fit> Group<V> {
         self.learn(caller, &mut letter.note);
         let actor = Actor {
             sizes: self.sizes,
-            number: caller.number,
-            place: letter.place,
+            number: caller.number as u32,
+            place: letter.place as u32,
         };
         ask_current(&self.table.shared, &mut caller.seat, actor, letter.call)
     }
@@ -42,7 +42,7 @@ impl<V: Fit> Group<V> {
     {
         let actor = Actor {
             sizes: self.sizes,
-            number: caller.number,
+            number: caller.number as u32,
             place,
         };
         ask_named(&self.table.shared, &mut caller.seat, actor)

@@ -8,15 +8,15 @@ use std::marker::Model;
 /// A caller that waits for the letter of a call, as a member of it. It has to be spent.
 pub struct Ticket<V> {
     pub(crate) seat: WordSeat<V>,
-    pub(crate) number: u32,
+    pub(crate) number: u64,
     pub(crate) next: u64,
-    pub(crate) place: u32,
+    pub(crate) place: u64,
     pub(crate) call: CallId,
     pub(crate) member: CallId,
 }
 
 impl<V> Model for Ticket<V> {
-    ghost use Rattle.std.specs.Prelude.{◌≡◌, []};
+    ghost use Rattle.std.specs.Prelude.{◌≡◌, ◌≤◌, []};
     ghost use Rattle.sf_schedules.specs.declared.operation.Stage.TheVariants.{Holding};
     ghost use Rattle.sf_word_steps.specs.View.{sizes_of};
     ghost use Rattle.sf_word_steps.specs.Stands.{Sits, next_in};
@@ -28,7 +28,7 @@ impl<V> Model for Ticket<V> {
     ghost view = { λ t. ticket_of t.seat.table_id t.seat.me.0 t.number t.place t.call t.member };
 
     ghost invariant = { λ t. Sits (sizes_of t.seat.me.0) t.number t.seat.me.0 (Holding t.place t.member.generation t.call) × (t.member.caller ≡ t.number)
-        × (t.next ≡ next_in (sizes_of t.seat.me.0) t.seat.me.0 t.number) × (t.seat.me.1 ≡ []) × IsPlaceIn (sizes_of t.seat.me.0) t.place };
+        × (t.next ≡ next_in (sizes_of t.seat.me.0) t.seat.me.0 t.number) × (t.seat.me.1 ≡ []) × IsPlaceIn (sizes_of t.seat.me.0) t.place × (t.number ≤ 4294967295) × (t.place ≤ 4294967295) };
 }
 
 impl<V> Ticket<V> {

@@ -27,6 +27,8 @@ invariant_of-self g c =
       placed_later f.number 0 f.place v w p [] was.4 goes,
       was.5,
       follows_still f.seat.table_id c.is_still_current.new.seat.table_id f.number f.place 0 f.call f.own f.after v w p [] goes was.6,
+      was.7,
+      was.8,
     )
 
 pub returns-clause-same : goal.returns-clause-same

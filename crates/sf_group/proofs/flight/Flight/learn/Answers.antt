@@ -19,7 +19,7 @@ invariant_of-self g c =
     let same : sizes_of v ≡ c.group.inside.sizes = ap (λ (x : FlightValue _). x.group.sizes) c.self.view_is ∙ ap (λ (x : GroupValue). x.sizes) (c.requires.own ∙ sym c.group.view_is) in
     let heard = subst (λ (z : Sizes). HasHeard z v c.note.inside.seat.me.0.known.turns w) (sym same) c.hear_note.ensures.heard in
     let leads = leads_still f.number f.call.generation f.place f.next f.own v w was.2 was.0 heard.made was.4 in
-    (leads.0, was.1, leads.1, c.hear_note.ensures.own.1 ∙ was.3, leads.2, was.5, follows_still f.seat.table_id c.hear_note.new.seat.table_id f.number f.place 0 f.call f.own f.after v w (stage.Leading f.place f.call.generation f.own) [] (heard_goes (sizes_of v) f.number v w (stage.Leading f.place f.call.generation f.own) was.0 (leading_alone f.place f.call.generation f.own) heard.made) was.6)
+    (leads.0, was.1, leads.1, c.hear_note.ensures.own.1 ∙ was.3, leads.2, was.5, follows_still f.seat.table_id c.hear_note.new.seat.table_id f.number f.place 0 f.call f.own f.after v w (stage.Leading f.place f.call.generation f.own) [] (heard_goes (sizes_of v) f.number v w (stage.Leading f.place f.call.generation f.own) was.0 (leading_alone f.place f.call.generation f.own) heard.made) was.6, was.7, was.8)
 
 pub returns-clause-learnt : goal.returns-clause-learnt
 returns-clause-learnt g c =

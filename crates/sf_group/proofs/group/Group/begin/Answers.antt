@@ -1,4 +1,6 @@
-use Rattle.std.proofs.Common.{◌≡◌, ◌≤◌, ◌<◌, ◌+◌, ◌∙◌, [], ◌∷◌, None, refl, sym, ap, subst, arith}
+use Rattle.std.proofs.Common.{◌≡◌, ◌≤◌, ◌<◌, ◌∙◌, [], ◌∷◌, Option, None, refl, sym, ap, subst, arith, rules, ◌+◌}
+use Rattle.sf_history.specs.declared.call.CallId.{CallId}
+use Rattle.sf_calls.specs.Afters.{FollowsCall}
 use Rattle.sf_history.specs.declared.event.Event.TheVariants as event
 use Rattle.sf_schedules.specs.declared.operation.Stage.TheVariants as stage
 use Rattle.sf_calls.specs.declared.sizes.Sizes.{Sizes}
@@ -6,7 +8,7 @@ use Rattle.sf_calls.specs.declared.outcomes.Begun.TheVariants as begun
 use Rattle.sf_calls.specs.declared.outcomes.NotBegun.TheVariants as not_begun
 use Rattle.sf_word_steps.specs.View.{sizes_of}
 use Rattle.sf_calls.specs.Tokens.{GroupValue, CallerValue}
-use Rattle.sf_word_steps.specs.Stands.{next_in, Goes}
+use Rattle.sf_word_steps.specs.Stands.{Sits, next_in, Goes}
 use Rattle.sf_word_steps.specs.Changes.{Tries}
 use Rattle.sf_group.specs.Known.{IsPlaceIn, caller_of, flight_of, ticket_of}
 use Rattle.sf_calls.specs.Begins.{HasBegun, IsRefusedSpent}
@@ -43,8 +45,9 @@ returns-in-Led-clause-begun g c =
     let same : sizes_of v ≡ c.self.inside.sizes = ap (λ (x : CallerValue _). x.group.sizes) c.caller.view_is ∙ (ap (λ (x : GroupValue). x.sizes) c.requires.own ∙ ap (λ (x : GroupValue). x.sizes) (sym c.self.view_is)) in
     let goes = subst (λ (z : Sizes). Goes z a v w (stage.Leading c.args.place i None) (event.Lead a c.args.place (record { caller = a; generation = i }) None ∷ []) 1) (sym same) c.in-Led.ensures.tried.0 in
     let left : i ≤ 4294967295 = let low = c.in-Ok.ensures.0 in let is = c.in-Ok.ensures.1 in omega (arith, low, is) in
-    subst (λ (x : CallerValue _). HasBegun x c.args.place (begun.Lead (flight_of c.try_often-attempt.new.seat.table_id w a c.args.place (record { caller = a; generation = i }) None))) c.caller.view_is
-    (lead_row seat.table_id c.try_often-attempt.new.seat.table_id a i c.args.place v w c.try_often-attempt.ensures.own.0 c.caller.invariant.0 (sym (c.in-Ok.ensures.1 ∙ c.caller.invariant.1)) left goes)
+    subst (λ (o : Option CallId). HasBegun c.args.caller c.args.place (begun.Lead (flight_of c.try_often-attempt.new.seat.table_id w a c.args.place (record { caller = a; generation = i }) o))) (sym c.none.ensures)
+    (subst (λ (x : CallerValue _). HasBegun x c.args.place (begun.Lead (flight_of c.try_often-attempt.new.seat.table_id w a c.args.place (record { caller = a; generation = i }) None))) c.caller.view_is
+    (lead_row seat.table_id c.try_often-attempt.new.seat.table_id a i c.args.place v w c.try_often-attempt.ensures.own.0 c.caller.invariant.0 (sym (c.in-Ok.ensures.1 ∙ c.caller.invariant.1)) left goes))
 
 pub returns-in-Joined-clause-begun : goal.returns-in-Joined-clause-begun
 returns-in-Joined-clause-begun g c =
@@ -90,13 +93,17 @@ invariant_of-result-in-Led g c =
     let first = first_least (sizes_of v) a v stage.Free c.caller.invariant.0 least in
     let given : i ≡ next_in (sizes_of v) v a = c.in-Ok.ensures.1 ∙ c.caller.invariant.1 in
     let low : 1 ≤ i = omega (arith, first, given) in (
-      now.0,
+      subst (λ (o : Option CallId). Sits (sizes_of w) a w (stage.Leading c.args.place i o)) (sym c.none.ensures) now.0,
       refl,
       now.1,
       c.try_often-attempt.ensures.own.1 ∙ c.caller.invariant.2,
       now.2,
       low,
-      follows_now c.self.inside.sizes c.try_often-attempt.new.seat.table_id a c.args.place (record { caller = a; generation = i }) None c.in-Led.after w (sizes_are c.self.inside.sizes a w (stage.Leading c.args.place i None) c.in-Led.ensures.tried.0.sits) c.in-Led.ensures.tried.1,
+      subst (λ (o : Option CallId). FollowsCall (flight_of c.try_often-attempt.new.seat.table_id w a c.args.place (record { caller = a; generation = i }) o) c.of.result) (sym c.none.ensures)
+          (subst (λ (o : Option CallId). FollowsCall (flight_of c.try_often-attempt.new.seat.table_id w a c.args.place (record { caller = a; generation = i }) None) o) (sym c.of.ensures)
+          (follows_now c.self.inside.sizes c.try_often-attempt.new.seat.table_id a c.args.place (record { caller = a; generation = i }) None c.in-Led.after w (sizes_are c.self.inside.sizes a w (stage.Leading c.args.place i None) c.in-Led.ensures.tried.0.sits) c.in-Led.ensures.tried.1)),
+      c.caller.invariant.3,
+      search rules,
     )
 
 pub returns-in-Led-clause-tried : goal.returns-in-Led-clause-tried

@@ -1,4 +1,6 @@
-use Rattle.std.proofs.Common.{◌≡◌, ◌≤◌, ◌+◌, ◌∙◌, [], ◌∷◌, Some, refl, sym, ap, subst, arith}
+use Rattle.std.proofs.Common.{◌≡◌, ◌≤◌, ◌∙◌, [], ◌∷◌, Option, Some, refl, sym, ap, subst, arith, rules, ◌+◌}
+use Rattle.sf_history.specs.declared.call.CallId.{CallId}
+use Rattle.sf_calls.specs.Afters.{FollowsCall}
 use Rattle.sf_history.specs.declared.event.Event.TheVariants as event
 use Rattle.sf_schedules.specs.declared.operation.Stage.TheVariants as stage
 use Rattle.sf_schedules.specs.Schedules.{IsPlace}
@@ -9,7 +11,7 @@ use Rattle.sf_calls.specs.Tokens.{GroupValue, CallerValue}
 use Rattle.sf_calls.specs.Begins.{HasChanBegun, AreRefusedSpent}
 use Rattle.sf_word_steps.specs.declared.attempting.Attempt.{Attempt}
 use Rattle.sf_word_steps.specs.View.{setting_of, sizes_of}
-use Rattle.sf_word_steps.specs.Stands.{next_in, Goes}
+use Rattle.sf_word_steps.specs.Stands.{Sits, next_in, Goes}
 use Rattle.sf_word_chans.specs.declared.askers.Askers.{Askers}
 use Rattle.sf_word_chans.specs.Changes.{HaveChanged}
 use Rattle.sf_word_chans.specs.Together.{HasAsked}
@@ -74,13 +76,17 @@ invariant_of-result g c =
     let given = c.in-Some.ensures.given in
     let is = given.0 in
     let next = c.caller.invariant.1 in (
-      now.0,
+      subst (λ (o : Option CallId). Sits (sizes_of v') one.number v' (stage.Leading k i o)) (sym c.of.ensures) now.0,
       refl,
       now.1,
       c.ask_together-attempt.ensures.first.1,
       subst (λ (z : Sizes). IsPlaceIn z k) (sym whole) c.requires.place,
       omega (arith, low, is, next),
-      follows_now c.self.inside.sizes c.ask_together-attempt.result.1.table_id one.number k (record { caller = one.number; generation = i }) (Some (record { caller = two.number; generation = j })) c.in-Led.after v' (sizes_are c.self.inside.sizes one.number v' (stage.Leading k i (Some (record { caller = two.number; generation = j }))) asked.0.first.sits) asked.1,
+      subst (λ (o : Option CallId). FollowsCall (flight_of c.ask_together-attempt.result.1.table_id v' one.number k (record { caller = one.number; generation = i }) o) c.of-in-Led.result) (sym c.of.ensures)
+          (subst (λ (o : Option CallId). FollowsCall (flight_of c.ask_together-attempt.result.1.table_id v' one.number k (record { caller = one.number; generation = i }) (Some (record { caller = two.number; generation = j }))) o) (sym c.of-in-Led.ensures)
+          (follows_now c.self.inside.sizes c.ask_together-attempt.result.1.table_id one.number k (record { caller = one.number; generation = i }) (Some (record { caller = two.number; generation = j })) c.in-Led.after v' (sizes_are c.self.inside.sizes one.number v' (stage.Leading k i (Some (record { caller = two.number; generation = j }))) asked.0.first.sits) asked.1)),
+      c.caller.invariant.3,
+      search rules,
     )
 
 pub returns-in-Led-clause-begun : goal.returns-in-Led-clause-begun
@@ -111,9 +117,10 @@ returns-in-Led-clause-begun g c =
     let asked = subst (λ (r : Attempt). HasAsked askers c.args.tries v w v' w' r) c.in-Led.is c.ask_together-attempt.ensures.asked in
     let first = subst (λ (z : Sizes). Goes z one.number v v' (stage.Leading k i (Some (record { caller = two.number; generation = j }))) (event.Lead one.number k (record { caller = one.number; generation = i }) (Some (record { caller = two.number; generation = j })) ∷ []) 1) (sym same) asked.0.first in
     let second = subst (λ (z : Sizes). Goes z two.number w w' (stage.Holding k j (record { caller = one.number; generation = i })) [] 1) (sym second_same) asked.0.second in
-    subst (λ (x : CallerValue _). HasChanBegun x c.args.second k (begun.Led (flight_of c.ask_together-attempt.result.1.table_id v' one.number k (record { caller = one.number; generation = i }) (Some (record { caller = two.number; generation = j }))) (ticket_of c.ask_together-attempt.result.2.table_id w' two.number k (record { caller = one.number; generation = i }) (record { caller = two.number; generation = j })))) c.caller.view_is
+    subst (λ (o : Option CallId). HasChanBegun c.args.caller c.args.second k (begun.Led (flight_of c.ask_together-attempt.result.1.table_id v' one.number k (record { caller = one.number; generation = i }) o) (ticket_of c.ask_together-attempt.result.2.table_id w' two.number k (record { caller = one.number; generation = i }) (record { caller = two.number; generation = j })))) (sym c.of.ensures)
+    (subst (λ (x : CallerValue _). HasChanBegun x c.args.second k (begun.Led (flight_of c.ask_together-attempt.result.1.table_id v' one.number k (record { caller = one.number; generation = i }) (Some (record { caller = two.number; generation = j }))) (ticket_of c.ask_together-attempt.result.2.table_id w' two.number k (record { caller = one.number; generation = i }) (record { caller = two.number; generation = j })))) c.caller.view_is
     (subst (λ (y : CallerValue _). HasChanBegun (caller_of one.seat.table_id v one.number) y k (begun.Led (flight_of c.ask_together-attempt.result.1.table_id v' one.number k (record { caller = one.number; generation = i }) (Some (record { caller = two.number; generation = j }))) (ticket_of c.ask_together-attempt.result.2.table_id w' two.number k (record { caller = one.number; generation = i }) (record { caller = two.number; generation = j })))) c.second.view_is
-    (led_chan_row one.seat.table_id two.seat.table_id c.ask_together-attempt.result.1.table_id c.ask_together-attempt.result.2.table_id one.number two.number i j k v w v' w' table second_table (second_same ∙ sym same) c.caller.invariant.0 next left c.second.invariant.0 second_next second_left first second asked.0.turns))
+    (led_chan_row one.seat.table_id two.seat.table_id c.ask_together-attempt.result.1.table_id c.ask_together-attempt.result.2.table_id one.number two.number i j k v w v' w' table second_table (second_same ∙ sym same) c.caller.invariant.0 next left c.second.invariant.0 second_next second_left first second asked.0.turns)))
 
 pub returns-in-Joined-clause-begun : goal.returns-in-Joined-clause-begun
 returns-in-Joined-clause-begun g c =

@@ -1,7 +1,8 @@
-use Rattle.std.proofs.Common.{◌≡◌, ◌∙◌, [], Option, sym, ap, subst}
+use Rattle.std.proofs.Common.{◌≡◌, ℕ, ◌∙◌, [], Option, sym, ap, subst}
 use Rattle.atomic_table.specs.Table.{Me}
 use Rattle.sf_schedules.specs.declared.letter.Letter.{Letter}
 use Rattle.sf_schedules.specs.declared.operation.Stage.TheVariants.{Free}
+use Rattle.sf_history.specs.declared.call.CallId.{CallId}
 use Rattle.sf_history.specs.declared.event.Event.TheVariants as event
 use Rattle.sf_calls.specs.Seen.{Stands}
 use Rattle.sf_word_steps.specs.declared.view.View.{View}
@@ -12,7 +13,7 @@ use Rattle.sf_calls.specs.Finishes.{IsDoneAtLast, IsHeldStill}
 use Rattle.sf_word_steps.specs.View.{sizes_of, history_of}
 use Rattle.sf_word_steps.specs.Stands.{Sits, Goes}
 use Rattle.sf_word_steps.specs.Settles.{call_of}
-use Rattle.sf_word_steps.specs.Delivers.{handed_later}
+use Rattle.sf_word_steps.specs.Delivers.{IsOwed, handed_later}
 use Rattle.sf_group.specs.Known.{caller_of, settled_of, letter_of}
 use Rattle.sf_group.proofs.Finishes.{fits_later}
 use Rattle.sf_group.proofs.LedCalls.{owing_led, led_later, placed_later}
@@ -28,16 +29,20 @@ invariant_of-result g c =
     let left = c.in-Err.left in
     let p = at_members s.place s.call.generation s.own s.value s.joiners left in
     let same : sizes_of v ≡ c.self.inside.sizes = ap (λ (x : SettledValue _). x.group.sizes) c.settled.view_is ∙ (ap (λ (x : GroupValue). x.sizes) c.requires.own ∙ ap (λ (x : GroupValue). x.sizes) (sym c.self.view_is)) in
-    let goes = subst (λ (z : Sizes). Goes z s.number v w p [] 0) (sym same) c.in-Err.ensures.refused in
+    let goes = subst (λ (o : Option CallId). Goes (sizes_of v) s.number v w (at_members s.place s.call.generation o s.value s.joiners c.in-Err.left) [] 0) c.get-channel.ensures (subst (λ (z : Sizes). Goes z s.number v w (at_members s.place s.call.generation c.get-channel.result s.value s.joiners c.in-Err.left) [] 0) (sym same) c.in-Err.ensures.refused) in
     let value = c.hand_out.ensures.value in (
-      subst (λ x. Sits (sizes_of w) s.number w (at_members s.place s.call.generation s.own x s.joiners left)) (sym value) (sits_now s.number 0 v w p [] goes),
+      subst (λ (q : Option ℕ). Sits (sizes_of w) s.number w (at_members s.place s.call.generation s.own c.hand_out.new.value s.joiners q)) (sym c.of.ensures)
+          (subst (λ x. Sits (sizes_of w) s.number w (at_members s.place s.call.generation s.own x s.joiners left)) (sym value) (sits_now s.number 0 v w p [] goes)),
       was.1,
       next_now s.number s.next v w p [] was.2 goes,
       c.hand_out.ensures.own.1,
-      c.in-Err.ensures.owed,
+      subst (λ (q : Option ℕ). IsOwed q s.own) (sym c.of.ensures) (subst (λ (o : Option CallId). IsOwed left o) c.get-channel.ensures c.in-Err.ensures.owed),
       subst (λ x. g.V.Fit.fits s.place s.call x (history_of (sizes_of w) w.known.turns)) (sym value) (fits_later g.V.Fit.fits g.V.Fit.lasts s.seat.table_id s.number 0 s.place s.call s.value v w p [] was.5 goes),
       subst (λ x. Stands (event.Settle s.call.caller s.call x s.joiners) (history_of (sizes_of w) w.known.turns)) (sym value) (stands_later s.seat.table_id s.number 0 (event.Settle s.call.caller s.call s.value s.joiners) v w p [] was.6 goes),
       placed_later s.number 0 s.place v w p [] was.7 goes,
+      was.8,
+      was.9,
+      was.10,
     )
 
 pub returns-in-Err-clause-gone : goal.returns-in-Err-clause-gone
@@ -48,7 +53,7 @@ returns-in-Err-clause-gone g c =
     let t = c.hand_out.new.seat.table_id in
     let p = at_members s.place s.call.generation s.own s.value s.joiners c.in-Err.left in
     let same : sizes_of v ≡ c.self.inside.sizes = ap (λ (x : SettledValue _). x.group.sizes) c.settled.view_is ∙ (ap (λ (x : GroupValue). x.sizes) c.requires.own ∙ ap (λ (x : GroupValue). x.sizes) (sym c.self.view_is)) in
-    let goes = subst (λ (z : Sizes). Goes z s.number v w p [] 0) (sym same) c.in-Err.ensures.refused in
+    let goes = subst (λ (o : Option CallId). Goes (sizes_of v) s.number v w (at_members s.place s.call.generation o s.value s.joiners c.in-Err.left) [] 0) c.get-channel.ensures (subst (λ (z : Sizes). Goes z s.number v w (at_members s.place s.call.generation c.get-channel.result s.value s.joiners c.in-Err.left) [] 0) (sym same) c.in-Err.ensures.refused) in
     subst (λ x. IsHeldStill c.args.settled (settled_of t w s.number s.place s.call x s.joiners)) (sym c.hand_out.ensures.value)
     (subst (λ (q : SettledValue _). IsHeldStill q (settled_of t w s.number s.place s.call s.value s.joiners)) c.settled.view_is
     (still_row s.seat.table_id t s.number s.place s.call s.value s.joiners v w p c.hand_out.ensures.own.0 goes))
@@ -61,7 +66,7 @@ letter-letter-requires-clause-led g c =
     let w = c.hand_out.new.seat.me.0 in
     let es = handed_later s.number (call_of s.number s.call.generation) s.own s.top in
     let same : sizes_of v ≡ c.self.inside.sizes = ap (λ (x : SettledValue _). x.group.sizes) c.settled.view_is ∙ (ap (λ (x : GroupValue). x.sizes) c.requires.own ∙ ap (λ (x : GroupValue). x.sizes) (sym c.self.view_is)) in
-    let goes = subst (λ (z : Sizes). Goes z s.number v w Free es 0) (sym same) c.in-Ok.ensures.handed in
+    let goes = subst (λ (q : Option ℕ). Goes (sizes_of v) s.number v w Free (handed_later s.number (call_of s.number s.call.generation) s.own q) 0) c.get-list.ensures (subst (λ (o : Option CallId). Goes (sizes_of v) s.number v w Free (handed_later s.number (call_of s.number s.call.generation) o c.get-list.result) 0) c.get-channel.ensures (subst (λ (z : Sizes). Goes z s.number v w Free (handed_later s.number (call_of s.number s.call.generation) c.get-channel.result c.get-list.result) 0) (sym same) c.in-Ok.ensures.handed)) in
     led_later s.seat.table_id s.number 0 s.place s.call v w Free es (owing_led (sizes_of v) s.number s.place s.call s.own s.value s.joiners s.top v was.1 was.4 was.0) goes
 
 pub letter-letter-requires-clause-fits : goal.letter-letter-requires-clause-fits
@@ -71,7 +76,7 @@ letter-letter-requires-clause-fits g c =
     let w = c.hand_out.new.seat.me.0 in
     let es = handed_later s.number (call_of s.number s.call.generation) s.own s.top in
     let same : sizes_of v ≡ c.self.inside.sizes = ap (λ (x : SettledValue _). x.group.sizes) c.settled.view_is ∙ (ap (λ (x : GroupValue). x.sizes) c.requires.own ∙ ap (λ (x : GroupValue). x.sizes) (sym c.self.view_is)) in
-    let goes = subst (λ (z : Sizes). Goes z s.number v w Free es 0) (sym same) c.in-Ok.ensures.handed in
+    let goes = subst (λ (q : Option ℕ). Goes (sizes_of v) s.number v w Free (handed_later s.number (call_of s.number s.call.generation) s.own q) 0) c.get-list.ensures (subst (λ (o : Option CallId). Goes (sizes_of v) s.number v w Free (handed_later s.number (call_of s.number s.call.generation) o c.get-list.result) 0) c.get-channel.ensures (subst (λ (z : Sizes). Goes z s.number v w Free (handed_later s.number (call_of s.number s.call.generation) c.get-channel.result c.get-list.result) 0) (sym same) c.in-Ok.ensures.handed)) in
     subst (λ x. g.V.Fit.fits s.place s.call x (history_of (sizes_of w) w.known.turns)) (sym c.hand_out.ensures.value) (fits_later g.V.Fit.fits g.V.Fit.lasts s.seat.table_id s.number 0 s.place s.call s.value v w Free es c.settled.invariant.5 goes)
 
 pub returns-clause-gone : goal.returns-clause-gone
@@ -83,7 +88,7 @@ returns-clause-gone g c =
     let t = c.hand_out.new.seat.table_id in
     let es = handed_later s.number (call_of s.number s.call.generation) s.own s.top in
     let same : sizes_of v ≡ c.self.inside.sizes = ap (λ (x : SettledValue _). x.group.sizes) c.settled.view_is ∙ (ap (λ (x : GroupValue). x.sizes) c.requires.own ∙ ap (λ (x : GroupValue). x.sizes) (sym c.self.view_is)) in
-    let goes = subst (λ (z : Sizes). Goes z s.number v w Free es 0) (sym same) c.in-Ok.ensures.handed in
+    let goes = subst (λ (q : Option ℕ). Goes (sizes_of v) s.number v w Free (handed_later s.number (call_of s.number s.call.generation) s.own q) 0) c.get-list.ensures (subst (λ (o : Option CallId). Goes (sizes_of v) s.number v w Free (handed_later s.number (call_of s.number s.call.generation) o c.get-list.result) 0) c.get-channel.ensures (subst (λ (z : Sizes). Goes z s.number v w Free (handed_later s.number (call_of s.number s.call.generation) c.get-channel.result c.get-list.result) 0) (sym same) c.in-Ok.ensures.handed)) in
     let fit = fits_later g.V.Fit.fits g.V.Fit.lasts s.seat.table_id s.number 0 s.place s.call s.value v w Free es was.5 goes in
     let row = last_row g.V.Fit.fits s.seat.table_id t s.number s.place s.call s.own s.value s.joiners s.top v w c.hand_out.ensures.own.0 was.1 was.4 goes was.6 fit in
     let back : caller_of c.letter-letter.new.seat.table_id c.letter-letter.new.seat.me.0 s.number ≡ caller_of t w s.number =

@@ -17,7 +17,7 @@ invariant_of-caller g c =
     let same : sizes_of v ≡ c.self.inside.sizes = ap (λ (x : CallerValue _). x.group.sizes) c.caller.view_is ∙ ap (λ (x : GroupValue). x.sizes) (c.requires.own ∙ sym c.self.view_is) in
     let goes = free_stays c.self.inside.sizes a v w same c.is_still_current.ensures.stays c.caller.invariant.0 in
     let free = free_again a c.caller.inside.next v w [] c.caller.invariant.1 goes in
-    (free.0, free.1, c.is_still_current.ensures.own.1 ∙ c.caller.invariant.2)
+    (free.0, free.1, c.is_still_current.ensures.own.1 ∙ c.caller.invariant.2, c.caller.invariant.3)
 
 pub returns-clause-nothing : goal.returns-clause-nothing
 returns-clause-nothing g c =

@@ -20,7 +20,7 @@ invariant_of-caller g c =
     let same : sizes_of v ≡ c.self.inside.sizes = ap (λ (x : CallerValue _). x.group.sizes) c.caller.view_is ∙ ap (λ (x : GroupValue). x.sizes) (c.requires.own ∙ sym c.self.view_is) in
     let heard = subst (λ (z : Sizes). HasHeard z v c.note.inside.seat.me.0.known.turns w) (sym same) c.hear_note.ensures.heard in
     let free = free_again a c.caller.inside.next v w [] c.caller.invariant.1 (heard_goes (sizes_of v) a v w stage.Free c.caller.invariant.0 free_alone heard.made) in
-    (free.0, free.1, c.hear_note.ensures.own.1 ∙ c.caller.invariant.2)
+    (free.0, free.1, c.hear_note.ensures.own.1 ∙ c.caller.invariant.2, c.caller.invariant.3)
 
 pub returns-clause-learnt : goal.returns-clause-learnt
 returns-clause-learnt g c =

@@ -1,4 +1,5 @@
-use Rattle.std.proofs.Common.{◌≡◌, ◌∙◌, false, Option, inl, inr, sym, ap, subst}
+use Rattle.std.proofs.Common.{◌≡◌, ℕ, ◌∙◌, false, Option, inl, inr, sym, ap, subst, arith, rules}
+use Rattle.sf_history.specs.declared.call.CallId.{CallId}
 use Rattle.std.specs.Prelude.{is_some}
 use Rattle.atomic_table.specs.Table.{Me}
 use Rattle.sf_schedules.specs.declared.letter.Letter.{Letter}
@@ -9,7 +10,7 @@ use Rattle.sf_calls.specs.declared.sizes.Sizes.{Sizes}
 use Rattle.sf_calls.specs.Tokens.{GroupValue, CallerValue, FlightValue, LetterValue}
 use Rattle.sf_calls.specs.Finishes.{IsDone, HasFinished}
 use Rattle.sf_word_steps.specs.View.{sizes_of}
-use Rattle.sf_word_steps.specs.Stands.{Goes}
+use Rattle.sf_word_steps.specs.Stands.{Sits, Goes}
 use Rattle.sf_word_steps.specs.Delivers.{IsOwed}
 use Rattle.sf_group.specs.Known.{caller_of, flight_of, settled_of}
 use Rattle.sf_group.specs.Calls.{ClosesSeldom, HasClosed}
@@ -30,22 +31,25 @@ invariant_of-hand_on g c =
     let p = at_members f.place f.call.generation f.own c.args.value n top in
     let es = settled f.number (record { caller = f.number; generation = f.call.generation }) f.own c.args.value n top in
     let same : sizes_of v ≡ c.self.inside.sizes = ap (λ (x : FlightValue _). x.group.sizes) c.flight.view_is ∙ (ap (λ (x : GroupValue). x.sizes) c.requires.own ∙ ap (λ (x : GroupValue). x.sizes) (sym c.self.view_is)) in
-    let goes = subst (λ (z : Sizes). Goes z f.number v w p es 0) (sym same) c.settle_and_count-tally.ensures.settled in
-    let owed : IsOwed top f.own = elim c.then-is_some.branch [
+    let goes = subst (λ (o : Option CallId). Goes (sizes_of v) f.number v w (at_members f.place f.call.generation o c.args.value n top) (settled f.number (record { caller = f.number; generation = f.call.generation }) o c.args.value n top) 0) c.get-channel.ensures (subst (λ (z : Sizes). Goes z f.number v w (at_members f.place f.call.generation c.get-channel.result c.args.value n top) (settled f.number (record { caller = f.number; generation = f.call.generation }) c.get-channel.result c.args.value n top) 0) (sym same) c.settle_and_count-tally.ensures.settled) in
+    let owed : IsOwed top f.own = subst (λ (o : Option CallId). IsOwed top o) c.get-channel.ensures (elim c.then-is_some.branch [
       | then-is_some-via-then-is_some w ↦ inl (sym c.is_some.ensures ∙ w.if-is_some.true)
       | then-is_some-via-else-is_some+then-is_some-2 w ↦ inr (sym w.is_some-else-is_some.ensures ∙ w.if-is_some-2.true)
-    ] in
+    ]) in
     let flight = flight_of f.seat.table_id v f.number f.place f.call f.own in
     let held = held_row f.seat.table_id t f.number f.place f.call f.own c.args.value n top v w c.settle_and_count-tally.ensures.own.0 c.flight.invariant.1 owed c.settle_and_count-tally.ensures.joined goes in
     let fit = fits_later g.V.Fit.fits g.V.Fit.lasts f.seat.table_id f.number 0 f.place f.call c.args.value v w p es (subst (λ (x : FlightValue _). g.V.Fit.fits x.place x.call c.args.value x.seen) (sym c.flight.view_is) c.requires.fits) goes in (
-      sits_now f.number 0 v w p es goes,
+      subst (λ (q : Option ℕ). Sits (sizes_of w) f.number w (at_members f.place f.call.generation f.own c.args.value n q)) (sym c.of.ensures) (sits_now f.number 0 v w p es goes),
       c.flight.invariant.1,
       next_now f.number f.next v w p es c.flight.invariant.2 goes,
       c.settle_and_count-tally.ensures.own.1 ∙ c.flight.invariant.3,
-      owed,
+      subst (λ (q : Option ℕ). IsOwed q f.own) (sym c.of.ensures) owed,
       fit,
       held_stands flight c.args.value (settled_of t w f.number f.place f.call c.args.value n) c.flight.invariant.1 held,
       placed_later f.number 0 f.place v w p es c.flight.invariant.4 goes,
+      c.flight.invariant.7,
+      c.flight.invariant.8,
+      search rules,
     )
 
 pub returns-then-is_some-clause-finished : goal.returns-then-is_some-clause-finished
@@ -59,11 +63,11 @@ returns-then-is_some-clause-finished g c =
     let p = at_members f.place f.call.generation f.own c.args.value n top in
     let es = settled f.number (record { caller = f.number; generation = f.call.generation }) f.own c.args.value n top in
     let same : sizes_of v ≡ c.self.inside.sizes = ap (λ (x : FlightValue _). x.group.sizes) c.flight.view_is ∙ (ap (λ (x : GroupValue). x.sizes) c.requires.own ∙ ap (λ (x : GroupValue). x.sizes) (sym c.self.view_is)) in
-    let goes = subst (λ (z : Sizes). Goes z f.number v w p es 0) (sym same) c.settle_and_count-tally.ensures.settled in
-    let owed : IsOwed top f.own = elim c.then-is_some.branch [
+    let goes = subst (λ (o : Option CallId). Goes (sizes_of v) f.number v w (at_members f.place f.call.generation o c.args.value n top) (settled f.number (record { caller = f.number; generation = f.call.generation }) o c.args.value n top) 0) c.get-channel.ensures (subst (λ (z : Sizes). Goes z f.number v w (at_members f.place f.call.generation c.get-channel.result c.args.value n top) (settled f.number (record { caller = f.number; generation = f.call.generation }) c.get-channel.result c.args.value n top) 0) (sym same) c.settle_and_count-tally.ensures.settled) in
+    let owed : IsOwed top f.own = subst (λ (o : Option CallId). IsOwed top o) c.get-channel.ensures (elim c.then-is_some.branch [
       | then-is_some-via-then-is_some w ↦ inl (sym c.is_some.ensures ∙ w.if-is_some.true)
       | then-is_some-via-else-is_some+then-is_some-2 w ↦ inr (sym w.is_some-else-is_some.ensures ∙ w.if-is_some-2.true)
-    ] in
+    ]) in
     let flight = flight_of f.seat.table_id v f.number f.place f.call f.own in
     let held = held_row f.seat.table_id t f.number f.place f.call f.own c.args.value n top v w c.settle_and_count-tally.ensures.own.0 c.flight.invariant.1 owed c.settle_and_count-tally.ensures.joined goes in
     let s = settled_of t w f.number f.place f.call c.args.value n in
@@ -81,11 +85,11 @@ returns-then-is_some-clause-closed g c =
     let p = at_members f.place f.call.generation f.own c.args.value n top in
     let es = settled f.number (record { caller = f.number; generation = f.call.generation }) f.own c.args.value n top in
     let same : sizes_of v ≡ c.self.inside.sizes = ap (λ (x : FlightValue _). x.group.sizes) c.flight.view_is ∙ (ap (λ (x : GroupValue). x.sizes) c.requires.own ∙ ap (λ (x : GroupValue). x.sizes) (sym c.self.view_is)) in
-    let goes = subst (λ (z : Sizes). Goes z f.number v w p es 0) (sym same) c.settle_and_count-tally.ensures.settled in
-    let owed : IsOwed top f.own = elim c.then-is_some.branch [
+    let goes = subst (λ (o : Option CallId). Goes (sizes_of v) f.number v w (at_members f.place f.call.generation o c.args.value n top) (settled f.number (record { caller = f.number; generation = f.call.generation }) o c.args.value n top) 0) c.get-channel.ensures (subst (λ (z : Sizes). Goes z f.number v w (at_members f.place f.call.generation c.get-channel.result c.args.value n top) (settled f.number (record { caller = f.number; generation = f.call.generation }) c.get-channel.result c.args.value n top) 0) (sym same) c.settle_and_count-tally.ensures.settled) in
+    let owed : IsOwed top f.own = subst (λ (o : Option CallId). IsOwed top o) c.get-channel.ensures (elim c.then-is_some.branch [
       | then-is_some-via-then-is_some w ↦ inl (sym c.is_some.ensures ∙ w.if-is_some.true)
       | then-is_some-via-else-is_some+then-is_some-2 w ↦ inr (sym w.is_some-else-is_some.ensures ∙ w.if-is_some-2.true)
-    ] in
+    ]) in
     let flight = flight_of f.seat.table_id v f.number f.place f.call f.own in
     let held = held_row f.seat.table_id t f.number f.place f.call f.own c.args.value n top v w c.settle_and_count-tally.ensures.own.0 c.flight.invariant.1 owed c.settle_and_count-tally.ensures.joined goes in
     let s = settled_of t w f.number f.place f.call c.args.value n in
@@ -102,7 +106,7 @@ letter-letter-requires-clause-led g c =
     let p = at_members f.place f.call.generation f.own c.args.value n top in
     let es = settled f.number (record { caller = f.number; generation = f.call.generation }) f.own c.args.value n top in
     let same : sizes_of v ≡ c.self.inside.sizes = ap (λ (x : FlightValue _). x.group.sizes) c.flight.view_is ∙ (ap (λ (x : GroupValue). x.sizes) c.requires.own ∙ ap (λ (x : GroupValue). x.sizes) (sym c.self.view_is)) in
-    let goes = subst (λ (z : Sizes). Goes z f.number v w p es 0) (sym same) c.settle_and_count-tally.ensures.settled in
+    let goes = subst (λ (o : Option CallId). Goes (sizes_of v) f.number v w (at_members f.place f.call.generation o c.args.value n top) (settled f.number (record { caller = f.number; generation = f.call.generation }) o c.args.value n top) 0) c.get-channel.ensures (subst (λ (z : Sizes). Goes z f.number v w (at_members f.place f.call.generation c.get-channel.result c.args.value n top) (settled f.number (record { caller = f.number; generation = f.call.generation }) c.get-channel.result c.args.value n top) 0) (sym same) c.settle_and_count-tally.ensures.settled) in
     led_later f.seat.table_id f.number 0 f.place f.call v w p es (leading_led (sizes_of v) f.number f.place f.call f.own v c.flight.invariant.1 c.flight.invariant.0) goes
 
 pub letter-letter-requires-clause-fits : goal.letter-letter-requires-clause-fits
@@ -113,7 +117,7 @@ letter-letter-requires-clause-fits g c =
     let top = c.settle_and_count-tally.result.top in
     let n = c.settle_and_count-tally.result.joiners in
     let same : sizes_of v ≡ c.self.inside.sizes = ap (λ (x : FlightValue _). x.group.sizes) c.flight.view_is ∙ (ap (λ (x : GroupValue). x.sizes) c.requires.own ∙ ap (λ (x : GroupValue). x.sizes) (sym c.self.view_is)) in
-    let goes = subst (λ (z : Sizes). Goes z f.number v w (at_members f.place f.call.generation f.own c.args.value n top) (settled f.number (record { caller = f.number; generation = f.call.generation }) f.own c.args.value n top) 0) (sym same) c.settle_and_count-tally.ensures.settled in
+    let goes = subst (λ (o : Option CallId). Goes (sizes_of v) f.number v w (at_members f.place f.call.generation o c.args.value n top) (settled f.number (record { caller = f.number; generation = f.call.generation }) o c.args.value n top) 0) c.get-channel.ensures (subst (λ (z : Sizes). Goes z f.number v w (at_members f.place f.call.generation c.get-channel.result c.args.value n top) (settled f.number (record { caller = f.number; generation = f.call.generation }) c.get-channel.result c.args.value n top) 0) (sym same) c.settle_and_count-tally.ensures.settled) in
     let fit = subst (λ (x : FlightValue _). g.V.Fit.fits x.place x.call c.args.value x.seen) (sym c.flight.view_is) c.requires.fits in
     fits_later g.V.Fit.fits g.V.Fit.lasts f.seat.table_id f.number 0 f.place f.call c.args.value v w (at_members f.place f.call.generation f.own c.args.value n top) (settled f.number (record { caller = f.number; generation = f.call.generation }) f.own c.args.value n top) fit goes
 
@@ -125,9 +129,9 @@ returns-clause-finished g c =
     let top = c.settle_and_count-tally.result.top in
     let n = c.settle_and_count-tally.result.joiners in
     let same : sizes_of v ≡ c.self.inside.sizes = ap (λ (x : FlightValue _). x.group.sizes) c.flight.view_is ∙ (ap (λ (x : GroupValue). x.sizes) c.requires.own ∙ ap (λ (x : GroupValue). x.sizes) (sym c.self.view_is)) in
-    let goes = subst (λ (z : Sizes). Goes z f.number v w (at_members f.place f.call.generation f.own c.args.value n top) (settled f.number (record { caller = f.number; generation = f.call.generation }) f.own c.args.value n top) 0) (sym same) c.settle_and_count-tally.ensures.settled in
+    let goes = subst (λ (o : Option CallId). Goes (sizes_of v) f.number v w (at_members f.place f.call.generation o c.args.value n top) (settled f.number (record { caller = f.number; generation = f.call.generation }) o c.args.value n top) 0) c.get-channel.ensures (subst (λ (z : Sizes). Goes z f.number v w (at_members f.place f.call.generation c.get-channel.result c.args.value n top) (settled f.number (record { caller = f.number; generation = f.call.generation }) c.get-channel.result c.args.value n top) 0) (sym same) c.settle_and_count-tally.ensures.settled) in
     let bare : is_some top ≡ false = sym c.is_some.ensures ∙ c.if-is_some.false in
-    let alone : is_some f.own ≡ false = sym c.is_some-else-is_some.ensures ∙ c.if-is_some-2.false in
+    let alone : is_some f.own ≡ false = subst (λ (o : Option CallId). is_some o ≡ false) c.get-channel.ensures (sym c.is_some-else-is_some.ensures ∙ c.if-is_some-2.false) in
     let back : caller_of c.letter-letter.new.seat.table_id c.letter-letter.new.seat.me.0 f.number ≡ caller_of c.settle_and_count-tally.new.seat.table_id w f.number =
     ap (λ t. caller_of t c.letter-letter.new.seat.me.0 f.number) c.letter-letter.ensures.seat.0 ∙ ap (λ (m : Me (Option (Letter _)) (View _)). caller_of c.settle_and_count-tally.new.seat.table_id m.0 f.number) c.letter-letter.ensures.seat.1 in
     let fit = fits_later g.V.Fit.fits g.V.Fit.lasts f.seat.table_id f.number 0 f.place f.call c.args.value v w (at_members f.place f.call.generation f.own c.args.value n top) (settled f.number (record { caller = f.number; generation = f.call.generation }) f.own c.args.value n top) (subst (λ (x : FlightValue _). g.V.Fit.fits x.place x.call c.args.value x.seen) (sym c.flight.view_is) c.requires.fits) goes in
@@ -146,7 +150,7 @@ returns-clause-closed g c =
     let same : sizes_of v ≡ c.self.inside.sizes = ap (λ (x : FlightValue _). x.group.sizes) c.flight.view_is ∙ (ap (λ (x : GroupValue). x.sizes) c.requires.own ∙ ap (λ (x : GroupValue). x.sizes) (sym c.self.view_is)) in
     let p = at_members f.place f.call.generation f.own c.args.value n top in
     let es = settled f.number (record { caller = f.number; generation = f.call.generation }) f.own c.args.value n top in
-    let goes = subst (λ (z : Sizes). Goes z f.number v w p es 0) (sym same) c.settle_and_count-tally.ensures.settled in
+    let goes = subst (λ (o : Option CallId). Goes (sizes_of v) f.number v w (at_members f.place f.call.generation o c.args.value n top) (settled f.number (record { caller = f.number; generation = f.call.generation }) o c.args.value n top) 0) c.get-channel.ensures (subst (λ (z : Sizes). Goes z f.number v w (at_members f.place f.call.generation c.get-channel.result c.args.value n top) (settled f.number (record { caller = f.number; generation = f.call.generation }) c.get-channel.result c.args.value n top) 0) (sym same) c.settle_and_count-tally.ensures.settled) in
     let turns_are = ap (λ (m : Me (Option (Letter _)) (View _)). m.0.known.turns) c.letter-letter.ensures.seat.1 in
     subst (λ ts. ClosesSeldom c.args.flight ts) (sym turns_are)
     (subst (λ (x : FlightValue _). ClosesSeldom x w.known.turns) c.flight.view_is (closed_row f.seat.table_id f.number f.place 0 f.call f.own v w p es goes))

@@ -29,6 +29,9 @@ invariant_of-self g c =
       fits_later g.V.Fit.fits g.V.Fit.lasts s.seat.table_id s.number 0 s.place s.call s.value v w p [] was.5 goes,
       stands_later s.seat.table_id s.number 0 (event.Settle s.call.caller s.call s.value s.joiners) v w p [] was.6 goes,
       placed_later s.number 0 s.place v w p [] was.7 goes,
+      was.8,
+      was.9,
+      was.10,
     )
 
 pub returns-clause-same : goal.returns-clause-same

@@ -24,6 +24,8 @@ invariant_of-self g c =
       next_now s.number s.next v w p [] was.2 goes,
       c.is_still_current.ensures.own.1 ∙ was.3,
       placed_later s.number 0 s.place v w p [] was.4 goes,
+      was.5,
+      was.6,
     )
 
 pub returns-clause-same : goal.returns-clause-same

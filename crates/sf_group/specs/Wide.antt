@@ -1,0 +1,11 @@
+-- what words say that tokens keep
+use Rattle.std.specs.Prelude.{ℕ, zero, suc, ◌/◌, ◌%◌, Option, None, Some}
+use Rattle.sf_history.specs.declared.call.CallId.{CallId}
+
+-- the generation is the upper half
+abbrev pub call_in_word : ℕ → CallId
+call_in_word word = record { caller = word % 0x1_0000_0000; generation = word / 0x1_0000_0000 }
+
+abbrev pub if_counted : {A : Type 0} → ℕ → A → Option A
+if_counted zero it = None
+if_counted (suc _) it = Some it
