@@ -15,9 +15,9 @@ word number key = record { number = number; key = key }
 -- the bytes of a key, wherever they are
 abbrev pub bytes_in : Kept → List ℕ
 bytes_in (Inline short) = short.items
-bytes_in (Counted long) = long
+bytes_in (Counted long) = long.value.items
 
 -- only a long key is counted
 abbrev pub IsKept : Kept → Type 0
 IsKept (Inline short) = Unit {0}
-IsKept (Counted long) = SHORT < length long
+IsKept (Counted long) = SHORT < length long.value.items

@@ -238,6 +238,34 @@ IsNotFree (Waits t) = Unit {0}
 IsNotFree (Owes s) = Unit {0}
 IsNotFree Gone = Unit {0}
 
+abbrev pub IsLeading : Part → Type 0
+IsLeading (Free c) = ⊥
+IsLeading (Leads f) = Unit {0}
+IsLeading (Waits t) = ⊥
+IsLeading (Owes s) = ⊥
+IsLeading Gone = ⊥
+
+abbrev pub IsNotLeading : Part → Type 0
+IsNotLeading (Free c) = Unit {0}
+IsNotLeading (Leads f) = ⊥
+IsNotLeading (Waits t) = Unit {0}
+IsNotLeading (Owes s) = Unit {0}
+IsNotLeading Gone = Unit {0}
+
+abbrev pub IsWaiting : Part → Type 0
+IsWaiting (Free c) = ⊥
+IsWaiting (Leads f) = ⊥
+IsWaiting (Waits t) = Unit {0}
+IsWaiting (Owes s) = ⊥
+IsWaiting Gone = ⊥
+
+abbrev pub IsNotWaiting : Part → Type 0
+IsNotWaiting (Free c) = Unit {0}
+IsNotWaiting (Leads f) = Unit {0}
+IsNotWaiting (Waits t) = ⊥
+IsNotWaiting (Owes s) = Unit {0}
+IsNotWaiting Gone = Unit {0}
+
 -- a slot of this group, by these places, with this caller, which has had no letter here; and with these callers for other slots
 pub record IsSeatOf (g : GroupValue) (p : Places) (c : CallerValue WordValue) (more : List (CallerValue WordValue)) (s : Seat) : Type 0 where
   pub group : s.group ≡ g

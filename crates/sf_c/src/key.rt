@@ -2,19 +2,20 @@
 ghost use Rattle.std.specs.Prelude.{◌≡◌, ◌<◌, [], length, IfOk, IfErr};
 
 use arrayvec::ArrayVec;
-use bytes::Bytes;
 use sf_group::Memory;
 use std::alloc::Global;
 use std::marker::Model;
+use std::sync::Arc;
 
 /// So many bytes of a key at most lie in the value itself.
 pub(crate) const SHORT: usize = 40;
 
-/// Where the bytes of a key are.
+/// Where the bytes of a key are. A counted one is a pointer, which lies where the first bytes of the other do: keys are moved
+/// as whole words then.
 #[derive(Drop)]
 pub enum Kept {
     Inline(ArrayVec<u8, SHORT>),
-    Counted(Bytes),
+    Counted(Arc<Vec<u8>>),
 }
 
 /// The bytes of a key. Those of a long one lie on the heap, and each further one of it takes a count of them.
@@ -50,7 +51,10 @@ impl Key {
         ensures refused { IfErr result (λ _. SHORT < length bytes.now) }
     {
         if bytes.len() > SHORT {
-            let long = Bytes::copy_from_slice(alloc, bytes)?;
+            let long = Vec::from_slice(alloc, bytes)?;
+            let Ok(long) = Arc::new(alloc, long) else {
+                return Err(Memory);
+            };
             return Ok(Key {
                 kept: Kept::Counted(long),
             });
@@ -75,9 +79,14 @@ impl Key {
                     kept: Kept::Inline(copy),
                 })
             }
-            Kept::Counted(long) => Ok(Key {
-                kept: Kept::Counted(long.clone()?),
-            }),
+            Kept::Counted(long) => {
+                let Ok(again) = Arc::try_clone(long) else {
+                    return Err(Memory);
+                };
+                Ok(Key {
+                    kept: Kept::Counted(again),
+                })
+            }
         }
     }
 

@@ -1,10 +1,10 @@
-//! What the caller of a slot does, and how the group's calls change it. Each call takes the part and gives the next one
-//! with a code; a part that is not one for the call comes back as it was.
+//! What the caller of a slot does, and how the group's calls change it, with a code. A part that is not one for the call stays as
+//! it was. Those that are asked most look first whether they are for the call, and move no more of the part than what it is.
 ghost use Rattle.std.specs.Prelude.{◌≡◌, ◌≢◌, ◌≤◌, IsTrue, IsFalse, IfOk, IfErr, IfSome, IfNone};
 ghost use Rattle.sf_calls.specs.Same.{IsPlaceOf};
 ghost use Rattle.sf_calls.specs.Notes.{HasGrown};
-ghost use Rattle.sf_c.specs.Rows.{IsOf, HasGivenKey, IsLetterOf, HasAsked, HasAskedBoth, HasAskedChan, HasFinishedPart, HasGoneOnPart, HasPolledPart, HasForgotPart, HasGivenUp, HasQuestionedPart, HasToldPart, HasLearntPart, HasNumbered, IsFree, IsNotFree, call_in};
-ghost use Rattle.sf_c.specs.declared.part.Part.TheVariants.{Free};
+ghost use Rattle.sf_c.specs.Rows.{IsOf, HasGivenKey, IsLetterOf, HasAsked, HasAskedBoth, HasAskedChan, HasFinishedPart, HasGoneOnPart, HasPolledPart, HasForgotPart, HasGivenUp, HasQuestionedPart, HasToldPart, HasLearntPart, HasNumbered, IsFree, IsNotFree, IsLeading, IsNotLeading, IsWaiting, IsNotWaiting, call_in};
+ghost use Rattle.sf_c.specs.declared.part.Part.TheVariants.{Free, Leads, Waits};
 
 use crate::codes::{BUSY, DONE, NOT_OPEN, NOTHING_LEFT, OTHER, OTHERWISE, SPENT, WRONG_STATE};
 use crate::key::Key;
@@ -35,22 +35,6 @@ impl Drop for Part {
             Part::Owes(settled) => settled.abandon(),
             Part::Gone => {}
         }
-    }
-}
-
-fn ask_free(group: &Group<Word>, caller: Caller<Word>, place: u32, tries: u32) -> (Part, u32)
-    requires own { caller.group ≡ group.now }
-    requires place { IsPlaceOf group.now place }
-    requires tries { (1 ≤ tries) × (tries ≤ MOST_TRIES) }
-    ensures own { IsOf group.now result.0 }
-    ensures row { HasAsked (Free caller) place tries result.0 result.1 }
-    ensures open { result.1 ≢ NOT_OPEN }
-{
-    match group.begin(caller, place, tries) {
-        Ok(Begun::Lead(flight)) => (Part::Leads(flight), DONE),
-        Ok(Begun::Join(ticket)) => (Part::Waits(ticket), OTHERWISE),
-        Err(NotBegun::Spent(back)) => (Part::Free(back), SPENT),
-        Err(NotBegun::Busy(_, back)) => (Part::Free(back), BUSY),
     }
 }
 
@@ -88,6 +72,28 @@ impl Part {
         }
     }
 
+    /// Whether it is one of a caller that leads.
+    pub(crate) fn leads(&self) -> bool
+        ensures yes { IsTrue result → IsLeading self.now }
+        ensures no { IsFalse result → IsNotLeading self.now }
+    {
+        match self {
+            Part::Leads(_) => true,
+            _ => false,
+        }
+    }
+
+    /// Whether it is one of a caller that waits.
+    pub(crate) fn waits(&self) -> bool
+        ensures yes { IsTrue result → IsWaiting self.now }
+        ensures no { IsFalse result → IsNotWaiting self.now }
+    {
+        match self {
+            Part::Waits(_) => true,
+            _ => false,
+        }
+    }
+
     /// Its caller, which is free. One that is not comes back.
     pub(crate) fn into_caller(self) -> Result<Caller<Word>, Part>
         ensures free { IfOk result (λ caller. self ≡ Free caller) }
@@ -99,21 +105,60 @@ impl Part {
         }
     }
 
-    /// Asks for the place: done where it leads then, otherwise it waits then.
-    pub(crate) fn asked(self, group: &Group<Word>, place: u32, tries: u32) -> (Part, u32)
-        requires own { IsOf group.now self }
-        requires place { IsPlaceOf group.now place }
-        requires tries { (1 ≤ tries) × (tries ≤ MOST_TRIES) }
-        ensures own { IsOf group.now result.0 }
-        ensures row { HasAsked self place tries result.0 result.1 }
-        ensures open { result.1 ≢ NOT_OPEN }
+    // Its flight. One that leads nothing comes back.
+    fn into_flight(self) -> Result<Flight<Word>, Part>
+        ensures leads { IfOk result (λ flight. self ≡ Leads flight) }
+        ensures refused { IfErr result (λ part. (part ≡ self) × IsNotLeading self) }
     {
         match self {
-            Part::Free(caller) => ask_free(group, caller, place, tries),
-            Part::Leads(flight) => (Part::Leads(flight), WRONG_STATE),
-            Part::Waits(ticket) => (Part::Waits(ticket), WRONG_STATE),
-            Part::Owes(settled) => (Part::Owes(settled), WRONG_STATE),
-            Part::Gone => (Part::Gone, WRONG_STATE),
+            Part::Leads(flight) => Ok(flight),
+            part => Err(part),
+        }
+    }
+
+    // Its ticket. One that waits for nothing comes back.
+    fn into_ticket(self) -> Result<Ticket<Word>, Part>
+        ensures waits { IfOk result (λ ticket. self ≡ Waits ticket) }
+        ensures refused { IfErr result (λ part. (part ≡ self) × IsNotWaiting self) }
+    {
+        match self {
+            Part::Waits(ticket) => Ok(ticket),
+            part => Err(part),
+        }
+    }
+
+    /// Asks for the place: done where it leads then, otherwise it waits then.
+    pub(crate) fn asks(&mut self, group: &Group<Word>, place: u32, tries: u32) -> u32
+        requires own { IsOf group.now self.old }
+        requires place { IsPlaceOf group.now place }
+        requires tries { (1 ≤ tries) × (tries ≤ MOST_TRIES) }
+        ensures own { IsOf group.now self.new }
+        ensures row { HasAsked self.old place tries self.new result }
+        ensures open { result ≢ NOT_OPEN }
+    {
+        if !self.is_free() {
+            return WRONG_STATE;
+        }
+        let Ok(caller) = replace(self, Part::Gone).into_caller() else {
+            unreachable!()
+        };
+        match group.begin(caller, place, tries) {
+            Ok(Begun::Lead(flight)) => {
+                *self = Part::Leads(flight);
+                DONE
+            }
+            Ok(Begun::Join(ticket)) => {
+                *self = Part::Waits(ticket);
+                OTHERWISE
+            }
+            Err(NotBegun::Spent(back)) => {
+                *self = Part::Free(back);
+                SPENT
+            }
+            Err(NotBegun::Busy(_, back)) => {
+                *self = Part::Free(back);
+                BUSY
+            }
         }
     }
 
@@ -144,38 +189,40 @@ impl Part {
 
     /// Settles the call that it leads with a value of the key: done where all letters are handed out, otherwise some are
     /// owed still.
-    pub(crate) fn finished(
-        self,
+    pub(crate) fn finishes(
+        &mut self,
         group: &Group<Word>,
         value: u64,
         key: &mut Key,
         joiners: &mut u32,
         last: &mut Option<Letter<Word>>,
-    ) -> (Part, u32)
-        requires own { IsOf group.now self }
+    ) -> u32
+        requires own { IsOf group.now self.old }
         requires last { IsLetterOf group.now last.old }
-        ensures own { IsOf group.now result.0 }
+        ensures own { IsOf group.now self.new }
         ensures last { IsLetterOf group.now last.new }
-        ensures key { HasGivenKey result.1 key.old key.new }
-        ensures row { HasFinishedPart self value key.old result.0 result.1 joiners.old joiners.new last.old last.new }
-        ensures open { result.1 ≢ NOT_OPEN }
+        ensures key { HasGivenKey result key.old key.new }
+        ensures row { HasFinishedPart self.old value key.old self.new result joiners.old joiners.new last.old last.new }
+        ensures open { result ≢ NOT_OPEN }
     {
-        match self {
-            Part::Leads(flight) => {
-                let word = Word::new(value, replace(key, Key::empty()));
-                match group.finish_unrested(flight, word) {
-                    Finished::Done(caller, letter) => {
-                        *joiners = letter.joiners();
-                        *last = Some(letter);
-                        (Part::Free(caller), DONE)
-                    }
-                    Finished::Held(settled) => (Part::Owes(settled), OTHERWISE),
-                }
+        if !self.leads() {
+            return WRONG_STATE;
+        }
+        let Ok(flight) = replace(self, Part::Gone).into_flight() else {
+            unreachable!()
+        };
+        let word = Word::new(value, replace(key, Key::empty()));
+        match group.finish_unrested(flight, word) {
+            Finished::Done(caller, letter) => {
+                *joiners = letter.joiners();
+                *last = Some(letter);
+                *self = Part::Free(caller);
+                DONE
             }
-            Part::Free(caller) => (Part::Free(caller), WRONG_STATE),
-            Part::Waits(ticket) => (Part::Waits(ticket), WRONG_STATE),
-            Part::Owes(settled) => (Part::Owes(settled), WRONG_STATE),
-            Part::Gone => (Part::Gone, WRONG_STATE),
+            Finished::Held(settled) => {
+                *self = Part::Owes(settled);
+                OTHERWISE
+            }
         }
     }
 
@@ -211,38 +258,42 @@ impl Part {
 
     /// Looks for the letter that it waits for: done where it is there and of the key, other where it is another key's,
     /// otherwise it is not there yet.
-    pub(crate) fn polled(
-        self,
+    pub(crate) fn polls(
+        &mut self,
         group: &Group<Word>,
         key: &Key,
         value: &mut u64,
         joiners: &mut u32,
         last: &mut Option<Letter<Word>>,
-    ) -> (Part, u32)
-        requires own { IsOf group.now self }
+    ) -> u32
+        requires own { IsOf group.now self.old }
         requires last { IsLetterOf group.now last.old }
-        ensures own { IsOf group.now result.0 }
+        ensures own { IsOf group.now self.new }
         ensures last { IsLetterOf group.now last.new }
-        ensures row { HasPolledPart self key.now result.0 result.1 value.old value.new joiners.old joiners.new last.old last.new }
-        ensures open { result.1 ≢ NOT_OPEN }
+        ensures row { HasPolledPart self.old key.now self.new result value.old value.new joiners.old joiners.new last.old last.new }
+        ensures open { result ≢ NOT_OPEN }
     {
-        match self {
-            Part::Waits(ticket) => match group.poll(ticket) {
-                Polled::Ready(caller, letter) => {
-                    *value = letter.value().number();
-                    if letter.value().key() != key.as_slice() {
-                        return (Part::Free(caller), OTHER);
-                    }
-                    *joiners = letter.joiners();
-                    *last = Some(letter);
-                    (Part::Free(caller), DONE)
+        if !self.waits() {
+            return WRONG_STATE;
+        }
+        let Ok(ticket) = replace(self, Part::Gone).into_ticket() else {
+            unreachable!()
+        };
+        match group.poll(ticket) {
+            Polled::Ready(caller, letter) => {
+                *self = Part::Free(caller);
+                *value = letter.value().number();
+                if letter.value().key() != key.as_slice() {
+                    return OTHER;
                 }
-                Polled::Pending(ticket) => (Part::Waits(ticket), OTHERWISE),
-            },
-            Part::Free(caller) => (Part::Free(caller), WRONG_STATE),
-            Part::Leads(flight) => (Part::Leads(flight), WRONG_STATE),
-            Part::Owes(settled) => (Part::Owes(settled), WRONG_STATE),
-            Part::Gone => (Part::Gone, WRONG_STATE),
+                *joiners = letter.joiners();
+                *last = Some(letter);
+                DONE
+            }
+            Polled::Pending(ticket) => {
+                *self = Part::Waits(ticket);
+                OTHERWISE
+            }
         }
     }
 

@@ -169,8 +169,7 @@ impl State {
             return NOTHING_LEFT;
         };
         let place = self.places.of(key);
-        let (part, code) = replace(&mut self.part, Part::Gone).asked(&self.group, place, tries);
-        self.part = part;
+        let code = self.part.asks(&self.group, place, tries);
         if code == DONE {
             self.asked = asked;
             self.own = false;
@@ -247,16 +246,7 @@ impl State {
         ensures row { HasFinishedPart self.old.part value self.old.asked self.new.part result joiners.old joiners.new self.old.last self.new.last }
         ensures open { result ≢ NOT_OPEN }
     {
-        let part = replace(&mut self.part, Part::Gone);
-        let (part, code) = part.finished(
-            &self.group,
-            value,
-            &mut self.asked,
-            joiners,
-            &mut self.last,
-        );
-        self.part = part;
-        code
+        self.part.finishes(&self.group, value, &mut self.asked, joiners, &mut self.last)
     }
 
     /// Goes on with the delivery of a settled call.
@@ -278,9 +268,9 @@ impl State {
         ensures row { HasPolledPart self.old.part self.old.asked self.new.part result value.old value.new joiners.old joiners.new self.old.last self.new.last }
         ensures open { result ≢ NOT_OPEN }
     {
-        let part = replace(&mut self.part, Part::Gone);
-        let (part, code) = part.polled(&self.group, &self.asked, value, joiners, &mut self.last);
-        self.part = part;
+        let code = self
+            .part
+            .polls(&self.group, &self.asked, value, joiners, &mut self.last);
         if code == DONE {
             self.own = false;
         }

@@ -9,3 +9,8 @@ call_in_word word = record { caller = word % 0x1_0000_0000; generation = word / 
 abbrev pub if_counted : {A : Type 0} → ℕ → A → Option A
 if_counted zero it = None
 if_counted (suc _) it = Some it
+
+-- the number of which this is the next
+abbrev pub below : ℕ → Option ℕ
+below zero = None
+below (suc number) = Some number

@@ -8,38 +8,6 @@ use std::marker::Model;
 /// From a caller's number to the generation beside it.
 const SHIFT: u64 = 0x1_0000_0000;
 
-/// A number of four bytes.
-#[derive(Drop)]
-pub(crate) struct WideNumber {
-    word: u64,
-}
-
-impl Model for WideNumber {
-    ghost use Rattle.std.specs.Prelude.{ℕ, ◌<◌};
-
-    ghost Value = { ℕ };
-
-    ghost view = { λ n. n.word };
-
-    ghost invariant = { λ n. n.word < 0x1_0000_0000 };
-}
-
-impl WideNumber {
-    pub(crate) fn of(number: u32) -> WideNumber
-        ensures { result ≡ number }
-    {
-        WideNumber {
-            word: number as u64,
-        }
-    }
-
-    pub(crate) fn get(&self) -> u32
-        ensures { result ≡ self.now }
-    {
-        self.word as u32
-    }
-}
-
 /// A call.
 #[derive(Drop)]
 pub(crate) struct WideCall {
@@ -128,18 +96,19 @@ impl MaybeCall {
 /// A number of four bytes, or none.
 #[derive(Drop)]
 pub(crate) struct MaybeNumber {
-    // 1 where there is one, and else 0.
-    count: u64,
-    number: WideNumber,
+    // One more than the number, or 0.
+    word: u64,
 }
 
 impl Model for MaybeNumber {
-    ghost use Rattle.std.specs.Prelude.{ℕ, Option};
-    ghost use Rattle.sf_group.specs.Wide.{if_counted};
+    ghost use Rattle.std.specs.Prelude.{ℕ, Option, ◌≤◌};
+    ghost use Rattle.sf_group.specs.Wide.{below};
 
     ghost Value = { Option ℕ };
 
-    ghost view = { λ m. if_counted m.count m.number };
+    ghost view = { λ m. below m.word };
+
+    ghost invariant = { λ m. m.word ≤ 0x1_0000_0000 };
 }
 
 impl MaybeNumber {
@@ -147,13 +116,9 @@ impl MaybeNumber {
         ensures { result ≡ number }
     {
         match number {
-            None => MaybeNumber {
-                count: 0,
-                number: WideNumber::of(0),
-            },
+            None => MaybeNumber { word: 0 },
             Some(number) => MaybeNumber {
-                count: 1,
-                number: WideNumber::of(number),
+                word: number as u64 + 1,
             },
         }
     }
@@ -161,10 +126,10 @@ impl MaybeNumber {
     pub(crate) fn get(&self) -> Option<u32>
         ensures { result ≡ self.now }
     {
-        if self.count == 0 {
+        if self.word == 0 {
             None
         } else {
-            Some(self.number.get())
+            Some((self.word - 1) as u32)
         }
     }
 }
