@@ -348,8 +348,12 @@ func (p *pool) settle(a asking, r *Result, watched *wait) {
 			}
 			owed -= int64(len(w.left))
 		}
+		p.release(shard, s, owed)
+		return
 	}
-	p.release(shard, s, owed)
+	// Nobody has a part in it.
+	s.val, s.err = nil, nil
+	p.put(shard, s)
 }
 
 // So many more have to take what the seat's call came to; or by -1 one has. The seat is free when all have.
