@@ -24,6 +24,18 @@ pub(crate) fn word_at(key: &[u8], index: usize) -> u64
     ensures { result ≡ key_word key.now index }
 {
     let from = index * 8;
+    if from + 8 <= key.len() {
+        return u64::from_le_bytes([
+            key[from],
+            key[from + 1],
+            key[from + 2],
+            key[from + 3],
+            key[from + 4],
+            key[from + 5],
+            key[from + 6],
+            key[from + 7],
+        ]);
+    }
     u64::from_le_bytes([
         byte_at(key, from),
         byte_at(key, from + 1),
