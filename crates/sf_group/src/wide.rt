@@ -1,5 +1,6 @@
-//! What tokens keep, each in whole words of eight bytes. Tokens are moved a word at a time: a gap between two fields, or a tag of
-//! one byte, would be moved by bytes, and who reads it back as a word waits until they are all written.
+//! What tokens keep, each in whole words of eight bytes: also a number of four stands in a `u64` there. Tokens are moved a word at a
+//! time: a gap between two fields, or a tag of one byte, would be moved by bytes, and who reads it back as a word waits until they
+//! are all written.
 ghost use Rattle.std.specs.Prelude.{◌≡◌};
 
 use sf_history::CallId;
