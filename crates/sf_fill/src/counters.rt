@@ -6,8 +6,4 @@
 mod ledger;
 mod totals;
 
-pub use ledger::{Account, Counter, Of, Parts, open};
-pub use totals::{
-    Accounts, AllParts, CacheHits, GetCounts, Gets, Ledgers, Loads, LoadsDeduped, LocalLoadErrors,
-    LocalLoads, PeerErrors, PeerLoads, Tallies, Totals,
-};
+pub use totals::{Accounts, AllParts, GetCounts, Ledgers, Tallies, Totals};

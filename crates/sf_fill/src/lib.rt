@@ -31,10 +31,7 @@ mod sizes;
 mod value;
 mod view;
 
-pub use counters::{
-    Account, Accounts, AllParts, CacheHits, Counter, GetCounts, Gets, Ledgers, Loads, LoadsDeduped,
-    LocalLoadErrors, LocalLoads, Of, Parts, PeerErrors, PeerLoads, Tallies, Totals, open,
-};
+pub use counters::{Accounts, AllParts, GetCounts, Ledgers, Tallies, Totals};
 pub use fault::{GetRefusal, LoadFault};
 pub use fill::Fill;
 pub use getter::Getter;
