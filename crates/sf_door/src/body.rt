@@ -1,5 +1,6 @@
 //! What one does with a fill.
-ghost use Rattle.std.specs.Prelude.{◌≡◌, ℕ, All, vec_len};
+ghost use Rattle.std.specs.Prelude.{◌≡◌, ℕ, List, All, vec_len};
+ghost use Rattle.sf_history.specs.declared.call.CallId.{CallId};
 ghost use Rattle.sf_door.specs.Opened.{IsNewGetter};
 
 use sf_fill::{Fill, Getter, Naming};
@@ -10,8 +11,8 @@ pub trait Body {
     /// What comes of it.
     type Answer;
 
-    /// What it needs of the number of getters.
-    ghost wants: { Self → ℕ → Type 0 };
+    /// What it needs of the number of getters, and of what the origin states of a key, a run and the bytes that this loaded.
+    ghost wants: { Self → ℕ → (List ℕ → CallId → List ℕ → Type 0) → Type 0 };
 
     /// What it says of its answer.
     ghost ends: { Self → Self.Answer → Type 0 };
@@ -24,7 +25,7 @@ pub trait Body {
         O: Origin + Send + Sync,
         L: LoadPath<Origin = O> + Send + Drop,
     >(self, fill: &Fill<'d, D, N, O>, getters: Vec<Getter<'d, D, N, O, L>>) -> Self::Answer
-        requires wants { wants self N.getters }
+        requires wants { wants self N.getters O.loaded }
         requires getters { vec_len getters ≡ N.getters }
         requires new { All (IsNewGetter N.group) getters.items }
         ensures { ends self result };

@@ -25,7 +25,7 @@ pub fn with_fill<O: Origin + Send + Sync, L: LoadPath<Origin = O> + Send + Drop,
 ) -> Result<B::Answer, Memory>
     requires places { places_for sizes.keys ≤ LARGEST_PLACE }
     requires getters { (1 ≤ vec_len loaders) × (vec_len loaders ≤ LARGEST_CALLER) }
-    requires wants { B.wants body (vec_len loaders) }
+    requires wants { B.wants body (vec_len loaders) O.loaded }
     ensures { IfOk result (λ answer. B.ends body answer) }
 {
     let getters = loaders.len() as u32;
@@ -68,7 +68,7 @@ fn with_space<
     requires space { (space_of space ≡ D.space) × (places_in D.space ≤ LARGEST_PLACE) }
     requires getters { (1 ≤ vec_len loaders) × (vec_len loaders ≤ LARGEST_CALLER) }
     requires desks { (vec_len desks ≡ vec_len loaders) × AreDesksOf D.space desks.items }
-    requires wants { B.wants body (vec_len loaders) }
+    requires wants { B.wants body (vec_len loaders) O.loaded }
     ensures { IfOk result (λ answer. B.ends body answer) }
 {
     let parts = FillParts::new(alloc, space, desks, loaders, sizes.first_generation)?;
@@ -93,7 +93,7 @@ fn with_all<
     requires space { (space_of space ≡ N.space) × (D.space ≡ N.space) }
     requires parts { AreParts N.space N.group N.getters N.ledgers parts }
     requires callers { All (IsNewCaller N.group) parts.callers.items }
-    requires wants { B.wants body N.getters }
+    requires wants { B.wants body N.getters O.loaded }
     ensures { IfOk result (λ answer. B.ends body answer) }
 {
     let made = Fill::<'d, D, N, O>::new(alloc, space, parts, sizes.keeps);

@@ -1,5 +1,6 @@
 //! What the threads of a fill do, each with a getter of its own.
-ghost use Rattle.std.specs.Prelude.{◌≡◌, ◌≤◌, ℕ, IfOk, vec_len, vec_capacity};
+ghost use Rattle.std.specs.Prelude.{◌≡◌, ◌≤◌, ℕ, List, IfOk, vec_len, vec_capacity};
+ghost use Rattle.sf_history.specs.declared.call.CallId.{CallId};
 ghost use Rattle.sf_words.specs.declared.limits.TheConstants.{LARGEST_PLACE, LARGEST_CALLER};
 ghost use Rattle.sf_spots.specs.Spaces.{AreDesksOf, places_in, space_of};
 ghost use Rattle.sf_fill.specs.Made.{AreParts};
@@ -11,7 +12,7 @@ use sf_group::Memory;
 use sf_loaders::{LoadPath, Origin};
 use sf_spots::{KeyDesk, KeySpace, hash_desks, open_directory};
 use std::alloc::Global;
-use std::marker::Brand;
+use std::marker::{Brand, Model};
 use std::sync::Wait;
 use std::thread::{Threads, map_vec};
 
@@ -24,8 +25,8 @@ pub trait Team {
     /// What comes of it all.
     type Answer;
 
-    /// What it needs of the number of getters.
-    ghost wants: { Self → ℕ → Type 0 };
+    /// What it needs of the number of getters, and of what the origin states of a key, a run and the bytes that this loaded.
+    ghost wants: { Self → ℕ → (List ℕ → CallId → List ℕ → Type 0) → Type 0 };
 
     /// What it says of its answer.
     ghost ends: { Self → Self.Answer → Type 0 };
@@ -36,7 +37,8 @@ pub trait Team {
         fill: &Fill<'d, D, N, O>,
         getter: Getter<'d, D, N, O, L>,
         index: u32,
-    ) -> (Getter<'d, D, N, O, L>, Self::Part);
+    ) -> (Getter<'d, D, N, O, L>, Self::Part)
+        requires wants { wants self.now N.getters O.loaded };
 
     /// What comes of the threads, once all have ended. The getters and the parts stand in the order of the loaders.
     fn finish<'d, D: Naming, N: Naming, O: Origin, L: LoadPath<Origin = O> + Drop>(
@@ -45,7 +47,7 @@ pub trait Team {
         getters: Vec<Getter<'d, D, N, O, L>>,
         parts: Vec<Self::Part>,
     ) -> Self::Answer
-        requires wants { wants self.now N.getters }
+        requires wants { wants self.now N.getters O.loaded }
         requires getters { vec_len getters ≡ N.getters }
         requires parts { vec_len parts ≡ N.getters }
         ensures { ends self.now result };
@@ -61,7 +63,7 @@ pub fn with_team<
 >(rt: &R, alloc: Global, sizes: FillSizes, loaders: Vec<L>, team: &T) -> Result<T::Answer, Memory>
     requires places { places_for sizes.keys ≤ LARGEST_PLACE }
     requires getters { (1 ≤ vec_len loaders) × (vec_len loaders ≤ LARGEST_CALLER) }
-    requires wants { T.wants team.now (vec_len loaders) }
+    requires wants { T.wants team.now (vec_len loaders) O.loaded }
     ensures { IfOk result (λ answer. T.ends team.now answer) }
 {
     let getters = loaders.len() as u32;
@@ -106,7 +108,7 @@ fn with_space<
     requires space { (space_of space ≡ D.space) × (places_in D.space ≤ LARGEST_PLACE) }
     requires getters { (1 ≤ vec_len loaders) × (vec_len loaders ≤ LARGEST_CALLER) }
     requires desks { (vec_len desks ≡ vec_len loaders) × AreDesksOf D.space desks.items }
-    requires wants { T.wants team.now (vec_len loaders) }
+    requires wants { T.wants team.now (vec_len loaders) O.loaded }
     ensures { IfOk result (λ answer. T.ends team.now answer) }
 {
     let parts = FillParts::new(alloc, space, desks, loaders, sizes.first_generation)?;
@@ -132,7 +134,7 @@ fn with_all<
 ) -> Result<T::Answer, Memory>
     requires space { (space_of space ≡ N.space) × (D.space ≡ N.space) }
     requires parts { AreParts N.space N.group N.getters N.ledgers parts }
-    requires wants { T.wants team.now N.getters }
+    requires wants { T.wants team.now N.getters O.loaded }
     ensures { IfOk result (λ answer. T.ends team.now answer) }
 {
     let Ok((fill, getters)) = Fill::<'d, D, N, O>::new(alloc, space, parts, keeps) else {
@@ -142,14 +144,24 @@ fn with_all<
 }
 
 /// A getter whose thread is to work.
-struct Job<'a, 'd, D: Naming, N: Naming, O: Origin, L, T> {
+struct Job<'a, 'd, D: Naming, N: Naming, O: Origin, L, T: Team> {
     fill: &'a Fill<'d, D, N, O>,
     team: &'a T,
     getter: Getter<'d, D, N, O, L>,
     index: u32,
 }
 
-impl<'a, 'd, D: Naming, N: Naming, O: Origin, L: Drop, T> Drop for Job<'a, 'd, D, N, O, L, T> {
+impl<'a, 'd, D: Naming, N: Naming, O: Origin, L, T: Team> Model for Job<'a, 'd, D, N, O, L, T> {
+    ghost Value = { Unit {0} };
+
+    ghost view = { λ _. tt };
+
+    // The team has what it needs.
+    ghost invariant = { λ job. T.wants job.team.now N.getters O.loaded };
+}
+
+impl<'a, 'd, D: Naming, N: Naming, O: Origin, L: Drop, T: Team> Drop
+    for Job<'a, 'd, D, N, O, L, T> {
     fn drop(self) {
         let Job {
             fill: _,
@@ -219,13 +231,14 @@ type HandedOut<'a, 'd, D, N, O, L, T> = (
 );
 
 // A job for each getter, the last one first.
-fn hand_out<'a, 'd, D: Naming, N: Naming, O: Origin, L: Drop, T>(
+fn hand_out<'a, 'd, D: Naming, N: Naming, O: Origin, L: Drop, T: Team>(
     alloc: Global,
     fill: &'a Fill<'d, D, N, O>,
     team: &'a T,
     getters: Vec<Getter<'d, D, N, O, L>>,
 ) -> Result<HandedOut<'a, 'd, D, N, O, L, T>, Memory>
-    requires { vec_len getters ≤ 65535 }
+    requires getters { vec_len getters ≤ 65535 }
+    requires wants { T.wants team.now N.getters O.loaded }
     ensures jobs { IfOk result (λ out. vec_len out.0 ≡ vec_len getters.entry) }
     ensures getters { IfOk result (λ out. (vec_len out.1 ≡ 0) × (vec_len getters.entry ≤ vec_capacity out.1)) }
 {
@@ -283,7 +296,7 @@ fn work_and_finish<
     team: &T,
 ) -> Result<T::Answer, Memory>
     requires getters { (vec_len getters ≡ N.getters) × (N.getters ≤ 65535) }
-    requires wants { T.wants team.now N.getters }
+    requires wants { T.wants team.now N.getters O.loaded }
     ensures { IfOk result (λ answer. T.ends team.now answer) }
 {
     let Ok(parts) = Vec::with_capacity(alloc, getters.len()) else {

@@ -56,7 +56,7 @@ impl<'a, R: Wait + Clock + Eprint> Team for Crew<'a, R> {
     ghost use Rattle.std.specs.Prelude.{◌≡◌, ◌*◌, IfOk};
     ghost use Rattle.sf_drive.specs.Found.{IsFound};
 
-    ghost wants = { λ crew getters. getters ≡ crew.line.threads };
+    ghost wants = { λ crew getters loaded. getters ≡ crew.line.threads };
 
     ghost ends = { λ crew answer. IfOk answer (λ found. IsFound (crew.line.threads * crew.line.gets) found.report found.history) };
 
@@ -65,7 +65,9 @@ impl<'a, R: Wait + Clock + Eprint> Team for Crew<'a, R> {
         fill: &Fill<'d, D, N, O>,
         getter: Getter<'d, D, N, O, L>,
         index: u32,
-    ) -> (Getter<'d, D, N, O, L>, Ended) {
+    ) -> (Getter<'d, D, N, O, L>, Ended)
+        requires wants { N.getters ≡ self.now.line.threads }
+    {
         self.get_all(fill, getter, index)
     }
 

@@ -31,7 +31,7 @@ impl<'a, R: Wait> Team for Serve<'a, R> {
 
     ghost use Rattle.std.specs.Prelude.{◌≡◌, ⊤};
 
-    ghost wants = { λ serve getters. getters ≡ 2 };
+    ghost wants = { λ serve getters loaded. getters ≡ 2 };
 
     ghost ends = { λ serve answer. ⊤ };
 
@@ -40,7 +40,9 @@ impl<'a, R: Wait> Team for Serve<'a, R> {
         fill: &Fill<'d, D, N, O>,
         getter: Getter<'d, D, N, O, L>,
         _index: u32,
-    ) -> (Getter<'d, D, N, O, L>, ()) {
+    ) -> (Getter<'d, D, N, O, L>, ())
+        requires wants { N.getters ≡ 2 }
+    {
         let (getter, _page) = fill.get(self.rt, getter, PAGE);
         (getter, ())
     }

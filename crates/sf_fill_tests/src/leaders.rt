@@ -63,7 +63,7 @@ impl<'a, R: Wait> Body for SecondLook<'a, R> {
 
     ghost use Rattle.std.specs.Prelude.{◌≡◌, ⊤};
 
-    ghost wants = { λ look getters. getters ≡ 2 };
+    ghost wants = { λ look getters loaded. getters ≡ 2 };
 
     ghost ends = { λ look found. ⊤ };
 

@@ -14,10 +14,11 @@ use std::sync::Wait;
 use std::test::Fail;
 use std::thread::Threads;
 
-const SETTING: Setting = Setting {
+pub const SETTING: Setting = Setting {
     places: 8,
     open: false,
     limit: 100,
+    near: 0,
     peer: Gives::Absent,
     local: Gives::Value,
     key_bytes: 4,
@@ -41,7 +42,7 @@ fn counters(totals: Totals) -> [u128; 8] {
     ]
 }
 
-fn check(rt: &impl Abort, outcome: &Outcome, said: [&str; 2], counted: [u128; 8]) {
+pub fn check(rt: &impl Abort, outcome: &Outcome, said: [&str; 2], counted: [u128; 8]) {
     for (is, wanted) in outcome.said.iter().zip(said.iter()) {
         assert!(rt; is.as_str() == *wanted, "{is}");
     }

@@ -1,8 +1,10 @@
 //! What getters do in a test, and what they say of it.
 
+ghost use Rattle.sf_fill_tests.specs.Origins.{IsOpenOrigin};
+
 use crate::loaders::Flags;
 use bytes::Bytes;
-use sf_fill::{Fill, Forgot, Getter, LoadFault, Naming, View};
+use sf_fill::{Fill, Forgot, Getter, LoadFault, Naming, Put, View, Which};
 use sf_group::Event;
 use sf_loaders::{LoadPath, Origin};
 use sf_words::PlaceNo;
@@ -19,6 +21,16 @@ pub enum Step {
     Get(&'static str),
     /// Reloads the key.
     Reload(&'static str),
+    /// Puts the value under the key.
+    Put(&'static str, &'static str),
+    /// Takes the key out of the caches.
+    Remove(&'static str),
+    /// Forgets all places.
+    ForgetAll,
+    /// Gets the key so often, and says nothing.
+    Repeat(&'static str, u32),
+    /// Says what the caches hold.
+    Stats,
     /// Settles up.
     SettleUp,
     /// Hands out its log.
@@ -62,6 +74,45 @@ fn say_view<'d, D: Naming, O: Origin>(
         }
         Err(fault) => write!(said, "{key} {fault}\n"),
     };
+}
+
+// What a put came to, and the bytes of its view.
+fn say_put<'d, D: Naming, O: Origin>(
+    said: &mut String,
+    key: &str,
+    answer: Result<Put<View<'d, D, O>>, LoadFault>,
+) {
+    let _ = match answer {
+        Ok(Put::Settled(view)) => {
+            let call = view.call();
+            let place = view.place();
+            let is_w = view.into_bytes().as_slice() == b"w".as_slice();
+            write!(said, "put {key} settled {call} of {place} w={is_w}\n")
+        }
+        Ok(Put::Met(view)) => {
+            let call = view.call();
+            let (bytes, _note) = view.into_parts();
+            let len = bytes.len();
+            write!(said, "put {key} met {call} of {len} bytes\n")
+        }
+        Err(fault) => write!(said, "put {key} {fault}\n"),
+    };
+}
+
+// What both caches hold.
+fn say_stats<'d, D: Naming, N: Naming, O: Origin>(
+    rt: &impl Wait,
+    said: &mut String,
+    fill: &Fill<'d, D, N, O>,
+) {
+    for which in [Which::Main, Which::Hot] {
+        let stats = fill.cache_stats(rt, which);
+        let (bytes, items, evictions) = (stats.bytes, stats.items, stats.evictions);
+        let _ = write!(
+            said,
+            "{bytes} bytes, {items} items, {evictions} evictions\n"
+        );
+    }
 }
 
 fn say_forgot(said: &mut String, key: &str, answer: &Result<Forgot, LoadFault>) {
@@ -169,7 +220,9 @@ pub fn run<'d, D: Naming, N: Naming, O: Origin, L: LoadPath<Origin = O>>(
     steps: &[Step],
     flags: &Flags,
     alloc: Global,
-) -> (Getter<'d, D, N, O, L>, String) {
+) -> (Getter<'d, D, N, O, L>, String)
+    requires { IsOpenOrigin O.loaded }
+{
     let mut getter = getter;
     let mut said = String::new(alloc);
     for step in steps {
@@ -184,6 +237,29 @@ pub fn run<'d, D: Naming, N: Naming, O: Origin, L: LoadPath<Origin = O>>(
                 say_forgot(&mut said, key, &answer);
                 getter = back;
             }
+            Step::Put(key, value) => {
+                let bytes = Bytes::from(value);
+                let (back, answer) = fill.put(rt, getter, key.as_bytes(), bytes);
+                say_put(&mut said, key, answer);
+                getter = back;
+            }
+            Step::Remove(key) => {
+                let removed = fill.remove(rt, &mut getter, key.as_bytes()).is_ok();
+                let _ = write!(&mut said, "remove {key} {removed}\n");
+            }
+            Step::ForgetAll => {
+                let (back, outcome) = fill.forget_all(rt, getter);
+                let forgotten = outcome.is_ok();
+                let _ = write!(&mut said, "forget all {forgotten}\n");
+                getter = back;
+            }
+            Step::Repeat(key, gets) => {
+                for _ in 0..gets {
+                    let (back, _answer) = fill.get(rt, getter, key.as_bytes());
+                    getter = back;
+                }
+            }
+            Step::Stats => say_stats(rt, &mut said, fill),
             Step::SettleUp => {
                 let owed = getter.owes();
                 let (back, outcome) = getter.settle_up(rt, fill);

@@ -1,5 +1,6 @@
 //! A fill with two getters, from nothing.
 ghost use Rattle.std.specs.Prelude.{◌≡◌, ◌≤◌, vec_len};
+ghost use Rattle.sf_fill_tests.specs.Origins.{IsOpenOrigin};
 
 use crate::loaders::{Flags, TestLoaders, TestLocal};
 use crate::steps::{Step, run};
@@ -31,6 +32,8 @@ pub struct Setting {
     /// Whether keys have their places by a hash.
     pub open: bool,
     pub limit: i64,
+    /// How many letters each getter keeps near, within 100 bytes.
+    pub near: u32,
     pub peer: Gives,
     pub local: Gives,
     /// The longest key, in bytes.
@@ -67,7 +70,9 @@ impl<'a, R: Wait> Play<'a, R> {
         fill: &Fill<'d, D, N, O>,
         getter: Getter<'d, D, N, O, L>,
         index: u32,
-    ) -> (Getter<'d, D, N, O, L>, String) {
+    ) -> (Getter<'d, D, N, O, L>, String)
+        requires { IsOpenOrigin O.loaded }
+    {
         let [first, second, third] = self.setting.steps;
         let steps = match index {
             0 => first,
@@ -84,8 +89,9 @@ impl<'a, R: Wait> Team for Play<'a, R> {
     type Answer = Outcome;
 
     ghost use Rattle.std.specs.Prelude.{◌≡◌, ⊤};
+    ghost use Rattle.sf_fill_tests.specs.Origins.{IsOpenOrigin};
 
-    ghost wants = { λ play getters. getters ≡ 3 };
+    ghost wants = { λ play getters loaded. (getters ≡ 3) × IsOpenOrigin loaded };
 
     ghost ends = { λ play outcome. ⊤ };
 
@@ -94,7 +100,9 @@ impl<'a, R: Wait> Team for Play<'a, R> {
         fill: &Fill<'d, D, N, O>,
         getter: Getter<'d, D, N, O, L>,
         index: u32,
-    ) -> (Getter<'d, D, N, O, L>, String) {
+    ) -> (Getter<'d, D, N, O, L>, String)
+        requires wants { (N.getters ≡ 3) × IsOpenOrigin O.loaded }
+    {
         if self.setting.beside {
             self.turns(fill, getter, index)
         } else {
@@ -108,7 +116,7 @@ impl<'a, R: Wait> Team for Play<'a, R> {
         getters: Vec<Getter<'d, D, N, O, L>>,
         parts: Vec<String>,
     ) -> Outcome
-        requires wants { N.getters ≡ 3 }
+        requires wants { (N.getters ≡ 3) × IsOpenOrigin O.loaded }
         requires getters { vec_len getters ≡ N.getters }
         requires parts { vec_len parts ≡ N.getters }
     {
@@ -219,7 +227,12 @@ pub fn try_out<R: Wait + Threads + Sync>(
     };
     let sizes = FillSizes {
         keys,
-        keeps: Sizes::new(setting.limit, 64),
+        keeps: Sizes {
+            limit: setting.limit,
+            log: 64,
+            near: setting.near,
+            near_limit: 100,
+        },
         first_generation: 1,
     };
     let mut sets = Vec::with_capacity(alloc, 3)?;

@@ -84,7 +84,7 @@ impl<'a, R: Wait> Body for GetAll<'a, R> {
 
     ghost use Rattle.std.specs.Prelude.{◌≡◌, ⊤};
 
-    ghost wants = { λ all getters. getters ≡ 1 };
+    ghost wants = { λ all getters loaded. getters ≡ 1 };
 
     ghost ends = { λ all outcome. ⊤ };
 
