@@ -1,12 +1,13 @@
-use Rattle.std.proofs.Common.{◌≡◌, ◌≤◌}
+use Rattle.std.proofs.Common.{◌≡◌, ◌≤◌, All}
 use Rattle.std.specs.Prelude.{vec_len, vec_capacity}
-use Rattle.std.specs.List.{All}
-use Rattle.sf_group.specs.Tokens.{CallerValue}
+use Rattle.sf_calls.specs.Tokens.{CallerValue}
 use Rattle.sf_wait.specs.Jobs.{JobValue}
 use Rattle.sf_wait_tests.proofs.jobs.most_jobs.Given as goal
 
 abbrev pub invariant-loop-index : goal.invariant-loop-index
-invariant-loop-index g l = All (λ (c : CallerValue _). c.group ≡ l.group) l.callers.items
-    × All (λ (j : JobValue _ _). j.flight.group ≡ l.group) l.jobs.items
-    × (vec_len l.jobs ≡ l.index)
-    × (64 ≤ vec_capacity l.jobs)
+invariant-loop-index g l = record {
+  callers : All (λ (c : CallerValue _). c.group ≡ l.group) l.callers.items;
+  jobs : All (λ (j : JobValue _ _). j.flight.group ≡ l.group) l.jobs.items;
+  count : vec_len l.jobs ≡ l.index;
+  room : 64 ≤ vec_capacity l.jobs;
+}
