@@ -1,25 +1,23 @@
 //! Getters of a fill, each on a thread of its own, that get a key which a cache has.
 ghost use Rattle.std.specs.Prelude.{◌≡◌, ◌≤◌, IfOk, vec_len};
 ghost use Rattle.sf_words.specs.declared.limits.TheConstants.{LARGEST_PLACE};
-ghost use Rattle.sf_spots.specs.Spaces.{AreDesksOf, places_in, space_of};
-ghost use Rattle.sf_fill.specs.Made.{AreParts};
+ghost use Rattle.sf_door.specs.Opened.{places_for};
 
 use crate::benchmark::Benchmark;
 use crate::fault::Fault;
-use crate::rounds::{Operation, measure};
+use crate::rounds::{OPERATIONS, time_since};
 use crate::table::{Case, Table};
+use crate::times::{ROUNDS, Times};
 use bytes::Bytes;
-use sf_fill::{Fill, FillParts, Getter, Naming, Sizes};
+use sf_door::{DirectoryKeys, FillSizes, Keys, Places, Team, with_team};
+use sf_fill::{Fill, Getter, Naming};
 use sf_group::{CallId, Memory};
-use sf_keys::Places;
 use sf_loaders::scripted::{AnyValue, FixedPicker, RoundChance};
-use sf_loaders::{Loaders, Local, LocalFault, Peer, PeerFault};
-use sf_spots::{KeyDesk, KeySpace, hash_desks, open_directory};
+use sf_loaders::{LoadPath, Loaders, Local, LocalFault, Origin, Peer, PeerFault};
 use std::alloc::Global;
-use std::marker::Brand;
 use std::sync::Wait;
 use std::thread::Threads;
-use std::time::Clock;
+use std::time::{Clock, Instant};
 
 /// What the caches keep, in bytes.
 const LIMIT: i64 = 1_000;
@@ -71,90 +69,82 @@ impl Peer for OnePage {
     }
 }
 
-/// What a getter of such a fill loads with.
-type PageLoaders = Loaders<FixedPicker, OnePage, OnePage, RoundChance>;
-
-/// A getter of such a fill.
-type PageGetter<'d, D, N> = Getter<'d, D, N, AnyValue, PageLoaders>;
-
-/// What such a fill is made of.
-type PageParts<'d, D> = FillParts<'d, D, AnyValue, PageLoaders>;
-
-/// A getter that gets the key.
-struct Get<'a, 'd, D: Naming, N: Naming> {
-    fill: &'a Fill<'d, D, N, AnyValue>,
-    getter: PageGetter<'d, D, N>,
+/// Getters that get the key.
+#[derive(Drop)]
+struct Gets<'a, R> {
+    rt: &'a R,
 }
 
-impl<'a, 'd, D: Naming, N: Naming> Drop for Get<'a, 'd, D, N> {
-    fn drop(self) {
-        let Get { fill: _, getter } = self;
-        getter.abandon();
+impl<'a, R: Wait> Team for Gets<'a, R> {
+    /// Whether each get was answered.
+    type Part = bool;
+
+    /// Whether each get of each getter was.
+    type Answer = bool;
+
+    ghost use Rattle.std.specs.Prelude.{⊤};
+
+    ghost wants = { λ gets getters loaded. ⊤ };
+
+    ghost ends = { λ gets answered. ⊤ };
+
+    fn work<'d, D: Naming, N: Naming, O: Origin, L: LoadPath<Origin = O> + Drop>(
+        &self,
+        fill: &Fill<'d, D, N, O>,
+        getter: Getter<'d, D, N, O, L>,
+        _index: u32,
+    ) -> (Getter<'d, D, N, O, L>, bool) {
+        let mut getter = getter;
+        let mut answered = true;
+        for _ in 0..OPERATIONS {
+            let (back, answer) = fill.get(self.rt, getter, KEY);
+            answered = answered && answer.is_ok();
+            getter = back;
+        }
+        (getter, answered)
+    }
+
+    fn finish<'d, D: Naming, N: Naming, O: Origin, L: LoadPath<Origin = O> + Drop>(
+        &self,
+        _fill: &Fill<'d, D, N, O>,
+        getters: Vec<Getter<'d, D, N, O, L>>,
+        parts: Vec<bool>,
+    ) -> bool
+        requires getters { vec_len getters ≡ N.getters }
+        requires parts { vec_len parts ≡ N.getters }
+    {
+        let mut getters = getters;
+        'rest: while let Some(getter) = getters.pop() {
+            getter.abandon();
+        }
+        getters.destroy_empty();
+        parts.iter().all(|answered| *answered)
     }
 }
 
-impl<'a, 'd, D: Naming, N: Naming> Operation for Get<'a, 'd, D, N> {
-    fn once<R: Wait>(self, rt: &R) -> Result<Self, Fault> {
-        let Get { fill, getter } = self;
-        let (getter, answer) = fill.get(rt, getter, KEY);
-        let is_got = answer.is_ok();
-        let get = Get { fill, getter };
-        if is_got { Ok(get) } else { Err(Fault::Refused) }
-    }
-}
-
-// Spends all getters.
-fn end_all<'d, D: Naming, N: Naming>(getters: Vec<PageGetter<'d, D, N>>) {
-    let mut getters = getters;
-    'rest: while let Some(getter) = getters.pop() {
-        getter.abandon();
-    }
-    getters.destroy_empty();
-}
-
-// A worker for each getter.
-fn workers<'a, 'd, D: Naming, N: Naming>(
-    alloc: Global,
-    fill: &'a Fill<'d, D, N, AnyValue>,
-    getters: Vec<PageGetter<'d, D, N>>,
-) -> Result<Vec<Result<Get<'a, 'd, D, N>, Fault>>, Fault> {
-    let mut getters = getters;
-    let Ok(mut workers) = Vec::with_capacity(alloc, getters.len()) else {
-        end_all(getters);
-        return Err(Fault::Memory);
-    };
-    'hand: while let Some(getter) = getters.pop() {
-        workers.push_reserved(Ok(Get { fill, getter }));
-    }
-    getters.destroy_empty();
-    Ok(workers)
-}
-
-// All is named here.
-fn with_all<'d, D: Naming + Send + Sync, N: Naming + Send + Sync, R>(
-    rt: &R,
-    table: &Table,
-    space: KeySpace<'d>,
-    parts: PageParts<'d, D>,
-    case: Case,
-) -> Result<(), Fault>
+// Times a round: the fill is made, and each getter gets the key so often.
+fn round<R>(rt: &R, sizes: FillSizes, threads: u32) -> Result<u64, Fault>
 where
-    R: AllocGlobal + Print + Wait + Threads + Clock + Sync,
-    requires space { (space_of space ≡ N.space) × (D.space ≡ N.space) }
-    requires parts { AreParts N.space N.group N.getters N.ledgers parts }
-    requires getters { (N.getters ≡ case.threads) × (1 ≤ case.threads) × (case.threads ≤ 64) }
+    R: AllocGlobal + Wait + Threads + Clock + Sync,
+    requires threads { (1 ≤ threads) × (threads ≤ 64) }
+    requires places { places_for sizes.keys ≤ LARGEST_PLACE }
 {
     let alloc = rt.alloc();
-    let made = Fill::<'d, D, N, AnyValue>::new(alloc, space, parts, Sizes::new(LIMIT, 0));
-    let Ok((fill, getters)) = made else {
-        return Err(Fault::Memory);
+    let loaders = loaders(alloc, threads)?;
+    let Ok(began) = Instant::now(rt) else {
+        return Err(Fault::Clock);
     };
-    let times = measure(rt, workers(alloc, &fill, getters)?)?;
-    table.row(rt, case, times)
+    if !with_team(rt, alloc, sizes, loaders, &Gets { rt })? {
+        return Err(Fault::Refused);
+    }
+    time_since(rt, began, threads as usize)
 }
 
 // The loaders of so many getters.
-fn loaders(alloc: Global, getters: u32) -> Result<Vec<PageLoaders>, Fault>
+fn loaders(
+    alloc: Global,
+    getters: u32,
+) -> Result<Vec<Loaders<FixedPicker, OnePage, OnePage, RoundChance>>, Fault>
     ensures { IfOk result (λ sets. vec_len sets ≡ getters) }
 {
     let mut sets = Vec::with_capacity(alloc, getters as usize)?;
@@ -170,25 +160,6 @@ fn loaders(alloc: Global, getters: u32) -> Result<Vec<PageLoaders>, Fault>
     Ok(sets)
 }
 
-// The key space is named here, and the group made.
-fn with_space<'d, D: Naming + Send + Sync, R>(
-    rt: &R,
-    table: &Table,
-    space: KeySpace<'d>,
-    desks: Vec<KeyDesk>,
-    case: Case,
-) -> Result<(), Fault>
-where
-    R: AllocGlobal + Print + Wait + Threads + Clock + Sync,
-    requires space { (space_of space ≡ D.space) × (places_in D.space ≤ LARGEST_PLACE) }
-    requires threads { (1 ≤ case.threads) × (case.threads ≤ 64) }
-    requires desks { (vec_len desks ≡ case.threads) × AreDesksOf D.space desks.items }
-{
-    let alloc = rt.alloc();
-    let parts = FillParts::new(alloc, space, desks, loaders(alloc, case.threads)?, 1)?;
-    with_all::<D, Brand, R>(rt, table, space, parts, case)
-}
-
 /// A get of a key that a cache has.
 const CASE: Case = Case {
     benchmark: Benchmark::Fill,
@@ -196,29 +167,19 @@ const CASE: Case = Case {
     threads: 1,
 };
 
-// Measures gets of a fill over a directory. Nothing is named here.
-fn in_directory<R>(rt: &R, table: &Table, case: Case) -> Result<(), Fault>
+// Measures gets of a fill whose keys have their places so.
+fn measure_case<R>(rt: &R, table: &Table, keys: Keys, case: Case) -> Result<(), Fault>
 where
     R: AllocGlobal + Print + Wait + Threads + Clock + Sync,
-    requires { (1 ≤ case.threads) × (case.threads ≤ 64) }
+    requires threads { (1 ≤ case.threads) × (case.threads ≤ 64) }
+    requires places { places_for keys ≤ LARGEST_PLACE }
 {
-    let (directory, desks) = open_directory(rt.alloc(), 16, 16, case.threads, 7, 11)?;
-    with_space::<Brand, R>(rt, table, KeySpace::Directory(&directory), desks, case)
-}
-
-// The same over hashed places.
-fn in_open<R>(rt: &R, table: &Table, case: Case) -> Result<(), Fault>
-where
-    R: AllocGlobal + Print + Wait + Threads + Clock + Sync,
-    requires { (1 ≤ case.threads) × (case.threads ≤ 64) }
-{
-    let places = Places {
-        count: 16,
-        seed0: 7,
-        seed1: 11,
-    };
-    let desks = hash_desks(rt.alloc(), places, case.threads)?;
-    with_space::<Brand, R>(rt, table, KeySpace::Hashed(places), desks, case)
+    let sizes = FillSizes::new(keys, LIMIT);
+    let mut times = [0; ROUNDS];
+    for index in 0..ROUNDS {
+        times[index] = round(rt, sizes, case.threads)?;
+    }
+    table.row(rt, case, Times::of(times))
 }
 
 /// What a get costs of a key that a cache has: the first get of each fill loads it.
@@ -230,12 +191,24 @@ where
         detail: "get of one cached key, hashed",
         ..CASE
     };
-    in_directory(rt, table, CASE)?;
-    in_directory(rt, table, Case { threads: 4, ..CASE })?;
-    in_open(rt, table, hashed)?;
-    in_open(
+    let directory = Keys::Directory(DirectoryKeys {
+        keys: 16,
+        key_bytes: 16,
+        seed0: 7,
+        seed1: 11,
+    });
+    let places = Keys::Hashed(Places {
+        count: 16,
+        seed0: 7,
+        seed1: 11,
+    });
+    measure_case(rt, table, directory, CASE)?;
+    measure_case(rt, table, directory, Case { threads: 4, ..CASE })?;
+    measure_case(rt, table, places, hashed)?;
+    measure_case(
         rt,
         table,
+        places,
         Case {
             threads: 4,
             ..hashed

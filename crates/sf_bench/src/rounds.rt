@@ -27,8 +27,8 @@ fn repeat<R: Wait, O: Operation>(rt: &R, worker: Worker<O>) -> Worker<O> {
     Ok(operation)
 }
 
-// The nanoseconds an operation of a round that began then, of so many workers.
-fn time_since<R: Clock>(rt: &R, began: Instant, workers: usize) -> Result<u64, Fault> {
+/// The nanoseconds an operation of a round that began then, of so many workers.
+pub(crate) fn time_since<R: Clock>(rt: &R, began: Instant, workers: usize) -> Result<u64, Fault> {
     let Ok(took) = began.elapsed(rt) else {
         return Err(Fault::Clock);
     };

@@ -6,11 +6,12 @@ use crate::steps::Step::{ForgetAll, Get, Put, Reload, Remove, Repeat, Stats};
 use crate::trial::{Setting, try_out};
 use std::test::Fail;
 
-// The put forgets what was loaded; the next get answers what was put, from the cache.
+// The put forgets what was loaded; the next get answers what was put, from the cache. The only key has the only place.
 #[test]
 fn put_is_got(rt: HostRuntime) -> Result<(), Fail> {
     const STEPS: [Step; 3] = [Get("a"), Put("a", "w"), Get("a")];
     let setting = Setting {
+        places: 1,
         steps: [&STEPS, &[Get("a")], &[]],
         ..SETTING
     };

@@ -202,15 +202,15 @@ fn loaders<'f>(
     ))
 }
 
-/// What comes of the setting.
-pub fn try_out<R: Wait + Threads + Sync>(
+// What comes of the setting, but for waits that were given up.
+fn play_out<R: Wait + Threads + Sync>(
     rt: &R,
     alloc: Global,
     setting: Setting,
+    flags: &Flags,
 ) -> Result<Outcome, Memory>
     requires { (1 ≤ setting.places) × (setting.places ≤ 8) × (setting.key_bytes ≤ 250) }
 {
-    let flags = Flags::new();
     let keys = if setting.open {
         Keys::Hashed(Places {
             count: setting.places,
@@ -236,16 +236,28 @@ pub fn try_out<R: Wait + Threads + Sync>(
         first_generation: 1,
     };
     let mut sets = Vec::with_capacity(alloc, 3)?;
-    sets.push_reserved(loaders(alloc, setting, &flags, setting.beside)?);
-    sets.push_reserved(loaders(alloc, setting, &flags, false)?);
-    sets.push_reserved(loaders(alloc, setting, &flags, false)?);
+    sets.push_reserved(loaders(alloc, setting, flags, setting.beside)?);
+    sets.push_reserved(loaders(alloc, setting, flags, false)?);
+    sets.push_reserved(loaders(alloc, setting, flags, false)?);
     let play = Play {
         rt,
         alloc,
         setting,
-        flags: &flags,
+        flags,
     };
-    let mut outcome = with_team(rt, alloc, sizes, sets, &play)?;
+    with_team(rt, alloc, sizes, sets, &play)
+}
+
+/// What comes of the setting.
+pub fn try_out<R: Wait + Threads + Sync>(
+    rt: &R,
+    alloc: Global,
+    setting: Setting,
+) -> Result<Outcome, Memory>
+    requires { (1 ≤ setting.places) × (setting.places ≤ 8) × (setting.key_bytes ≤ 250) }
+{
+    let flags = Flags::new();
+    let mut outcome = play_out(rt, alloc, setting, &flags)?;
     outcome.failed = flags.failed.load(Ordering::SeqCst);
     Ok(outcome)
 }

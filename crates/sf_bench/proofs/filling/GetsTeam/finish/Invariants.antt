@@ -1,5 +1,5 @@
 use Rattle.std.specs.Prelude.{vec_len}
-use Rattle.sf_bench.proofs.filling.end_all.Given as goal
+use Rattle.sf_bench.proofs.filling.GetsTeam.finish.Given as goal
 
 abbrev pub decreases-rest : goal.decreases-rest
 decreases-rest g l = vec_len l.getters

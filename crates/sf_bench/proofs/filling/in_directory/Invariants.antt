@@ -1,6 +1,0 @@
-use Rattle.sf_fill.specs.Nowhere.{no_group, no_ledgers}
-use Rattle.sf_spots.specs.Spaces.{space_of}
-use Rattle.sf_bench.proofs.filling.in_directory.Given as goal
-
-abbrev pub ghosts-with_space : goal.ghosts-with_space
-ghosts-with_space g a = record { space = space_of a.space; group = no_group; getters = 0; ledgers = no_ledgers }

@@ -1,6 +1,0 @@
-use Rattle.sf_spots.specs.Spaces.{space_of}
-use Rattle.sf_fill.specs.Totals.{names_of}
-use Rattle.sf_bench.proofs.filling.with_space.Given as goal
-
-abbrev pub ghosts-with_all : goal.ghosts-with_all
-ghosts-with_all g a = record { space = space_of a.space; group = a.parts.group; getters = a.case.threads; ledgers = names_of a.parts.ledgers }
