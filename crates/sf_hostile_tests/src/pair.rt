@@ -319,15 +319,14 @@ fn play_beside<
     let (tried, waiting) = join(rt, || first.get(rt), || spare.ask(rt));
     let unmet = flags.unmet.load(Ordering::SeqCst);
     let refused = tried.end(rt, fill);
+    // Where memory for a thread is refused, the two run one after the other, and the load is not met.
+    assert!(rt;
+        waiting.is_some() || unmet || refused == 1,
+        "nobody joined a load that was met, and no memory was refused"
+    );
     if let Some(waiting) = waiting {
         take_letter(rt, fill, waiting, refused);
-    } else {
-        assert!(rt;
-            refused == 1,
-            "nobody joined a load, and no memory was refused"
-        );
     }
-    assert!(rt; !unmet, "the load was not met");
     refused
 }
 
