@@ -11,25 +11,25 @@ use Rattle.sf_fill.specs.declared.counters.totals.Totals.{Totals}
 use Rattle.sf_fill.specs.FillValue.{Filled}
 use Rattle.sf_fill.specs.Gets.{GetsFrom, HasGot, Reply}
 use Rattle.sf_fill.specs.GetterValue.{GetterValue}
-use Rattle.sf_fill.specs.Owing.{HasSettledUp}
+use Rattle.sf_fill.specs.Owing.{HasDelivered, HasSettledUp}
 use Rattle.sf_fill.specs.Reloads.{ReloadsFrom, HasReloaded}
 use Rattle.sf_fill.specs.Totals.{with_counts}
 
 module _ {L : Type 0} where
   pub got : (path : CallId → L → LoadAnswer → L → Type 0) (draws : L → L → Type 0) (space : SpaceId) (key : List ℕ)
-      (old middle : GetterValue L) (desk after : KeyDesk) (standing : Standing Filled) (loaders new : L) (tallies counted : Totals) (reply : Reply)
-      → HasSettledUp old middle → record { desk = desk; standing = standing; loaders = loaders; counted = tallies } ≡ middle
-      → GetsFrom path draws space key standing desk after loaders new reply → counted ≡ with_counts tallies reply.1
+      (old : GetterValue L) (desk after : KeyDesk) (standing middle : Standing Filled) (loaders new : L) (tallies counted : Totals) (reply : Reply)
+      → record { desk = desk; standing = standing; loaders = loaders; counted = tallies } ≡ old
+      → HasDelivered standing middle → GetsFrom path draws space key middle desk after loaders new reply → counted ≡ with_counts tallies reply.1
       → HasGot path draws space key old (record { desk = after; standing = reply.0; loaders = new; counted = counted }) reply.2
-  got path draws space key old middle desk after standing loaders new tallies counted reply h is g t =
-      let from : HasSettledUp old (record { desk = desk; standing = standing; loaders = loaders; counted = tallies }) = subst (HasSettledUp old) (sym is) h in
-      record {
-        middle = record { desk = desk; standing = standing; loaders = loaders; counted = tallies };
-        settled = from;
+  got path draws space key old desk after standing middle loaders new tallies counted reply is delivered g t =
+      subst (λ (o : GetterValue L). HasGot path draws space key o (record { desk = after; standing = reply.0; loaders = new; counted = counted }) reply.2) is
+      (record {
+        middle = record { desk = desk; standing = middle; loaders = loaders; counted = tallies };
+        settled = record { delivered = delivered; rest = refl };
         counts = reply.1;
         got = g;
-        counted = t ∙ ap (λ (m : GetterValue L). with_counts m.counted reply.1) from.rest;
-      }
+        counted = t;
+      })
 
   pub reloaded : (space : SpaceId) (key : List ℕ) (old middle : GetterValue L) (desk after : KeyDesk) (standing back : Standing Filled) (loaders : L)
       (tallies : Totals) (answer : Result Forgot LoadFault)

@@ -23,17 +23,6 @@ pub record IsWithinGets (c : Totals) : Type 0 where
   pub local_loads : c.local_loads ≤ c.gets
   pub local_load_errors : c.local_load_errors ≤ c.gets
 
--- no counter of the first is above the second's
-pub record IsUpTo (a b : Totals) : Type 0 where
-  pub gets : a.gets ≤ b.gets
-  pub cache_hits : a.cache_hits ≤ b.cache_hits
-  pub loads : a.loads ≤ b.loads
-  pub loads_deduped : a.loads_deduped ≤ b.loads_deduped
-  pub peer_loads : a.peer_loads ≤ b.peer_loads
-  pub peer_errors : a.peer_errors ≤ b.peer_errors
-  pub local_loads : a.local_loads ≤ b.local_loads
-  pub local_load_errors : a.local_load_errors ≤ b.local_load_errors
-
 -- each counter rose by as much
 abbrev pub plus : Totals → Totals → Totals
 plus a b = each (λ counter. counter a + counter b)

@@ -315,7 +315,6 @@ impl<'d, D: Naming, N: Naming, O: Origin> Fill<'d, D, N, O> {
         if getter.is_full() {
             return (getter, Err(LoadFault::Refused(GetRefusal::Spent)));
         }
-        let (getter, _delivered) = getter.settle_up(rt, self);
         let Getter {
             mut desk,
             standing,
@@ -324,6 +323,7 @@ impl<'d, D: Naming, N: Naming, O: Origin> Fill<'d, D, N, O> {
             mut log,
             mut near,
         } = getter;
+        let (standing, _delivered) = self.deliver(rt, standing, &mut log);
         let (standing, counts, answer) = self.get_standing(
             rt,
             standing,

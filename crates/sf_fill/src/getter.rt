@@ -1,8 +1,8 @@
 //! Getters: what they owe, and what they tell each other.
 ghost use Rattle.std.specs.Prelude.{IfSome, ◌≡◌, ◌↔◌, ◌-◌, ◌^◌, IsTrue, is_ok, not};
-ghost use Rattle.sf_fill.specs.GetterValue.{free_caller, is_owing};
+ghost use Rattle.sf_fill.specs.GetterValue.{IsOfGroup, free_caller, is_owing};
 ghost use Rattle.sf_fill.specs.Fresh.{HasAdded, delivered_by};
-ghost use Rattle.sf_fill.specs.Owing.{HasSettledUp};
+ghost use Rattle.sf_fill.specs.Owing.{HasDelivered, HasSettledUp};
 ghost use Rattle.sf_calls.specs.Notes.{HasGrown};
 ghost use Rattle.sf_fill.specs.Notes.{HasToldNote, HasLearntNote, NotesCarryPurges, NotesCarryReloads};
 
@@ -172,6 +172,35 @@ impl<'d, D: Naming, N: Naming, O: Origin, L> Getter<'d, D, N, O, L> {
     }
 }
 
+impl<'d, D: Naming, N: Naming, O: Origin> Fill<'d, D, N, O> {
+    // Delivers the letters that are owed, if there are any; where memory for one is refused, they are owed still.
+    pub(crate) fn deliver<R: Wait>(
+        &self,
+        rt: &R,
+        standing: Standing<FillValue<'d, D, O>>,
+        log: &mut Log,
+    ) -> (Standing<FillValue<'d, D, O>>, Result<(), Memory>)
+        requires group { IsOfGroup N.group standing }
+        ensures delivered { HasDelivered standing.entry result.0 }
+        ensures group { IsOfGroup N.group result.0 }
+        ensures done { is_ok result.1 ≡ not (is_owing result.0) }
+    {
+        match standing {
+            Standing::Free(caller) => (Standing::Free(caller), Ok(())),
+            Standing::Owing(settled) => match go_on_wait(rt, &self.group, settled) {
+                Finished::Done(caller, letter) => {
+                    log.add(Event::Handed {
+                        by: caller.number(),
+                        call: letter.call(),
+                    });
+                    (Standing::Free(caller), Ok(()))
+                }
+                Finished::Held(settled) => (Standing::Owing(settled), Err(Memory)),
+            },
+        }
+    }
+}
+
 impl<'d, D: Naming, N: Naming, O: Origin, L> Getter<'d, D, N, O, L> {
     /// Delivers the letters that are owed; where memory for one is refused, they are owed still.
     pub fn settle_up<R: Wait>(
@@ -191,19 +220,7 @@ impl<'d, D: Naming, N: Naming, O: Origin, L> Getter<'d, D, N, O, L> {
             mut log,
             near,
         } = self;
-        let (standing, outcome) = match standing {
-            Standing::Free(caller) => (Standing::Free(caller), Ok(())),
-            Standing::Owing(settled) => match go_on_wait(rt, &fill.group, settled) {
-                Finished::Done(caller, letter) => {
-                    log.add(Event::Handed {
-                        by: caller.number(),
-                        call: letter.call(),
-                    });
-                    (Standing::Free(caller), Ok(()))
-                }
-                Finished::Held(settled) => (Standing::Owing(settled), Err(Memory)),
-            },
-        };
+        let (standing, outcome) = fill.deliver(rt, standing, &mut log);
         let getter = Getter {
             desk,
             standing,

@@ -25,7 +25,7 @@ use std::marker::{Model, PhantomData};
 use std::sync::Wait;
 
 /// How many gets a getter counts alone before it enters them.
-const MOST_PENDING: u128 = 64;
+const MOST_PENDING: u64 = 64;
 
 /// A letter of the fill's group, whose call was settled so.
 #[derive(Drop)]

@@ -81,13 +81,12 @@ pub fn open<L: Ledger>(blank: Blank, getters: u64) -> (Account<L>, Parts<L>)
 
 impl<L: Ledger> Account<L> {
     /// Enters what a getter has counted and not entered yet.
-    pub fn enter(&mut self, part: &mut Parts<L>, counted: u128, entered: u128)
-        requires part { part.old ≡ record { parts = 1; counted = entered } }
-        requires counted { (entered ≤ counted) × (counted ≤ 2 ^ 64 - 1) }
-        ensures part { part.new ≡ record { parts = 1; counted = counted } }
-        ensures all { self.new + entered ≡ self.old + counted }
+    pub fn enter(&mut self, part: &mut Parts<L>, more: u128)
+        requires part { part.old.parts ≡ 1 }
+        requires room { part.old.counted + more ≤ 2 ^ 64 - 1 }
+        ensures part { part.new ≡ record { parts = 1; counted = part.old.counted + more } }
+        ensures all { self.new ≡ self.old + more }
     {
-        let more = counted - entered;
         self.left.sub(&mut part.left, more as u64);
         self.count += more;
     }

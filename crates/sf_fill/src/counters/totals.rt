@@ -1,9 +1,10 @@
 //! All counters of a fill: their names, what one get adds to each, and what all getters count.
 ghost use Rattle.std.specs.Prelude.{◌≡◌, ◌+◌, ◌-◌, ◌<◌, ◌≤◌, ◌^◌, ◌↔◌, IsTrue};
 ghost use Rattle.sf_fill.specs.Ledgers.{nothing_counted};
-ghost use Rattle.sf_fill.specs.Totals.{plus, with_counts, counts_in, names_of, AreNamed, IsOfOneGet, IsUpTo, IsWithinGets};
+ghost use Rattle.sf_fill.specs.Totals.{plus, with_counts, counts_in, names_of, AreNamed, IsOfOneGet, IsWithinGets};
 
 use crate::counters::ledger::{Account, Counter, Of, Parts, open};
+use crate::load::NO_RUN;
 use crate::naming::Naming;
 use sf_loaders::Counts;
 use std::marker::Model;
@@ -113,18 +114,26 @@ impl Counter for LocalLoadErrors {
     ghost its = { λ ledgers. ledgers.local_load_errors };
 }
 
-/// What one get counts, each 0 or 1.
+/// What one get counts, each 0 or 1, or what several do.
 #[derive(Clone, Copy)]
 pub struct GetCounts {
-    /// Gets: 1.
+    /// Gets: 1 of one.
     pub gets: u64,
-    /// Whether a cache answered.
+    /// How many a cache answered.
     pub cache_hits: u64,
-    /// Whether it led a call or joined one.
+    /// How many led a call or joined one.
     pub loads: u64,
-    /// What its run of the load path counted, if it made one.
+    /// What their runs of the load path counted.
     pub run: Counts,
 }
+
+/// What no get counts.
+const NOTHING: GetCounts = GetCounts {
+    gets: 0,
+    cache_hits: 0,
+    loads: 0,
+    run: NO_RUN,
+};
 
 impl GetCounts {
     // What each counter rises by.
@@ -208,25 +217,25 @@ impl<N: Naming> Model for AllParts<N> {
     ghost invariant = { λ p. (p.cache_hits.parts ≡ p.gets.parts) × (p.loads.parts ≡ p.gets.parts) × (p.loads_deduped.parts ≡ p.gets.parts) × (p.peer_loads.parts ≡ p.gets.parts) × (p.peer_errors.parts ≡ p.gets.parts) × (p.local_loads.parts ≡ p.gets.parts) × (p.local_load_errors.parts ≡ p.gets.parts) };
 }
 
-/// What one getter has counted, and how much of that it has entered. No counter is above its gets.
+/// What one getter has counted: what it has entered, as its part of the ledgers says, and what it has not entered yet. No
+/// counter is above its gets.
 #[derive(Drop)]
 pub struct Tallies<N: Naming> {
-    counted: Totals,
-    entered: Totals,
+    gets: u64,
+    pending: GetCounts,
     part: AllParts<N>,
 }
 
 impl<N: Naming> Model for Tallies<N> {
-    ghost use Rattle.std.specs.Prelude.{◌≡◌, ◌-◌, ◌≤◌, ◌^◌};
+    ghost use Rattle.std.specs.Prelude.{◌≡◌, ◌+◌};
     ghost use Rattle.sf_fill.specs.declared.counters.totals.Totals.{Totals};
-    ghost use Rattle.sf_fill.specs.Totals.{IsUpTo, IsWithinGets};
+    ghost use Rattle.sf_fill.specs.Totals.{with_counts, IsWithinGets};
 
     ghost Value = { Totals };
 
-    ghost view = { λ t. t.counted };
+    ghost view = { λ t. with_counts t.part.counted t.pending };
 
-    // Its part of the ledgers says what it has entered.
-    ghost invariant = { λ t. (t.part ≡ record { parts = 1; counted = t.entered }) × IsUpTo t.entered t.counted × IsWithinGets t.counted × (t.counted.gets ≤ 2 ^ 64 - 1) };
+    ghost invariant = { λ t. (t.part.parts ≡ 1) × (t.gets ≡ t.part.counted.gets + t.pending.gets) × IsWithinGets (with_counts t.part.counted t.pending) };
 }
 
 impl<N: Naming> Tallies<N> {
@@ -234,12 +243,12 @@ impl<N: Naming> Tallies<N> {
     pub fn is_full(&self) -> bool
         ensures { IsTrue result ↔ (self.now.gets ≡ 2 ^ 64 - 1) }
     {
-        self.counted.gets == u64::MAX as u128
+        self.gets == u64::MAX
     }
 
     /// How many gets are counted and not entered yet.
-    pub fn pending(&self) -> u128 {
-        self.counted.gets - self.entered.gets
+    pub fn pending(&self) -> u64 {
+        self.pending.gets
     }
 
     /// Counts a get, which is to be entered.
@@ -248,13 +257,15 @@ impl<N: Naming> Tallies<N> {
         requires one { IsOfOneGet counts }
         ensures { self.new ≡ with_counts self.old counts }
     {
-        let more = counts.totals();
-        macro_rules! count {
-            ($counter:ident) => {
-                self.counted.$counter += more.$counter
-            };
-        }
-        each!(count);
+        self.gets += 1;
+        self.pending.gets += counts.gets;
+        self.pending.cache_hits += counts.cache_hits;
+        self.pending.loads += counts.loads;
+        self.pending.run.loads_deduped += counts.run.loads_deduped;
+        self.pending.run.peer_loads += counts.run.peer_loads;
+        self.pending.run.peer_errors += counts.run.peer_errors;
+        self.pending.run.local_loads += counts.run.local_loads;
+        self.pending.run.local_load_errors += counts.run.local_load_errors;
     }
 }
 
@@ -297,15 +308,15 @@ impl<N: Naming> Accounts<N> {
     }
 
     // Enters in each account what a getter has counted and not entered yet.
-    fn enter_each(&mut self, part: &mut AllParts<N>, counted: &Totals, entered: &Totals)
-        requires part { part.old ≡ record { parts = 1; counted = entered.now } }
-        requires counted { IsUpTo entered.now counted.now × IsWithinGets counted.now × (counted.now.gets ≤ 2 ^ 64 - 1) }
-        ensures { part.new ≡ record { parts = 1; counted = counted.now } }
+    fn enter_each(&mut self, part: &mut AllParts<N>, pending: GetCounts)
+        requires part { part.old.parts ≡ 1 }
+        requires counted { IsWithinGets (with_counts part.old.counted pending) × (part.old.counted.gets + pending.gets ≤ 2 ^ 64 - 1) }
+        ensures { part.new ≡ record { parts = 1; counted = with_counts part.old.counted pending } }
     {
+        let more = pending.totals();
         macro_rules! enter {
             ($counter:ident) => {
-                self.$counter
-                    .enter(&mut part.$counter, counted.$counter, entered.$counter)
+                self.$counter.enter(&mut part.$counter, more.$counter)
             };
         }
         each!(enter);
@@ -315,13 +326,8 @@ impl<N: Naming> Accounts<N> {
     pub fn enter(&mut self, tallies: &mut Tallies<N>)
         ensures { tallies.new ≡ tallies.old }
     {
-        let Tallies {
-            counted,
-            entered,
-            part,
-        } = tallies;
-        self.enter_each(part, counted, entered);
-        *entered = *counted;
+        self.enter_each(&mut tallies.part, tallies.pending);
+        tallies.pending = NOTHING;
     }
 
     /// The part of a getter that has ended, whose counts are all entered then.
@@ -329,11 +335,11 @@ impl<N: Naming> Accounts<N> {
         ensures { result ≡ record { parts = 1; counted = tallies } }
     {
         let Tallies {
-            counted,
-            entered,
+            gets: _,
+            pending,
             mut part,
         } = tallies;
-        self.enter_each(&mut part, &counted, &entered);
+        self.enter_each(&mut part, pending);
         part
     }
 
@@ -368,19 +374,14 @@ impl<N: Naming> AllParts<N> {
         ensures tallies { result ≡ nothing_counted }
         ensures parts { (self.new.parts + 1 ≡ self.old.parts) × (self.new.counted ≡ nothing_counted) }
     {
-        macro_rules! zero {
-            ($counter:ident) => {
-                0
-            };
-        }
         macro_rules! deal {
             ($counter:ident) => {
                 self.$counter.deal()
             };
         }
         Tallies {
-            counted: each!(Totals, zero),
-            entered: each!(Totals, zero),
+            gets: 0,
+            pending: NOTHING,
             part: each!(AllParts, deal),
         }
     }

@@ -5,5 +5,5 @@ use Rattle.sf_fill.proofs.getter.Getter.settle_up.Goals as goal
 
 pub returns-clause-adds : goal.returns-clause-adds
 returns-clause-adds g c =
-    let done : HasDelivered c.args.self.standing c.match-standing.standing.0 = search rules in
-    delivered c.args.self.standing c.match-standing.standing.0 done
+    let done : HasDelivered c.args.self.standing c.deliver-standing.result.0 = search rules in
+    delivered c.args.self.standing c.deliver-standing.result.0 done
