@@ -5,7 +5,8 @@ ghost use Rattle.sf_door.specs.Opened.{places_for};
 
 use crate::benchmark::Benchmark;
 use crate::fault::Fault;
-use crate::rounds::{OPERATIONS, time_since};
+use crate::order::{Order, TURNS};
+use crate::rounds::{OPERATIONS, of_one};
 use crate::table::{Case, Table};
 use crate::times::{ROUNDS, Times};
 use bytes::Bytes;
@@ -19,11 +20,11 @@ use std::sync::Wait;
 use std::thread::Threads;
 use std::time::{Clock, Instant};
 
-/// What the caches keep, in bytes.
-const LIMIT: i64 = 1_000;
+/// What the caches keep, and what each getter keeps near, in bytes.
+const LIMIT: u32 = 1_048_576;
 
-/// The key that is got.
-const KEY: &[u8] = b"/index.html";
+/// How many letters a getter keeps near, where it keeps any.
+const NEAR: u32 = 2_048;
 
 /// Loads the same bytes for each key.
 #[derive(Clone, Copy)]
@@ -69,47 +70,92 @@ impl Peer for OnePage {
     }
 }
 
-/// Getters that get the key.
+/// Getters that get keys in an order.
 #[derive(Drop)]
 struct Gets<'a, R> {
     rt: &'a R,
+    order: &'a Order,
+    /// From when on the times count.
+    origin: Instant,
 }
 
-impl<'a, R: Wait> Team for Gets<'a, R> {
-    /// Whether each get was answered.
-    type Part = bool;
+/// When a getter's gets began and ended, in nanoseconds.
+#[derive(Clone, Copy)]
+struct Span {
+    began: u64,
+    ended: u64,
+}
 
-    /// Whether each get of each getter was.
-    type Answer = bool;
+impl<'a, R: Wait + Clock> Gets<'a, R> {
+    // The nanoseconds that have passed.
+    fn passed(&self) -> Result<u64, Fault> {
+        match self.origin.elapsed(self.rt) {
+            Ok(passed) => Ok(u64::try_from(passed.as_nanos()).unwrap_or(u64::MAX)),
+            Err(_) => Err(Fault::Clock),
+        }
+    }
+
+    // Gets keys in their order, so many from this turn on, and says whether each get was answered.
+    fn get_in_order<'d, D: Naming, N: Naming, O: Origin, L: LoadPath<Origin = O>>(
+        &self,
+        fill: &Fill<'d, D, N, O>,
+        getter: Getter<'d, D, N, O, L>,
+        first: usize,
+        count: u32,
+    ) -> (Getter<'d, D, N, O, L>, bool) {
+        let mut getter = getter;
+        let mut answered = true;
+        let mut turn = first;
+        for _ in 0..count {
+            let (back, answer) = fill.get(self.rt, getter, self.order.key(turn));
+            answered = answered && answer.is_ok();
+            getter = back;
+            turn = turn.wrapping_add(1);
+        }
+        (getter, answered)
+    }
+}
+
+impl<'a, R: Wait + Clock> Team for Gets<'a, R> {
+    /// When the thread's gets ran, or why there is no such time.
+    type Part = Result<Span, Fault>;
+
+    /// How long they took, from the first one's begin to the last one's end, in nanoseconds.
+    type Answer = Result<u64, Fault>;
 
     ghost use Rattle.std.specs.Prelude.{⊤};
 
     ghost wants = { λ gets getters loaded. ⊤ };
 
-    ghost ends = { λ gets answered. ⊤ };
+    ghost ends = { λ gets took. ⊤ };
 
     fn work<'d, D: Naming, N: Naming, O: Origin, L: LoadPath<Origin = O> + Drop>(
         &self,
         fill: &Fill<'d, D, N, O>,
         getter: Getter<'d, D, N, O, L>,
-        _index: u32,
-    ) -> (Getter<'d, D, N, O, L>, bool) {
-        let mut getter = getter;
-        let mut answered = true;
-        for _ in 0..OPERATIONS {
-            let (back, answer) = fill.get(self.rt, getter, KEY);
-            answered = answered && answer.is_ok();
-            getter = back;
+        index: u32,
+    ) -> (Getter<'d, D, N, O, L>, Result<Span, Fault>) {
+        // Each key is loaded and is near, if it is to be, before the times count.
+        let first = (index as usize).wrapping_mul(TURNS / 4);
+        let (getter, warm) = self.get_in_order(fill, getter, first, self.order.to_warm());
+        let began = self.passed();
+        let (getter, answered) = self.get_in_order(fill, getter, first, OPERATIONS);
+        let ended = self.passed();
+        if !(warm && answered) {
+            return (getter, Err(Fault::Refused));
         }
-        (getter, answered)
+        match (began, ended) {
+            (Ok(began), Ok(ended)) => (getter, Ok(Span { began, ended })),
+            _ => (getter, Err(Fault::Clock)),
+        }
     }
 
     fn finish<'d, D: Naming, N: Naming, O: Origin, L: LoadPath<Origin = O> + Drop>(
         &self,
         _fill: &Fill<'d, D, N, O>,
         getters: Vec<Getter<'d, D, N, O, L>>,
-        parts: Vec<bool>,
-    ) -> bool
+        parts: Vec<Result<Span, Fault>>,
+    ) -> Result<u64, Fault>
         requires getters { vec_len getters ≡ N.getters }
         requires parts { vec_len parts ≡ N.getters }
     {
@@ -118,12 +164,21 @@ impl<'a, R: Wait> Team for Gets<'a, R> {
             getter.abandon();
         }
         getters.destroy_empty();
-        parts.iter().all(|answered| *answered)
+        let mut whole = Span {
+            began: u64::MAX,
+            ended: 0,
+        };
+        for part in parts.iter() {
+            let span = (*part)?;
+            whole.began = whole.began.min(span.began);
+            whole.ended = whole.ended.max(span.ended);
+        }
+        Ok(whole.ended.saturating_sub(whole.began))
     }
 }
 
-// Times a round: the fill is made, and each getter gets the key so often.
-fn round<R>(rt: &R, sizes: FillSizes, threads: u32) -> Result<u64, Fault>
+// Times a round: the fill is made, and each getter gets keys so often.
+fn round<R>(rt: &R, sizes: FillSizes, order: &Order, threads: u32) -> Result<u64, Fault>
 where
     R: AllocGlobal + Wait + Threads + Clock + Sync,
     requires threads { (1 ≤ threads) × (threads ≤ 64) }
@@ -131,13 +186,12 @@ where
 {
     let alloc = rt.alloc();
     let loaders = loaders(alloc, threads)?;
-    let Ok(began) = Instant::now(rt) else {
+    let Ok(origin) = Instant::now(rt) else {
         return Err(Fault::Clock);
     };
-    if !with_team(rt, alloc, sizes, loaders, &Gets { rt })? {
-        return Err(Fault::Refused);
-    }
-    time_since(rt, began, threads as usize)
+    let gets = Gets { rt, order, origin };
+    let took = with_team(rt, alloc, sizes, loaders, &gets)??;
+    Ok(of_one(took, threads as usize))
 }
 
 // The loaders of so many getters.
@@ -160,58 +214,107 @@ fn loaders(
     Ok(sets)
 }
 
-/// A get of a key that a cache has.
-const CASE: Case = Case {
-    benchmark: Benchmark::Fill,
-    detail: "get of one cached key",
-    threads: 1,
-};
+/// A fill that is measured, and in which order its keys are got.
+#[derive(Clone, Copy)]
+struct Setup<'a> {
+    keys: Keys,
+    /// How many letters a getter keeps near.
+    near: u32,
+    order: &'a Order,
+}
 
-// Measures gets of a fill whose keys have their places so.
-fn measure_case<R>(rt: &R, table: &Table, keys: Keys, case: Case) -> Result<(), Fault>
+// Measures gets.
+fn measure_case<R>(rt: &R, table: &Table, setup: Setup, case: Case) -> Result<(), Fault>
 where
     R: AllocGlobal + Print + Wait + Threads + Clock + Sync,
     requires threads { (1 ≤ case.threads) × (case.threads ≤ 64) }
-    requires places { places_for keys ≤ LARGEST_PLACE }
+    requires places { places_for setup.keys ≤ LARGEST_PLACE }
 {
-    let sizes = FillSizes::new(keys, LIMIT);
+    let mut sizes = FillSizes::new(setup.keys, LIMIT as i64);
+    sizes.keeps.near = setup.near;
+    sizes.keeps.near_limit = LIMIT as usize;
     let mut times = [0; ROUNDS];
     for index in 0..ROUNDS {
-        times[index] = round(rt, sizes, case.threads)?;
+        times[index] = round(rt, sizes, setup.order, case.threads)?;
     }
     table.row(rt, case, Times::of(times))
 }
 
-/// What a get costs of a key that a cache has: the first get of each fill loads it.
+// Measures gets by one thread and by four.
+fn measure_both<R>(rt: &R, table: &Table, setup: Setup, detail: &'static str) -> Result<(), Fault>
+where
+    R: AllocGlobal + Print + Wait + Threads + Clock + Sync,
+    requires places { places_for setup.keys ≤ LARGEST_PLACE }
+{
+    let one = Case {
+        benchmark: Benchmark::Fill,
+        detail,
+        threads: 1,
+    };
+    measure_case(rt, table, setup, one)?;
+    measure_case(rt, table, setup, Case { threads: 4, ..one })
+}
+
+// Measures gets of one key and of many by zipf, of caches alone and of letters near, too.
+fn measure_keys<R>(
+    rt: &R,
+    table: &Table,
+    keys: Keys,
+    details: [&'static str; 4],
+) -> Result<(), Fault>
+where
+    R: AllocGlobal + Print + Wait + Threads + Clock + Sync,
+    requires places { places_for keys ≤ LARGEST_PLACE }
+{
+    let one = Order::of_one(rt.alloc())?;
+    let zipf = Order::by_zipf(rt.alloc())?;
+    let cached = Setup {
+        keys,
+        near: 0,
+        order: &one,
+    };
+    let near = Setup {
+        near: NEAR,
+        ..cached
+    };
+    measure_both(rt, table, cached, details[0])?;
+    measure_both(rt, table, near, details[1])?;
+    let order = &zipf;
+    measure_both(rt, table, Setup { order, ..cached }, details[2])?;
+    measure_both(rt, table, Setup { order, ..near }, details[3])
+}
+
+/// What a get costs of keys that caches have, and of those whose letters are near, too.
 pub(crate) fn measure_fill<R>(rt: &R, table: &Table) -> Result<(), Fault>
 where
     R: AllocGlobal + Print + Wait + Threads + Clock + Sync,
 {
-    let hashed = Case {
-        detail: "get of one cached key, hashed",
-        ..CASE
-    };
     let directory = Keys::Directory(DirectoryKeys {
-        keys: 16,
+        keys: 2_048,
         key_bytes: 16,
         seed0: 7,
         seed1: 11,
     });
-    let places = Keys::Hashed(Places {
-        count: 16,
+    let hashed = Keys::Hashed(Places {
+        count: 65_536,
         seed0: 7,
         seed1: 11,
     });
-    measure_case(rt, table, directory, CASE)?;
-    measure_case(rt, table, directory, Case { threads: 4, ..CASE })?;
-    measure_case(rt, table, places, hashed)?;
-    measure_case(
+    measure_keys(
         rt,
         table,
-        places,
-        Case {
-            threads: 4,
-            ..hashed
-        },
+        directory,
+        ["one key", "one key, near", "by zipf", "by zipf, near"],
+    )?;
+    measure_keys(
+        rt,
+        table,
+        hashed,
+        [
+            "one key, hashed",
+            "one key, hashed, near",
+            "by zipf, hashed",
+            "by zipf, hashed, near",
+        ],
     )
 }

@@ -9,6 +9,7 @@ mod fault;
 mod filling;
 mod keys;
 mod looking;
+mod order;
 mod rounds;
 mod table;
 mod times;

@@ -32,9 +32,14 @@ pub(crate) fn time_since<R: Clock>(rt: &R, began: Instant, workers: usize) -> Re
     let Ok(took) = began.elapsed(rt) else {
         return Err(Fault::Clock);
     };
-    let operations = (OPERATIONS as u64).saturating_mul(workers as u64);
     let nanos = u64::try_from(took.as_nanos()).unwrap_or(u64::MAX);
-    Ok(nanos.checked_div(operations).unwrap_or(nanos))
+    Ok(of_one(nanos, workers))
+}
+
+/// What an operation took, where so many workers did all theirs in so many nanoseconds.
+pub(crate) fn of_one(nanos: u64, workers: usize) -> u64 {
+    let operations = (OPERATIONS as u64).saturating_mul(workers as u64);
+    nanos.checked_div(operations).unwrap_or(nanos)
 }
 
 /// Times nine rounds of these operations, each on a thread of its own: the nanoseconds of a round by all operations
