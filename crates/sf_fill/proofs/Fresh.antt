@@ -43,10 +43,11 @@ use Rattle.sf_fill.specs.declared.counters.totals.GetCounts.{GetCounts}
 use Rattle.sf_fill.specs.declared.counters.totals.Totals.{Totals}
 use Rattle.sf_fill.specs.Counted.{has_asking, is_asking, askings_in, IsCounted}
 use Rattle.sf_fill.specs.FillValue.{Filled, FitsFill, fill_lasts}
-use Rattle.sf_fill.specs.Found.{get_alone, HasFound, HasFoundFrom, HasMissed, AfterMisses, HasRun, IsMiss, IsSource}
-use Rattle.sf_fill.specs.Fresh.{HasAdded, handed_by, delivered_by, IsFresh, IsAsking, IsAnswer, IsAnswered, IsMissedEnter, AreMissed, IsUnanswered, forgot_by, IsOutdated, IsFreshGet, ForgetsOnce, IsReloading}
-use Rattle.sf_fill.specs.Gets.{GetAnswer, Reply, reply_of, refusal_of, answer_by, IsFoundGet, HasReplied, GetsFrom, HasGot}
+use Rattle.sf_fill.specs.Found.{get_alone, HasFound, HasFoundFrom, HasMissed, HasRun, IsMiss, IsSource}
+use Rattle.sf_fill.specs.Fresh.{HasAdded, handed_by, delivered_by, IsFresh, IsAsking, IsAnswer, IsMissedEnter, AreMissed, IsUnanswered, forgot_by, IsOutdated, IsFreshGet, ForgetsOnce, IsReloading}
+use Rattle.sf_fill.specs.Gets.{GetAnswer, Reply, reply_of, refusal_of, answer_by, IsFoundGet, GetsFrom, HasGot}
 use Rattle.sf_fill.specs.GetterValue.{GetterValue, IsOfGroup, number_of, group_of, seen_of, is_owing}
+use Rattle.sf_fill.specs.Logs.{logged_by}
 use Rattle.sf_fill.specs.Owing.{HasDelivered}
 use Rattle.sf_fill.specs.Reloads.{HasForgotNamed, ForgetsNamed, ReloadsFrom, HasReloaded}
 use Rattle.sf_calls.specs.Unforgotten.{IsUnforgotten}
@@ -360,6 +361,10 @@ forget_moved c back k (forgot.Cleared x) w = forgot_named c back k x hit.Cleared
 forget_moved c back k (forgot.Missed x) w = forgot_named c back k x hit.Missed w
 forget_moved c back k forgot.Idle w = nothing_moved c back w.nothing
 
+-- whatever is added is logged
+abbrev pub LogsAll : {L : Type 0} → GetterValue L → GetterValue L → Type 0
+LogsAll old new = (x : Seen) → HasAdded old.standing new.standing x → new.log ≡ logged_by old.log x
+
 -- a reload asks for nothing
 pub none_forgot : (a k : ℕ) (f : Forgot) → ◌≡◌ {A = ℕ} 0 (askings_in (forgot_by a k f))
 none_forgot a k (forgot.Closed x) = refl
@@ -528,21 +533,22 @@ module _ {L : Type 0} (path : CallId → L → LoadAnswer → L → Type 0) (dra
       stays x (inr (d, looked, is)) = subst (λ (y : Reply). IsOfGroup c.group y.0) (sym is) (still_looked c d looked).group
 
   -- a get that settled up first, to stand so
-  fresh_from : (old new : GetterValue L) (m : Standing Filled) (loaders : L) (counts : GetCounts) (answer : GetAnswer) → HasDelivered old.standing m
+  fresh_from : (old new : GetterValue L) (m : Standing Filled) (loaders : L) (counts : GetCounts) (answer : GetAnswer) → HasDelivered old.standing m → LogsAll old new
       → GetsFrom path draws space key m old.desk new.desk loaders new.loaders (new.standing, counts, answer) → (f : IsFreshGet space key old new answer) × Suits f.added counts answer
-  fresh_from old new (Owing s) loaders counts answer owed got =
+  fresh_from old new (Owing s) loaders counts answer owed logs got =
       let answer_is : answer ≡ Err fault.Memory = ap (λ (r : Reply). r.2) got.2 in
       let standing : new.standing ≡ Owing s = ap (λ (r : Reply). r.0) got.2 in (
         record {
           delivered = false;
           added = [];
           adds = subst (λ (n : Standing Filled). HasAdded old.standing n (handed_by old.standing false ++ [])) (sym standing) (added_none old.standing (Owing s) _ (delivered old.standing (Owing s) owed));
+          logged = logs _ (subst (λ (n : Standing Filled). HasAdded old.standing n (handed_by old.standing false ++ [])) (sym standing) (added_none old.standing (Owing s) _ (delivered old.standing (Owing s) owed)));
           outcome = inl (subst (λ (a : GetAnswer). IsUnanswered [] a) (sym answer_is) refl);
           undelivered = λ _. (refl, answer_is);
         },
         subst (λ (x : Reply). Suits [] x.1 x.2) (sym got.2) (record { gets = refl; loads = λ e. cc; hits = λ _ no. cc }),
       )
-  fresh_from old new (Free c) loaders counts answer owed got = elim got.1 [
+  fresh_from old new (Free c) loaders counts answer owed logs got = elim got.1 [
     | inl r ↦
         let answer_is : answer ≡ Err (refusal_of r.refusal) = ap (λ (x : Reply). x.2) r.reply_is in
         let standing : new.standing ≡ Free c = ap (λ (x : Reply). x.0) r.reply_is in (
@@ -550,6 +556,7 @@ module _ {L : Type 0} (path : CallId → L → LoadAnswer → L → Type 0) (dra
             delivered = true;
             added = [];
             adds = subst (λ (n : Standing Filled). HasAdded old.standing n (handed_by old.standing true ++ [])) (sym standing) (added_none old.standing (Free c) _ (delivered old.standing (Free c) owed));
+            logged = logs _ (subst (λ (n : Standing Filled). HasAdded old.standing n (handed_by old.standing true ++ [])) (sym standing) (added_none old.standing (Free c) _ (delivered old.standing (Free c) owed)));
             outcome = inl (subst (λ (a : GetAnswer). IsUnanswered [] a) (sym answer_is) (unanswered r.refusal));
             undelivered = λ e. cc;
           },
@@ -569,6 +576,7 @@ module _ {L : Type 0} (path : CallId → L → LoadAnswer → L → Type 0) (dra
               delivered = true;
               added = a.added;
               adds = added_more old.standing (Free c) new.standing (handed_by old.standing true) a.added a.given before a.moved a.count;
+              logged = logs _ (added_more old.standing (Free c) new.standing (handed_by old.standing true) a.added a.given before a.moved a.count);
               outcome = inr (record {
                 spot = r.spot;
                 resolved = r.resolved;
@@ -592,24 +600,25 @@ module _ {L : Type 0} (path : CallId → L → LoadAnswer → L → Type 0) (dra
               delivered = true;
               added = [];
               adds = subst (λ (n : Standing Filled). HasAdded old.standing n (handed_by old.standing true ++ [])) (sym standing) (added_looked old.standing c d (handed_by old.standing true) before looked);
+              logged = logs _ (subst (λ (n : Standing Filled). HasAdded old.standing n (handed_by old.standing true ++ [])) (sym standing) (added_looked old.standing c d (handed_by old.standing true) before looked));
               outcome = inl (subst (λ (a : GetAnswer). IsUnanswered [] a) (sym answer_is) refl);
               undelivered = λ e. cc;
             },
             subst (λ (x : Reply). Suits [] x.1 x.2) (sym reply) (record { gets = refl; loads = λ e. cc; hits = λ _ no. cc }),
           )
 
-  fresh_got : (old new : GetterValue L) (answer : GetAnswer) (h : HasGot path draws space key old new answer) → (f : IsFreshGet space key old new answer) × Suits f.added h.counts answer
-  fresh_got old new answer h =
+  fresh_got : (old new : GetterValue L) (answer : GetAnswer) (h : HasGot path draws space key old new answer) → LogsAll old new → (f : IsFreshGet space key old new answer) × Suits f.added h.counts answer
+  fresh_got old new answer h logs =
       let desk : h.middle.desk ≡ old.desk = ap (λ (g : GetterValue L). g.desk) h.settled.rest in
-      fresh_from old new h.middle.standing h.middle.loaders h.counts answer h.settled.delivered
+      fresh_from old new h.middle.standing h.middle.loaders h.counts answer h.settled.delivered logs
       (subst (λ (k : KeyDesk). GetsFrom path draws space key h.middle.standing k new.desk h.middle.loaders new.loaders (new.standing, h.counts, answer)) desk h.got)
 
-  pub fresh : (old new : GetterValue L) (answer : GetAnswer) → HasGot path draws space key old new answer → IsFreshGet space key old new answer
-  fresh old new answer h = (fresh_got old new answer h).0
+  pub fresh : (old new : GetterValue L) (answer : GetAnswer) → HasGot path draws space key old new answer → LogsAll old new → IsFreshGet space key old new answer
+  fresh old new answer h logs = (fresh_got old new answer h logs).0
 
-  pub counted : (old new : GetterValue L) (answer : GetAnswer) → HasGot path draws space key old new answer → IsCounted old new answer
-  counted old new answer h =
-      let f = (fresh_got old new answer h).0 in let suits = (fresh_got old new answer h).1 in
+  pub counted : (old new : GetterValue L) (answer : GetAnswer) → HasGot path draws space key old new answer → LogsAll old new → IsCounted old new answer
+  counted old new answer h logs =
+      let f = (fresh_got old new answer h logs).0 in let suits = (fresh_got old new answer h logs).1 in
       let handed : Seen = handed_by old.standing f.delivered in
       let same : has_asking (handed ++ f.added) ≡ has_asking f.added = asking_after handed f.added (none_asked old.standing f.delivered) in
       let gets : new.counted.gets ≡ old.counted.gets + h.counts.gets = ap (λ (t : Totals). t.gets) h.counted in
@@ -625,31 +634,34 @@ module _ {L : Type 0} (path : CallId → L → LoadAnswer → L → Type 0) (dra
       }
 
 module _ {L : Type 0} (space : SpaceId) (key : List ℕ) where
-  reloads_from : (old new : GetterValue L) (m : Standing Filled) (answer : Result Forgot LoadFault) → HasDelivered old.standing m → ReloadsFrom space key m old.desk new.desk new.standing answer → IsReloading space key old new answer
-  reloads_from old new (Owing s) answer owed r = (
-    false,
-    subst (λ (a : Result Forgot LoadFault). ForgetsOnce space key old new false a) (sym r.2)
-        (subst (λ (n : Standing Filled). HasAdded old.standing n (handed_by old.standing false)) (sym r.1) (delivered old.standing (Owing s) owed)),
-  )
-  reloads_from old new (Free c) answer owed r = elim r.1 [
-    | inl w ↦ (
-      true,
-      subst (λ (a : Result Forgot LoadFault). ForgetsOnce space key old new true a) (sym w.answer_is)
-          (subst (λ (n : Standing Filled). HasAdded old.standing n (handed_by old.standing true)) (sym w.still) (delivered old.standing (Free c) owed)),
-    )
+  reloads_from : (old new : GetterValue L) (m : Standing Filled) (answer : Result Forgot LoadFault) → HasDelivered old.standing m → LogsAll old new → ReloadsFrom space key m old.desk new.desk new.standing answer → IsReloading space key old new answer
+  reloads_from old new (Owing s) answer owed logs r =
+      let still : HasAdded old.standing new.standing (handed_by old.standing false) = subst (λ (n : Standing Filled). HasAdded old.standing n (handed_by old.standing false)) (sym r.1) (delivered old.standing (Owing s) owed) in (
+        false,
+        subst (λ (a : Result Forgot LoadFault). ForgetsOnce space key old new false a) (sym r.2) (still, logs _ still),
+      )
+  reloads_from old new (Free c) answer owed logs r = elim r.1 [
+    | inl w ↦
+        let freed : HasAdded old.standing new.standing (handed_by old.standing true) = subst (λ (n : Standing Filled). HasAdded old.standing n (handed_by old.standing true)) (sym w.still) (delivered old.standing (Free c) owed) in (
+          true,
+          subst (λ (a : Result Forgot LoadFault). ForgetsOnce space key old new true a) (sym w.answer_is) (freed, logs _ freed),
+        )
     | inr w ↦
         let before = delivered old.standing (Free c) owed in
         let one : Seen = forgot_by c.number (spot_place w.spot) w.came_to in
         let all = added_more old.standing (Free c) (Free w.back) (handed_by old.standing true) one 0 before (forget_moved c w.back (spot_place w.spot) w.came_to w.forgot)
-        (none_forgot c.number (spot_place w.spot) w.came_to) in (
+        (none_forgot c.number (spot_place w.spot) w.came_to) in
+        let adds : HasAdded old.standing new.standing (handed_by old.standing true ++ forgot_by (number_of old.standing) (spot_place w.spot) w.came_to) =
+        subst (λ (i : ℕ). HasAdded old.standing new.standing (handed_by old.standing true ++ forgot_by i (spot_place w.spot) w.came_to)) before.number
+        (subst (λ (n : Standing Filled). HasAdded old.standing n (handed_by old.standing true ++ one)) (sym w.free) all) in (
           true,
           subst (λ (a : Result Forgot LoadFault). ForgetsOnce space key old new true a) (sym w.answer_is) (
             refl,
             record {
               spot = w.spot;
               resolved = w.resolved;
-              adds = subst (λ (i : ℕ). HasAdded old.standing new.standing (handed_by old.standing true ++ forgot_by i (spot_place w.spot) w.came_to)) before.number
-                  (subst (λ (n : Standing Filled). HasAdded old.standing n (handed_by old.standing true ++ one)) (sym w.free) all);
+              adds = adds;
+              logged = logs _ adds;
               outdated = subst (λ (n : Standing Filled). IsOutdated (spot_place w.spot) (seen_of old.standing) (seen_of n)) (sym w.free)
                   (outdated (seen_of old.standing) c w.back (spot_place w.spot) w.came_to before.grows.begins w.forgot);
             },
@@ -657,7 +669,7 @@ module _ {L : Type 0} (space : SpaceId) (key : List ℕ) where
         )
   ]
 
-  pub reloading : (old new : GetterValue L) (answer : Result Forgot LoadFault) → HasReloaded space key old new answer → IsReloading space key old new answer
-  reloading old new answer h =
+  pub reloading : (old new : GetterValue L) (answer : Result Forgot LoadFault) → HasReloaded space key old new answer → LogsAll old new → IsReloading space key old new answer
+  reloading old new answer h logs =
       let desk : h.middle.desk ≡ old.desk = ap (λ (g : GetterValue L). g.desk) h.settled.rest in
-      reloads_from old new h.middle.standing answer h.settled.delivered (subst (λ (k : KeyDesk). ReloadsFrom space key h.middle.standing k new.desk new.standing answer) desk h.reloaded)
+      reloads_from old new h.middle.standing answer h.settled.delivered logs (subst (λ (k : KeyDesk). ReloadsFrom space key h.middle.standing k new.desk new.standing answer) desk h.reloaded)

@@ -1,6 +1,5 @@
 -- gets whose loaders give known bytes
-use Rattle.std.proofs.Common.{◌≡◌, ℕ, ◌⊎◌, inl, inr, List, Option, Some, None, Result, Ok, Err, refl, sym, ap, ◌∙◌, subst}
-use Rattle.sf_history.specs.declared.call.CallId.{CallId}
+use Rattle.std.proofs.Common.{◌≡◌, ℕ, inl, inr, List, Some, None, Result, Ok, Err, refl, sym, ap, ◌∙◌, subst}
 use Rattle.sf_calls.specs.declared.outcomes.Finished.TheVariants.{Done, Held}
 use Rattle.sf_calls.specs.Tokens.{CallerValue, LetterValue}
 use Rattle.sf_loaders.specs.declared.faults.LocalFault.{LocalFault}
@@ -22,8 +21,9 @@ use Rattle.sf_fill.specs.Counted.{IsCounted}
 use Rattle.sf_fill.specs.FillValue.{Filled}
 use Rattle.sf_fill.specs.Found.{HasFoundFrom, HasRun, bytes_in}
 use Rattle.sf_fill.specs.Fresh.{IsFreshGet}
-use Rattle.sf_fill.specs.Gets.{GetAnswer, Reply, GetsFrom, HasGot, answer_by, refusal_of, reply_of}
+use Rattle.sf_fill.specs.Gets.{GetAnswer, Reply, GetsFrom, HasGot, answer_by, reply_of}
 use Rattle.sf_fill.specs.GetterValue.{GetterValue, with_loaders}
+use Rattle.sf_fill.specs.Logs.{LogValue}
 use Rattle.sf_fill.specs.Puts.{GetsGiven, HasBytes, PutAnswer, got_by}
 
 -- the letter has the bytes, of its own call's run
@@ -94,21 +94,21 @@ module _ (key bytes : List ℕ) (draws : KnownBytes → KnownBytes → Type 0) (
       own_from h.middle.standing h.middle.desk new.desk h.middle.loaders new.loaders (new.standing, h.counts, answer) (ap (λ (g : GetterValue KnownBytes). g.loaders) h.settled.rest ∙ had) none h.got
 
   -- the put that comes of such a get, over the parts of its getters
-  module _ {L : Type 0} (desk : KeyDesk) (standing : Standing Filled) (loaders : L) (tallies : Totals) (known : KnownBytes)
-      (getter : GetterValue L) (is : record { desk = desk; standing = standing; loaders = loaders; counted = tallies } ≡ getter) (gives : known ≡ record { key = key; bytes = Some bytes })
+  module _ {L : Type 0} (desk : KeyDesk) (standing : Standing Filled) (loaders : L) (tallies : Totals) (log : LogValue) (known : KnownBytes)
+      (getter : GetterValue L) (is : record { desk = desk; standing = standing; loaders = loaders; counted = tallies; log = log } ≡ getter) (gives : known ≡ record { key = key; bytes = Some bytes })
       (gave : GetterValue KnownBytes) (answer : GetAnswer)
-      (after : KeyDesk) (back : Standing Filled) (left : KnownBytes) (counted : Totals) (is_gave : record { desk = after; standing = back; loaders = left; counted = counted } ≡ gave) where
+      (after : KeyDesk) (back : Standing Filled) (left : KnownBytes) (counted : Totals) (logged : LogValue) (is_gave : record { desk = after; standing = back; loaders = left; counted = counted; log = logged } ≡ gave) where
     pub gets_given : (put : PutAnswer) → got_by put ≡ answer → ((l : LetterValue Filled) → put ≡ Ok (Settled l) → left.bytes ≡ None)
-        → HasGot (GivesKnown key) draws space key (record { desk = desk; standing = standing; loaders = known; counted = tallies }) gave answer
-        → IsFreshGet space key (record { desk = desk; standing = standing; loaders = known; counted = tallies }) gave answer
-        → IsCounted (record { desk = desk; standing = standing; loaders = known; counted = tallies }) gave answer
-        → GetsGiven space key bytes getter (record { desk = after; standing = back; loaders = loaders; counted = counted }) put
+        → HasGot (GivesKnown key) draws space key (record { desk = desk; standing = standing; loaders = known; counted = tallies; log = log }) gave answer
+        → IsFreshGet space key (record { desk = desk; standing = standing; loaders = known; counted = tallies; log = log }) gave answer
+        → IsCounted (record { desk = desk; standing = standing; loaders = known; counted = tallies; log = log }) gave answer
+        → GetsGiven space key bytes getter (record { desk = after; standing = back; loaders = loaders; counted = counted; log = logged }) put
     gets_given put says gone got fresh count =
-        let giving : GetterValue KnownBytes = record { desk = desk; standing = standing; loaders = known; counted = tallies } in
-        let back_then : GetterValue L = record { desk = after; standing = back; loaders = loaders; counted = counted } in
+        let giving : GetterValue KnownBytes = record { desk = desk; standing = standing; loaders = known; counted = tallies; log = log } in
+        let back_then : GetterValue L = record { desk = after; standing = back; loaders = loaders; counted = counted; log = logged } in
         let all : KnownBytes = record { key = key; bytes = Some bytes } in
         let old : giving ≡ with_loaders getter all =
-        ap (λ (k : KnownBytes). let v : GetterValue KnownBytes = record { desk = desk; standing = standing; loaders = k; counted = tallies } in v) gives
+        ap (λ (k : KnownBytes). let v : GetterValue KnownBytes = record { desk = desk; standing = standing; loaders = k; counted = tallies; log = log } in v) gives
         ∙ ap (λ (g : GetterValue L). with_loaders g all) is in
         let new : gave ≡ with_loaders back_then left = sym is_gave in
         record {
@@ -125,6 +125,6 @@ module _ (key bytes : List ℕ) (draws : KnownBytes → KnownBytes → Type 0) (
       where
         has : (put : PutAnswer) → got_by put ≡ answer → ((l : LetterValue Filled) → put ≡ Ok (Settled l) → left.bytes ≡ None) → HasBytes bytes put
         has (Ok (Settled l)) says gone =
-            own_got (record { desk = desk; standing = standing; loaders = known; counted = tallies }) gave answer gives (ap (λ (g : GetterValue KnownBytes). g.loaders.bytes) (sym is_gave) ∙ gone l refl) got l (sym says)
+            own_got (record { desk = desk; standing = standing; loaders = known; counted = tallies; log = log }) gave answer gives (ap (λ (g : GetterValue KnownBytes). g.loaders.bytes) (sym is_gave) ∙ gone l refl) got l (sym says)
         has (Ok (Met l)) says gone = tt
         has (Err fault) says gone = tt

@@ -3,6 +3,8 @@ pub mod Crew
 pub mod Dealt
 pub mod Fresh
 pub mod Got
+pub mod Logging
+pub mod LogSteps
 pub mod Looks
 pub mod Outdated
 pub mod Popped

@@ -10,6 +10,7 @@ use Rattle.sf_fill.specs.declared.getter.Standing.TheVariants.{Free, Owing}
 use Rattle.sf_fill.specs.FillValue.{Filled}
 use Rattle.sf_fill.specs.Fresh.{HasAdded, IsOutdated, delivered_by, forgot_by, handed_by}
 use Rattle.sf_fill.specs.GetterValue.{GetterValue, number_of, seen_of}
+use Rattle.sf_fill.specs.Logs.{LogValue, logged_by}
 use Rattle.sf_fill.specs.Purges.{ForgetsAll, HasForgottenFirst}
 use Rattle.sf_fill.specs.declared.counters.totals.Totals.{Totals}
 use Rattle.sf_fill.specs.Owing.{HasSettledUp}
@@ -56,30 +57,33 @@ forgotten_on g n place handed old c d f of h is w = (
   subst (λ (k : ℕ). HasForgottenFirst k handed old (Free d)) (sym (next n)) (forgotten_next n handed old c d f h (subst (λ (k : ℕ). ForgetsNamed c k f d) (is ∙ next n) w)),
 )
 
-rest : {L : Type 0} (old middle : GetterValue L) (desk : KeyDesk) (standing : Standing Filled) (loaders : L) (tallies : Totals) → HasSettledUp old middle
-    → record { desk = desk; standing = standing; loaders = loaders; counted = tallies } ≡ middle
-    → (new : Standing Filled) → record { desk = desk; standing = new; loaders = loaders; counted = tallies } ≡ record old { standing = new }
-rest old middle desk standing loaders tallies settled is new = ap (λ (m : GetterValue _). let v : GetterValue _ = record m { standing = new } in v) (is ∙ settled.rest)
+rest : {L : Type 0} (old middle : GetterValue L) (desk : KeyDesk) (standing : Standing Filled) (loaders : L) (tallies : Totals) (log logged : LogValue) → HasSettledUp old middle
+    → record { desk = desk; standing = standing; loaders = loaders; counted = tallies; log = log } ≡ middle
+    → (new : Standing Filled) → record { desk = desk; standing = new; loaders = loaders; counted = tallies; log = logged } ≡ record old { standing = new; log = logged }
+rest old middle desk standing loaders tallies log logged settled is new = ap (λ (m : GetterValue _). let v : GetterValue _ = record m { standing = new; log = logged } in v) (is ∙ settled.rest)
 
-module _ {L E : Type 0} (places : ℕ) (old middle : GetterValue L) (desk : KeyDesk) (standing : Standing Filled) (loaders : L) (tallies : Totals)
-    (settled : HasSettledUp old middle) (is : record { desk = desk; standing = standing; loaders = loaders; counted = tallies } ≡ middle) where
+module _ {L E : Type 0} (places : ℕ) (old middle : GetterValue L) (desk : KeyDesk) (standing : Standing Filled) (loaders : L) (tallies : Totals) (log logged : LogValue)
+    (settled : HasSettledUp old middle) (is : record { desk = desk; standing = standing; loaders = loaders; counted = tallies; log = log } ≡ middle) where
   -- where letters are owed still
   pub forgets_none : (s : SettledValue Filled) (e : E) (out : Standing Filled × Result Unit E) → HasAdded old.standing middle.standing (delivered_by old.standing middle.standing)
-      → standing ≡ Owing s → out ≡ (Owing s, Err e) → ForgetsAll places old (record { desk = desk; standing = out.0; loaders = loaders; counted = tallies }) out.1
-  forgets_none s e out adds owes ends =
+      → middle.log ≡ logged_by old.log (delivered_by old.standing middle.standing) → standing ≡ Owing s → logged ≡ log → out ≡ (Owing s, Err e) → ForgetsAll places old (record { desk = desk; standing = out.0; loaders = loaders; counted = tallies; log = logged }) out.1
+  forgets_none s e out adds handed owes same ends =
       let stands : middle.standing ≡ Owing s = sym (ap (λ (m : GetterValue L). m.standing) is) ∙ owes in
       let still : HasAdded old.standing (Owing s) (handed_by old.standing false) = subst (λ (m : Standing Filled). HasAdded old.standing m (delivered_by old.standing m)) stands adds in
-      subst (λ (o : Standing Filled × Result Unit E). ForgetsAll places old (record { desk = desk; standing = o.0; loaders = loaders; counted = tallies }) o.1) (sym ends) (rest old middle desk standing loaders tallies settled is (Owing s), still)
+      let logs : logged ≡ logged_by old.log (handed_by old.standing false) =
+      same ∙ (ap (λ (m : GetterValue L). m.log) is ∙ (handed ∙ ap (λ (m : Standing Filled). logged_by old.log (delivered_by old.standing m)) stands)) in
+      subst (λ (o : Standing Filled × Result Unit E). ForgetsAll places old (record { desk = desk; standing = o.0; loaders = loaders; counted = tallies; log = logged }) o.1) (sym ends) (rest old middle desk standing loaders tallies log logged settled is (Owing s), still, logs)
 
-  pub forgets_first : (n : ℕ) (d : CallerValue Filled) (done : Unit {0}) (out : Standing Filled × Result Unit E) → n ≡ places → HasForgottenFirst n (handed_by old.standing true) old.standing (Free d)
-      → out ≡ (Free d, Ok done) → ForgetsAll places old (record { desk = desk; standing = out.0; loaders = loaders; counted = tallies }) out.1
-  forgets_first n d done out all first ends =
-      subst (λ (o : Standing Filled × Result Unit E). ForgetsAll places old (record { desk = desk; standing = o.0; loaders = loaders; counted = tallies }) o.1) (sym ends) (rest old middle desk standing loaders tallies settled is (Free d), subst (λ (k : ℕ). HasForgottenFirst k (handed_by old.standing true) old.standing (Free d)) all first)
+  pub forgets_first : (n : ℕ) (d : CallerValue Filled) (done : Unit {0}) (out : Standing Filled × Result Unit E) → n ≡ places → (first : HasForgottenFirst n (handed_by old.standing true) old.standing (Free d))
+      → logged ≡ logged_by old.log (handed_by old.standing true ++ first.forgets)
+      → out ≡ (Free d, Ok done) → ForgetsAll places old (record { desk = desk; standing = out.0; loaders = loaders; counted = tallies; log = logged }) out.1
+  forgets_first n d done out all first logs ends =
+      subst (λ (o : Standing Filled × Result Unit E). ForgetsAll places old (record { desk = desk; standing = o.0; loaders = loaders; counted = tallies; log = logged }) o.1) (sym ends) (rest old middle desk standing loaders tallies log logged settled is (Free d), subst (λ (k : ℕ). (h : HasForgottenFirst k (handed_by old.standing true) old.standing (Free d)) × (logged ≡ logged_by old.log (handed_by old.standing true ++ h.forgets))) all (first, logs))
 
 -- before the first one
-pub forgotten_start : {L : Type 0} (old middle : GetterValue L) (desk : KeyDesk) (standing : Standing Filled) (loaders : L) (tallies : Totals) (c : CallerValue Filled)
-    → record { desk = desk; standing = standing; loaders = loaders; counted = tallies } ≡ middle
+pub forgotten_start : {L : Type 0} (old middle : GetterValue L) (desk : KeyDesk) (standing : Standing Filled) (loaders : L) (tallies : Totals) (log : LogValue) (c : CallerValue Filled)
+    → record { desk = desk; standing = standing; loaders = loaders; counted = tallies; log = log } ≡ middle
     → HasAdded old.standing middle.standing (delivered_by old.standing middle.standing) → standing ≡ Free c → HasForgottenFirst 0 (handed_by old.standing true) old.standing (Free c)
-forgotten_start old middle desk standing loaders tallies c is adds free =
+forgotten_start old middle desk standing loaders tallies log c is adds free =
     let stands : middle.standing ≡ Free c = sym (ap (λ (m : GetterValue _). m.standing) is) ∙ free in
     forgotten_none (handed_by old.standing true) old.standing c (subst (λ (m : Standing Filled). HasAdded old.standing m (delivered_by old.standing m)) stands adds)

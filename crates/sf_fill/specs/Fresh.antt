@@ -20,6 +20,7 @@ use Rattle.sf_fill.specs.declared.getter.Standing.TheVariants.{Free, Owing}
 use Rattle.sf_fill.specs.Counted.{askings_in}
 use Rattle.sf_fill.specs.FillValue.{Filled}
 use Rattle.sf_fill.specs.Gets.{GetAnswer}
+use Rattle.sf_fill.specs.Logs.{logged_by}
 use Rattle.sf_fill.specs.GetterValue.{GetterValue, number_of, group_of, seen_of, is_owing}
 use Rattle.sf_calls.specs.Unforgotten.{IsUnforgotten}
 
@@ -121,6 +122,7 @@ module _ {L : Type 0} (space : SpaceId) (key : List ℕ) where
     pub delivered : Bool
     pub added : List (Event ℕ Filled)
     pub adds : HasAdded old.standing new.standing (handed_by old.standing delivered ++ added)
+    pub logged : new.log ≡ logged_by old.log (handed_by old.standing delivered ++ added)
     pub outcome : IsUnanswered added answer ⊎ IsAnswered old new added answer
     pub undelivered : delivered ≡ false → (added ≡ []) × (answer ≡ Err fault.Memory)
 
@@ -129,11 +131,13 @@ module _ {L : Type 0} (space : SpaceId) (key : List ℕ) where
     pub spot : Spot
     pub resolved : IsSpotOfKey space key old.desk new.desk spot
     pub adds : HasAdded old.standing new.standing (handed_by old.standing delivered ++ forgot_by (number_of old.standing) (spot_place spot) came_to)
+    pub logged : new.log ≡ logged_by old.log (handed_by old.standing delivered ++ forgot_by (number_of old.standing) (spot_place spot) came_to)
     pub outdated : IsOutdated (spot_place spot) (seen_of old.standing) (seen_of new.standing)
 
   abbrev pub ForgetsOnce : GetterValue L → GetterValue L → Bool → Result Forgot LoadFault → Type 0
   ForgetsOnce old new delivered (Ok came_to) = (delivered ≡ true) × IsForgetOf old new delivered came_to
-  ForgetsOnce old new delivered (Err refused) = HasAdded old.standing new.standing (handed_by old.standing delivered)
+  ForgetsOnce old new delivered (Err refused) =
+      HasAdded old.standing new.standing (handed_by old.standing delivered) × (new.log ≡ logged_by old.log (handed_by old.standing delivered))
 
   abbrev pub IsReloading : GetterValue L → GetterValue L → Result Forgot LoadFault → Type 0
   IsReloading old new answer = (delivered : Bool) × ForgetsOnce old new delivered answer

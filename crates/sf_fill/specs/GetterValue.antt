@@ -8,13 +8,15 @@ use Rattle.sf_fill.specs.declared.getter.Standing.TheVariants.{Free, Owing}
 use Rattle.sf_fill.specs.declared.counters.totals.Totals.{Totals}
 use Rattle.sf_fill.specs.FillValue.{Filled}
 use Rattle.sf_fill.specs.Ledgers.{nothing_counted}
+use Rattle.sf_fill.specs.Logs.{LogValue, empty_log}
 
--- its desk, its caller, which is free or owes letters, its loaders, and what it has counted
+-- its desk, its caller, which is free or owes letters, its loaders, what it has counted, and its log
 pub record GetterValue (L : Type 0) : Type 0 where
   pub desk : KeyDesk
   pub standing : Standing Filled
   pub loaders : L
   pub counted : Totals
+  pub log : LogValue
 
 module _ {V : Type 0} where
   abbrev pub number_of : Standing V → ℕ
@@ -43,9 +45,9 @@ module _ {V : Type 0} where
 
 -- the getter with other loaders
 abbrev pub with_loaders : {L M : Type 0} → GetterValue L → M → GetterValue M
-with_loaders getter loaders = record { desk = getter.desk; standing = getter.standing; loaders = loaders; counted = getter.counted }
+with_loaders getter loaders = record { desk = getter.desk; standing = getter.standing; loaders = loaders; counted = getter.counted; log = getter.log }
 
 module _ {L : Type 0} where
-  -- the getter of a desk, a caller and loaders, which has counted nothing
-  abbrev pub new_getter : KeyDesk → CallerValue Filled → L → GetterValue L
-  new_getter desk caller loaders = record { desk = desk; standing = Free caller; loaders = loaders; counted = nothing_counted }
+  -- the getter of a desk, a caller and loaders, which has counted nothing and has room to log so many events
+  abbrev pub new_getter : ℕ → KeyDesk → CallerValue Filled → L → GetterValue L
+  new_getter room desk caller loaders = record { desk = desk; standing = Free caller; loaders = loaders; counted = nothing_counted; log = empty_log room }

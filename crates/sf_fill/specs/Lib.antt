@@ -7,6 +7,7 @@ pub mod Totals
 pub mod Ledgers
 pub mod Nowhere
 pub mod Settled
+pub mod Logs
 pub mod GetterValue
 pub mod Made
 pub mod Owing

@@ -11,12 +11,12 @@ use Rattle.sf_fill.specs.FillValue.{Filled}
 use Rattle.sf_fill.specs.GetterValue.{GetterValue, new_getter}
 
 module _ {L : Type 0} where
-  -- the getters of these desks, callers and loaders, in their order
-  abbrev pub new_getters : List KeyDesk → List (CallerValue Filled) → List L → List (GetterValue L)
-  new_getters [] callers loaders = []
-  new_getters (d ∷ desks) [] loaders = []
-  new_getters (d ∷ desks) (c ∷ callers) [] = []
-  new_getters (d ∷ desks) (c ∷ callers) (l ∷ loaders) = new_getter d c l ∷ new_getters desks callers loaders
+  -- the getters of these desks, callers and loaders, in their order, each with room to log so many events
+  abbrev pub new_getters : ℕ → List KeyDesk → List (CallerValue Filled) → List L → List (GetterValue L)
+  new_getters room [] callers loaders = []
+  new_getters room (d ∷ desks) [] loaders = []
+  new_getters room (d ∷ desks) (c ∷ callers) [] = []
+  new_getters room (d ∷ desks) (c ∷ callers) (l ∷ loaders) = new_getter room d c l ∷ new_getters room desks callers loaders
 
 -- each caller is of the group
 abbrev pub AreOfGroup : GroupValue → List (CallerValue Filled) → Type 0

@@ -18,4 +18,4 @@ module _ {L : Type 0} where
   -- nothing else of the getter changes
   pub record HasSettledUp (old new : GetterValue L) : Type 0 where
     pub delivered : HasDelivered old.standing new.standing
-    pub rest : new ≡ record old { standing = new.standing }
+    pub rest : new ≡ record old { standing = new.standing; log = new.log }

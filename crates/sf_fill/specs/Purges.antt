@@ -5,6 +5,7 @@ use Rattle.sf_fill.specs.declared.getter.Standing.{Standing}
 use Rattle.sf_fill.specs.declared.reload.Forgot.{Forgot}
 use Rattle.sf_fill.specs.FillValue.{Filled}
 use Rattle.sf_fill.specs.Fresh.{HasAdded, IsOutdated, handed_by, forgot_by}
+use Rattle.sf_fill.specs.Logs.{logged_by}
 use Rattle.sf_fill.specs.GetterValue.{GetterValue, number_of, seen_of}
 
 -- of the first places in turn, the Forget of the call that each named, if it named one
@@ -22,5 +23,7 @@ pub record HasForgottenFirst (places : ℕ) (handed : List (Event ℕ Filled)) (
 module _ {L E : Type 0} where
   -- what was owed is handed out, and then each place has its turn; where memory is refused for what is owed, nothing is forgotten
   abbrev pub ForgetsAll : ℕ → GetterValue L → GetterValue L → Result Unit E → Type 0
-  ForgetsAll places old new (Ok done) = (new ≡ record old { standing = new.standing }) × HasForgottenFirst places (handed_by old.standing true) old.standing new.standing
-  ForgetsAll places old new (Err e) = (new ≡ record old { standing = new.standing }) × HasAdded old.standing new.standing (handed_by old.standing false)
+  ForgetsAll places old new (Ok done) = (new ≡ record old { standing = new.standing; log = new.log })
+      × ((first : HasForgottenFirst places (handed_by old.standing true) old.standing new.standing) × (new.log ≡ logged_by old.log (handed_by old.standing true ++ first.forgets)))
+  ForgetsAll places old new (Err e) = (new ≡ record old { standing = new.standing; log = new.log })
+      × HasAdded old.standing new.standing (handed_by old.standing false) × (new.log ≡ logged_by old.log (handed_by old.standing false))

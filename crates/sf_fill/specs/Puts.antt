@@ -1,5 +1,5 @@
 -- how puts of known bytes end
-use Rattle.std.specs.Prelude.{◌≡◌, ℕ, ◌-◌, ◌<◌, ◌^◌, List, Some, Result, Ok, Err, IfOk}
+use Rattle.std.specs.Prelude.{◌≡◌, ℕ, ◌-◌, ◌<◌, ◌^◌, List, Some, Result, Ok, Err}
 use Rattle.sf_calls.specs.Tokens.{LetterValue}
 use Rattle.sf_loaders.specs.Given.{KnownBytes}
 use Rattle.sf_spots.specs.Spaces.{SpaceId}

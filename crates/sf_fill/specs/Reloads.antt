@@ -68,4 +68,4 @@ module _ {L : Type 0} (space : SpaceId) (key : List ℕ) where
     pub middle : GetterValue L
     pub settled : HasSettledUp old middle
     pub reloaded : ReloadsFrom space key middle.standing middle.desk new.desk new.standing answer
-    pub rest : new ≡ record middle { desk = new.desk; standing = new.standing }
+    pub rest : new ≡ record middle { desk = new.desk; standing = new.standing; log = new.log }

@@ -10,7 +10,9 @@ ghost use Rattle.sf_fill.specs.Found.{HasFound, HasFoundFrom, HasRunFrom, IfDone
 ghost use Rattle.sf_fill.specs.Counted.{IsCounted};
 ghost use Rattle.sf_fill.specs.Fresh.{IsFreshGet};
 ghost use Rattle.sf_fill.specs.Gets.{GetsFrom, HasReplied, HasGot, IsLoadedFor, IsOfKey, IsOfPlace, counts_of, reply_of};
-ghost use Rattle.sf_fill.specs.GetterValue.{IsOfGroup};
+ghost use Rattle.sf_fill.specs.declared.get.Found.TheVariants.{Led};
+ghost use Rattle.sf_fill.specs.GetterValue.{IsOfGroup, number_of, seen_of};
+ghost use Rattle.sf_fill.specs.Logs.{HasLogged};
 ghost use Rattle.sf_fill.specs.Rooted.{IsRooted};
 ghost use Rattle.sf_fill.specs.Totals.{IsOfOneGet};
 
@@ -123,6 +125,7 @@ impl<'d, D: Naming, N: Naming, O: Origin> Fill<'d, D, N, O> {
         requires keyed { spot_key (spot_at key.now at.old) ≡ key.now }
         requires place { IsPlaceOf N.group (place_at at.old) }
         ensures found { HasFound N.space key.now (L.run_gives key.now) (IsDraw L.draw_gives) (spot_at key.now at.old) caller.entry loaders.old loaders.new result }
+        ensures logged { HasLogged caller.entry.number caller.entry.seen (seen_of (reply_of result).0) log.old log.new }
         ensures of_place { IsOfPlace (place_at at.old) result }
         ensures of_key { IsOfKey key.now result }
         ensures one { IsOfOneGet (counts_of result) }
@@ -157,6 +160,7 @@ impl<'d, D: Naming, N: Naming, O: Origin> Fill<'d, D, N, O> {
         requires caller { caller.group ≡ N.group }
         requires spot { IsInSpace D.space spot × (spot_key spot ≡ key.now) × IsPlaceOf N.group (spot_place spot) }
         ensures found { HasFoundFrom N.space key.now (L.run_gives key.now) (IsDraw L.draw_gives) spot.entry caller.entry loaders.old loaders.new result }
+        ensures logged { HasLogged caller.entry.number caller.entry.seen (seen_of (reply_of result).0) log.old log.new }
         ensures of_place { IsOfPlace (spot_place spot.entry) result }
         ensures of_key { IsOfKey key.now result }
         ensures one { IsOfOneGet (counts_of result) }
@@ -207,9 +211,11 @@ impl<'d, D: Naming, N: Naming, O: Origin> Fill<'d, D, N, O> {
     where
         L: LoadPath<Origin = O>,
         requires flight { (flight.group ≡ N.group) × IsLawful N.group.sizes flight.seen × IsPlaceOf N.group flight.place }
+        requires own { flight.call.caller ≡ flight.number }
         requires led { IsRooted flight.place flight.call flight.call flight.seen }
         requires spot { IsInSpace D.space spot × (spot_key spot ≡ key.now) × (spot_place spot ≡ flight.place) }
         ensures run { HasRunFrom (L.run_gives key.now) (IsDraw L.draw_gives) spot.entry flight.entry loaders.old loaders.new result.0 result.1 }
+        ensures logged { HasLogged flight.entry.number flight.entry.seen (seen_of (reply_of (Led result.0 result.1)).0) log.old log.new }
         ensures of_place { IfDone (λ letter. letter.place ≡ flight.entry.place) result.0 }
         ensures of_key { IfDone (λ letter. MayBe letter.value.spot key.now) result.0 }
         ensures one { IsOfOneGet result.1 }
@@ -243,6 +249,7 @@ impl<'d, D: Naming, N: Naming, O: Origin> Fill<'d, D, N, O> {
         requires caller { caller.group ≡ N.group }
         requires desk { IsDeskOf N.space desk.old }
         ensures reply { HasReplied (L.run_gives key.now) (IsDraw L.draw_gives) N.space key.now caller.entry desk.old desk.new loaders.old loaders.new result }
+        ensures logged { HasLogged caller.entry.number caller.entry.seen (seen_of result.0) log.old log.new }
         ensures group { IsOfGroup N.group result.0 }
         ensures desk { IsDeskOf N.space desk.new }
         ensures seeing { IsSeeingSpace N.space desk.old desk.new }
@@ -277,6 +284,7 @@ impl<'d, D: Naming, N: Naming, O: Origin> Fill<'d, D, N, O> {
         requires group { IsOfGroup N.group standing }
         requires desk { IsDeskOf N.space desk.old }
         ensures reply { GetsFrom (L.run_gives key.now) (IsDraw L.draw_gives) N.space key.now standing.entry desk.old desk.new loaders.old loaders.new result }
+        ensures logged { HasLogged (number_of standing.entry) (seen_of standing.entry) (seen_of result.0) log.old log.new }
         ensures group { IsOfGroup N.group result.0 }
         ensures desk { IsDeskOf N.space desk.new }
         ensures keyed { IfOk result.2 (λ view. spot_key view.value.spot ≡ key.now) }

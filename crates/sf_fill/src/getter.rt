@@ -2,6 +2,7 @@
 ghost use Rattle.std.specs.Prelude.{IfSome, ◌≡◌, ◌↔◌, ◌-◌, ◌^◌, IsTrue, is_ok, not};
 ghost use Rattle.sf_fill.specs.GetterValue.{IsOfGroup, free_caller, is_owing};
 ghost use Rattle.sf_fill.specs.Fresh.{HasAdded, delivered_by};
+ghost use Rattle.sf_fill.specs.Logs.{empty_log, logged_by};
 ghost use Rattle.sf_fill.specs.Owing.{HasDelivered, HasSettledUp};
 ghost use Rattle.sf_calls.specs.Notes.{HasGrown};
 ghost use Rattle.sf_fill.specs.Notes.{HasToldNote, HasLearntNote, NotesCarryPurges, NotesCarryReloads};
@@ -63,7 +64,7 @@ impl<'d, D: Naming, N: Naming, O: Origin, L> Model for Getter<'d, D, N, O, L> {
 
     ghost Value = { GetterValue L };
 
-    ghost view = { λ g. record { desk = g.desk; standing = g.standing; loaders = g.loaders; counted = g.tallies } };
+    ghost view = { λ g. record { desk = g.desk; standing = g.standing; loaders = g.loaders; counted = g.tallies; log = g.log } };
 
     ghost invariant = { λ g. IsDeskOf N.space g.desk × IsOfGroup N.group g.standing };
 }
@@ -86,7 +87,8 @@ impl<'d, D: Naming, N: Naming, O: Origin, L> Getter<'d, D, N, O, L> {
     /// The events that the getter's calls added, oldest first, as far as there was room for them; the results are `()`. The
     /// getter keeps none of them, and has no room for further ones.
     pub fn take_log(&mut self) -> Vec<Event<PlaceNo, ()>>
-        ensures { self.new ≡ self.old }
+        ensures events { result.items ≡ self.old.log.events }
+        ensures emptied { self.new ≡ record self.old { log = empty_log 0 } }
     {
         self.log.take()
     }
@@ -182,6 +184,7 @@ impl<'d, D: Naming, N: Naming, O: Origin> Fill<'d, D, N, O> {
     ) -> (Standing<FillValue<'d, D, O>>, Result<(), Memory>)
         requires group { IsOfGroup N.group standing }
         ensures delivered { HasDelivered standing.entry result.0 }
+        ensures logged { log.new ≡ logged_by log.old (delivered_by standing.entry result.0) }
         ensures group { IsOfGroup N.group result.0 }
         ensures done { is_ok result.1 ≡ not (is_owing result.0) }
     {
@@ -210,6 +213,7 @@ impl<'d, D: Naming, N: Naming, O: Origin, L> Getter<'d, D, N, O, L> {
     ) -> (Getter<'d, D, N, O, L>, Result<(), Memory>)
         ensures settled { HasSettledUp self.entry result.0 }
         ensures adds { HasAdded self.entry.standing result.0.standing (delivered_by self.entry.standing result.0.standing) }
+        ensures logged { result.0.log ≡ logged_by self.entry.log (delivered_by self.entry.standing result.0.standing) }
         ensures done { is_ok result.1 ≡ not (is_owing result.0.standing) }
     {
         let Getter {

@@ -1,4 +1,7 @@
 //! What a getter's calls added to the group's history, as far as there is room for it.
+ghost use Rattle.std.specs.Prelude.{◌≡◌, IfOk};
+ghost use Rattle.sf_fill.specs.Fresh.{forgot_by};
+ghost use Rattle.sf_fill.specs.Logs.{empty_log, finish_events, logged_by, logged_one};
 
 use crate::reload::Forgot;
 use sf_calls::Fit;
@@ -6,6 +9,7 @@ use sf_group::{Event, Finished};
 use sf_history::{CallId, Hit};
 use sf_words::PlaceNo;
 use std::alloc::{AllocError, Global};
+use std::marker::Model;
 use std::mem;
 
 /// Events of one caller, oldest first. Room for them is taken once; those beyond it are not kept.
@@ -15,9 +19,20 @@ pub(crate) struct Log {
     alloc: Global,
 }
 
+impl Model for Log {
+    ghost use Rattle.std.specs.Prelude.{vec_capacity};
+    ghost use Rattle.sf_fill.specs.Logs.{LogValue};
+
+    ghost Value = { LogValue };
+
+    ghost view = { λ log. record { events = log.events.items; room = vec_capacity log.events } };
+}
+
 impl Log {
     // A log with room for so many events.
-    pub(crate) fn with_room(alloc: Global, room: usize) -> Result<Log, AllocError> {
+    pub(crate) fn with_room(alloc: Global, room: usize) -> Result<Log, AllocError>
+        ensures { IfOk result (λ log. log ≡ empty_log room) }
+    {
         Ok(Log {
             events: Vec::with_capacity(alloc, room)?,
             alloc,
@@ -25,14 +40,18 @@ impl Log {
     }
 
     // The event, where there is room for it.
-    pub(crate) fn add(&mut self, event: Event<PlaceNo, ()>) {
+    pub(crate) fn add(&mut self, event: Event<PlaceNo, ()>)
+        ensures { self.new ≡ logged_one self.old event }
+    {
         if self.events.len() < self.events.capacity() {
             self.events.push_reserved(event);
         }
     }
 
     // How a finish ended of a call that nobody has a channel of: what was settled, and what was handed out.
-    pub(crate) fn add_finished<V: Fit>(&mut self, call: CallId, finished: &Finished<V>) {
+    pub(crate) fn add_finished<V: Fit>(&mut self, call: CallId, finished: &Finished<V>)
+        ensures { self.new ≡ logged_by self.old (finish_events call finished.now) }
+    {
         let joiners = match finished {
             Finished::Done(_, letter) => letter.joiners(),
             Finished::Held(settled) => settled.joiners(),
@@ -52,7 +71,9 @@ impl Log {
     }
 
     // What a reload of the place by the caller of this number came to.
-    pub(crate) fn add_forgot(&mut self, by: u32, key: PlaceNo, forgot: Forgot) {
+    pub(crate) fn add_forgot(&mut self, by: u32, key: PlaceNo, forgot: Forgot)
+        ensures { self.new ≡ logged_by self.old (forgot_by by key forgot) }
+    {
         let (call, hit) = match forgot {
             Forgot::Closed(call) => (call, Hit::Closed),
             Forgot::Cleared(call) => (call, Hit::Cleared),
@@ -63,7 +84,10 @@ impl Log {
     }
 
     // The events; there is no room from then on.
-    pub(crate) fn take(&mut self) -> Vec<Event<PlaceNo, ()>> {
+    pub(crate) fn take(&mut self) -> Vec<Event<PlaceNo, ()>>
+        ensures events { result.items ≡ self.old.events }
+        ensures emptied { self.new ≡ empty_log 0 }
+    {
         mem::replace(&mut self.events, Vec::new(self.alloc))
     }
 }

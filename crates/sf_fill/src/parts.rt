@@ -3,6 +3,7 @@ ghost use Rattle.std.specs.Prelude.{◌≡◌, ◌≤◌, [], All, IfOk, IfErr, 
 ghost use Rattle.sf_calls.specs.Making.{IsNewCaller};
 ghost use Rattle.sf_words.specs.declared.limits.TheConstants.{LARGEST_PLACE};
 ghost use Rattle.sf_spots.specs.Spaces.{AreDesksOf, places_in, space_of};
+ghost use Rattle.sf_fill.specs.Logs.{empty_log};
 ghost use Rattle.sf_fill.specs.Made.{AreParts, new_getters};
 ghost use Rattle.sf_fill.specs.Totals.{names_of};
 
@@ -46,7 +47,8 @@ struct Rooms<'d, D: Naming, N: Naming, O: Origin, L> {
 
 // Empty logs, each with room for so many events.
 fn logs_with_room(alloc: Global, count: usize, room: usize) -> Result<Vec<Log>, Memory>
-    ensures { IfOk result (λ logs. vec_len logs ≡ count) }
+    ensures count { IfOk result (λ logs. vec_len logs ≡ count) }
+    ensures empty { IfOk result (λ logs. All (λ log. log ≡ empty_log room) logs.items) }
 {
     let mut logs = Vec::with_capacity(alloc, count)?;
     for index in 0..count {
@@ -67,7 +69,7 @@ fn reserve<'d, D: Naming, N: Naming, O: Origin, L>(
     requires { 1 ≤ places }
     ensures getters { IfOk result (λ r. (r.getters.items ≡ []) × (getters ≤ vec_capacity r.getters)) }
     ensures places { IfOk result (λ r. r.caches.places ≡ places) }
-    ensures logs { IfOk result (λ r. vec_len r.logs ≡ getters) }
+    ensures logs { IfOk result (λ r. (vec_len r.logs ≡ getters) × All (λ empty. empty ≡ empty_log log) r.logs.items) }
 {
     let caches = Caches::new(alloc, limit, places)?;
     let logs = logs_with_room(alloc, getters, log)?;
@@ -130,7 +132,7 @@ impl<'d, D: Naming, N: Naming, O: Origin> Fill<'d, D, N, O> {
     ) -> Result<(Fill<'d, D, N, O>, Vec<Getter<'d, D, N, O, L>>), FillParts<'d, D, O, L>>
         requires space { (space_of space ≡ N.space) × (D.space ≡ N.space) }
         requires parts { AreParts N.space N.group N.getters N.ledgers parts }
-        ensures made { IfOk result (λ made. (made.0 ≡ N.group) × (made.1.items ≡ new_getters parts.entry.desks.items parts.entry.callers.items parts.entry.loaders.items)) }
+        ensures made { IfOk result (λ made. (made.0 ≡ N.group) × (made.1.items ≡ new_getters sizes.log parts.entry.desks.items parts.entry.callers.items parts.entry.loaders.items)) }
         ensures count { IfOk result (λ made. vec_len made.1 ≡ N.getters) }
         ensures refused { IfErr result (λ back. back ≡ parts.entry) }
     {

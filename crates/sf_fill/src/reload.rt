@@ -5,7 +5,8 @@ ghost use Rattle.sf_calls.specs.Same.{IsPlaceOf};
 ghost use Rattle.sf_spots.specs.Spaces.{IsDeskOf};
 ghost use Rattle.sf_fill.specs.Fresh.{IsReloading};
 ghost use Rattle.sf_fill.specs.Purges.{ForgetsAll};
-ghost use Rattle.sf_fill.specs.GetterValue.{IsOfGroup};
+ghost use Rattle.sf_fill.specs.GetterValue.{IsOfGroup, number_of, seen_of};
+ghost use Rattle.sf_fill.specs.Logs.{HasLogged};
 
 use crate::fault::{LoadFault, of_key};
 use crate::fill::Fill;
@@ -81,6 +82,7 @@ impl<'d, D: Naming, N: Naming, O: Origin> Fill<'d, D, N, O> {
         requires group { IsOfGroup N.group standing }
         requires desk { IsDeskOf N.space desk.old }
         ensures reloaded { ReloadsFrom N.space key.now standing.entry desk.old desk.new result.0 result.1 }
+        ensures logged { HasLogged (number_of standing.entry) (seen_of standing.entry) (seen_of result.0) log.old log.new }
         ensures group { IsOfGroup N.group result.0 }
         ensures desk { IsDeskOf N.space desk.new }
     {

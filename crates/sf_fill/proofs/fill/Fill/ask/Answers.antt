@@ -1,8 +1,9 @@
-use Rattle.std.proofs.Common.{rules, ◌≡◌, suc, ◌∙◌, sym, subst}
-use Rattle.sf_calls.specs.Begins.{HasJoined}
+use Rattle.std.proofs.Common.{rules, suc, ◌∙◌, subst}
+use Rattle.sf_calls.specs.Begins.{HasJoined, HasLed}
 use Rattle.sf_spots.specs.Spaces.{SpaceId}
 use Rattle.sf_spots.specs.Spots.{IsInSpace, IsOther, spot_place}
 use Rattle.sf_fill.proofs.Asks.{led_counts, missed_again}
+use Rattle.sf_fill.proofs.LogSteps.{logs_join, logs_lead, logs_on}
 use Rattle.sf_fill.proofs.fill.Fill.ask.Goals as goal
 
 pub returns-in-Ok-Lead-clause-found : goal.returns-in-Ok-Lead-clause-found
@@ -30,4 +31,26 @@ loop-preserved g c =
         missed_again g.N.Naming.space c.args.key.now (spot_place c.args.spot) i.5.0 c.args.caller c.loop.asking c.wait-caller.result.0 c.in-Ok-Join.ticket letter i.5.1 joined c.wait-caller.ensures
             (subst (λ (s : SpaceId). IsInSpace s letter.value.spot) c.self.invariant.2 within) other,
       ),
+      c.wait-caller.ensures.number ∙ (joined.number ∙ i.6),
+      logs_on c.args.caller.number c.loop.asking.number c.args.caller.seen c.loop.asking.seen c.wait-caller.result.0.seen c.args.log.now c.loop.log c.add-in-Ok-Join.new.self i.6 i.7
+          (logs_join c.loop.asking c.wait-caller.result.0 (spot_place c.args.spot) _ _ _ _ c.in-Ok-Join.ticket letter c.loop.log c.add-in-Ok-Join.new.self c.add-in-Ok-Join.ensures joined c.wait-caller.ensures
+          (search rules) (search rules) (search rules) (search rules)),
     )
+
+pub returns-in-Ok-Lead-clause-logged : goal.returns-in-Ok-Lead-clause-logged
+returns-in-Ok-Lead-clause-logged g c =
+    let i = c.loop.invariant in
+    let flight = c.in-Ok-Lead.flight in
+    let led : HasLed c.loop.asking (spot_place c.args.spot) flight = search rules in
+    logs_on c.args.caller.number flight.number c.args.caller.seen flight.seen _ c.args.log.now c.add.new.self c.lead-finished.new.log (led.number ∙ i.6)
+    (logs_on c.args.caller.number c.loop.asking.number c.args.caller.seen c.loop.asking.seen flight.seen c.args.log.now c.loop.log c.add.new.self i.6 i.7
+    (logs_lead c.loop.asking (spot_place c.args.spot) _ _ _ flight c.loop.log c.add.new.self c.add.ensures led (search rules) (search rules) (search rules)))
+    c.lead-finished.ensures.logged
+
+pub returns-then-is_of-clause-logged : goal.returns-then-is_of-clause-logged
+returns-then-is_of-clause-logged g c =
+    let i = c.loop.invariant in
+    let joined : HasJoined c.loop.asking (spot_place c.args.spot) c.in-Ok-Join.ticket = search rules in
+    logs_on c.args.caller.number c.loop.asking.number c.args.caller.seen c.loop.asking.seen c.wait-caller.result.0.seen c.args.log.now c.loop.log c.add-in-Ok-Join.new.self i.6 i.7
+    (logs_join c.loop.asking c.wait-caller.result.0 (spot_place c.args.spot) _ _ _ _ c.in-Ok-Join.ticket c.wait-caller.result.1 c.loop.log c.add-in-Ok-Join.new.self c.add-in-Ok-Join.ensures joined c.wait-caller.ensures
+    (search rules) (search rules) (search rules) (search rules))

@@ -1,6 +1,7 @@
 use Rattle.std.proofs.Common.{◌≡◌, ℕ}
 use Rattle.sf_spots.specs.Spots.{spot_place}
 use Rattle.sf_fill.specs.Found.{HasMissed}
+use Rattle.sf_fill.specs.Logs.{HasLogged}
 use Rattle.sf_fill.proofs.fill.Fill.ask.Given as goal
 
 -- each asking so far met another key's call
@@ -12,3 +13,5 @@ invariant-loop g l =
     × (l.loaders ≡ l.initial.loaders)
     × (l.spot ≡ l.fn.spot)
     × ((n : ℕ) × HasMissed g.N.Naming.space l.key (spot_place l.fn.spot) n l.fn.caller l.asking)
+    × (l.asking.number ≡ l.fn.caller.number)
+    × HasLogged l.fn.caller.number l.fn.caller.seen l.asking.seen l.initial.log l.log

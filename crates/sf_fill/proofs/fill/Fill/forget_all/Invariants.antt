@@ -1,6 +1,8 @@
 use Rattle.std.specs.Prelude.{◌≡◌, true}
 use Rattle.sf_fill.specs.declared.getter.Standing.TheVariants.{Free}
 use Rattle.sf_fill.specs.Fresh.{handed_by}
+use Rattle.sf_fill.specs.GetterValue.{number_of, seen_of}
+use Rattle.sf_fill.specs.Logs.{HasLogged}
 use Rattle.sf_fill.specs.Purges.{HasForgottenFirst}
 use Rattle.sf_fill.proofs.fill.Fill.forget_all.Given as goal
 
@@ -8,4 +10,5 @@ abbrev pub invariant-loop-index : goal.invariant-loop-index
 invariant-loop-index g l = record {
   group : l.caller.group ≡ g.N.Naming.group;
   first : HasForgottenFirst l.index (handed_by l.fn.getter.standing true) l.fn.getter.standing (Free l.caller);
+  logged : HasLogged (number_of l.fn.getter.standing) (seen_of l.fn.getter.standing) l.caller.seen l.fn.getter.log l.log;
 }
