@@ -19,3 +19,4 @@ pub mod Fresh
 pub mod Notes
 pub mod Purges
 pub mod Puts
+pub mod Keeping

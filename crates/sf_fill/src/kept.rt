@@ -1,5 +1,7 @@
 //! What lies under the lock: letters that two caches keep, and what all getters have counted.
-ghost use Rattle.std.specs.Prelude.{◌≡◌, ◌↔◌, IfOk, IsTrue, ◌<◌, ◌^◌, ◌-◌, IfSome, IfErr};
+ghost use Rattle.std.specs.Prelude.{◌≡◌, ◌↔◌, IfOk, IsTrue, ◌<◌, ◌^◌, ◌-◌, IfSome, IfErr, OnOk, OnErr};
+ghost use Rattle.sf_caches.specs.Trimming.{after_put};
+ghost use Rattle.sf_fill.specs.Keeping.{Drops, DropsOfBoth};
 ghost use Rattle.sf_dir.specs.declared.refusal.Refusal.{Refusal};
 ghost use Rattle.sf_spots.specs.declared.spot.Spot.{Spot};
 ghost use Rattle.sf_spots.specs.Spots.{MayBe, IsSpotOfKey, IsRefusedSpot};
@@ -21,6 +23,7 @@ use sf_caches::{CacheStats, Caches, Which};
 use sf_group::{Caller, Flight, Group, Letter, Memory};
 use sf_history::CallId;
 use sf_loaders::Origin;
+use std::alloc::AllocError;
 use std::marker::{Model, PhantomData};
 use std::sync::Wait;
 
@@ -123,11 +126,12 @@ pub(crate) struct Kept<'d, D: Naming, N: Naming, O: Origin> {
 }
 
 impl<'d, D: Naming, N: Naming, O: Origin> Model for Kept<'d, D, N, O> {
-    ghost use Rattle.std.specs.Prelude.{◌≡◌, ℕ};
+    ghost use Rattle.std.specs.Prelude.{◌≡◌};
+    ghost use Rattle.sf_fill.specs.Keeping.{LetterCaches};
 
-    ghost Value = { ℕ };
+    ghost Value = { LetterCaches };
 
-    ghost view = { λ k. k.caches.places };
+    ghost view = { λ k. k.caches };
 
     // The caches have the group's places.
     ghost invariant = { λ k. k.caches.places ≡ N.group.sizes.places };
@@ -196,34 +200,57 @@ impl<'d, D: Naming, N: Naming, O: Origin> Kept<'d, D, N, O> {
         key_len: usize,
         value_len: usize,
         letter: Letter<FillValue<'d, D, O>>,
-    )
+    ) -> Result<(), AllocError>
         requires place { IsPlaceOf N.group place }
         requires group { letter.group ≡ N.group }
         requires settled { IsSettled letter }
+        ensures put { OnOk result (self.new ≡ after_put which place (record { key_len = key_len; value_len = value_len; item = letter.entry }) self.old) }
+        ensures refused { OnErr result (self.new ≡ self.old) }
     {
-        let _ = self
-            .caches
-            .put(which, place, key_len, value_len, Cached::new(letter));
+        self.caches
+            .put(which, place, key_len, value_len, Cached::new(letter))
+    }
+
+    // Takes the letter of the place out of the cache, if it is of the call.
+    fn drop_call(&mut self, which: Which, place: u32, call: CallId)
+        ensures { Drops (λ letter. letter.call ≡ call) place which self.old self.new }
+    {
+        let of_call = match self.caches.peek(which, place) {
+            Some(cached) => cached.call() == call,
+            None => false,
+        };
+        if of_call {
+            self.caches.remove(which, place);
+        }
+    }
+
+    // Takes the letter of the place out of the cache, if it is of the key.
+    fn drop_key(&mut self, which: Which, place: u32, key: &[u8])
+        ensures { Drops (λ letter. MayBe letter.value.spot key.now) place which self.old self.new }
+    {
+        let of_key = match self.caches.peek(which, place) {
+            Some(cached) => cached.is_of(key),
+            None => false,
+        };
+        if of_key {
+            self.caches.remove(which, place);
+        }
     }
 
     // Takes the letters of the place's call out of both caches; those of a newer call stay.
-    fn remove_call(&mut self, place: u32, call: CallId) {
-        for which in [Which::Main, Which::Hot] {
-            let kept = self.caches.peek(which, place);
-            if kept.is_some_and(|cached| cached.call() == call) {
-                self.caches.remove(which, place);
-            }
-        }
+    fn remove_call(&mut self, place: u32, call: CallId)
+        ensures { DropsOfBoth (λ letter. letter.call ≡ call) place self.old self.new }
+    {
+        self.drop_call(Which::Main, place, call);
+        self.drop_call(Which::Hot, place, call);
     }
 
     // Takes the letters of the key at the place out of both caches.
-    fn remove_key(&mut self, place: u32, key: &[u8]) {
-        for which in [Which::Main, Which::Hot] {
-            let kept = self.caches.peek(which, place);
-            if kept.is_some_and(|cached| cached.is_of(key)) {
-                self.caches.remove(which, place);
-            }
-        }
+    fn remove_key(&mut self, place: u32, key: &[u8])
+        ensures { DropsOfBoth (λ letter. MayBe letter.value.spot key.now) place self.old self.new }
+    {
+        self.drop_key(Which::Main, place, key);
+        self.drop_key(Which::Hot, place, key);
     }
 }
 
@@ -312,7 +339,7 @@ impl<'d, D: Naming, N: Naming, O: Origin> Fill<'d, D, N, O> {
         let place = letter.place();
         if let Ok(copy) = self.group.copy(letter) {
             let mut kept = self.kept.lock(rt);
-            kept.put(which, place, key_len, value_len, copy);
+            let _ = kept.put(which, place, key_len, value_len, copy);
         }
     }
 

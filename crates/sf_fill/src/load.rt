@@ -1,5 +1,6 @@
 //! What a getter does once it leads a call.
-ghost use Rattle.std.specs.Prelude.{◌≡◌, IfOk};
+ghost use Rattle.std.specs.Prelude.{◌≡◌, ◌≤ℤ◌, ◌<ℤ◌, pos, IfOk, None};
+ghost use Rattle.sf_fill.specs.Keeping.{GoesInto};
 ghost use Rattle.sf_calls.specs.Same.{HasNothing, IsPlaceOf, IsSameFlight};
 ghost use Rattle.sf_calls.specs.Seen.{IsLawful};
 ghost use Rattle.sf_calls.specs.Notes.{HasLent};
@@ -46,20 +47,22 @@ pub(crate) const NO_RUN: Counts = Counts {
     local_load_errors: 0,
 };
 
-impl<'d, D: Naming, N: Naming, O: Origin> Fill<'d, D, N, O> {
-    // Where a value of that source goes: a local one into main, and one in ten of the peers' into hot.
-    fn cache_for<L: LoadPath>(&self, source: Source, loaders: &mut L) -> Option<Which>
-        ensures { DrawsFor (IsDraw L.draw_gives) source loaders.old loaders.new }
-    {
-        if self.limit <= 0 {
-            return None;
-        }
-        match source {
-            Source::Local => Some(Which::Main),
-            Source::Peer => (loaders.draw() == 0).then_some(Which::Hot),
-        }
+// Where a value of that source goes: a local one into main, and one in ten of the peers' into hot.
+fn cache_for<L: LoadPath>(limit: i64, source: Source, loaders: &mut L) -> Option<Which>
+    ensures none { limit ≤ℤ pos 0 → (result ≡ None) × (loaders.new ≡ loaders.old) }
+    ensures one { pos 0 <ℤ limit → GoesInto L.draw_gives source loaders.old loaders.new result }
+    ensures draws { DrawsFor (IsDraw L.draw_gives) source loaders.old loaders.new }
+{
+    if limit <= 0 {
+        return None;
     }
+    match source {
+        Source::Local => Some(Which::Main),
+        Source::Peer => (loaders.draw() == 0).then_some(Which::Hot),
+    }
+}
 
+impl<'d, D: Naming, N: Naming, O: Origin> Fill<'d, D, N, O> {
     // The value for a call that is led: what a cache has of the call that it follows, and else what the loaders give.
     pub(crate) fn source<R: Wait, L>(
         &self,
@@ -147,7 +150,7 @@ impl<'d, D: Naming, N: Naming, O: Origin> Fill<'d, D, N, O> {
         };
         match loaded {
             Ok((bytes, source)) => {
-                let keep = self.cache_for(source, loaders);
+                let keep = cache_for(self.limit, source, loaders);
                 Sourced {
                     value: FillValue::of_run(spot, call, Ok(bytes)),
                     keep,

@@ -1,6 +1,7 @@
 //! What a fill is made of, and how it is made.
 ghost use Rattle.std.specs.Prelude.{◌≡◌, ◌≤◌, [], All, IfOk, IfErr, vec_len, vec_capacity};
 ghost use Rattle.sf_calls.specs.Making.{IsNewCaller};
+ghost use Rattle.sf_caches.specs.Trimming.{no_entries, room_of};
 ghost use Rattle.sf_words.specs.declared.limits.TheConstants.{LARGEST_PLACE};
 ghost use Rattle.sf_spots.specs.Spaces.{AreDesksOf, places_in, space_of};
 ghost use Rattle.sf_fill.specs.Logs.{empty_log};
@@ -68,7 +69,7 @@ fn reserve<'d, D: Naming, N: Naming, O: Origin, L>(
 ) -> Result<Rooms<'d, D, N, O, L>, Memory>
     requires { 1 ≤ places }
     ensures getters { IfOk result (λ r. (r.getters.items ≡ []) × (getters ≤ vec_capacity r.getters)) }
-    ensures places { IfOk result (λ r. r.caches.places ≡ places) }
+    ensures caches { IfOk result (λ r. r.caches ≡ no_entries (room_of limit) places) }
     ensures logs { IfOk result (λ r. (vec_len r.logs ≡ getters) × All (λ empty. empty ≡ empty_log log) r.logs.items) }
 {
     let caches = Caches::new(alloc, limit, places)?;

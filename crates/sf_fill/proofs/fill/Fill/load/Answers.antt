@@ -8,7 +8,7 @@ returns-in-Ok-clause-source g c = record {
   asked = c.run-loaded.ensures.gives;
   value = rw c.in-Ok.is c.of_run.ensures;
   counts = refl;
-  drawn = rw c.in-Ok.is c.cache_for-keep.ensures;
+  drawn = rw c.in-Ok.is c.cache_for-keep.ensures.draws;
 }
 
 pub returns-in-Err-clause-source : goal.returns-in-Err-clause-source
