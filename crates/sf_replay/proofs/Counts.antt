@@ -17,10 +17,10 @@ nat_ties : (a b : ℕ) → (a == b) ≡ is_eq (nat_cmp a b)
 nat_ties a b = search rules
 
 -- a call compares as equal exactly to itself
-call_test : (id c : CallId) → is_eq (compare_call id (c.caller, c.generation)) ≡ same_call id c
+pub call_test : (id c : CallId) → is_eq (compare_call id (c.caller, c.generation)) ≡ same_call id c
 call_test id c = sym (both_tied (id.caller == c.caller) (id.generation == c.generation) _ _ (nat_ties id.caller c.caller) (nat_ties id.generation c.generation))
 
-abbrev compare_pairs : ℕ × ℕ → ℕ × ℕ → Ordering
+abbrev pub compare_pairs : ℕ × ℕ → ℕ × ℕ → Ordering
 compare_pairs x y = ordering_then (nat_cmp x.0 y.0) (nat_cmp x.1 y.1)
 
 -- one call has one more, and each other call as many as it had

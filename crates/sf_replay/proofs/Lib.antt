@@ -6,3 +6,5 @@ pub mod RecordData
 pub mod NoLineFeed
 pub mod RoundTrip
 pub mod RecordLaws
+pub mod MergedOrder
+pub mod StandingOrder

@@ -5,12 +5,18 @@
 //! by caller and generation: the lead, the enters by their members, the forgets that closed the call, the settle, the
 //! handed, the forgets that cleared it. What is of a call that nobody led comes last.
 
-ghost use Rattle.std.specs.Prelude.{◌≡◌, ◌++◌, IfOk, OnOk, IsPermutation, map};
-ghost use Rattle.sf_replay.specs.Merged.{events_of_logs};
+ghost use Rattle.std.specs.Prelude.{◌≡◌, IfOk, IsPermutation, IsSortedByKey, map, filter_map};
+ghost use Rattle.std.specs.Prelude.{length, option_map, vec_len};
+ghost use Rattle.std.specs.BTreeMap.{get_by};
+ghost use Rattle.std.specs.Option.{option_copied};
+ghost use Rattle.sf_replay.specs.Entered.{compare_call};
+ghost use Rattle.sf_replay.specs.Merged.{events_of_logs, key_of_call, own_key as key_held, place_among};
+ghost use Rattle.sf_replay.specs.Merged.{idle_standing as idle_standing_by, part_standing as part_standing_by};
+ghost use Rattle.sf_replay.specs.Merged.{standing_by, standing_cmp, standing_of as standing_in};
 
 use sf_history::{CallId, Event, History, Hit, Memory};
 use std::alloc::Global;
-use std::cmp::Ordering;
+use std::collections::BTreeMap;
 
 /// What an event is of its call, in the order in which they stand.
 #[derive(Clone, Copy, PartialEq, Eq, PartialOrd, Ord)]
@@ -26,7 +32,9 @@ enum Part {
 /// Where an event stands in a merged history: its fields, compared in their order.
 #[derive(Clone, Copy, PartialEq, Eq, PartialOrd, Ord)]
 struct Standing {
-    /// How many of the key's places come before it; the greatest number where nobody led the call.
+    /// Whether it is of a call that nobody led.
+    unled: bool,
+    /// How many keys come before its key; 0 where nobody led the call.
     key: usize,
     /// Whether it is of a call, and no forget that closed nothing or missed its call.
     of_call: bool,
@@ -45,13 +53,6 @@ struct Placed<K, V> {
     event: Event<K, V>,
 }
 
-/// A call that was led, and where its first lead stands among all events.
-#[derive(Clone, Copy)]
-struct LedAt {
-    call: CallId,
-    index: usize,
-}
-
 /// The events of all logs, one log after the other.
 fn in_one<K: Drop, V: Drop>(
     alloc: Global,
@@ -68,101 +69,88 @@ fn in_one<K: Drop, V: Drop>(
 }
 
 /// The key of a lead, or of a forget that closed nothing or missed its call.
-fn own_key<K, V>(event: Option<&Event<K, V>>) -> Option<&K> {
+fn own_key<K, V>(event: &Event<K, V>) -> Option<&K>
+    ensures { option_copied result ≡ key_held event.now }
+{
     match event {
-        Some(Event::Lead { key, .. }) => Some(key),
-        Some(
-            Event::Forget {
-                key,
-                closed: None,
-                ..
-            },
-        ) => Some(key),
-        Some(
-            Event::ForgetCall {
-                key,
-                hit: Hit::Missed,
-                ..
-            },
-        ) => Some(key),
+        Event::Lead { key, .. } => Some(key),
+        Event::Forget {
+            key,
+            closed: None,
+            ..
+        } => Some(key),
+        Event::ForgetCall {
+            key,
+            hit: Hit::Missed,
+            ..
+        } => Some(key),
         _ => None,
     }
 }
 
-/// How the keys of two events compare; none comes before any.
-fn compare_keys<K: Ord, V>(events: &[Event<K, V>], one: usize, other: usize) -> Ordering {
-    match (own_key(events.get(one)), own_key(events.get(other))) {
-        (Some(key), Some(second)) => key.cmp(second),
-        (None, Some(_)) => Ordering::Less,
-        (Some(_), None) => Ordering::Greater,
-        (None, None) => Ordering::Equal,
-    }
-}
-
-/// For each event the place of its key in the order of all keys, one number for equal keys.
-fn key_ranks<K: Ord, V>(alloc: Global, events: &[Event<K, V>]) -> Result<Vec<usize>, Memory> {
-    let mut order = Vec::with_capacity(alloc, events.len())?;
-    for index in 0..events.len() {
-        order.push(index)?;
-    }
-    order.sort_by(|one, other| compare_keys(events, *one, *other))?;
-    let mut ranks = Vec::from_elem(alloc, 0usize, events.len())?;
-    let mut rank = 0;
-    let mut last = None;
-    for (place, index) in order.iter().enumerate() {
-        let is_same = match last {
-            Some(last) => compare_keys(events, last, *index) == Ordering::Equal,
-            None => false,
-        };
-        if !is_same {
-            rank = place;
-        }
-        last = Some(*index);
-        if let Some(entry) = ranks.get_mut(*index) {
-            *entry = rank;
+/// The keys of the leads, and of the forgets that closed nothing or missed their calls, in their order.
+fn keys_in_order<'a, K: Ord, V>(
+    alloc: Global,
+    events: &'a [Event<K, V>],
+) -> Result<Vec<&'a K>, Memory>
+    ensures sorted { IfOk result (λ keys. IsSortedByKey (λ k. k.now) K.cmp keys.items) }
+    ensures all { IfOk result (λ keys.
+        IsPermutation (filter_map key_held events.now) (map (λ k. k.now) keys.items)) }
+{
+    let mut keys = Vec::new(alloc);
+    for event in events {
+        if let Some(key) = own_key(event) {
+            keys.push(key)?;
         }
     }
-    Ok(ranks)
+    keys.sort()?;
+    Ok(keys)
 }
 
-/// The leads, by their calls.
-fn leads<K, V>(alloc: Global, events: &[Event<K, V>]) -> Result<Vec<LedAt>, Memory> {
-    let mut leads = Vec::new(alloc);
-    for (index, event) in events.iter().enumerate() {
-        if let Event::Lead { call, .. } = event {
-            leads.push(LedAt { call: *call, index })?;
+/// How many of the keys come before the key.
+fn place_of<K: Ord>(keys: &[&K], key: &K) -> usize
+    requires { IsSortedByKey (λ k. k.now) K.cmp keys.now }
+    ensures { result ≡ place_among K.cmp (map (λ k. k.now) keys.now) key.now }
+{
+    keys.partition_point(|other| (*other).cmp(key).is_lt())
+}
+
+/// For each call that was led the place of its key, which is that of its first lead.
+fn places_of_calls<K: Ord, V>(
+    alloc: Global,
+    keys: &[&K],
+    events: &[Event<K, V>],
+) -> Result<BTreeMap<(u32, u32), usize>, Memory>
+    requires { IsSortedByKey (λ k. k.now) K.cmp keys.now }
+    ensures { IfOk result (λ calls. (c : CallId) → get_by (compare_call c) calls
+        ≡ option_map (place_among K.cmp (map (λ k. k.now) keys.now)) (key_of_call events.now c)) }
+{
+    let mut calls = BTreeMap::new(alloc);
+    for event in events {
+        if let Event::Lead { key, call, .. } = event {
+            let name = (call.caller, call.generation);
+            if calls.get(&name).is_none() {
+                calls.insert(name, place_of(keys, key))?;
+            }
         }
     }
-    leads.sort_by_key(|led| (led.call.caller, led.call.generation))?;
-    Ok(leads)
+    Ok(calls)
 }
 
-fn is_before(call: CallId, other: CallId) -> bool {
-    call.caller < other.caller || call.caller == other.caller && call.generation < other.generation
-}
-
-/// The place of the call's key: that of its first lead.
-fn rank_of_call(leads: &[LedAt], ranks: &[usize], call: CallId) -> Option<usize> {
-    let first = leads.partition_point(|led| is_before(led.call, call));
-    let led = leads.get(first)?;
-    if led.call == call {
-        ranks.get(led.index).copied()
-    } else {
-        None
-    }
-}
-
-/// Where a part of a call stands; `member` is that of an enter, and `by` who made it.
+/// Where a part of a call stands, by the places of the calls' keys; `member` is that of an enter, and `by` who made it.
 fn part_standing(
-    rank: Option<usize>,
+    calls: &BTreeMap<(u32, u32), usize>,
     by: u32,
     call: CallId,
     part: Part,
     member: CallId,
-) -> Standing {
-    match rank {
+) -> Standing
+    ensures { result ≡ part_standing_by (get_by (compare_call call) calls.now) by call part member }
+{
+    match calls.get(&(call.caller, call.generation)) {
         Some(key) => Standing {
-            key,
+            unled: false,
+            key: *key,
             of_call: true,
             caller: call.caller,
             generation: call.generation,
@@ -170,13 +158,16 @@ fn part_standing(
             member_caller: member.caller,
             member_generation: member.generation,
         },
-        None => idle_standing(usize::MAX, by),
+        None => idle_standing(true, 0, by),
     }
 }
 
-/// Where a forget stands that closed nothing or missed its call.
-fn idle_standing(key: usize, by: u32) -> Standing {
+/// Where an event stands that is of no call, or of one that nobody led.
+fn idle_standing(unled: bool, key: usize, by: u32) -> Standing
+    ensures { result ≡ idle_standing_by unled key by }
+{
     Standing {
+        unled,
         key,
         of_call: false,
         caller: by,
@@ -187,50 +178,48 @@ fn idle_standing(key: usize, by: u32) -> Standing {
     }
 }
 
-/// Where an event stands, whose own key has this place.
-fn standing_of<K, V>(
-    leads: &[LedAt],
-    ranks: &[usize],
-    own_rank: usize,
+/// Where an event stands, by the keys in their order and the places of the calls' keys.
+fn standing_of<K: Ord, V>(
+    keys: &[&K],
+    calls: &BTreeMap<(u32, u32), usize>,
     event: &Event<K, V>,
-) -> Standing {
-    let (by, call, part, member) = match event {
-        Event::Lead { by, call, .. } => (*by, *call, Part::Lead, *call),
+) -> Standing
+    requires { IsSortedByKey (λ k. k.now) K.cmp keys.now }
+    ensures { result ≡ standing_by (place_among K.cmp (map (λ k. k.now) keys.now))
+        (λ c. get_by (compare_call c) calls.now) event.now }
+{
+    match event {
+        Event::Lead { by, call, .. } => part_standing(calls, *by, *call, Part::Lead, *call),
         Event::Enter {
             by,
             call,
             member,
             ..
-        } => (*by, *call, Part::Enter, *member),
-        Event::Forget {
-            by,
-            closed: Some(call),
-            ..
-        } => (*by, *call, Part::Forget, *call),
-        Event::Forget {
-            by,
-            closed: None,
-            ..
-        } => return idle_standing(own_rank, *by),
-        Event::ForgetCall { by, call, hit, .. } => match hit {
-            Hit::Closed => (*by, *call, Part::Forget, *call),
-            Hit::Cleared => (*by, *call, Part::Cleared, *call),
-            Hit::Missed => return idle_standing(own_rank, *by),
+        } => part_standing(calls, *by, *call, Part::Enter, *member),
+        Event::Forget { by, key, closed } => match closed {
+            Some(call) => part_standing(calls, *by, *call, Part::Forget, *call),
+            None => idle_standing(false, place_of(keys, key), *by),
         },
-        Event::Settle { by, call, .. } => (*by, *call, Part::Settle, *call),
-        Event::Handed { by, call } => (*by, *call, Part::Handed, *call),
-    };
-    part_standing(rank_of_call(leads, ranks, call), by, call, part, member)
+        Event::ForgetCall { by, key, call, hit } => match hit {
+            Hit::Closed => part_standing(calls, *by, *call, Part::Forget, *call),
+            Hit::Cleared => part_standing(calls, *by, *call, Part::Cleared, *call),
+            Hit::Missed => idle_standing(false, place_of(keys, key), *by),
+        },
+        Event::Settle { by, call, .. } => part_standing(calls, *by, *call, Part::Settle, *call),
+        Event::Handed { by, call } => part_standing(calls, *by, *call, Part::Handed, *call),
+    }
 }
 
 /// Where each event stands.
-fn standings<K: Ord, V>(alloc: Global, events: &[Event<K, V>]) -> Result<Vec<Standing>, Memory> {
-    let ranks = key_ranks(alloc, events)?;
-    let leads = leads(alloc, events)?;
+fn standings<K: Ord, V>(alloc: Global, events: &[Event<K, V>]) -> Result<Vec<Standing>, Memory>
+    ensures { IfOk result (λ standings.
+        standings.items ≡ map (standing_in K.cmp events.now) events.now) }
+{
+    let keys = keys_in_order(alloc, events)?;
+    let calls = places_of_calls(alloc, keys.as_slice(), events)?;
     let mut standings = Vec::with_capacity(alloc, events.len())?;
-    for (index, event) in events.iter().enumerate() {
-        let own_rank = ranks.get(index).copied().unwrap_or(0);
-        standings.push(standing_of(&leads, &ranks, own_rank, event))?;
+    for event in events {
+        standings.push(standing_of(keys.as_slice(), &calls, event))?;
     }
     Ok(standings)
 }
@@ -241,15 +230,13 @@ fn with_standings<K: Drop, V: Drop>(
     standings: &[Standing],
     events: Vec<Event<K, V>>,
 ) -> Result<Vec<Placed<K, V>>, Memory>
-    ensures { IfOk result (λ placed. map (λ p. p.event) placed.items ≡ events.items) }
+    requires { length standings.now ≡ vec_len events }
+    ensures events { IfOk result (λ placed. map (λ p. p.event) placed.items ≡ events.items) }
+    ensures standings { IfOk result (λ placed. map (λ p. p.standing) placed.items ≡ standings.now) }
 {
     let mut placed = Vec::new(alloc);
-    let mut standings = standings.iter();
     for event in events {
-        let standing = match standings.next() {
-            Some(standing) => *standing,
-            None => idle_standing(usize::MAX, 0),
-        };
+        let standing = standings[placed.len()];
         placed.push(Placed { standing, event })?;
     }
     Ok(placed)
@@ -270,12 +257,14 @@ fn without_standings<K: Drop, V: Drop>(
 }
 
 /// One history of the logs, one log a caller. It keeps no order in time; each event of each log stands in it once, and
-/// nothing else does. The logs are taken by value. Its time is that of a sort.
+/// nothing else does, in the order of their standings. The logs are taken by value. Its time is that of a sort.
 pub fn merge<K: Ord + Drop, V: Drop>(
     alloc: Global,
     logs: Vec<Vec<Event<K, V>>>,
 ) -> Result<History<K, V>, Memory>
-    ensures { IfOk result (λ merged. IsPermutation (events_of_logs logs.items) merged) }
+    ensures once { IfOk result (λ merged. IsPermutation (events_of_logs logs.items) merged) }
+    ensures sorted { IfOk result (λ merged.
+        IsSortedByKey (standing_in K.cmp (events_of_logs logs.items)) standing_cmp merged) }
 {
     let events = in_one(alloc, logs)?;
     let standings = standings(alloc, events.as_slice())?;
