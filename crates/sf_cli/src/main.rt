@@ -6,8 +6,9 @@
 mod commands;
 mod usage;
 
-ghost use Rattle.std.specs.Prelude.{◌≡◌, IfOk, IfErr};
-ghost use Rattle.sf_drive.specs.Reports as drive;
+ghost use Rattle.std.specs.Prelude.{◌≡◌, Result, Option, Some};
+ghost use Rattle.sf_cli.specs.Served.{HasEnded, IsStatusOf, drive_exit_status_of};
+ghost use Rattle.sf_cli.specs.declared.usage.Subcommand as asking;
 ghost use Rattle.sf_engines.specs.Ending.{exit_status_of, outcome_of};
 
 use crate::usage::Subcommand;
@@ -15,7 +16,7 @@ use sf_drive::{DriveEnding, drive, status as drive_status};
 use sf_engines::{Ending, Engine, Outcome, exit_status};
 use sf_text::StreamFault;
 use std::fmt::Display;
-use std::io::IsTerminal;
+use std::io::{IsTerminal, Read, Write};
 use std::process::ExitCode;
 use std::rt::Env;
 use std::sync::Wait;
@@ -51,26 +52,28 @@ fn ended(rt: &impl Eprint, ended: Result<Ending, StreamFault>) -> u8
     exit_status(Outcome::of(ended))
 }
 
-/// Starts an engine on standard input and standard output, says a hint on standard error where it leaves one, and answers
-/// the exit status.
-fn answer<R: AllocGlobal + Input + Print + Eprint>(rt: &R, engine: Engine) -> u8 {
+/// Starts an engine on these streams, says a hint on standard error where it leaves one, and answers the exit status.
+fn answer<I: Read, O: Write>(
+    rt: &(impl AllocGlobal + Eprint),
+    engine: Engine,
+    reader: &mut I,
+    writer: &mut O,
+) -> u8
+    ensures { (ended : Result Ending StreamFault)
+        × HasEnded engine (I.remaining reader.old) (O.contents writer.old) (O.contents writer.new) ended
+        × (result ≡ exit_status_of (outcome_of ended)) }
+{
     let mut hinted = None;
-    let answered = engine.start_with_hint(
-        rt.alloc(),
-        &mut rt.reader(),
-        &mut io::writer(rt),
-        &mut hinted,
-    );
+    let answered = engine.start_with_hint(rt.alloc(), reader, writer, &mut hinted);
     if let Some(hint) = hinted {
         let _ = eprintln!(rt; "{hint}");
     }
     ended(rt, answered)
 }
 
-/// The same of a drive.
+/// Says on standard error that a stream failed, where one did, and answers the exit status of a drive's end.
 fn driven(rt: &impl Eprint, driven: Result<DriveEnding, StreamFault>) -> u8
-    ensures drove { IfOk driven (λ ending. result ≡ drive.status_of ending) }
-    ensures failed { IfErr driven (λ fault. result ≡ exit_status_of (Outcome.Failed fault)) }
+    ensures { result ≡ drive_exit_status_of driven }
 {
     match driven {
         Ok(ending) => drive_status(ending),
@@ -78,21 +81,23 @@ fn driven(rt: &impl Eprint, driven: Result<DriveEnding, StreamFault>) -> u8
     }
 }
 
-/// Does what the command line asks for, and answers the exit status. Where standard error is a terminal, a drive says there how
-/// far it is.
-fn serve<R>(rt: &R, on_terminal: bool) -> u8
+/// Does what the command line asks for on these streams, and answers the exit status. Where standard error is a terminal, a
+/// drive says there how far it is.
+fn serve<R, I: Read, O: Write>(rt: &R, reader: &mut I, writer: &mut O, on_terminal: bool) -> u8
 where
-    R: Env + AllocGlobal + Input + Print + Eprint + Wait + Threads + Clock + Sync,
+    R: Env + AllocGlobal + Eprint + Wait + Threads + Clock + Sync,
+    ensures { (asked : Option asking.Subcommand)
+        × IsStatusOf asked (I.remaining reader.old) (O.contents writer.old) (O.contents writer.new) result }
 {
     let words = match words(rt) {
         Ok(words) => words,
         Err(_) => return misused(rt, "error: the arguments are no text\n"),
     };
     match usage::parse(rt.alloc(), words.as_slice()) {
-        Ok(Subcommand::Engine(engine)) => answer(rt, engine),
+        Ok(Subcommand::Engine(engine)) => answer(rt, engine, reader, writer),
         Ok(Subcommand::Drive(mut line)) => {
             line.progress = on_terminal;
-            driven(rt, drive(rt, rt.alloc(), &mut io::writer(rt), line))
+            driven(rt, drive(rt, rt.alloc(), writer, line))
         }
         Err(usage) => misused(rt, usage),
     }
@@ -100,5 +105,5 @@ where
 
 fn main(rt: HostRuntime) -> ExitCode {
     let on_terminal = rt.stderr().is_terminal();
-    ExitCode::from(serve(&rt, on_terminal))
+    ExitCode::from(serve(&rt, &mut rt.reader(), &mut io::writer(&rt), on_terminal))
 }
