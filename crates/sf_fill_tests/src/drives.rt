@@ -90,6 +90,23 @@ fn drive_prints_its_history(rt: HostRuntime) -> Result<(), Fail> {
     check_drive(&rt, rt.alloc(), &words, records)
 }
 
+// Two keys by turns, each loaded once; the tenth get is of the second one, and its reload clears its call. The first one has place 1
+// by the hash of its bytes.
+#[test]
+fn drive_of_one_thread_is_known(rt: HostRuntime) -> Result<(), Fail> {
+    let words = ["--threads", "1", "--keys", "2", "--gets", "10", "--history"];
+    let records = "{\"format\":3}
+{\"e\":\"lead\",\"by\":1,\"k\":\"1\",\"c\":[1,1],\"own\":null}
+{\"e\":\"settle\",\"by\":1,\"c\":[1,1],\"ok\":\"\",\"joiners\":0}
+{\"e\":\"handed\",\"by\":1,\"c\":[1,1]}
+{\"e\":\"lead\",\"by\":1,\"k\":\"2\",\"c\":[1,2],\"own\":null}
+{\"e\":\"settle\",\"by\":1,\"c\":[1,2],\"ok\":\"\",\"joiners\":0}
+{\"e\":\"handed\",\"by\":1,\"c\":[1,2]}
+{\"e\":\"forgetcall\",\"by\":1,\"k\":\"2\",\"c\":[1,2],\"hit\":\"cleared\"}
+";
+    check_drive(&rt, rt.alloc(), &words, records)
+}
+
 // With as many keys as this the caches drop entries.
 #[test]
 fn drive_over_many_keys(rt: HostRuntime) -> Result<(), Fail> {

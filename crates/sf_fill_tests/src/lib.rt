@@ -8,6 +8,8 @@ mod calls;
 #[cfg(test)]
 mod drives;
 #[cfg(test)]
+mod keeps;
+#[cfg(test)]
 mod leaders;
 #[cfg(test)]
 mod loaders;
@@ -15,6 +17,8 @@ mod loaders;
 mod rows;
 #[cfg(test)]
 mod spots;
+#[cfg(test)]
+mod stale;
 #[cfg(test)]
 mod steps;
 #[cfg(test)]

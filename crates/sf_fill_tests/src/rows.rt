@@ -19,6 +19,7 @@ pub const SETTING: Setting = Setting {
     open: false,
     limit: 100,
     near: 0,
+    log: 64,
     peer: Gives::Absent,
     local: Gives::Value,
     key_bytes: 4,
@@ -65,6 +66,25 @@ fn reload_makes_a_third_get_load_again(rt: HostRuntime) -> Result<(), Fail> {
         lead 1 1.1; settle 1 1.1 0; handed 1 1.1; forgetcall 1 1.1 cleared; \
         lead 1 1.2; settle 1 1.2 0; handed 1 1.2; log\n";
     check(&rt, &outcome, [said, ""], [3, 1, 2, 2, 0, 0, 2, 0]);
+    Ok(())
+}
+
+// There is room for three events. What is taken is gone, and the room with it.
+#[test]
+fn logs_have_room_for_three_events(rt: HostRuntime) -> Result<(), Fail> {
+    const STEPS: [Step; 5] = [Get("a"), Reload("a"), TakeLog, Get("a"), TakeLog];
+    let setting = Setting {
+        log: 3,
+        steps: [&STEPS, &[], &[]],
+        ..SETTING
+    };
+    let outcome = try_out(&rt, rt.alloc(), setting)?;
+    let said = "a v=true 1.1 root=1.1 joiners=0\n\
+        reload a cleared 1.1\n\
+        lead 1 1.1; settle 1 1.1 0; handed 1 1.1; log\n\
+        a v=true 1.2 root=1.2 joiners=0\n\
+        log\n";
+    check(&rt, &outcome, [said, ""], [2, 0, 2, 2, 0, 0, 2, 0]);
     Ok(())
 }
 

@@ -34,6 +34,8 @@ pub struct Setting {
     pub limit: i64,
     /// How many letters each getter keeps near, within 100 bytes.
     pub near: u32,
+    /// How many events each getter can log.
+    pub log: usize,
     pub peer: Gives,
     pub local: Gives,
     /// The longest key, in bytes.
@@ -229,7 +231,7 @@ fn play_out<R: Wait + Threads + Sync>(
         keys,
         keeps: Sizes {
             limit: setting.limit,
-            log: 64,
+            log: setting.log,
             near: setting.near,
             near_limit: 100,
         },

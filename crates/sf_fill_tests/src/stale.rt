@@ -1,0 +1,90 @@
+//! What a look takes out of a cache: an entry whose call a caller of the group forgot that is no getter, so that no reload took
+//! it out.
+ghost use Rattle.std.specs.Prelude.{◌≡◌, All, vec_len};
+ghost use Rattle.sf_door.specs.Opened.{IsNewGetter};
+
+use bytes::{ByteStr, Bytes};
+use sf_door::{Body, FillSizes, Keys, Places, with_fill};
+use sf_fill::{Fill, Getter, Naming, Which};
+use sf_group::Memory;
+use sf_loaders::scripted::{Answer, FixedPicker, RoundChance, Script};
+use sf_loaders::{LoadPath, Loaders, Origin};
+use sf_wait::forget_wait;
+use std::alloc::Global;
+use std::sync::Wait;
+use std::test::Fail;
+
+/// How many entries main has after a get, and after a Forget and another get.
+#[derive(Drop)]
+struct Stale<'a, R> {
+    rt: &'a R,
+}
+
+impl<'a, R: Wait> Body for Stale<'a, R> {
+    type Answer = [usize; 2];
+
+    ghost use Rattle.std.specs.Prelude.{◌≡◌, ⊤};
+
+    ghost wants = { λ stale getters loaded. getters ≡ 2 };
+
+    ghost ends = { λ stale items. ⊤ };
+
+    fn run<
+        'd,
+        D: Naming + Send + Sync,
+        N: Naming + Send + Sync,
+        O: Origin + Send + Sync,
+        L: LoadPath<Origin = O> + Send + Drop,
+    >(self, fill: &Fill<'d, D, N, O>, getters: Vec<Getter<'d, D, N, O, L>>) -> [usize; 2]
+        requires wants { N.getters ≡ 2 }
+        requires getters { vec_len getters ≡ N.getters }
+        requires new { All (IsNewGetter N.group) getters.items }
+    {
+        let rt = self.rt;
+        let mut getters = getters;
+        let Some(two) = getters.pop() else {
+            unreachable!()
+        };
+        let Some(one) = getters.pop() else {
+            unreachable!()
+        };
+        getters.destroy_empty();
+        let (one, _view) = fill.get(rt, one, b"a");
+        let kept = fill.cache_stats(rt, Which::Main).items;
+        if let Some(mut caller) = two.into_caller(rt, fill) {
+            if fill.group().has(1) {
+                let _ = forget_wait(rt, fill.group(), &mut caller, 1);
+            }
+        }
+        let (one, _fault) = fill.get(rt, one, b"a");
+        one.end(rt, fill);
+        [kept, fill.cache_stats(rt, Which::Main).items]
+    }
+}
+
+// The first load gives a value, and the second one a fault, which is not kept.
+fn loaders(alloc: Global) -> Result<Loaders<FixedPicker, Script, Script, RoundChance>, Memory> {
+    let value = Answer::Value(Bytes::from("v"));
+    let fault = Answer::Failed(ByteStr::from("down"));
+    Ok(Loaders::new(
+        FixedPicker::new(None),
+        Script::new(vec![in alloc; Answer::Failed(ByteStr::from("down"))]?),
+        Script::new(vec![in alloc; value, fault]?),
+        RoundChance::default(),
+    ))
+}
+
+#[test]
+fn stale_entry_leaves(rt: HostRuntime) -> Result<(), Fail> {
+    let alloc = rt.alloc();
+    let places = Places {
+        count: 1,
+        seed0: 0,
+        seed1: 0,
+    };
+    let sizes = FillSizes::new(Keys::Hashed(places), 100);
+    let sets = vec![in alloc; loaders(alloc)?, loaders(alloc)?]?;
+    let items = with_fill(alloc, sizes, sets, Stale { rt: &rt })?;
+    assert!(rt; items == [1, 0], "the stale entry stayed");
+    Ok(())
+}
