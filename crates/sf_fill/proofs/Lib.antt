@@ -8,6 +8,7 @@ pub mod LogSteps
 pub mod Looks
 pub mod Outdated
 pub mod Popped
+pub mod Promoted
 pub mod Rooting
 pub mod Spots
 pub mod Sums

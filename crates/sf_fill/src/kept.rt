@@ -1,7 +1,7 @@
 //! What lies under the lock: letters that two caches keep, and what all getters have counted.
 ghost use Rattle.std.specs.Prelude.{◌≡◌, ◌↔◌, IfOk, IsTrue, ◌<◌, ◌^◌, ◌-◌, IfSome, IfErr, OnOk, OnErr};
 ghost use Rattle.sf_caches.specs.Trimming.{after_put};
-ghost use Rattle.sf_fill.specs.Keeping.{Drops, DropsOfBoth};
+ghost use Rattle.sf_fill.specs.Keeping.{Drops, DropsOfBoth, Serves, ServesCurrent, ServesEither};
 ghost use Rattle.sf_dir.specs.declared.refusal.Refusal.{Refusal};
 ghost use Rattle.sf_spots.specs.declared.spot.Spot.{Spot};
 ghost use Rattle.sf_spots.specs.Spots.{MayBe, IsSpotOfKey, IsRefusedSpot};
@@ -111,6 +111,7 @@ impl<'d, D: Naming, N: Naming, O: Origin> Cached<'d, D, N, O> {
     ) -> Result<Letter<FillValue<'d, D, O>>, Memory>
         requires { group.now ≡ N.group }
         ensures copied { IfOk result (λ copy. HasCopied FitsFill self.old self.new copy) }
+        ensures refused { IfErr result (λ _. self.new ≡ self.old) }
         ensures group { IfOk result (λ copy. copy.group ≡ N.group) }
         ensures settled { IfOk result (λ copy. IsSettled copy) }
     {
@@ -157,6 +158,7 @@ impl<'d, D: Naming, N: Naming, O: Origin> Kept<'d, D, N, O> {
         requires group { group.now ≡ N.group }
         requires caller { caller.old.group ≡ N.group }
         ensures looked { HasLooked caller.old place result caller.new }
+        ensures caches { ServesCurrent (λ l. (l.place ≡ place) × MayBe l.value.spot key.now) place which caller.old caller.new self.old result self.new }
         ensures of_key { IfSome result (λ found. IfOk found (λ letter. MayBe letter.value.spot key.now)) }
     {
         let cached = self.caches.look(which, place)?;
@@ -171,6 +173,26 @@ impl<'d, D: Naming, N: Naming, O: Origin> Kept<'d, D, N, O> {
         None
     }
 
+    // The same of main, or else of hot.
+    fn look(
+        &mut self,
+        group: &Group<FillValue<'d, D, O>>,
+        place: u32,
+        key: &[u8],
+        caller: &mut Caller<FillValue<'d, D, O>>,
+    ) -> Option<Result<Letter<FillValue<'d, D, O>>, Memory>>
+        requires group { group.now ≡ N.group }
+        requires caller { caller.old.group ≡ N.group }
+        ensures looked { HasLookedOn caller.old place result caller.new }
+        ensures caches { ServesEither (λ l. (l.place ≡ place) × MayBe l.value.spot key.now) place caller.old caller.new self.old result self.new }
+        ensures of_key { IfSome result (λ found. IfOk found (λ letter. MayBe letter.value.spot key.now)) }
+    {
+        if let Some(copy) = self.copy_current(group, Which::Main, place, key, caller) {
+            return Some(copy);
+        }
+        self.copy_current(group, Which::Hot, place, key, caller)
+    }
+
     // A copy of the letter that the cache has for the key at the place, which becomes its most recent, if it is of the call.
     fn copy_of(
         &mut self,
@@ -182,6 +204,7 @@ impl<'d, D: Naming, N: Naming, O: Origin> Kept<'d, D, N, O> {
     ) -> Option<Result<Letter<FillValue<'d, D, O>>, Memory>>
         requires { group.now ≡ N.group }
         ensures copy { IfSome result (IsCopyOf N.group place call) }
+        ensures caches { Serves (λ l. (l.place ≡ place) × (l.call ≡ call) × MayBe l.value.spot key.now) place which self.old result self.new }
         ensures of_key { IfSome result (λ found. IfOk found (λ letter. MayBe letter.value.spot key.now)) }
     {
         let cached = self.caches.look(which, place)?;
@@ -275,10 +298,7 @@ impl<'d, D: Naming, N: Naming, O: Origin> Fill<'d, D, N, O> {
         }
         let mut kept = self.kept.lock(rt);
         kept.accounts.enter(tallies);
-        if let Some(copy) = kept.copy_current(&self.group, Which::Main, place, key, caller) {
-            return Some(copy);
-        }
-        kept.copy_current(&self.group, Which::Hot, place, key, caller)
+        kept.look(&self.group, place, key, caller)
     }
 
     /// A copy of the letter of the key that a cache has of the call that the flight's follows, which was settled after the leader
