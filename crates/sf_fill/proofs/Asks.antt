@@ -7,10 +7,9 @@ use Rattle.sf_calls.specs.Begins.{HasJoined}
 use Rattle.sf_calls.specs.Finishes.{IsReady}
 use Rattle.sf_spots.specs.Spaces.{SpaceId}
 use Rattle.sf_spots.specs.Spots.{IsInSpace, IsOther}
-use Rattle.sf_fill.specs.declared.get.Found.TheVariants.{Led}
 use Rattle.sf_fill.specs.declared.counters.totals.GetCounts.{GetCounts}
 use Rattle.sf_fill.specs.FillValue.{Filled, FitsFill}
-use Rattle.sf_fill.specs.Found.{HasMissed}
+use Rattle.sf_fill.specs.Found.{Led, HasMissed}
 use Rattle.sf_fill.specs.Gets.{counts_of}
 use Rattle.sf_fill.specs.Totals.{IsOfOneGet}
 

@@ -33,8 +33,6 @@ use Rattle.sf_spots.specs.Spaces.{SpaceId}
 use Rattle.sf_spots.specs.Spots.{IsInSpace, IsOther, spot_place}
 use Rattle.sf_fill.specs.declared.fault.LoadFault.{LoadFault}
 use Rattle.sf_fill.specs.declared.fault.LoadFault.TheVariants as fault
-use Rattle.sf_fill.specs.declared.get.Found.{Found}
-use Rattle.sf_fill.specs.declared.get.Found.TheVariants.{Kept, Uncopied, Unmade, Spent, Joined, Led}
 use Rattle.sf_fill.specs.declared.reload.Forgot.{Forgot}
 use Rattle.sf_fill.specs.declared.reload.Forgot.TheVariants as forgot
 use Rattle.sf_fill.specs.declared.getter.Standing.{Standing}
@@ -43,7 +41,7 @@ use Rattle.sf_fill.specs.declared.counters.totals.GetCounts.{GetCounts}
 use Rattle.sf_fill.specs.declared.counters.totals.Totals.{Totals}
 use Rattle.sf_fill.specs.Counted.{has_asking, is_asking, askings_in, IsCounted}
 use Rattle.sf_fill.specs.FillValue.{Filled, FitsFill, fill_lasts}
-use Rattle.sf_fill.specs.Found.{get_alone, HasFound, HasFoundFrom, HasMissed, HasRun, IsMiss, IsSource}
+use Rattle.sf_fill.specs.Found.{Found, Kept, Uncopied, Unmade, Spent, Joined, Led, get_alone, HasFound, HasFoundFrom, HasMissed, HasRun, IsMiss, IsSource}
 use Rattle.sf_fill.specs.Fresh.{HasAdded, handed_by, delivered_by, IsFresh, IsAsking, IsAnswer, IsMissedEnter, AreMissed, IsUnanswered, forgot_by, IsOutdated, IsFreshGet, ForgetsOnce, IsReloading}
 use Rattle.sf_fill.specs.Gets.{GetAnswer, Reply, reply_of, refusal_of, answer_by, IsFoundGet, GetsFrom, HasGot}
 use Rattle.sf_fill.specs.GetterValue.{GetterValue, IsOfGroup, number_of, group_of, seen_of, is_owing}
@@ -494,7 +492,7 @@ module _ {L : Type 0} (path : CallId → L → LoadAnswer → L → Type 0) (dra
       none (inl d) = refl
       none (inr places) = All-nil _
 
-  found_from : (p : Spot) (u : CallerValue Filled) (old new : L) (found : Found Filled) → HasFoundFrom space key path draws p u old new found
+  found_from : (p : Spot) (u : CallerValue Filled) (old new : L) (found : Found) → HasFoundFrom space key path draws p u old new found
       → Asked space key u (spot_place p) (reply_of found) ⊎ Quiet u (reply_of found)
   found_from p u old new (Kept e m) h =
       let l = h.1.0 in let row = h.1.1 in let lent = h.1.2 in let w = row.current in
@@ -508,7 +506,7 @@ module _ {L : Type 0} (path : CallId → L → LoadAnswer → L → Type 0) (dra
   found_from p u old new (Joined e l) h = inl (after_misses space key (spot_place p) h.0 u h.1 (reply_of (Joined e l)) h.2 (joined p h.1 e l h.3.1.0 h.3.1.1 h.3.1.2))
   found_from p u old new (Led finished n) h = inl (after_misses space key (spot_place p) h.0 u h.1 (reply_of (Led finished n)) h.2 (run p h.1 old new finished n h.3))
 
-  found_so : (p : Spot) (c : CallerValue Filled) (old new : L) (found : Found Filled) → HasFound space key path draws p c old new found
+  found_so : (p : Spot) (c : CallerValue Filled) (old new : L) (found : Found) → HasFound space key path draws p c old new found
       → Asked space key c (spot_place p) (reply_of found) ⊎ Quiet c (reply_of found)
   found_so p c old new found h = elim (found_from p h.0 old new found h.2) [
     | inl a ↦ inl (asked_before space key c h.0 (spot_place p) (reply_of found) (still_looked c h.0 h.1) a)
@@ -525,7 +523,7 @@ module _ {L : Type 0} (path : CallId → L → LoadAnswer → L → Type 0) (dra
   added_looked s c d x h (inr n) = added_more s (Free c) (Free d) x [] 0 h (nothing_moved c d n) refl
 
   -- the caller's group stays
-  pub group_found : (p : Spot) (c : CallerValue Filled) (old new : L) (found : Found Filled) → HasFound space key path draws p c old new found → IsOfGroup c.group (reply_of found).0
+  pub group_found : (p : Spot) (c : CallerValue Filled) (old new : L) (found : Found) → HasFound space key path draws p c old new found → IsOfGroup c.group (reply_of found).0
   group_found p c old new found h = stays (reply_of found) (found_so p c old new found h)
     where
       stays : (x : Reply) → Asked space key c (spot_place p) x ⊎ Quiet c x → IsOfGroup c.group x.0

@@ -10,8 +10,6 @@ use Rattle.sf_spots.specs.declared.key_space.KeyDesk.{KeyDesk}
 use Rattle.sf_spots.specs.declared.spot.Spot.{Spot}
 use Rattle.sf_spots.specs.Spaces.{SpaceId}
 use Rattle.sf_fill.specs.declared.fault.LoadFault.{LoadFault}
-use Rattle.sf_fill.specs.declared.get.Found.{Found}
-use Rattle.sf_fill.specs.declared.get.Found.TheVariants.{Kept, Uncopied, Unmade, Spent, Joined, Led}
 use Rattle.sf_fill.specs.declared.getter.Standing.{Standing}
 use Rattle.sf_fill.specs.declared.getter.Standing.TheVariants.{Free, Owing}
 use Rattle.sf_fill.specs.declared.put.Put.TheVariants.{Settled, Met}
@@ -19,7 +17,7 @@ use Rattle.sf_fill.specs.declared.counters.totals.GetCounts.{GetCounts}
 use Rattle.sf_fill.specs.declared.counters.totals.Totals.{Totals}
 use Rattle.sf_fill.specs.Counted.{IsCounted}
 use Rattle.sf_fill.specs.FillValue.{Filled}
-use Rattle.sf_fill.specs.Found.{HasFoundFrom, HasRun, bytes_in}
+use Rattle.sf_fill.specs.Found.{Found, Kept, Uncopied, Unmade, Spent, Joined, Led, HasFoundFrom, HasRun, bytes_in}
 use Rattle.sf_fill.specs.Fresh.{IsFreshGet}
 use Rattle.sf_fill.specs.Gets.{GetAnswer, Reply, GetsFrom, HasGot, answer_by, reply_of}
 use Rattle.sf_fill.specs.GetterValue.{GetterValue, with_loaders}
@@ -68,7 +66,7 @@ module _ (key bytes : List ℕ) (draws : KnownBytes → KnownBytes → Type 0) (
     | inr kept ↦ unused bytes old new (reply_of (Led (Done c m) n)).2 (ap (λ (k : KnownBytes). k.bytes) had) none kept.unasked
   ]
 
-  own_found : (p : Spot) (u : CallerValue Filled) (old new : KnownBytes) (found : Found Filled) → old ≡ record { key = key; bytes = Some bytes } → new.bytes ≡ None
+  own_found : (p : Spot) (u : CallerValue Filled) (old new : KnownBytes) (found : Found) → old ≡ record { key = key; bytes = Some bytes } → new.bytes ≡ None
       → HasFoundFrom space key (GivesKnown key) draws p u old new found → OwnIn bytes (reply_of found).2
   own_found p u old new (Kept c l) had none h = unused bytes old new _ (ap (λ (k : KnownBytes). k.bytes) had) none h.0
   own_found p u old new (Uncopied c) had none h = unused bytes old new _ (ap (λ (k : KnownBytes). k.bytes) had) none h.0

@@ -6,6 +6,7 @@ pub mod Got
 pub mod Logging
 pub mod LogSteps
 pub mod Looks
+pub mod Once
 pub mod Outdated
 pub mod Popped
 pub mod Promoted

@@ -1,5 +1,5 @@
 -- what each step of a getter logs is what it added
-use Rattle.std.proofs.Common.{◌≡◌, ℕ, List, [], ◌∷◌, Some, None, Result, Ok, Err, inr, sym, ap, ◌∙◌, subst}
+use Rattle.std.proofs.Common.{◌≡◌, ℕ, List, [], ◌∷◌, None, sym, ap, ◌∙◌, subst}
 use Rattle.sf_history.specs.declared.call.CallId.{CallId}
 use Rattle.sf_history.specs.declared.event.Event.{Event}
 use Rattle.sf_history.specs.declared.event.Event.TheVariants as event
@@ -17,10 +17,10 @@ use Rattle.sf_fill.specs.GetterValue.{GetterValue, number_of, seen_of}
 use Rattle.sf_fill.specs.Logs.{LogValue, HasLogged, logged_by, logged_one}
 use Rattle.sf_fill.specs.Owing.{HasDelivered, HasSettledUp}
 use Rattle.sf_fill.specs.Reloads.{ForgetsNamed}
-use Rattle.sf_fill.specs.Settled.{HasOnlyLooked, HasLookedOn}
+use Rattle.sf_fill.specs.Settled.{HasOnlyLooked}
 use Rattle.sf_fill.proofs.Fresh.{delivered, forget_moved}
 use Rattle.sf_fill.proofs.Logging.{logs_again, logs_added, logs_still, logs_these}
-use Rattle.sf_fill.proofs.Looks.{looked_again, still_looked}
+use Rattle.sf_fill.proofs.Looks.{still_looked}
 
 abbrev Seen : Type 0
 Seen = List (Event ℕ Filled)
@@ -34,11 +34,6 @@ pub logs_after_look : (c d : CallerValue Filled) (seen : Seen) (log after : LogV
 logs_after_look c d seen log after looked then =
     logs_again c.number c.seen d.seen seen log log after (logs_looked c d log looked)
     (subst (λ (i : ℕ). HasLogged i d.seen seen log after) (still_looked c d looked).number then)
-
--- and found a letter
-pub logs_found : (E : Type 0) (c d : CallerValue Filled) (place : ℕ) (found : Result (LetterValue Filled) E) (log : LogValue) → HasLookedOn c place (Some found) d → HasLogged c.number c.seen d.seen log log
-logs_found E c d place (Ok m) log h = logs_looked c d log (looked_again c h.0 d h.1 (inr h.2.1.nothing))
-logs_found E c d place (Err e) log h = logs_looked c d log (looked_again c h.0 d h.1 (inr h.2.1.nothing))
 
 -- two steps of the same number
 pub logs_on : (a b : ℕ) (p q r : Seen) (log then after : LogValue) → b ≡ a → HasLogged a p q log then → HasLogged b q r then after → HasLogged a p r log after
@@ -93,13 +88,11 @@ logs_all : (s t : Standing Filled) (log after : LogValue) → HasLogged (number_
 logs_all s t log after h x adds = logs_these (number_of s) (seen_of s) (seen_of t) x log after h adds.grows.own
 
 module _ {L : Type 0} where
-  -- over the parts of a getter
-  pub logs_got : (old : GetterValue L) (desk : KeyDesk) (standing middle new : Standing Filled) (loaders : L) (tallies : Totals) (log then after : LogValue)
-      → record { desk = desk; standing = standing; loaders = loaders; counted = tallies; log = log } ≡ old → HasDelivered standing middle → then ≡ logged_by log (delivered_by standing middle)
-      → HasLogged (number_of middle) (seen_of middle) (seen_of new) then after → (x : Seen) → HasAdded old.standing new x → after ≡ logged_by old.log x
-  logs_got old desk standing middle new loaders tallies log then after is owed handed more =
-      subst (λ (o : GetterValue L). (x : Seen) → HasAdded o.standing new x → after ≡ logged_by o.log x) is
-      (logs_all standing new log after (logs_then standing middle (seen_of new) log then after owed handed more))
+  -- a getter that settled up, and what came then
+  pub logs_once : (old middle new : GetterValue L) → HasSettledUp old middle → middle.log ≡ logged_by old.log (delivered_by old.standing middle.standing)
+      → HasLogged (number_of middle.standing) (seen_of middle.standing) (seen_of new.standing) middle.log new.log → (x : Seen) → HasAdded old.standing new.standing x → new.log ≡ logged_by old.log x
+  logs_once old middle new settled handed more =
+      logs_all old.standing new.standing old.log new.log (logs_then old.standing middle.standing (seen_of new.standing) old.log middle.log new.log settled.delivered handed more)
 
   -- after a getter that settled up
   pub logs_settled : (old middle : GetterValue L) (desk : KeyDesk) (standing new : Standing Filled) (loaders : L) (tallies : Totals) (log after : LogValue)

@@ -16,11 +16,26 @@ use Rattle.sf_loaders.specs.declared.counts.Counts.{Counts}
 use Rattle.sf_loaders.specs.declared.counts.Source.{Source}
 use Rattle.sf_loaders.specs.declared.counts.Source.TheVariants.{Peer, Local}
 use Rattle.sf_loaders.specs.declared.faults.LocalFault.{LocalFault}
-use Rattle.sf_fill.specs.declared.get.Found.{Found}
-use Rattle.sf_fill.specs.declared.get.Found.TheVariants.{Kept, Uncopied, Unmade, Spent, Joined, Led}
+use Rattle.sf_fill.specs.declared.get.Asked.{Asked}
+use Rattle.sf_fill.specs.declared.get.Asked.TheVariants as asked
 use Rattle.sf_fill.specs.declared.counters.totals.GetCounts.{GetCounts}
 use Rattle.sf_fill.specs.FillValue.{Filled, FitsFill}
 use Rattle.sf_fill.specs.Settled.{HasOnlyLooked, IsCurrentLetter, IsFollowed}
+
+-- what a get of a free caller comes to: a cache's letter, or one whose copy was refused memory; or what an asking comes to
+pub data Found : Type 0 where
+  Kept : CallerValue Filled → LetterValue Filled → Found
+  Uncopied : CallerValue Filled → Found
+  Unmade : CallerValue Filled → Found
+  Spent : CallerValue Filled → Found
+  Joined : CallerValue Filled → LetterValue Filled → Found
+  Led : Finished (CallerValue Filled) (LetterValue Filled) (SettledValue Filled) → GetCounts → Found
+
+abbrev pub found_by : Asked Filled → Found
+found_by (asked.Unmade c) = Unmade c
+found_by (asked.Spent c) = Spent c
+found_by (asked.Joined c l) = Joined c l
+found_by (asked.Led finished n) = Led finished n
 
 abbrev pub no_run : Counts
 no_run = record { loads_deduped = 0; peer_loads = 0; peer_errors = 0; local_loads = 0; local_load_errors = 0 }
@@ -127,7 +142,7 @@ AfterMisses s key k c then = (n : ℕ) × (u : CallerValue Filled) × HasMissed 
 module _ (s : SpaceId) (key : List ℕ) {L : Type 0} (path : CallId → L → LoadAnswer → L → Type 0) (draws : L → L → Type 0) where
   -- a cache had a current letter; memory for the key was refused; a joiner has the open call's letter; who has no generation left
   -- did nothing more
-  abbrev pub HasFoundFrom : Spot → CallerValue Filled → L → L → Found Filled → Type 0
+  abbrev pub HasFoundFrom : Spot → CallerValue Filled → L → L → Found → Type 0
   HasFoundFrom p c old new (Kept d m) = (new ≡ old) × ((l : LetterValue Filled) × IsCurrentLetter c (spot_place p) l d × HasLent l m)
   HasFoundFrom p c old new (Uncopied d) = (new ≡ old) × ((l : LetterValue Filled) × IsCurrentLetter c (spot_place p) l d)
   HasFoundFrom p c old new (Unmade d) = (d ≡ c) × (new ≡ old)
@@ -136,5 +151,5 @@ module _ (s : SpaceId) (key : List ℕ) {L : Type 0} (path : CallId → L → Lo
   HasFoundFrom p c old new (Led finished n) = AfterMisses s key (spot_place p) c (λ u. HasRun path draws p u old new finished n)
 
   -- the same once the caller has looked for letters, by which it may have seen more
-  abbrev pub HasFound : Spot → CallerValue Filled → L → L → Found Filled → Type 0
+  abbrev pub HasFound : Spot → CallerValue Filled → L → L → Found → Type 0
   HasFound p c old new found = (u : CallerValue Filled) × HasOnlyLooked c u × HasFoundFrom p u old new found

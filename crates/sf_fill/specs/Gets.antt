@@ -1,5 +1,5 @@
 -- how gets end
-use Rattle.std.specs.Prelude.{◌≡◌, ℕ, ◌⊎◌, List, Result, Ok, Err, IfOk}
+use Rattle.std.specs.Prelude.{◌≡◌, ℕ, ◌⊎◌, List, Option, None, Result, Ok, Err, IfOk}
 use Rattle.sf_history.specs.declared.call.CallId.{CallId}
 use Rattle.sf_calls.specs.declared.outcomes.Finished.TheVariants.{Done, Held}
 use Rattle.sf_calls.specs.Tokens.{CallerValue, LetterValue}
@@ -15,15 +15,14 @@ use Rattle.sf_loaders.specs.declared.faults.LocalFault.TheVariants as local
 use Rattle.sf_fill.specs.declared.fault.LoadFault.{LoadFault}
 use Rattle.sf_fill.specs.declared.fault.LoadFault.TheVariants as fault
 use Rattle.sf_fill.specs.declared.fault.GetRefusal.TheVariants as refused
-use Rattle.sf_fill.specs.declared.get.Found.{Found}
-use Rattle.sf_fill.specs.declared.get.Found.TheVariants.{Kept, Uncopied, Unmade, Spent, Joined, Led}
 use Rattle.sf_fill.specs.declared.getter.Standing.{Standing}
 use Rattle.sf_fill.specs.declared.getter.Standing.TheVariants.{Free, Owing}
 use Rattle.sf_fill.specs.declared.counters.totals.GetCounts.{GetCounts}
 use Rattle.sf_fill.specs.FillValue.{Filled}
-use Rattle.sf_fill.specs.Found.{HasFound, hit_counts, load_counts, get_alone, no_run}
+use Rattle.sf_fill.specs.Found.{Found, Kept, Uncopied, Unmade, Spent, Joined, Led, HasFound, HasFoundFrom, hit_counts, load_counts, get_alone, no_run}
 use Rattle.sf_fill.specs.GetterValue.{GetterValue}
 use Rattle.sf_fill.specs.Owing.{HasSettledUp}
+use Rattle.sf_fill.specs.Settled.{HasLookedOn}
 use Rattle.sf_fill.specs.Totals.{with_counts}
 
 abbrev pub GetAnswer : Type 0
@@ -50,7 +49,7 @@ refusal_of refusal.Full = fault.Refused refused.Full
 abbrev pub Reply : Type 0
 Reply = Standing Filled × GetCounts × GetAnswer
 
-abbrev pub reply_of : Found Filled → Reply
+abbrev pub reply_of : Found → Reply
 reply_of (Kept c l) = (Free c, hit_counts, answer_in l)
 reply_of (Uncopied c) = (Free c, hit_counts, Err fault.Memory)
 reply_of (Unmade c) = (Free c, get_alone, Err fault.Memory)
@@ -60,11 +59,11 @@ reply_of (Led (Done c l) n) = (Free c, n, answer_in l)
 reply_of (Led (Held s) n) = (Owing s, n, Err fault.Memory)
 
 -- what it counts
-abbrev pub counts_of : Found Filled → GetCounts
+abbrev pub counts_of : Found → GetCounts
 counts_of found = (reply_of found).1
 
 -- a letter that was found is of the place
-abbrev pub IsOfPlace : ℕ → Found Filled → Type 0
+abbrev pub IsOfPlace : ℕ → Found → Type 0
 IsOfPlace k (Kept c l) = l.place ≡ k
 IsOfPlace k (Uncopied c) = Unit {0}
 IsOfPlace k (Unmade c) = Unit {0}
@@ -74,7 +73,7 @@ IsOfPlace k (Led (Done c l) n) = l.place ≡ k
 IsOfPlace k (Led (Held s) n) = Unit {0}
 
 -- and its value may be of the key
-abbrev pub IsOfKey : List ℕ → Found Filled → Type 0
+abbrev pub IsOfKey : List ℕ → Found → Type 0
 IsOfKey key (Kept c l) = MayBe l.value.spot key
 IsOfKey key (Uncopied c) = Unit {0}
 IsOfKey key (Unmade c) = Unit {0}
@@ -82,6 +81,13 @@ IsOfKey key (Spent c) = Unit {0}
 IsOfKey key (Joined c l) = MayBe l.value.spot key
 IsOfKey key (Led (Done c l) n) = MayBe l.value.spot key
 IsOfKey key (Led (Held s) n) = Unit {0}
+
+-- a look for letters, which only a free caller makes
+module _ {E : Type 0} where
+  abbrev pub LooksFrom : Standing Filled → ℕ → Option (Result (LetterValue Filled) E) → Standing Filled → Type 0
+  LooksFrom (Free c) place found (Free d) = HasLookedOn c place found d
+  LooksFrom (Free c) place found (Owing s) = ⊥
+  LooksFrom (Owing s) place found new = (found ≡ None) × (new ≡ Owing s)
 
 module _ {L : Type 0} (path : CallId → L → LoadAnswer → L → Type 0) (draws : L → L → Type 0) (space : SpaceId) (key : List ℕ) where
   -- the key is refused, and nothing else is done
@@ -95,7 +101,7 @@ module _ {L : Type 0} (path : CallId → L → LoadAnswer → L → Type 0) (dra
   pub record IsFoundGet (c : CallerValue Filled) (desk after : KeyDesk) (old new : L) (reply : Reply) : Type 0 where
     pub spot : Spot
     pub resolved : IsSpotOfKey space key desk after spot
-    pub found : Found Filled
+    pub found : Found
     pub found_so : HasFound space key path draws spot c old new found
     pub reply_is : reply ≡ reply_of found
 
@@ -107,6 +113,23 @@ module _ {L : Type 0} (path : CallId → L → LoadAnswer → L → Type 0) (dra
   abbrev pub GetsFrom : Standing Filled → KeyDesk → KeyDesk → L → L → Reply → Type 0
   GetsFrom (Owing s) desk after old new reply = (after ≡ desk) × (new ≡ old) × (reply ≡ (Owing s, get_alone, Err fault.Memory))
   GetsFrom (Free c) desk after old new reply = IsSeeingSpace space desk after × HasReplied c desk after old new reply
+
+  -- no cache had a letter for a free getter, which asked the group, and this came of it
+  pub record HasAsked (spot : Spot) (old new : GetterValue L) (answer : GetAnswer) : Type 0 where
+    pub caller : CallerValue Filled
+    pub free : old.standing ≡ Free caller
+    pub found : Found
+    pub found_so : HasFoundFrom space key path draws spot caller old.loaders new.loaders found
+    pub counts : GetCounts
+    pub reply_is : (new.standing, counts, answer) ≡ reply_of found
+    pub desk : new.desk ≡ old.desk
+    pub counted : new.counted ≡ with_counts old.counted counts
+
+  -- the get of a getter that has delivered what it could
+  pub record GetsOnce (old new : GetterValue L) (answer : GetAnswer) : Type 0 where
+    pub counts : GetCounts
+    pub got : GetsFrom old.standing old.desk new.desk old.loaders new.loaders (new.standing, counts, answer)
+    pub counted : new.counted ≡ with_counts old.counted counts
 
   -- what was owed is delivered first, if it can be
   pub record HasGot (old new : GetterValue L) (answer : GetAnswer) : Type 0 where

@@ -1,6 +1,5 @@
 -- what becomes of the letters that a fill's two caches keep
 use Rattle.std.specs.Prelude.{◌≡◌, ◌≢◌, ◌⊎◌, ℕ, nat_eq, cond, Option, Some, None, Result, IfOk, IsSome}
-use Rattle.sf_caches.specs.declared.shelf.Kept.{Kept}
 use Rattle.sf_caches.specs.declared.caches.Which.{Which}
 use Rattle.sf_caches.specs.declared.caches.Which.TheVariants.{Main, Hot}
 use Rattle.sf_history.specs.History.{current_call}

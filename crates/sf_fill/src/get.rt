@@ -1,44 +1,37 @@
 //! Gets.
-ghost use Rattle.std.specs.Prelude.{◌≡◌, ◌<◌, ◌-◌, ◌^◌, Err, IfOk};
+ghost use Rattle.std.specs.Prelude.{◌≡◌, ◌<◌, ◌-◌, ◌^◌, Err, IfOk, IfSome, false};
 ghost use Rattle.sf_calls.specs.Same.{IsPlaceOf};
 ghost use Rattle.sf_calls.specs.Seen.{IsLawful};
-ghost use Rattle.sf_spots.specs.Spaces.{IsDeskOf};
-ghost use Rattle.sf_spots.specs.Spots.{IsInSpace, IsSeeingSpace, MayBe, place_at, spot_at, spot_key, spot_place};
+ghost use Rattle.sf_spots.specs.Spots.{IsInSpace, MayBe, place_at, spot_at, spot_key, spot_place};
 ghost use Rattle.sf_fill.specs.declared.fault.LoadFault.{LoadFault};
 ghost use Rattle.sf_fill.specs.declared.fault.GetRefusal.{GetRefusal};
-ghost use Rattle.sf_fill.specs.Found.{HasFound, HasFoundFrom, HasRunFrom, IfDone, IsDraw};
+ghost use Rattle.sf_fill.specs.Found.{Led, HasFoundFrom, HasRunFrom, IfDone, IsDraw, found_by};
 ghost use Rattle.sf_fill.specs.Counted.{IsCounted};
 ghost use Rattle.sf_fill.specs.Fresh.{IsFreshGet};
-ghost use Rattle.sf_fill.specs.Gets.{GetsFrom, HasReplied, HasGot, IsLoadedFor, IsOfKey, IsOfPlace, counts_of, reply_of};
-ghost use Rattle.sf_fill.specs.declared.get.Found.TheVariants.{Led};
-ghost use Rattle.sf_fill.specs.GetterValue.{IsOfGroup, number_of, seen_of};
+ghost use Rattle.sf_fill.specs.Gets.{GetsOnce, HasAsked, HasGot, IsLoadedFor, IsOfKey, IsOfPlace, LooksFrom, counts_of, reply_of};
+ghost use Rattle.sf_fill.specs.GetterValue.{is_owing, number_of, seen_of};
 ghost use Rattle.sf_fill.specs.Logs.{HasLogged};
 ghost use Rattle.sf_fill.specs.Rooted.{IsRooted};
 ghost use Rattle.sf_fill.specs.Totals.{IsOfOneGet};
 
-use crate::counters::{GetCounts, Tallies};
+use crate::counters::GetCounts;
 use crate::fault::{GetRefusal, LoadFault, of_key};
 use crate::fill::Fill;
 use crate::getter::{Getter, Standing};
 use crate::load::{NO_RUN, Sourced};
 use crate::log::Log;
 use crate::naming::Naming;
-use crate::near::Near;
 use crate::value::FillValue;
 use crate::view::{View, show};
 use sf_calls::Fit;
-use sf_group::{Begun, Caller, Event, Finished, Flight, Letter, Spent};
+use sf_group::{Begun, Caller, Event, Finished, Flight, Letter, Memory, Spent};
 use sf_loaders::{LoadPath, Origin};
-use sf_spots::{KeyDesk, KeyPlace, Spot};
+use sf_spots::{KeyPlace, Spot};
 use sf_wait::{begin_wait, wait};
 use std::sync::Wait;
 
-/// What a get of a free caller comes to.
-pub(crate) enum Found<V: Fit> {
-    /// A letter of a cache.
-    Kept(Caller<V>, Letter<V>),
-    /// A cache has a letter, and memory for its copy was refused.
-    Uncopied(Caller<V>),
+/// What it comes to that a free caller asks the group.
+pub(crate) enum Asked<V: Fit> {
     /// Memory for the key was refused, and nothing was asked.
     Unmade(Caller<V>),
     /// The caller has no generation left to ask with.
@@ -66,37 +59,35 @@ const LOAD: GetCounts = GetCounts {
     ..GET_ALONE
 };
 
-/// Where a getter's caller stands after a get, what the get counts, and what it answers.
+/// Where a getter's caller stands after it asked, what the get counts, and what it answers.
 type Reply<'d, D, O> = (
     Standing<FillValue<'d, D, O>>,
     GetCounts,
     Result<View<'d, D, O>, LoadFault>,
 );
 
-// What a get answers that found this.
+// What a get answers whose asking came to this.
 fn reply<'d, D: Naming, O: Origin>(
-    found: Found<FillValue<'d, D, O>>,
+    asked: Asked<FillValue<'d, D, O>>,
     at: &mut KeyPlace<'d>,
     key: &[u8],
 ) -> Reply<'d, D, O>
     requires space { IsInSpace D.space (spot_at key.now at.old) }
-    requires of_place { IsOfPlace (place_at at.old) found }
-    requires of_key { IsOfKey key.now found }
-    ensures reply { result ≡ reply_of found.entry }
+    requires of_place { IsOfPlace (place_at at.old) (found_by asked) }
+    requires of_key { IsOfKey key.now (found_by asked) }
+    ensures reply { result ≡ reply_of (found_by asked.entry) }
     ensures keyed { IfOk result.2 (λ view. spot_key view.value.spot ≡ spot_key (spot_at key.now at.old)) }
     ensures loaded { IfOk result.2 (IsLoadedFor O.loaded (spot_key (spot_at key.now at.old))) }
 {
-    match found {
-        Found::Kept(caller, letter) => (Standing::Free(caller), HIT, show(letter, at, key)),
-        Found::Uncopied(caller) => (Standing::Free(caller), HIT, Err(LoadFault::Memory)),
-        Found::Unmade(caller) => (Standing::Free(caller), GET_ALONE, Err(LoadFault::Memory)),
-        Found::Spent(caller) => (
+    match asked {
+        Asked::Unmade(caller) => (Standing::Free(caller), GET_ALONE, Err(LoadFault::Memory)),
+        Asked::Spent(caller) => (
             Standing::Free(caller),
             LOAD,
             Err(LoadFault::Refused(GetRefusal::Spent)),
         ),
-        Found::Joined(caller, letter) => (Standing::Free(caller), LOAD, show(letter, at, key)),
-        Found::Led(finished, counts) => match finished {
+        Asked::Joined(caller, letter) => (Standing::Free(caller), LOAD, show(letter, at, key)),
+        Asked::Led(finished, counts) => match finished {
             Finished::Done(caller, letter) => {
                 (Standing::Free(caller), counts, show(letter, at, key))
             }
@@ -106,41 +97,28 @@ fn reply<'d, D: Naming, O: Origin>(
 }
 
 impl<'d, D: Naming, N: Naming, O: Origin> Fill<'d, D, N, O> {
-    // Looks for the key's letter in the caches, and else asks the group.
-    fn find<R: Wait, L>(
+    // Looks for a letter of the key at the place, in what the getter keeps near and then in the caches, if it owes nothing.
+    fn look_for<R: Wait, L>(
         &self,
         rt: &R,
-        caller: Caller<FillValue<'d, D, O>>,
-        at: &mut KeyPlace<'d>,
+        getter: &mut Getter<'d, D, N, O, L>,
+        place: u32,
         key: &[u8],
-        loaders: &mut L,
-        log: &mut Log,
-        near: &mut Near<'d, D, N, O>,
-        tallies: &mut Tallies<N>,
-    ) -> Found<FillValue<'d, D, O>>
-    where
-        L: LoadPath<Origin = O>,
-        requires caller { caller.group ≡ N.group }
-        requires space { IsInSpace D.space (spot_at key.now at.old) }
-        requires keyed { spot_key (spot_at key.now at.old) ≡ key.now }
-        requires place { IsPlaceOf N.group (place_at at.old) }
-        ensures found { HasFound N.space key.now (L.run_gives key.now) (IsDraw L.draw_gives) (spot_at key.now at.old) caller.entry loaders.old loaders.new result }
-        ensures logged { HasLogged caller.entry.number caller.entry.seen (seen_of (reply_of result).0) log.old log.new }
-        ensures of_place { IsOfPlace (place_at at.old) result }
-        ensures of_key { IsOfKey key.now result }
-        ensures one { IsOfOneGet (counts_of result) }
-        ensures same { at.new ≡ at.old }
-        ensures tallies { tallies.new ≡ tallies.old }
+    ) -> Option<Result<Letter<FillValue<'d, D, O>>, Memory>>
+        ensures looked { LooksFrom getter.old.standing place result getter.new.standing }
+        ensures of_key { IfSome result (λ found. IfOk found (λ letter. MayBe letter.value.spot key.now)) }
+        ensures rest { getter.new ≡ record getter.old { standing = getter.new.standing } }
     {
-        let mut caller = caller;
-        let place = at.number().number();
-        match self.look_near(rt, near, tallies, place, key, &mut caller) {
-            Some(Ok(letter)) => Found::Kept(caller, letter),
-            Some(Err(_)) => Found::Uncopied(caller),
-            None => match at.spot(self.alloc, key) {
-                Ok(spot) => self.ask(rt, caller, spot, key, loaders, log),
-                Err(_) => Found::Unmade(caller),
-            },
+        match &mut getter.standing {
+            Standing::Free(caller) => self.look_near(
+                rt,
+                &mut getter.near,
+                &mut getter.tallies,
+                place,
+                key,
+                caller,
+            ),
+            Standing::Owing(_) => None,
         }
     }
 
@@ -154,16 +132,16 @@ impl<'d, D: Naming, N: Naming, O: Origin> Fill<'d, D, N, O> {
         key: &[u8],
         loaders: &mut L,
         log: &mut Log,
-    ) -> Found<FillValue<'d, D, O>>
+    ) -> Asked<FillValue<'d, D, O>>
     where
         L: LoadPath<Origin = O>,
         requires caller { caller.group ≡ N.group }
         requires spot { IsInSpace D.space spot × (spot_key spot ≡ key.now) × IsPlaceOf N.group (spot_place spot) }
-        ensures found { HasFoundFrom N.space key.now (L.run_gives key.now) (IsDraw L.draw_gives) spot.entry caller.entry loaders.old loaders.new result }
-        ensures logged { HasLogged caller.entry.number caller.entry.seen (seen_of (reply_of result).0) log.old log.new }
-        ensures of_place { IsOfPlace (spot_place spot.entry) result }
-        ensures of_key { IsOfKey key.now result }
-        ensures one { IsOfOneGet (counts_of result) }
+        ensures found { HasFoundFrom N.space key.now (L.run_gives key.now) (IsDraw L.draw_gives) spot.entry caller.entry loaders.old loaders.new (found_by result) }
+        ensures logged { HasLogged caller.entry.number caller.entry.seen (seen_of (reply_of (found_by result)).0) log.old log.new }
+        ensures of_place { IsOfPlace (spot_place spot.entry) (found_by result) }
+        ensures of_key { IsOfKey key.now (found_by result) }
+        ensures one { IsOfOneGet (counts_of (found_by result)) }
     {
         let number = spot.number();
         let mut asking = caller;
@@ -177,7 +155,7 @@ impl<'d, D: Naming, N: Naming, O: Origin> Fill<'d, D, N, O> {
                         own: None,
                     });
                     let (finished, counts) = self.lead(rt, flight, spot, key, loaders, log);
-                    return Found::Led(finished, counts);
+                    return Asked::Led(finished, counts);
                 }
                 Ok(Begun::Join(ticket)) => {
                     log.add(Event::Enter {
@@ -188,11 +166,11 @@ impl<'d, D: Naming, N: Naming, O: Origin> Fill<'d, D, N, O> {
                     });
                     let (caller, letter) = wait(rt, &self.group, ticket);
                     if letter.value().is_of(key) {
-                        return Found::Joined(caller, letter);
+                        return Asked::Joined(caller, letter);
                     }
                     asking = caller;
                 }
-                Err(Spent { back }) => return Found::Spent(back),
+                Err(Spent { back }) => return Asked::Spent(back),
             }
         }
         unreachable!()
@@ -232,73 +210,96 @@ impl<'d, D: Naming, N: Naming, O: Origin> Fill<'d, D, N, O> {
         (finished, counts)
     }
 
-    // Gets the key's value for a free caller.
-    fn get_free<R: Wait, L>(
+    // Asks the group for the key at the place, for a getter that owes nothing and found no letter.
+    fn get_asking<R: Wait, L>(
         &self,
         rt: &R,
-        caller: Caller<FillValue<'d, D, O>>,
-        desk: &mut KeyDesk,
+        getter: Getter<'d, D, N, O, L>,
+        at: &mut KeyPlace<'d>,
         key: &[u8],
-        loaders: &mut L,
-        log: &mut Log,
-        near: &mut Near<'d, D, N, O>,
-        tallies: &mut Tallies<N>,
-    ) -> Reply<'d, D, O>
+    ) -> (Getter<'d, D, N, O, L>, Result<View<'d, D, O>, LoadFault>)
     where
         L: LoadPath<Origin = O>,
-        requires caller { caller.group ≡ N.group }
-        requires desk { IsDeskOf N.space desk.old }
-        ensures reply { HasReplied (L.run_gives key.now) (IsDraw L.draw_gives) N.space key.now caller.entry desk.old desk.new loaders.old loaders.new result }
-        ensures logged { HasLogged caller.entry.number caller.entry.seen (seen_of result.0) log.old log.new }
-        ensures group { IsOfGroup N.group result.0 }
-        ensures desk { IsDeskOf N.space desk.new }
-        ensures seeing { IsSeeingSpace N.space desk.old desk.new }
-        ensures keyed { IfOk result.2 (λ view. spot_key view.value.spot ≡ key.now) }
-        ensures loaded { IfOk result.2 (IsLoadedFor O.loaded key.now) }
-        ensures one { IsOfOneGet result.1 }
-        ensures tallies { tallies.new ≡ tallies.old }
+        requires room { getter.counted.gets < 2 ^ 64 - 1 }
+        requires free { is_owing getter.standing ≡ false }
+        requires space { IsInSpace D.space (spot_at key.now at.old) }
+        requires keyed { spot_key (spot_at key.now at.old) ≡ key.now }
+        requires place { IsPlaceOf N.group (place_at at.old) }
+        ensures asked { HasAsked (L.run_gives key.now) (IsDraw L.draw_gives) N.space key.now (spot_at key.now at.old) getter.entry result.0 result.1 }
+        ensures logged { HasLogged (number_of getter.entry.standing) (seen_of getter.entry.standing) (seen_of result.0.standing) getter.entry.log result.0.log }
+        ensures keyed { IfOk result.1 (λ view. spot_key view.value.spot ≡ key.now) }
+        ensures loaded { IfOk result.1 (IsLoadedFor O.loaded key.now) }
     {
-        match self.space.find(desk, key) {
-            Err(refusal) => (Standing::Free(caller), GET_ALONE, Err(of_key(refusal))),
-            Ok(mut at) => {
-                let found = self.find(rt, caller, &mut at, key, loaders, log, near, tallies);
-                reply(found, &mut at, key)
+        let Getter {
+            desk,
+            standing,
+            mut loaders,
+            mut tallies,
+            mut log,
+            near,
+        } = getter;
+        let caller = match standing {
+            Standing::Free(caller) => caller,
+            Standing::Owing(settled) => {
+                settled.abandon();
+                unreachable!()
             }
-        }
+        };
+        let asked = match at.spot(self.alloc, key) {
+            Ok(spot) => self.ask(rt, caller, spot, key, &mut loaders, &mut log),
+            Err(_) => Asked::Unmade(caller),
+        };
+        let (standing, counts, answer) = reply(asked, at, key);
+        self.count(rt, &mut tallies, counts);
+        let getter = Getter {
+            desk,
+            standing,
+            loaders,
+            tallies,
+            log,
+            near,
+        };
+        (getter, answer)
     }
 
-    // Gets the key's value, unless the caller owes letters.
-    fn get_standing<R: Wait, L>(
+    // Gets the key's value, for a getter that has delivered what it could. A hit is answered in place: only an asking takes the
+    // getter apart.
+    fn get_once<R: Wait, L>(
         &self,
         rt: &R,
-        standing: Standing<FillValue<'d, D, O>>,
-        desk: &mut KeyDesk,
+        getter: Getter<'d, D, N, O, L>,
         key: &[u8],
-        loaders: &mut L,
-        log: &mut Log,
-        near: &mut Near<'d, D, N, O>,
-        tallies: &mut Tallies<N>,
-    ) -> Reply<'d, D, O>
+    ) -> (Getter<'d, D, N, O, L>, Result<View<'d, D, O>, LoadFault>)
     where
         L: LoadPath<Origin = O>,
-        requires group { IsOfGroup N.group standing }
-        requires desk { IsDeskOf N.space desk.old }
-        ensures reply { GetsFrom (L.run_gives key.now) (IsDraw L.draw_gives) N.space key.now standing.entry desk.old desk.new loaders.old loaders.new result }
-        ensures logged { HasLogged (number_of standing.entry) (seen_of standing.entry) (seen_of result.0) log.old log.new }
-        ensures group { IsOfGroup N.group result.0 }
-        ensures desk { IsDeskOf N.space desk.new }
-        ensures keyed { IfOk result.2 (λ view. spot_key view.value.spot ≡ key.now) }
-        ensures loaded { IfOk result.2 (IsLoadedFor O.loaded key.now) }
-        ensures one { IsOfOneGet result.1 }
-        ensures tallies { tallies.new ≡ tallies.old }
+        requires room { getter.counted.gets < 2 ^ 64 - 1 }
+        ensures got { GetsOnce (L.run_gives key.now) (IsDraw L.draw_gives) N.space key.now getter.entry result.0 result.1 }
+        ensures logged { HasLogged (number_of getter.entry.standing) (seen_of getter.entry.standing) (seen_of result.0.standing) getter.entry.log result.0.log }
+        ensures keyed { IfOk result.1 (λ view. spot_key view.value.spot ≡ key.now) }
+        ensures loaded { IfOk result.1 (IsLoadedFor O.loaded key.now) }
     {
-        match standing {
-            Standing::Owing(settled) => {
-                (Standing::Owing(settled), GET_ALONE, Err(LoadFault::Memory))
+        let mut getter = getter;
+        if getter.owes() {
+            self.count(rt, &mut getter.tallies, GET_ALONE);
+            return (getter, Err(LoadFault::Memory));
+        }
+        let mut at = match self.space.find(&mut getter.desk, key) {
+            Ok(at) => at,
+            Err(refusal) => {
+                self.count(rt, &mut getter.tallies, GET_ALONE);
+                return (getter, Err(of_key(refusal)));
             }
-            Standing::Free(caller) => self.get_free(
-                rt, caller, desk, key, loaders, log, near, tallies,
-            ),
+        };
+        match self.look_for(rt, &mut getter, at.number().number(), key) {
+            Some(Ok(letter)) => {
+                self.count(rt, &mut getter.tallies, HIT);
+                (getter, show(letter, &mut at, key))
+            }
+            Some(Err(_)) => {
+                self.count(rt, &mut getter.tallies, HIT);
+                (getter, Err(LoadFault::Memory))
+            }
+            None => self.get_asking(rt, getter, &mut at, key),
         }
     }
 
@@ -323,34 +324,10 @@ impl<'d, D: Naming, N: Naming, O: Origin> Fill<'d, D, N, O> {
         if getter.is_full() {
             return (getter, Err(LoadFault::Refused(GetRefusal::Spent)));
         }
-        let Getter {
-            mut desk,
-            standing,
-            mut loaders,
-            mut tallies,
-            mut log,
-            mut near,
-        } = getter;
-        let (standing, _delivered) = self.deliver(rt, standing, &mut log);
-        let (standing, counts, answer) = self.get_standing(
-            rt,
-            standing,
-            &mut desk,
-            key,
-            &mut loaders,
-            &mut log,
-            &mut near,
-            &mut tallies,
-        );
-        self.count(rt, &mut tallies, counts);
-        let getter = Getter {
-            desk,
-            standing,
-            loaders,
-            tallies,
-            log,
-            near,
-        };
-        (getter, answer)
+        if getter.owes() {
+            let (getter, _delivered) = getter.settle_up(rt, self);
+            return self.get_once(rt, getter, key);
+        }
+        self.get_once(rt, getter, key)
     }
 }

@@ -1,0 +1,211 @@
+-- gets that a letter at hand answers, and what comes of an asking
+use Rattle.std.proofs.Common.{◌≡◌, ℕ, List, true, false, Option, Some, None, Result, Ok, Err, inl, inr, refl, sym, ap, ◌∙◌, subst}
+use Rattle.sf_history.specs.declared.call.CallId.{CallId}
+use Rattle.sf_calls.specs.Tokens.{GroupValue, CallerValue, LetterValue}
+use Rattle.sf_dir.specs.declared.refusal.Refusal.{Refusal}
+use Rattle.sf_spots.specs.declared.key_space.KeyDesk.{KeyDesk}
+use Rattle.sf_spots.specs.declared.spot.Spot.{Spot}
+use Rattle.sf_spots.specs.Spaces.{SpaceId}
+use Rattle.sf_spots.specs.Spots.{IsRefusedSpot, IsSeeingSpace, IsSpotOfKey, spot_place}
+use Rattle.sf_loaders.specs.LoadPath.{LoadAnswer}
+use Rattle.sf_fill.specs.declared.counters.totals.GetCounts.{GetCounts}
+use Rattle.sf_fill.specs.declared.counters.totals.Totals.{Totals}
+use Rattle.sf_fill.specs.declared.fault.LoadFault.{LoadFault}
+use Rattle.sf_fill.specs.declared.fault.LoadFault.TheVariants as fault
+use Rattle.sf_fill.specs.declared.getter.Standing.{Standing}
+use Rattle.sf_fill.specs.declared.getter.Standing.TheVariants.{Free, Owing}
+use Rattle.sf_fill.specs.FillValue.{Filled}
+use Rattle.sf_fill.specs.Found.{Found, HasFoundFrom, Kept, Uncopied, get_alone, hit_counts}
+use Rattle.sf_fill.specs.Fresh.{delivered_by}
+use Rattle.sf_fill.specs.Gets.{GetAnswer, GetsFrom, GetsOnce, HasAsked, HasGot, IsFoundGet, LooksFrom, Reply, answer_in, refusal_of, reply_of}
+use Rattle.sf_fill.specs.GetterValue.{GetterValue, IsOfGroup, is_owing, number_of, seen_of}
+use Rattle.sf_fill.specs.Logs.{LogValue, HasLogged, logged_by}
+use Rattle.sf_fill.specs.Owing.{HasDelivered, HasSettledUp}
+use Rattle.sf_fill.specs.Settled.{HasLookedOn, HasOnlyLooked}
+use Rattle.sf_fill.specs.Totals.{with_counts}
+use Rattle.sf_fill.proofs.Fresh.{group_found}
+use Rattle.sf_fill.proofs.Logging.{logs_none}
+use Rattle.sf_fill.proofs.LogSteps.{logs_looked}
+use Rattle.sf_fill.proofs.Looks.{looked_again, looked_twice, still_looked}
+
+module _ {E : Type 0} where
+  only_looked : (c d : CallerValue Filled) (place : ℕ) (found : Option (Result (LetterValue Filled) E)) → HasLookedOn c place found d → HasOnlyLooked c d
+  only_looked c d place None h = looked_twice c d h
+  only_looked c d place (Some (Ok m)) h = looked_again c h.0 d h.1 (inr h.2.1.nothing)
+  only_looked c d place (Some (Err e)) h = looked_again c h.0 d h.1 (inr h.2.1.nothing)
+
+  -- a look leaves the group
+  pub looks_group : (g : GroupValue) (s t : Standing Filled) (place : ℕ) (found : Option (Result (LetterValue Filled) E)) → IsOfGroup g s → LooksFrom s place found t → IsOfGroup g t
+  looks_group g (Free c) (Free d) place found of h = (still_looked c d (only_looked c d place found h)).group ∙ of
+  looks_group g (Free c) (Owing s) place found of h = elim h [ ]
+  looks_group g (Owing s) t place found of h = subst (IsOfGroup g) (sym h.1) of
+
+  -- and logs nothing
+  pub looks_logged : (s t : Standing Filled) (place : ℕ) (found : Option (Result (LetterValue Filled) E)) (log : LogValue) → LooksFrom s place found t → HasLogged (number_of s) (seen_of s) (seen_of t) log log
+  looks_logged (Free c) (Free d) place found log h = logs_looked c d log (only_looked c d place found h)
+  looks_logged (Free c) (Owing s) place found log h = elim h [ ]
+  looks_logged (Owing s) t place found log h = subst (λ (n : Standing Filled). HasLogged s.number s.seen (seen_of n) log log) (sym h.1) (logs_none s.number s.seen log)
+
+module _ {L : Type 0} (path : CallId → L → LoadAnswer → L → Type 0) (draws : L → L → Type 0) (space : SpaceId) (key : List ℕ) where
+  -- letters are owed still
+  pub owing_once : (s : Standing Filled) (desk : KeyDesk) (loaders : L) → is_owing s ≡ true → GetsFrom path draws space key s desk desk loaders loaders (s, get_alone, Err fault.Memory)
+  owing_once (Free c) desk loaders owes = cc
+  owing_once (Owing s) desk loaders owes = (refl, refl, refl)
+
+  -- the key is refused
+  pub refused_once : (s : Standing Filled) (desk after : KeyDesk) (loaders : L) (r : Refusal) → is_owing s ≡ false → IsSeeingSpace space desk after → IsRefusedSpot space key desk after r
+      → GetsFrom path draws space key s desk after loaders loaders (s, get_alone, Err (refusal_of r))
+  refused_once (Free c) desk after loaders r free seeing cause = (seeing, inl (record { refusal = r; cause = cause; unasked = refl; reply_is = refl }))
+  refused_once (Owing s) desk after loaders r free seeing cause = cc
+
+  module _ (E : Type 0) (s t : Standing Filled) (desk after : KeyDesk) (loaders : L) (spot : Spot) (seeing : IsSeeingSpace space desk after) (resolved : IsSpotOfKey space key desk after spot) where
+    -- a letter was at hand
+    pub hit_once : (m : LetterValue Filled) → LooksFrom {E = E} s (spot_place spot) (Some (Ok m)) t → GetsFrom path draws space key s desk after loaders loaders (t, hit_counts, answer_in m)
+    hit_once m h = hits s t h
+      where
+        hits : (s t : Standing Filled) → LooksFrom {E = E} s (spot_place spot) (Some (Ok m)) t → GetsFrom path draws space key s desk after loaders loaders (t, hit_counts, answer_in m)
+        hits (Free c) (Free d) h = (seeing, inr (record { spot = spot; resolved = resolved; found = Kept d m; found_so = (h.0, h.1, (refl, h.2)); reply_is = refl }))
+        hits (Free c) (Owing o) h = elim h [ ]
+        hits (Owing o) t h = let no : Some (Ok m) ≡ None = h.0 in cc
+
+    -- a letter was at hand, and memory for its copy was refused
+    pub uncopied_once : (e : E) → LooksFrom {E = E} s (spot_place spot) (Some (Err e)) t → GetsFrom path draws space key s desk after loaders loaders (t, hit_counts, Err fault.Memory)
+    uncopied_once e h = hits s t h
+      where
+        hits : (s t : Standing Filled) → LooksFrom {E = E} s (spot_place spot) (Some (Err e)) t → GetsFrom path draws space key s desk after loaders loaders (t, hit_counts, Err fault.Memory)
+        hits (Free c) (Free d) h = (seeing, inr (record { spot = spot; resolved = resolved; found = Uncopied d; found_so = (h.0, h.1, (refl, h.2)); reply_is = refl }))
+        hits (Free c) (Owing o) h = elim h [ ]
+        hits (Owing o) t h = let no : Some (Err e) ≡ None = h.0 in cc
+
+  -- none was at hand, and the group was asked
+  pub asked_once : (E : Type 0) (old middle new : GetterValue L) (answer : GetAnswer) (spot : Spot) → IsSeeingSpace space old.desk middle.desk → IsSpotOfKey space key old.desk middle.desk spot
+      → LooksFrom {E = E} old.standing (spot_place spot) None middle.standing → middle.loaders ≡ old.loaders → middle.counted ≡ old.counted
+      → HasAsked path draws space key spot middle new answer → GetsOnce path draws space key old new answer
+  asked_once E old middle new answer spot seeing resolved looks same stays asked = record {
+    counts = asked.counts;
+    got = gets old.standing (subst (LooksFrom {E = E} old.standing (spot_place spot) None) asked.free looks);
+    counted = asked.counted ∙ ap (λ (t : Totals). with_counts t asked.counts) stays;
+  }
+    where
+      found : (c : CallerValue Filled) → HasOnlyLooked c asked.caller → IsFoundGet path draws space key c old.desk new.desk old.loaders new.loaders (new.standing, asked.counts, answer)
+      found c only = record {
+        spot = spot;
+        resolved = subst (λ (k : KeyDesk). IsSpotOfKey space key old.desk k spot) (sym asked.desk) resolved;
+        found = asked.found;
+        found_so = (asked.caller, only, subst (λ (l : L). HasFoundFrom space key path draws spot asked.caller l new.loaders asked.found) same asked.found_so);
+        reply_is = asked.reply_is;
+      }
+
+      gets : (s : Standing Filled) → LooksFrom {E = E} s (spot_place spot) None (Free asked.caller) → GetsFrom path draws space key s old.desk new.desk old.loaders new.loaders (new.standing, asked.counts, answer)
+      gets (Free c) h = (subst (IsSeeingSpace space old.desk) (sym asked.desk) seeing, inr (found c (looked_twice c asked.caller h)))
+      gets (Owing s) h = let no : Free asked.caller ≡ Owing s = h.1 in cc
+
+  -- who asked is of the group still
+  pub asked_group : (g : GroupValue) (p : Spot) (c : CallerValue Filled) (old new : L) (found : Found) (reply : Reply) → c.group ≡ g → HasFoundFrom space key path draws p c old new found
+      → reply ≡ reply_of found → IsOfGroup g reply.0
+  asked_group g p c old new found reply of h is =
+      subst (λ (x : Reply). IsOfGroup g x.0) (sym is) (subst (λ (k : GroupValue). IsOfGroup k (reply_of found).0) of (group_found path draws space key p c old new found (c, inl refl, h)))
+
+  -- the same over the parts of a getter
+  module _ (old : GetterValue L) (desk : KeyDesk) (standing : Standing Filled) (loaders : L) (tallies : Totals) (log : LogValue)
+      (is : record { desk = desk; standing = standing; loaders = loaders; counted = tallies; log = log } ≡ old) where
+    -- where the getter then stands, once it has been counted
+    moved : (n : GetterValue L) (counted : Totals) (counts : GetCounts) (answer : GetAnswer) → GetsFrom path draws space key standing desk n.desk loaders n.loaders (n.standing, counts, answer)
+        → n.counted ≡ tallies → counted ≡ with_counts n.counted counts
+        → GetsOnce path draws space key old (record { desk = n.desk; standing = n.standing; loaders = n.loaders; counted = counted; log = n.log }) answer
+    moved n counted counts answer got stays count =
+        let new : GetterValue L = record { desk = n.desk; standing = n.standing; loaders = n.loaders; counted = counted; log = n.log } in
+        subst (λ (o : GetterValue L). GetsOnce path draws space key o new answer) is
+        (record { counts = counts; got = got; counted = count ∙ ap (λ (t : Totals). with_counts t counts) stays })
+
+    pub owing_getter : (counted : Totals) → counted ≡ with_counts tallies get_alone → is_owing old.standing ≡ true
+        → GetsOnce path draws space key old (record { desk = desk; standing = standing; loaders = loaders; counted = counted; log = log }) (Err fault.Memory)
+    owing_getter counted count owes =
+        moved (record { desk = desk; standing = standing; loaders = loaders; counted = tallies; log = log }) counted get_alone (Err fault.Memory)
+        (owing_once standing desk loaders (ap (λ (g : GetterValue L). is_owing g.standing) is ∙ owes)) refl count
+
+    pub refused_getter : (after : KeyDesk) (counted : Totals) (r : Refusal) (f : LoadFault) → counted ≡ with_counts tallies get_alone → is_owing old.standing ≡ false → IsSeeingSpace space desk after
+        → IsRefusedSpot space key desk after r → f ≡ refusal_of r
+        → GetsOnce path draws space key old (record { desk = after; standing = standing; loaders = loaders; counted = counted; log = log }) (Err f)
+    refused_getter after counted r f count free seeing cause is_fault =
+        let new : GetterValue L = record { desk = after; standing = standing; loaders = loaders; counted = counted; log = log } in
+        subst (λ (x : LoadFault). GetsOnce path draws space key old new (Err x)) (sym is_fault)
+        (moved (record { desk = after; standing = standing; loaders = loaders; counted = tallies; log = log }) counted get_alone (Err (refusal_of r))
+        (refused_once standing desk after loaders r (ap (λ (g : GetterValue L). is_owing g.standing) is ∙ free) seeing cause) refl count)
+
+    -- the getter after it looked, which is taken to its parts again
+    module _ (E : Type 0) (after : KeyDesk) (middle : GetterValue L) (spot : Spot) (place : ℕ) (seeing : IsSeeingSpace space desk after) (resolved : IsSpotOfKey space key desk after spot)
+        (at : place ≡ spot_place spot) (rest : middle ≡ record { desk = after; standing = middle.standing; loaders = loaders; counted = tallies; log = log }) where
+      looked_at : (found : Option (Result (LetterValue Filled) E)) → LooksFrom standing place found middle.standing → LooksFrom standing (spot_place spot) found middle.standing
+      looked_at found h = subst (λ (p : ℕ). LooksFrom standing p found middle.standing) at h
+
+      module _ (then : KeyDesk) (stands : Standing Filled) (left : L) (told : Totals) (logged : LogValue)
+          (is_middle : record { desk = then; standing = stands; loaders = left; counted = told; log = logged } ≡ middle) where
+        hit : (counted : Totals) (answer : GetAnswer) → counted ≡ with_counts told hit_counts → GetsFrom path draws space key standing desk after loaders loaders (middle.standing, hit_counts, answer)
+            → GetsOnce path draws space key old (record { desk = then; standing = stands; loaders = left; counted = counted; log = logged }) answer
+        hit counted answer count got =
+            let parts : GetterValue L = record { desk = then; standing = stands; loaders = left; counted = told; log = logged } in
+            let same : parts ≡ record { desk = after; standing = middle.standing; loaders = loaders; counted = tallies; log = log } = is_middle ∙ rest in
+            moved parts counted hit_counts answer
+            (subst (λ (n : GetterValue L). GetsFrom path draws space key standing desk n.desk loaders n.loaders (n.standing, hit_counts, answer)) (sym same) got)
+            (ap (λ (n : GetterValue L). n.counted) same) count
+
+        pub hit_getter : (counted : Totals) (m : LetterValue Filled) (found : Result (LetterValue Filled) E) (answer : GetAnswer) → counted ≡ with_counts told hit_counts → found ≡ Ok m
+            → LooksFrom standing place (Some found) middle.standing → answer ≡ answer_in m
+            → GetsOnce path draws space key old (record { desk = then; standing = stands; loaders = left; counted = counted; log = logged }) answer
+        hit_getter counted m found answer count is_found h is_answer =
+            let new : GetterValue L = record { desk = then; standing = stands; loaders = left; counted = counted; log = logged } in
+            subst (λ (a : GetAnswer). GetsOnce path draws space key old new a) (sym is_answer)
+            (hit counted (answer_in m) count (hit_once E standing middle.standing desk after loaders spot seeing resolved m
+            (looked_at (Some (Ok m)) (subst (λ (r : Result (LetterValue Filled) E). LooksFrom standing place (Some r) middle.standing) is_found h))))
+
+        pub uncopied_getter : (counted : Totals) (e : E) (found : Result (LetterValue Filled) E) → counted ≡ with_counts told hit_counts → found ≡ Err e
+            → LooksFrom standing place (Some found) middle.standing
+            → GetsOnce path draws space key old (record { desk = then; standing = stands; loaders = left; counted = counted; log = logged }) (Err fault.Memory)
+        uncopied_getter counted e found count is_found h =
+            hit counted (Err fault.Memory) count (uncopied_once E standing middle.standing desk after loaders spot seeing resolved e
+            (looked_at (Some (Err e)) (subst (λ (r : Result (LetterValue Filled) E). LooksFrom standing place (Some r) middle.standing) is_found h)))
+
+        pub hit_logged : (found : Option (Result (LetterValue Filled) E)) → LooksFrom standing place found middle.standing
+            → HasLogged (number_of old.standing) (seen_of old.standing) (seen_of stands) old.log logged
+        hit_logged found h =
+            let parts : GetterValue L = record { desk = then; standing = stands; loaders = left; counted = told; log = logged } in
+            let same : parts ≡ record { desk = after; standing = middle.standing; loaders = loaders; counted = tallies; log = log } = is_middle ∙ rest in
+            subst (λ (o : GetterValue L). HasLogged (number_of o.standing) (seen_of o.standing) (seen_of stands) o.log logged) is
+            (subst (λ (n : GetterValue L). HasLogged (number_of standing) (seen_of standing) (seen_of n.standing) log n.log) (sym same)
+            (looks_logged standing middle.standing place found log h))
+
+      pub asked_getter : (new : GetterValue L) (answer : GetAnswer) → LooksFrom {E = E} standing place None middle.standing → HasAsked path draws space key spot middle new answer
+          → GetsOnce path draws space key old new answer
+      asked_getter new answer h asked =
+          subst (λ (o : GetterValue L). GetsOnce path draws space key o new answer) is
+          (asked_once E (record { desk = desk; standing = standing; loaders = loaders; counted = tallies; log = log }) middle new answer spot
+          (subst (IsSeeingSpace space desk) (sym (ap (λ (g : GetterValue L). g.desk) rest)) seeing)
+          (subst (λ (k : KeyDesk). IsSpotOfKey space key desk k spot) (sym (ap (λ (g : GetterValue L). g.desk) rest)) resolved)
+          (looked_at None h) (ap (λ (g : GetterValue L). g.loaders) rest) (ap (λ (g : GetterValue L). g.counted) rest) asked)
+
+  -- what was owed was delivered before
+  pub got_once : (old middle new : GetterValue L) (answer : GetAnswer) → HasSettledUp old middle → GetsOnce path draws space key middle new answer → HasGot path draws space key old new answer
+  got_once old middle new answer settled once = record {
+    middle = middle;
+    settled = settled;
+    counts = once.counts;
+    got = once.got;
+    counted = once.counted ∙ ap (λ (g : GetterValue L). with_counts g.counted once.counts) settled.rest;
+  }
+
+nothing_owed : (s : Standing Filled) → is_owing s ≡ false → HasDelivered s s
+nothing_owed (Free c) free = refl
+nothing_owed (Owing s) free = cc
+
+nothing_handed : (s : Standing Filled) (log : LogValue) → is_owing s ≡ false → log ≡ logged_by log (delivered_by s s)
+nothing_handed (Free c) log free = refl
+nothing_handed (Owing s) log free = cc
+
+-- nothing was owed
+module _ {L : Type 0} where
+  pub settled_already : (g : GetterValue L) → is_owing g.standing ≡ false → HasSettledUp g g
+  settled_already g free = record { delivered = nothing_owed g.standing free; rest = refl }
+
+  pub logged_already : (g : GetterValue L) → is_owing g.standing ≡ false → g.log ≡ logged_by g.log (delivered_by g.standing g.standing)
+  logged_already g free = nothing_handed g.standing g.log free
