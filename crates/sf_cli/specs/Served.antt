@@ -1,5 +1,5 @@
 -- how a subcommand ends on its streams, and the exit status that comes of it
-use Rattle.std.specs.Prelude.{◌≡◌, ◌≢◌, ◌*◌, ℕ, List, Option, None, Some, Result, Ok, Err, IfOk, IfErr, IfSome, codes}
+use Rattle.std.specs.Prelude.{◌≡◌, ◌≢◌, ℕ, List, Option, None, Some, Result, Ok, Err, IfOk, IfErr, IfSome, codes}
 use Rattle.std.specs.Io.KnownBytes.{Appends}
 use Rattle.sf_text.specs.StreamText.{AppendsPart}
 use Rattle.sf_text.specs.declared.stream.StreamFault.{StreamFault}
@@ -30,7 +30,7 @@ HasEnded e remaining old new ended =
 abbrev pub HasDriven : DriveLine → Option (List ℕ) → Option (List ℕ) → Result DriveEnding StreamFault → Type 0
 HasDriven line old new driven =
     IfOk driven (λ ending. ending ≢ OutOfMemory → (report : Report) × (history : List DriveEvent)
-    × IsFound (line.threads * line.gets) report history × (ending ≡ ending_of report)
+    × IsFound line.threads line.gets report history × (ending ≡ ending_of report)
     × Appends old new (said_text line.history report history))
     × IfOk driven (λ ending. ending ≡ OutOfMemory → Appends old new (codes "out of memory\n"))
 

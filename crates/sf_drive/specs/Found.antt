@@ -1,11 +1,13 @@
 -- what a drive found, and what it says of it
-use Rattle.std.specs.Prelude.{◌≡◌, ℕ, Bool, true, false, List, [], ◌++◌, map, Ok, codes, nat_eq}
+use Rattle.std.specs.Prelude.{◌≡◌, ℕ, ◌*◌, Bool, true, false, List, [], ◌++◌, length, map, All, IsPermutation, Ok, codes, nat_eq}
+use Rattle.std.specs.List.{flat_map, sum_by}
 use Rattle.sf_history.specs.declared.event.Event.{Event}
 use Rattle.sf_history.specs.declared.event.Event.TheVariants.{Lead, Enter, Forget, ForgetCall, Settle, Handed}
 use Rattle.sf_checker.specs.Checker.{IsVerdictOf}
 use Rattle.sf_replay.specs.Record.{TextEvent}
 use Rattle.sf_replay.specs.TextKeys.{with_text_keys}
 use Rattle.sf_replay.specs.Written.{history_text}
+use Rattle.sf_drive.specs.declared.jobs.Ended.{Ended}
 use Rattle.sf_drive.specs.declared.report.Report.{Report}
 use Rattle.sf_drive.specs.Reports.{report_text}
 
@@ -13,9 +15,18 @@ use Rattle.sf_drive.specs.Reports.{report_text}
 abbrev pub DriveEvent : Type 0
 DriveEvent = Event ℕ (Unit {0})
 
--- so many gets, and the verdict on the history of the merged logs
-abbrev pub IsFound : ℕ → Report → List DriveEvent → Type 0
-IsFound gets report history = (report.gets ≡ gets) × IsVerdictOf nat_eq history report.verdict
+-- What a drive of so many threads found, so many gets each, that did this: the gets of all, their right answers, and the verdict on the history, in which
+-- each event of each log stands once, and nothing else. No thread owes anything.
+pub record IsFoundBy (threads gets : ℕ) (parts : List Ended) (report : Report) (history : List DriveEvent) : Type 0 where
+  pub each : length parts ≡ threads
+  pub made : report.gets ≡ threads * gets
+  pub answers : report.answers ≡ sum_by (λ part. part.answers) parts
+  pub merged : IsPermutation (flat_map (λ part. part.log.items) parts) history
+  pub settled : All (λ part. part.settled ≡ true) parts
+  pub verdict : IsVerdictOf nat_eq history report.verdict
+
+abbrev pub IsFound : ℕ → ℕ → Report → List DriveEvent → Type 0
+IsFound threads gets report history = (parts : List Ended) × IsFoundBy threads gets parts report history
 
 -- in records each call of a drive is settled with the empty text
 abbrev pub empty_settled : Event (List ℕ) (Unit {0}) → TextEvent

@@ -1,12 +1,14 @@
 //! A drive: its fill, its threads, and what comes of them.
-ghost use Rattle.std.specs.Prelude.{◌≡◌, ◌≢◌, ◌*◌, ◌<◌, ◌≤◌, List, IfOk, codes, string_bytes, vec_len};
+ghost use Rattle.std.specs.Prelude.{◌≡◌, ◌≢◌, ◌<◌, ◌≤◌, List, IfOk, codes, string_bytes, vec_len};
 ghost use Rattle.std.specs.Io.KnownBytes.{Appends};
 ghost use Rattle.sf_drive.specs.declared.report.DriveEnding.{DriveEnding};
 ghost use Rattle.sf_drive.specs.declared.report.Report.{Report};
-ghost use Rattle.sf_drive.specs.Found.{DriveEvent, IsFound, said_text};
+ghost use Rattle.sf_drive.specs.Found.{DriveEvent, IsFound, IsFoundBy, said_text};
+ghost use Rattle.sf_drive.specs.Jobs.{AreEntries};
 ghost use Rattle.sf_drive.specs.Reports.{ending_of};
 ghost use Rattle.sf_words.specs.declared.limits.TheConstants.{LARGEST_PLACE};
 ghost use Rattle.sf_door.specs.Opened.{places_for};
+ghost use Rattle.sf_drive.specs.Values.{StatesValues};
 
 use crate::found::{Found, said, verdict};
 use crate::jobs::{Crew, Ended, Entry};
@@ -35,7 +37,9 @@ const LIMIT: i64 = 1_000;
 const PLACES_A_KEY: u32 = 16;
 
 // The keys `k0`, `k1` and so on, with their values.
-fn entries(alloc: Global, keys: u32) -> Result<Vec<Entry>, Memory> {
+fn entries(alloc: Global, keys: u32) -> Result<Vec<Entry>, Memory>
+    ensures { IfOk result (λ entries. AreEntries keys entries.items) }
+{
     let mut entries = Vec::new(alloc);
     for number in 0..keys {
         let mut key = String::new(alloc);
@@ -53,12 +57,14 @@ impl<'a, R: Wait + Clock + Eprint> Team for Crew<'a, R> {
 
     type Answer = Result<Found, Memory>;
 
-    ghost use Rattle.std.specs.Prelude.{◌≡◌, ◌*◌, IfOk};
+    ghost use Rattle.std.specs.Prelude.{◌≡◌, IfOk};
     ghost use Rattle.sf_drive.specs.Found.{IsFound};
+    ghost use Rattle.sf_drive.specs.Jobs.{AreEntries};
+    ghost use Rattle.sf_drive.specs.Values.{StatesValues};
 
-    ghost wants = { λ crew getters loaded. getters ≡ crew.line.threads };
+    ghost wants = { λ crew getters loaded. (getters ≡ crew.line.threads) × AreEntries crew.line.keys crew.entries.now × StatesValues loaded };
 
-    ghost ends = { λ crew answer. IfOk answer (λ found. IsFound (crew.line.threads * crew.line.gets) found.report found.history) };
+    ghost ends = { λ crew answer. IfOk answer (λ found. IsFound crew.line.threads crew.line.gets found.report found.history) };
 
     fn work<'d, D: Naming, N: Naming, O: Origin, L: LoadPath<Origin = O> + Drop>(
         &self,
@@ -66,7 +72,7 @@ impl<'a, R: Wait + Clock + Eprint> Team for Crew<'a, R> {
         getter: Getter<'d, D, N, O, L>,
         index: u32,
     ) -> (Getter<'d, D, N, O, L>, Ended)
-        requires wants { N.getters ≡ self.now.line.threads }
+        requires wants { (N.getters ≡ self.now.line.threads) × AreEntries self.now.line.keys self.now.entries.now × StatesValues O.loaded }
     {
         self.get_all(fill, getter, index)
     }
@@ -77,10 +83,10 @@ impl<'a, R: Wait + Clock + Eprint> Team for Crew<'a, R> {
         getters: Vec<Getter<'d, D, N, O, L>>,
         parts: Vec<Ended>,
     ) -> Result<Found, Memory>
-        requires wants { N.getters ≡ self.now.line.threads }
+        requires wants { (N.getters ≡ self.now.line.threads) × AreEntries self.now.line.keys self.now.entries.now × StatesValues O.loaded }
         requires getters { vec_len getters ≡ N.getters }
         requires parts { vec_len parts ≡ N.getters }
-        ensures { IfOk result (λ found. IsFound (self.now.line.threads * self.now.line.gets) found.report found.history) }
+        ensures { IfOk result (λ found. IsFound self.now.line.threads self.now.line.gets found.report found.history) }
     {
         let book = fill.book(self.rt);
         let gathered = fill.gather(self.rt, getters);
@@ -95,23 +101,22 @@ fn found(
     totals_equal: bool,
     line: DriveLine,
 ) -> Result<Found, Memory>
-    ensures { IfOk result (λ found. IsFound (line.threads * line.gets) found.report found.history) }
+    requires { vec_len parts ≡ line.threads }
+    ensures { IfOk result (λ found. IsFoundBy line.threads line.gets parts.items found.report found.history) }
 {
     let mut logs = Vec::with_capacity(alloc, parts.len())?;
     let mut answers: u64 = 0;
-    let mut settled = true;
     for part in parts {
         let Ended {
             answers: right,
-            settled: owes_nothing,
+            settled,
             log,
         } = part;
-        answers = answers.saturating_add(right as u64);
-        settled = settled && owes_nothing;
+        if !settled {
+            return Err(Memory);
+        }
+        answers += right as u64;
         logs.push(log)?;
-    }
-    if !settled {
-        return Err(Memory);
     }
     let history = merge(alloc, logs)?;
     let report = Report {
@@ -169,7 +174,7 @@ fn report<R: Wait + Threads + Clock + Eprint + Sync>(
     alloc: Global,
     line: DriveLine,
 ) -> Result<Found, Memory>
-    ensures { IfOk result (λ found. IsFound (line.threads * line.gets) found.report found.history) }
+    ensures { IfOk result (λ found. IsFound line.threads line.gets found.report found.history) }
 {
     let entries = entries(alloc, line.keys)?;
     let sizes = FillSizes {
@@ -199,7 +204,7 @@ pub fn drive<R: Wait + Threads + Clock + Eprint + Sync, W: Write>(
 ) -> Result<DriveEnding, StreamFault>
     // What is written is the report's text, or the records of the history on which its verdict is.
     ensures reported { IfOk result (λ ending. ending ≢ DriveEnding.OutOfMemory → (report : Report) × (history : List DriveEvent)
-        × IsFound (line.threads * line.gets) report history × (ending ≡ ending_of report)
+        × IsFound line.threads line.gets report history × (ending ≡ ending_of report)
         × Appends (W.contents writer.old) (W.contents writer.new) (said_text line.history report history)) }
     ensures refused { IfOk result (λ ending. ending ≡ DriveEnding.OutOfMemory → Appends (W.contents writer.old) (W.contents writer.new) (codes "out of memory\n")) }
 {
@@ -221,7 +226,7 @@ fn answer<R: Wait + Threads + Clock + Eprint + Sync>(
     alloc: Global,
     line: DriveLine,
 ) -> Result<(DriveEnding, String), Memory>
-    ensures { IfOk result (λ answered. (report : Report) × (history : List DriveEvent) × IsFound (line.threads * line.gets) report history
+    ensures { IfOk result (λ answered. (report : Report) × (history : List DriveEvent) × IsFound line.threads line.gets report history
         × (answered.0 ≡ ending_of report) × (string_bytes answered.1 ≡ said_text line.history report history)) }
 {
     let found = report(rt, alloc, line)?;

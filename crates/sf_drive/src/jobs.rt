@@ -1,8 +1,12 @@
 //! What each thread of a drive does.
+ghost use Rattle.std.specs.Prelude.{◌≡◌, ◌+◌, ◌-◌, ◌^◌, ◌<◌, ◌≤◌, IfOk, is_ok, string_bytes};
+ghost use Rattle.sf_drive.specs.Jobs.{AreEntries, HasSettled, IsGetOf, IsJob, IsLogOf, IsTurn};
+ghost use Rattle.sf_drive.specs.Jobs.{reloads_at, turn_key, turn_number};
+ghost use Rattle.sf_drive.specs.Values.{StatesValues, value_of};
 
 use crate::line::DriveLine;
 use crate::progress::Progress;
-use sf_fill::{Fill, Getter, Naming};
+use sf_fill::{Fill, Getter, LoadFault, Naming, View};
 use sf_group::Event;
 use sf_loaders::{LoadPath, Origin};
 use sf_words::PlaceNo;
@@ -38,14 +42,87 @@ pub(crate) struct Crew<'a, R> {
     pub(crate) line: DriveLine,
 }
 
+// The number of the key that the thread gets at this turn.
+fn turn_number(line: DriveLine, thread: u32, turn: u32) -> usize
+    ensures value { result ≡ turn_number line thread turn }
+    ensures within { result < line.keys }
+{
+    let next = 7 * turn as u64 + thread as u64;
+    (next % line.keys as u64) as usize
+}
+
+// Whether the answer is this value, as each answer is that is no fault.
+fn is_value<'d, D: Naming, O: Origin>(
+    answer: &Result<View<'d, D, O>, LoadFault>,
+    value: &[u8],
+) -> bool
+    requires { IfOk answer.now (λ letter. IfOk letter.value.result (λ bytes. bytes ≡ value.now)) }
+    ensures { result ≡ is_ok answer.now }
+{
+    match answer {
+        Ok(view) => view.bytes().as_slice() == value,
+        Err(_) => false,
+    }
+}
+
+// A get of the key; whether it was answered the key's value.
+fn get_entry<'d, D: Naming, N: Naming, O: Origin, L: LoadPath<Origin = O>>(
+    rt: &impl Wait,
+    fill: &Fill<'d, D, N, O>,
+    getter: Getter<'d, D, N, O, L>,
+    entry: &Entry,
+) -> (Getter<'d, D, N, O, L>, bool)
+    requires values { StatesValues O.loaded }
+    requires entry { string_bytes entry.now.value ≡ value_of (string_bytes entry.now.key) }
+    ensures { getter.entry.counted.gets < 2 ^ 64 - 1
+        → IsGetOf N.space (string_bytes entry.now.key) getter.entry result.0 result.1 }
+{
+    let key = entry.key.as_bytes();
+    let value = entry.value.as_bytes();
+    let (getter, answer) = fill.get(rt, getter, key);
+    let is_right = is_value(&answer, value);
+    (getter, is_right)
+}
+
 impl<'a, R: Wait + Clock + Eprint> Crew<'a, R> {
+    // A get of the turn's key, and at each tenth turn a reload of it; whether the get answered the key's value.
+    fn take_turn<'d, D: Naming, N: Naming, O: Origin, L: LoadPath<Origin = O>>(
+        &self,
+        fill: &Fill<'d, D, N, O>,
+        getter: Getter<'d, D, N, O, L>,
+        thread: u32,
+        turn: u32,
+    ) -> (Getter<'d, D, N, O, L>, bool)
+        requires entries { AreEntries self.now.line.keys self.now.entries.now }
+        requires values { StatesValues O.loaded }
+        ensures { getter.entry.counted.gets < 2 ^ 64 - 1
+            → IsTurn N.space (turn_key self.now.line thread turn) (reloads_at turn) getter.entry result.0 result.1 }
+    {
+        let number = turn_number(self.line, thread, turn);
+        let entry = &self.entries[number];
+        let (getter, is_right) = get_entry(self.rt, fill, getter, entry);
+        if turn % 10 != 9 {
+            return (getter, is_right);
+        }
+        let key = entry.key.as_bytes();
+        let (getter, _forgot) = fill.reload(self.rt, getter, key);
+        (getter, is_right)
+    }
+
     // Makes the gets and the reloads, and delivers what is owed then, so that no other thread waits for it.
     pub(crate) fn get_all<'d, D: Naming, N: Naming, O: Origin, L: LoadPath<Origin = O>>(
         &self,
         fill: &Fill<'d, D, N, O>,
         getter: Getter<'d, D, N, O, L>,
         thread: u32,
-    ) -> (Getter<'d, D, N, O, L>, Ended) {
+    ) -> (Getter<'d, D, N, O, L>, Ended)
+        requires entries { AreEntries self.now.line.keys self.now.entries.now }
+        requires values { StatesValues O.loaded }
+        ensures job { getter.entry.counted.gets + self.now.line.gets < 2 ^ 64 → IsJob N.space self.now.line thread getter.entry result.0 result.1 }
+        ensures counted { getter.entry.counted.gets + self.now.line.gets < 2 ^ 64 → result.0.counted.gets ≡ getter.entry.counted.gets + self.now.line.gets }
+        ensures logged { getter.entry.counted.gets + self.now.line.gets < 2 ^ 64 → IsLogOf getter.entry result.0 result.1.log.items }
+        ensures answers { result.1.answers ≤ self.now.line.gets }
+    {
         let (rt, line) = (self.rt, self.line);
         let mut getter = getter;
         let mut answers: u32 = 0;
@@ -58,22 +135,9 @@ impl<'a, R: Wait + Clock + Eprint> Crew<'a, R> {
             if let Some(progress) = &mut progress {
                 progress.say(rt, turn, line.gets);
             }
-            let next = 7 * turn as u64 + thread as u64;
-            let Some(entry) = self.entries.get((next % line.keys as u64) as usize) else {
-                continue;
-            };
-            let key = entry.key.as_bytes();
-            let (back, answer) = fill.get(rt, getter, key);
-            if let Ok(view) = answer {
-                let is_right = view.bytes().as_slice() == entry.value.as_bytes();
-                answers = answers.saturating_add(is_right as u32);
-            }
-            getter = if turn % 10 == 9 {
-                let (back, _forgot) = fill.reload(rt, back, key);
-                back
-            } else {
-                back
-            };
+            let (back, is_right) = self.take_turn(fill, getter, thread, turn);
+            getter = back;
+            answers += is_right as u32;
         }
         let (mut getter, settled) = settle_up_often(rt, fill, getter);
         getter.enter(rt, fill);
@@ -92,7 +156,9 @@ fn settle_up_often<'d, D: Naming, N: Naming, O: Origin, L>(
     rt: &impl Wait,
     fill: &Fill<'d, D, N, O>,
     getter: Getter<'d, D, N, O, L>,
-) -> (Getter<'d, D, N, O, L>, bool) {
+) -> (Getter<'d, D, N, O, L>, bool)
+    ensures { HasSettled getter.entry result.0 result.1 }
+{
     let mut getter = getter;
     for _ in 0..1_000 {
         let (back, settled) = getter.settle_up(rt, fill);
@@ -102,5 +168,6 @@ fn settle_up_often<'d, D: Naming, N: Naming, O: Origin, L>(
         }
         yield_now();
     }
-    (getter, false)
+    let owes = getter.owes();
+    (getter, !owes)
 }

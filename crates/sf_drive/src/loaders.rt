@@ -31,9 +31,10 @@ fn value(alloc: Global, key: &[u8]) -> Result<Bytes, AllocError>
 pub(crate) struct OddPicker;
 
 impl Picker for OddPicker {
-    ghost use Rattle.std.specs.Prelude.{⊤};
+    ghost use Rattle.std.specs.Prelude.{◌≡◌};
+    ghost use Rattle.sf_drive.specs.Values.{owner_of};
 
-    ghost pick_gives = { λ old key picked new. ⊤ };
+    ghost pick_gives = { λ old key picked new. picked ≡ owner_of key };
 
     fn pick(&mut self, key: &[u8]) -> Option<u32> {
         match key.last() {
@@ -53,9 +54,9 @@ pub(crate) struct ThirdFails {
 impl Peer for ThirdFails {
     type Origin = Values;
 
-    ghost use Rattle.std.specs.Prelude.{⊤};
+    ghost use Rattle.sf_drive.specs.Values.{IsFetchOf};
 
-    ghost fetch_gives = { λ old peer key call answer new. ⊤ };
+    ghost fetch_gives = { λ old peer key call answer new. IsFetchOf old.fetched key answer new.fetched };
 
     fn fetch(&mut self, _peer: u32, key: &[u8], _call: CallId) -> Result<Bytes, PeerFault> {
         self.fetched = self.fetched.wrapping_add(1);
@@ -78,9 +79,9 @@ pub(crate) struct AnyKey {
 impl Local for AnyKey {
     type Origin = Values;
 
-    ghost use Rattle.std.specs.Prelude.{⊤};
+    ghost use Rattle.sf_drive.specs.Values.{IsLoadFor};
 
-    ghost load_gives = { λ old key call answer new. ⊤ };
+    ghost load_gives = { λ old key call answer new. IsLoadFor key answer };
 
     fn load(&mut self, key: &[u8], _call: CallId) -> Result<Bytes, LocalFault> {
         match value(self.alloc, key) {

@@ -1,0 +1,100 @@
+-- what each thread of a drive does
+use Rattle.std.specs.Prelude.{◌≡◌, ℕ, zero, suc, ◌+◌, ◌*◌, ◌%◌, ◌==◌, Bool, true, false, cond, not, List, [], ◌∷◌, ◌++◌, length, Result, IfOk, is_ok, codes, decimal, string_bytes}
+use Rattle.sf_history.specs.declared.event.Event.{Event}
+use Rattle.sf_spots.specs.Spaces.{SpaceId}
+use Rattle.sf_fill.specs.declared.fault.LoadFault.{LoadFault}
+use Rattle.sf_fill.specs.declared.reload.Forgot.{Forgot}
+use Rattle.sf_fill.specs.Counted.{IsCounted}
+use Rattle.sf_fill.specs.FillValue.{Filled}
+use Rattle.sf_fill.specs.Fresh.{HasAdded, IsFreshGet, IsReloading}
+use Rattle.sf_fill.specs.Gets.{GetAnswer}
+use Rattle.sf_fill.specs.GetterValue.{GetterValue, is_owing}
+use Rattle.sf_fill.specs.Logs.{logged_by, empty_log}
+use Rattle.sf_fill.specs.Reloads.{HasReloaded}
+use Rattle.sf_drive.specs.declared.jobs.Ended.{Ended}
+use Rattle.sf_drive.specs.declared.jobs.Entry.{Entry}
+use Rattle.sf_drive.specs.declared.line.DriveLine.{DriveLine}
+use Rattle.sf_drive.specs.Values.{value_of}
+
+-- the keys of a drive are k0, k1, and so on
+abbrev pub key_name : ℕ → List ℕ
+key_name number = codes "k" ++ decimal number
+
+-- the key of this number, and its value
+pub record IsEntryOf (number : ℕ) (entry : Entry) : Type 0 where
+  pub key : string_bytes entry.key ≡ key_name number
+  pub value : string_bytes entry.value ≡ value_of (key_name number)
+
+-- the keys from this number on, in their order
+abbrev pub AreNumbered : ℕ → List Entry → Type 0
+AreNumbered number [] = Unit {0}
+AreNumbered number (entry ∷ entries) = IsEntryOf number entry × AreNumbered (suc number) entries
+
+-- so many keys, from 0 on
+abbrev pub AreEntries : ℕ → List Entry → Type 0
+AreEntries keys entries = (length entries ≡ keys) × AreNumbered 0 entries
+
+-- the number of the key that a thread gets at this turn: seven further on at each turn, and one further on for each thread
+abbrev pub turn_number : DriveLine → ℕ → ℕ → ℕ
+turn_number line thread turn = (7 * turn + thread) % line.keys
+
+abbrev pub turn_key : DriveLine → ℕ → ℕ → List ℕ
+turn_key line thread turn = key_name (turn_number line thread turn)
+
+-- each tenth turn reloads its key
+abbrev pub reloads_at : ℕ → Bool
+reloads_at turn = turn % 10 == 9
+
+module _ {L : Type 0} (space : SpaceId) where
+  abbrev pub HasReloadedWhere : Bool → List ℕ → GetterValue L → GetterValue L → Type 0
+  HasReloadedWhere false key old new = new ≡ old
+  HasReloadedWhere true key old new = (answer : Result Forgot LoadFault) × HasReloaded space key old new answer × IsReloading space key old new answer
+
+  -- a get of the key, and whether it was answered. Whatever is answered is the key's value.
+  pub record IsGetOf (key : List ℕ) (old new : GetterValue L) (right : Bool) : Type 0 where
+    pub answer : GetAnswer
+    pub fresh : IsFreshGet space key old new answer
+    pub counted : IsCounted old new answer
+    pub value : IfOk answer (λ letter. IfOk letter.value.result (λ bytes. bytes ≡ value_of key))
+    pub is_right : right ≡ is_ok answer
+
+  -- a get of the key, and then, where that is asked for, a reload of it
+  pub record IsTurn (key : List ℕ) (reloads : Bool) (old new : GetterValue L) (right : Bool) : Type 0 where
+    pub middle : GetterValue L
+    pub got : IsGetOf key old middle right
+    pub reloaded : HasReloadedWhere reloads key middle new
+
+  -- so many turns of a thread, from turn 0 on, of which so many were answered
+  abbrev pub HasTakenTurns : DriveLine → ℕ → ℕ → GetterValue L → GetterValue L → ℕ → Type 0
+  HasTakenTurns line thread zero old new answers = (new ≡ old) × (answers ≡ 0)
+  HasTakenTurns line thread (suc turn) old new answers =
+      (middle : GetterValue L) × (before : ℕ) × (right : Bool) × HasTakenTurns line thread turn old middle before
+      × IsTurn (turn_key line thread turn) (reloads_at turn) middle new right × (answers ≡ before + cond right 1 0)
+
+module _ {L : Type 0} where
+  -- the getter's calls added these events, and it logged them
+  pub record HasLoggedAll (old new : GetterValue L) : Type 0 where
+    pub added : List (Event ℕ Filled)
+    pub adds : HasAdded old.standing new.standing added
+    pub logged : new.log ≡ logged_by old.log added
+
+  -- what was owed may be delivered, and nothing else changes
+  pub record HasSettled (old new : GetterValue L) (settled : Bool) : Type 0 where
+    pub logs : HasLoggedAll old new
+    pub rest : new ≡ record old { standing = new.standing; log = new.log }
+    pub done : settled ≡ not (is_owing new.standing)
+
+  -- the log of a getter whose calls added these events
+  pub record IsLogOf (old new : GetterValue L) (log : List (Event ℕ (Unit {0}))) : Type 0 where
+    pub added : List (Event ℕ Filled)
+    pub adds : HasAdded old.standing new.standing added
+    pub logged : log ≡ (logged_by old.log added).events
+
+-- what a thread of a drive does: its turns, then it settles up, and gives its log
+pub record IsJob {L : Type 0} (space : SpaceId) (line : DriveLine) (thread : ℕ) (old new : GetterValue L) (part : Ended) : Type 0 where
+  pub turned : GetterValue L
+  pub turns : HasTakenTurns space line thread line.gets old turned part.answers
+  pub done : GetterValue L
+  pub settled : HasSettled turned done part.settled
+  pub log : part.log.items ≡ done.log.events
+  pub emptied : new ≡ record done { log = empty_log 0 }
