@@ -1,5 +1,5 @@
 -- how a subcommand ends on its streams, and the exit status that comes of it
-use Rattle.std.specs.Prelude.{◌≡◌, ◌≢◌, ℕ, List, Option, None, Some, Result, Ok, Err, IfOk, IfErr, IfSome, codes}
+use Rattle.std.specs.Prelude.{◌≡◌, ◌≢◌, ℕ, List, Option, Result, Ok, Err, IfOk, IfErr, IfSome, OnOk, codes, string_bytes}
 use Rattle.std.specs.Io.KnownBytes.{Appends}
 use Rattle.sf_text.specs.StreamText.{AppendsPart}
 use Rattle.sf_text.specs.declared.stream.StreamFault.{StreamFault}
@@ -17,6 +17,8 @@ use Rattle.sf_drive.specs.Found.{DriveEvent, IsFound, said_text}
 use Rattle.sf_drive.specs.Reports.{ending_of, status_of}
 use Rattle.sf_cli.specs.declared.usage.Subcommand.{Subcommand}
 use Rattle.sf_cli.specs.declared.usage.Subcommand.TheVariants.{Engine, Drive}
+use Rattle.sf_cli.specs.declared.usage.Usage as usage
+use Rattle.sf_cli.specs.declared.usage.Usage.TheVariants.{Help, Mistake}
 
 -- how an engine ended that had this to read, where this was written before and after: what it answered is written, nothing
 -- where it could not read, or a beginning of an answer
@@ -39,10 +41,21 @@ abbrev pub drive_exit_status_of : Result DriveEnding StreamFault → ℕ
 drive_exit_status_of (Ok ending) = status_of ending
 drive_exit_status_of (Err fault) = exit_status_of (Failed fault)
 
--- the exit status of what was asked for, by how that ended; where nothing was asked for, nothing is written
-abbrev pub IsStatusOf : Option Subcommand → Option (List ℕ) → Option (List ℕ) → Option (List ℕ) → ℕ → Type 0
-IsStatusOf None remaining old new status = (status ≡ exit_status_of Usage) × (new ≡ old)
-IsStatusOf (Some (Engine e)) remaining old new status =
+-- the same of help or the version: 0 where it was written
+abbrev pub help_exit_status_of : Result (Unit {0}) StreamFault → ℕ
+help_exit_status_of (Ok written) = 0
+help_exit_status_of (Err fault) = exit_status_of (Failed fault)
+
+-- a text that is asked for is written, or a beginning of it where that fails
+abbrev pub HasHelped : List ℕ → Option (List ℕ) → Option (List ℕ) → Result (Unit {0}) StreamFault → Type 0
+HasHelped text old new written = OnOk written (Appends old new text) × AppendsPart old new text
+
+-- the exit status of what was asked for, by how that ended; where the words are wrong, nothing is written
+abbrev pub IsStatusOf : Result Subcommand usage.Usage → Option (List ℕ) → Option (List ℕ) → Option (List ℕ) → ℕ → Type 0
+IsStatusOf (Ok (Engine e)) remaining old new status =
     (ended : Result Ending StreamFault) × HasEnded e remaining old new ended × (status ≡ exit_status_of (outcome_of ended))
-IsStatusOf (Some (Drive line)) remaining old new status =
+IsStatusOf (Ok (Drive line)) remaining old new status =
     (driven : Result DriveEnding StreamFault) × HasDriven line old new driven × (status ≡ drive_exit_status_of driven)
+IsStatusOf (Err (Help text)) remaining old new status =
+    (written : Result (Unit {0}) StreamFault) × HasHelped (string_bytes text) old new written × (status ≡ help_exit_status_of written)
+IsStatusOf (Err (Mistake mistake)) remaining old new status = (status ≡ exit_status_of Usage) × (new ≡ old)

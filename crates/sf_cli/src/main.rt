@@ -3,19 +3,22 @@
 //! several threads.
 #![tactic(auto)]
 
-mod commands;
+mod ends;
+mod table;
 mod usage;
 
-ghost use Rattle.std.specs.Prelude.{◌≡◌, Result, Option, Some};
-ghost use Rattle.sf_cli.specs.Served.{HasEnded, IsStatusOf, drive_exit_status_of};
+ghost use Rattle.std.specs.Prelude.{◌≡◌, List, ℕ, Result, Option, map, string_bytes};
+ghost use Rattle.sf_cli.specs.Served.{HasEnded, IsStatusOf};
+ghost use Rattle.sf_cli.specs.Usage.{IsAskedBy};
 ghost use Rattle.sf_cli.specs.declared.usage.Subcommand as asking;
+ghost use Rattle.sf_cli.specs.declared.usage.Usage as refusing;
 ghost use Rattle.sf_engines.specs.Ending.{exit_status_of, outcome_of};
 
-use crate::usage::Subcommand;
-use sf_drive::{DriveEnding, drive, status as drive_status};
-use sf_engines::{Ending, Engine, Outcome, exit_status};
-use sf_text::StreamFault;
-use std::fmt::Display;
+use crate::ends::{driven, ended, helped, misused};
+use crate::usage::{Mistake, Subcommand, Usage, parse};
+use sf_drive::drive;
+use sf_engines::{Ending, Engine};
+use sf_text::{StreamFault, write_all};
 use std::io::{IsTerminal, Read, Write};
 use std::process::ExitCode;
 use std::rt::Env;
@@ -32,24 +35,6 @@ fn words(rt: &(impl Env + AllocGlobal)) -> io::Result<Vec<String>> {
         words.push(word)?;
     }
     Ok(words)
-}
-
-/// Says what is wrong with the command line on standard error, as far as that can be written, and answers the exit status.
-fn misused<D: Display + Drop>(rt: &impl Eprint, said: D) -> u8
-    ensures { result ≡ exit_status_of Outcome.Usage }
-{
-    let _ = eprint!(rt; "{said}");
-    exit_status(Outcome::Usage)
-}
-
-/// Says on standard error that a stream failed, where one did, and answers the exit status of an engine's end.
-fn ended(rt: &impl Eprint, ended: Result<Ending, StreamFault>) -> u8
-    ensures { result ≡ exit_status_of (outcome_of ended) }
-{
-    if let Err(fault) = ended {
-        let _ = eprintln!(rt; "{fault}");
-    }
-    exit_status(Outcome::of(ended))
 }
 
 /// Starts an engine on these streams, says a hint on standard error where it leaves one, and answers the exit status.
@@ -71,35 +56,41 @@ fn answer<I: Read, O: Write>(
     ended(rt, answered)
 }
 
-/// Says on standard error that a stream failed, where one did, and answers the exit status of a drive's end.
-fn driven(rt: &impl Eprint, driven: Result<DriveEnding, StreamFault>) -> u8
-    ensures { result ≡ drive_exit_status_of driven }
-{
-    match driven {
-        Ok(ending) => drive_status(ending),
-        Err(fault) => ended(rt, Err(fault)),
-    }
-}
-
-/// Does what the command line asks for on these streams, and answers the exit status. Where standard error is a terminal, a
-/// drive says there how far it is.
-fn serve<R, I: Read, O: Write>(rt: &R, reader: &mut I, writer: &mut O, on_terminal: bool) -> u8
+/// Does what these words ask for on these streams, and answers the exit status. Where standard error is a terminal, a drive
+/// says there how far it is.
+fn obey<R, I: Read, O: Write>(
+    rt: &R,
+    words: &[String],
+    reader: &mut I,
+    writer: &mut O,
+    on_terminal: bool,
+) -> u8
 where
-    R: Env + AllocGlobal + Eprint + Wait + Threads + Clock + Sync,
-    ensures { (asked : Option asking.Subcommand)
+    R: AllocGlobal + Eprint + Wait + Threads + Clock + Sync,
+    ensures { (asked : Result asking.Subcommand refusing.Usage) × IsAskedBy (map string_bytes words.now) asked
         × IsStatusOf asked (I.remaining reader.old) (O.contents writer.old) (O.contents writer.new) result }
 {
-    let words = match words(rt) {
-        Ok(words) => words,
-        Err(_) => return misused(rt, "error: the arguments are no text\n"),
-    };
-    match usage::parse(rt.alloc(), words.as_slice()) {
+    match parse(rt.alloc(), words) {
         Ok(Subcommand::Engine(engine)) => answer(rt, engine, reader, writer),
         Ok(Subcommand::Drive(mut line)) => {
             line.progress = on_terminal;
             driven(rt, drive(rt, rt.alloc(), writer, line))
         }
-        Err(usage) => misused(rt, usage),
+        Err(Usage::Help(text)) => helped(rt, write_all(writer, text.as_str())),
+        Err(Usage::Mistake(mistake)) => misused(rt, mistake),
+    }
+}
+
+/// Does what the command line asks for on these streams, as `obey` does; words that are no text are usage.
+fn serve<R, I: Read, O: Write>(rt: &R, reader: &mut I, writer: &mut O, on_terminal: bool) -> u8
+where
+    R: Env + AllocGlobal + Eprint + Wait + Threads + Clock + Sync,
+    ensures { (asked : Result asking.Subcommand refusing.Usage)
+        × IsStatusOf asked (I.remaining reader.old) (O.contents writer.old) (O.contents writer.new) result }
+{
+    match words(rt) {
+        Ok(words) => obey(rt, words.as_slice(), reader, writer, on_terminal),
+        Err(_) => misused(rt, Mistake::NoText),
     }
 }
 

@@ -1,13 +1,102 @@
-//! The subcommands as clap knows them, and what `--help` says of each. A drive says its own.
+//! The one table of subcommands: the name, what help says, the options, and what each does.
+
+ghost use Rattle.std.specs.Prelude.{◌≡◌, IfSome, Some, slice_get, option_map, string_bytes};
+ghost use Rattle.sf_cli.specs.Work.{work_name_of, IsShownFor};
 
 use clap::{Arg, ArgAction, Command};
+use sf_drive::{DRIVE_ABOUT, DRIVE_HELP, with_drive_options};
+use sf_engines::{Engine, Shown};
 use std::alloc::{AllocError, Global};
 
+/// What a subcommand does.
+#[derive(Clone, Copy)]
+pub enum Work {
+    /// Starts this engine, or the one that shows what an option says.
+    Engine(Engine),
+    /// Gets keys of one fill on several threads.
+    Drive,
+    /// Nothing here: `./sfctl` runs a program of its own.
+    Bench,
+}
+
+/// A subcommand.
+#[derive(Clone, Copy)]
+struct Row {
+    /// The word that asks for it.
+    name: &'static str,
+    /// What the program's help says of it.
+    about: &'static str,
+    /// What its own help ends with.
+    help: &'static str,
+    /// What it does.
+    work: Work,
+    ghost named: { name.now ≡ work_name_of work },
+}
+
+/// All subcommands, in the order in which help has them.
+const TABLE: [Row; 5] = [
+    Row {
+        name: "run",
+        about: "Obeys a script of commands, one a line, from standard input",
+        help: RUN,
+        work: Work::Engine(Engine::Run { history: false }),
+    },
+    Row {
+        name: "steps",
+        about: "Plays the turns of a schedule, one line each, from standard input",
+        help: STEPS,
+        work: Work::Engine(Engine::Steps(Shown::Lines)),
+    },
+    Row {
+        name: "check",
+        about: "Says whether the history recorded in standard input is legal",
+        help: CHECK,
+        work: Work::Engine(Engine::Check),
+    },
+    Row {
+        name: "drive",
+        about: DRIVE_ABOUT,
+        help: DRIVE_HELP,
+        work: Work::Drive,
+    },
+    Row {
+        name: "bench",
+        about: "Measures what the calls cost on this machine, and prints a table",
+        help: BENCH,
+        work: Work::Bench,
+    },
+];
+
+/// An option of engines.
+#[derive(Clone, Copy)]
+struct Flag {
+    name: &'static str,
+    help: &'static str,
+    shown: Shown,
+}
+
+/// The options of engines: an engine takes those that name what it can show, and one of them at most.
+const FLAGS: [Flag; 2] = [
+    Flag {
+        name: "history",
+        help: "Prints the records of what happened, in place of lines",
+        shown: Shown::History,
+    },
+    Flag {
+        name: "svg",
+        help: "Draws a picture, in place of lines",
+        shown: Shown::Picture,
+    },
+];
+
 /// What the program is.
-pub const ABOUT: &str = "Singleflight with Forget: scripts, schedules and histories";
+const ABOUT: &str = "Singleflight with Forget: scripts, schedules and histories";
+
+/// The version of the packages that are released with it (`bindings/rust/Cargo.toml`).
+const VERSION: &str = "0.1.0";
 
 /// What stands at the end of the program's help.
-pub const STATUSES: &str = "Example:
+const STATUSES: &str = "Example:
   printf 'ask 1 k\\nsettle 1 ok v\\n' | sfctl run
 
 `sfctl SUBCOMMAND --help` has the forms of its lines and its exit statuses:
@@ -69,51 +158,124 @@ Example:
 Exit status: 0 for a legal history, 1 for an illegal one, 2 for refused records,
 usage, want of memory, and a failing read or write.";
 
-/// The option that has no value, and what it does.
-fn option<'a>(alloc: Global, name: &'a str, help: &'a str) -> Arg<'a> {
-    Arg::new(alloc, name)
+const BENCH: &str =
+    "Each NAME is a benchmark; without one all are measured, in about twelve seconds.
+`sfctl --make bench` proves and builds the program that measures; an unproved
+build measures nothing.
+
+Exit status: 0 where all was measured, 2 where something was not, 3 where there
+is no proved program.";
+
+/// What the subcommand of this name does.
+pub fn named(name: &str) -> Option<Work>
+    ensures { IfSome result (λ work. name.now ≡ work_name_of work) }
+{
+    for row in TABLE {
+        if row.name == name {
+            return Some(row.work);
+        }
+    }
+    None
+}
+
+/// What the option of this word shows.
+fn flagged(word: &str) -> Option<Shown>
+    ensures { IfSome result (λ shown. IsShownFor shown (Some word.now)) }
+{
+    match word {
+        "--history" => Some(Shown::History),
+        "--svg" => Some(Shown::Picture),
+        _ => None,
+    }
+}
+
+/// What the words, the program's name and the engine's first, ask to be shown: lines, or what the one option says.
+pub fn shown(words: &[String]) -> Option<Shown>
+    ensures { IfSome result (λ shown. IsShownFor shown (option_map string_bytes (slice_get words.now 2))) }
+{
+    if 3 < words.len() {
+        return None;
+    }
+    match words.get(2) {
+        Some(word) => flagged(word.as_str()),
+        None => Some(Shown::Lines),
+    }
+}
+
+/// The program as clap knows it.
+pub fn program<'a>(alloc: Global) -> Result<Command<'a>, AllocError> {
+    let mut program: Command<'a> = Command::new(alloc, "sfctl")
+        .version(VERSION)
+        .about(ABOUT)
+        .after_help(STATUSES)
+        .subcommand_required(true);
+    for row in TABLE {
+        let command: Command<'a> = command(alloc, row)?;
+        program = program.subcommand(command)?;
+    }
+    Ok(program)
+}
+
+/// The command of a subcommand.
+fn command<'a>(alloc: Global, row: Row) -> Result<Command<'a>, AllocError> {
+    let (name, about, help): (&'a str, &'a str, &'a str) = (row.name, row.about, row.help);
+    let command: Command<'a> = Command::new(alloc, name).about(about).after_help(help);
+    with_options(alloc, row.work, command)
+}
+
+/// The command with the options of its subcommand.
+fn with_options<'a>(
+    alloc: Global,
+    work: Work,
+    command: Command<'a>,
+) -> Result<Command<'a>, AllocError> {
+    match work {
+        Work::Engine(engine) => with_flags(alloc, engine, command),
+        Work::Drive => with_drive_options(alloc, command),
+        Work::Bench => with_names(alloc, command),
+    }
+}
+
+/// The command with the options of what the engine can show, of which no two go together.
+fn with_flags<'a>(
+    alloc: Global,
+    engine: Engine,
+    mut command: Command<'a>,
+) -> Result<Command<'a>, AllocError> {
+    for flag in FLAGS {
+        if engine.showing(flag.shown).is_some() {
+            let option: Arg<'a> = option(alloc, flag)?;
+            command = command.arg(option)?;
+        }
+    }
+    Ok(command)
+}
+
+/// The option, which goes with no other.
+fn option<'a>(alloc: Global, flag: Flag) -> Result<Arg<'a>, AllocError> {
+    let (name, help): (&'a str, &'a str) = (flag.name, flag.help);
+    let mut option: Arg<'a> = Arg::new(alloc, name)
         .long(name)
         .action(ArgAction::SetTrue)
-        .help(help)
+        .help(help);
+    for other in FLAGS {
+        let other: &'a str = other.name;
+        if other != name {
+            option = option.conflicts_with(other)?;
+        }
+    }
+    Ok(option)
 }
 
-/// The option of records.
-fn history<'a>(alloc: Global) -> Arg<'a> {
-    option(
-        alloc,
-        "history",
-        "Prints the records of what happened, in place of lines",
-    )
-}
-
-/// The command of scripts.
-pub fn run<'a>(alloc: Global) -> Result<Command<'a>, AllocError> {
-    Command::new(alloc, "run")
-        .about("Obeys a script of commands, one a line, from standard input")
-        .after_help(RUN)
-        .arg(history(alloc))
-}
-
-/// The command of schedules.
-pub fn steps<'a>(alloc: Global) -> Result<Command<'a>, AllocError> {
-    let svg = option(alloc, "svg", "Draws a picture, in place of lines").conflicts_with("history")?;
-    Command::new(alloc, "steps")
-        .about("Plays the turns of a schedule, one line each, from standard input")
-        .after_help(STEPS)
-        .arg(history(alloc))?
-        .arg(svg)
-}
-
-/// The command of records.
-pub fn check<'a>(alloc: Global) -> Command<'a> {
-    Command::new(alloc, "check")
-        .about("Says whether the history recorded in standard input is legal")
-        .after_help(CHECK)
-}
-
-/// The command of a drive, for the program's help.
-pub fn drive<'a>(alloc: Global) -> Command<'a> {
-    Command::new(alloc, "drive").about(
-        "Gets keys of one fill on several threads, and checks what happened",
-    )
+/// The command with the words of `bench`.
+fn with_names<'a>(alloc: Global, command: Command<'a>) -> Result<Command<'a>, AllocError> {
+    let list = Arg::new(alloc, "list")
+        .long("list")
+        .action(ArgAction::SetTrue)
+        .help("Prints the names of the benchmarks");
+    let names = Arg::new(alloc, "names")
+        .value_name("NAME")
+        .action(ArgAction::Append)
+        .help("What is measured");
+    command.arg(list)?.arg(names)
 }

@@ -1,12 +1,14 @@
 //! What the command line asks for.
 
-ghost use Rattle.std.specs.Prelude.{◌≡◌, IfOk, Some, slice_get, option_map, string_bytes};
-ghost use Rattle.sf_cli.specs.Usage.{subcommand_name_of, IsShownFor, IsShownBy};
+ghost use Rattle.std.specs.Prelude.{◌≡◌, IfOk, IfSome, Some, slice_get, option_map, string_bytes};
+ghost use Rattle.sf_engines.specs.Engines.{name_of, shown_by};
+ghost use Rattle.sf_cli.specs.Work.{IsShownFor};
+ghost use Rattle.sf_cli.specs.Usage.{subcommand_name_of, IsShownBy};
 
-use crate::commands;
-use clap::{Command, Error};
+use crate::table::{Work, named, program, shown};
+use clap::Error;
 use sf_drive::{DriveLine, NoDrive, drive_line};
-use sf_engines::{Engine, Shown};
+use sf_engines::Engine;
 use std::alloc::{AllocError, Global};
 use std::fmt;
 
@@ -19,97 +21,116 @@ pub enum Subcommand {
     Drive(DriveLine),
 }
 
-/// Why the command line asks for nothing: clap's words, help too.
+/// What is wrong with the words.
 #[derive(Drop)]
-pub enum Usage {
+pub enum Mistake {
     /// What clap says.
     Said(Error),
     /// What is said of the words of a drive.
     NoDrive(NoDrive),
-    /// The words name no subcommand.
-    NoSubcommand,
+    /// They ask for the program that measures, which `./sfctl` runs.
+    Elsewhere,
+    /// clap takes them, and no subcommand does.
+    NotTaken,
+    /// They are no text.
+    NoText,
 }
 
-impl fmt::Display for Usage {
+impl fmt::Display for Mistake {
     fn fmt<W: fmt::Write>(&self, f: &mut fmt::Formatter<W>) -> fmt::Result {
         match self {
-            Usage::Said(error) => error.fmt(f),
-            Usage::NoDrive(error) => error.fmt(f),
-            Usage::NoSubcommand => f.write_str("error: no subcommand\n"),
+            Mistake::Said(error) => error.fmt(f),
+            Mistake::NoDrive(error) => error.fmt(f),
+            Mistake::Elsewhere => {
+                f.write_str(
+                    "error: `bench` is a program of its own, sf_bench, which ./sfctl runs\n",
+                )
+            }
+            Mistake::NotTaken => f.write_str("error: no subcommand takes these words\n"),
+            Mistake::NoText => f.write_str("error: the arguments are no text\n"),
         }
     }
 }
 
-impl From<NoDrive> for Usage {
-    fn from(error: NoDrive) -> Usage {
-        Usage::NoDrive(error)
+/// Why the command line starts nothing.
+#[derive(Drop)]
+pub enum Usage {
+    /// It asks for help or the version, which is this text.
+    Help(String),
+    /// It is wrong.
+    Mistake(Mistake),
+}
+
+impl Usage {
+    /// What clap answers in place of matches.
+    fn said(alloc: Global, error: Error) -> Usage {
+        if error.use_stderr() {
+            return Usage::Mistake(Mistake::Said(error));
+        }
+        match format!(in alloc; "{error}") {
+            Ok(text) => Usage::Help(text),
+            Err(refused) => Usage::from(refused),
+        }
     }
 }
 
 impl From<AllocError> for Usage {
     fn from(error: AllocError) -> Usage {
-        Usage::Said(Error::from(error))
+        Usage::Mistake(Mistake::Said(Error::from(error)))
     }
 }
 
-/// Whether clap takes the words; what it refuses is usage. The options of its engines have no values, and each is given once,
-/// so what it takes is an engine's name, with one of them or none.
-fn takes(alloc: Global, words: &[String]) -> Result<(), Usage> {
-    let mut command = Command::new(alloc, "sfctl")
-        .about(commands::ABOUT)
-        .after_help(commands::STATUSES)
-        .subcommand_required(true);
-    command = command.subcommand(commands::run(alloc)?)?;
-    command = command.subcommand(commands::steps(alloc)?)?;
-    command = command.subcommand(commands::check(alloc))?;
-    command = command.subcommand(commands::drive(alloc))?;
-    match command.try_get_matches_from(words) {
-        Ok(_) => Ok(()),
-        Err(error) => Err(Usage::Said(error)),
+/// What is said of words that ask for nothing; this, where clap has nothing to say.
+fn refused(alloc: Global, words: &[String], otherwise: Mistake) -> Usage {
+    match program(alloc) {
+        Ok(program) => match program.try_get_matches_from(words) {
+            Ok(_) => Usage::Mistake(otherwise),
+            Err(error) => Usage::said(alloc, error),
+        },
+        Err(error) => Usage::from(error),
     }
 }
 
-/// What the word after an engine's name asks to be shown.
-fn shown(word: Option<&String>) -> Shown
-    ensures { IsShownFor result (option_map (λ w. string_bytes w.now) word.entry) }
+/// How much the words, the name of `drive` first, ask for.
+fn line(alloc: Global, words: &[String]) -> Result<DriveLine, Usage> {
+    match drive_line(alloc, words) {
+        Ok(line) => Ok(line),
+        Err(NoDrive::Said(error)) => Err(Usage::said(alloc, error)),
+        Err(error) => Err(Usage::Mistake(Mistake::NoDrive(error))),
+    }
+}
+
+/// The engine of the same subcommand that shows what the third word says.
+fn showing(engine: Engine, words: &[String]) -> Option<Engine>
+    ensures { IfSome result (λ e. (name_of e ≡ name_of engine)
+        × IsShownFor (shown_by e) (option_map string_bytes (slice_get words.now 2))) }
 {
-    match word {
-        Some(word) if word.as_str() == "--history" => Shown::History,
-        Some(word) if word.as_str() == "--svg" => Shown::Picture,
-        _ => Shown::Lines,
-    }
-}
-
-/// The subcommand of this name, where the words are a parse.
-fn named(alloc: Global, name: &str, words: &[String]) -> Result<Subcommand, Usage>
-    ensures name { IfOk result (λ asked. name.now ≡ subcommand_name_of asked) }
-    ensures shown { IfOk result (λ asked. IsShownBy asked (option_map string_bytes (slice_get words.now 2))) }
-{
-    if name == "drive" {
-        let line = drive_line(alloc, words.get(1..).unwrap_or_default())?;
-        return Ok(Subcommand::Drive(line));
-    }
-    takes(alloc, words)?;
-    let Some(engine) = Engine::named(name) else {
-        return Err(Usage::NoSubcommand);
-    };
-    match engine.showing(shown(words.get(2))) {
-        Some(engine) => Ok(Subcommand::Engine(engine)),
-        None => Err(Usage::NoSubcommand),
-    }
+    engine.showing(shown(words)?)
 }
 
 /// The subcommand that the words ask for, the program's name first: it is the one that the second word names, and it shows
-/// what the third one says. Whatever is no parse is usage, help too.
+/// what the third one says.
 pub fn parse(alloc: Global, words: &[String]) -> Result<Subcommand, Usage>
     ensures name { IfOk result (λ asked. option_map string_bytes (slice_get words.now 1) ≡ Some (subcommand_name_of asked)) }
     ensures shown { IfOk result (λ asked. IsShownBy asked (option_map string_bytes (slice_get words.now 2))) }
 {
-    match words.get(1) {
-        Some(name) => named(alloc, name.as_str(), words),
-        None => {
-            takes(alloc, words)?;
-            Err(Usage::NoSubcommand)
+    let work = match words.get(1) {
+        Some(name) => named(name.as_str()),
+        None => None,
+    };
+    let mistake = match work {
+        Some(Work::Engine(engine)) => {
+            if let Some(engine) = showing(engine, words) {
+                return Ok(Subcommand::Engine(engine));
+            }
+            Mistake::NotTaken
         }
-    }
+        Some(Work::Drive) => {
+            let line = line(alloc, words.get(1..).unwrap_or_default())?;
+            return Ok(Subcommand::Drive(line));
+        }
+        Some(Work::Bench) => Mistake::Elsewhere,
+        None => Mistake::NotTaken,
+    };
+    Err(refused(alloc, words, mistake))
 }

@@ -11,6 +11,6 @@ mod progress;
 mod report;
 
 pub use driving::drive;
-pub use line::{DriveLine, NoDrive, drive_line};
+pub use line::{DRIVE_ABOUT, DRIVE_HELP, DriveLine, NoDrive, drive_line, with_drive_options};
 pub use progress::ProgressLine;
 pub use report::{DriveEnding, Report, status};

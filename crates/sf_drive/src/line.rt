@@ -2,7 +2,7 @@
 ghost use Rattle.std.specs.Prelude.{◌≡◌, ◌≤◌, IfOk};
 
 use clap::{Arg, ArgAction, Command, Error};
-use std::alloc::Global;
+use std::alloc::{AllocError, Global};
 use std::fmt;
 
 /// How much a drive does.
@@ -49,8 +49,12 @@ impl fmt::Display for NoDrive {
     }
 }
 
-// What a drive's help ends with.
-const HELP: &str = "Prints how many gets there were, how many answered the key's value, whether the
+/// What the program's help says of a drive.
+pub const DRIVE_ABOUT: &str = "Gets keys of one fill on several threads, and checks what happened";
+
+/// What a drive's help ends with.
+pub const DRIVE_HELP: &str =
+    "Prints how many gets there were, how many answered the key's value, whether the
 totals agree, and whether the history is legal.
 
 Example:
@@ -59,8 +63,11 @@ Example:
 Exit status: 0 where all went well, 1 where it did not, 2 for usage, want of
 memory, and a failing write.";
 
-// The command of a drive, with its ranges.
-fn command<'a>(alloc: Global) -> Result<Command<'a>, Error> {
+/// The command with the options of a drive and their ranges.
+pub fn with_drive_options<'a>(
+    alloc: Global,
+    command: Command<'a>,
+) -> Result<Command<'a>, AllocError> {
     let threads = Arg::new(alloc, "threads")
         .long("threads")
         .action(ArgAction::Set)
@@ -87,17 +94,21 @@ fn command<'a>(alloc: Global) -> Result<Command<'a>, Error> {
         .long("history")
         .action(ArgAction::SetTrue)
         .help("Prints the records of what happened, in place of the four lines");
-    Ok(
-        Command::new(alloc, "drive")
-            .bin_name("sfctl drive")?
-            .about("Gets keys of one fill on several threads, and checks what happened")
-            .after_help(HELP)
-            .arg(threads)?
-            .arg(keys)?
-            .arg(gets)?
-            .arg(open)?
-            .arg(history)?,
-    )
+    command
+        .arg(threads)?
+        .arg(keys)?
+        .arg(gets)?
+        .arg(open)?
+        .arg(history)
+}
+
+// The command of a drive.
+fn command<'a>(alloc: Global) -> Result<Command<'a>, Error> {
+    let command = Command::new(alloc, "drive")
+        .bin_name("sfctl drive")?
+        .about(DRIVE_ABOUT)
+        .after_help(DRIVE_HELP);
+    Ok(with_drive_options(alloc, command)?)
 }
 
 /// Reads the words of a drive, the subcommand's name first: `--threads` (4 where it is absent), `--keys` (8), `--gets`

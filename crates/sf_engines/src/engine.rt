@@ -7,8 +7,10 @@ ghost use Rattle.sf_engines.specs.Engines.{IsWrittenBy, IsAnswerOf, name_of, sho
 
 use crate::checking::Checked;
 use crate::ending::Ending;
-use crate::engines::{check, run, run_history, steps, steps_history, steps_picture};
+use crate::engines::{check, run, write_answer};
 use crate::hints::{Hint, hint_for};
+use crate::playing::{drawn, traced};
+use crate::recording::{schedule_records, script_records};
 use sf_text::{ReadFault, StreamFault, read_all, write_line};
 use std::alloc::Global;
 use std::io::{Read, Write};
@@ -24,19 +26,16 @@ pub enum Shown {
     Picture,
 }
 
-/// An engine of `sfctl`.
+/// An engine of `sfctl`, and what it shows.
 #[derive(Clone, Copy, PartialEq, Eq)]
 pub enum Engine {
     /// Obeys a script of commands.
-    Run,
-    /// Obeys a script of commands, and shows what happened as records.
-    RunHistory,
-    /// Plays a schedule of the step core.
-    Steps,
-    /// Plays a schedule of the step core, and shows what happened as records.
-    StepsHistory,
-    /// Plays a schedule of the step core, and draws it.
-    StepsPicture,
+    Run {
+        /// Whether it shows the records of what happened, in place of its lines.
+        history: bool,
+    },
+    /// Plays a schedule of the step core, and shows this.
+    Steps(Shown),
     /// Says whether a recorded history is legal.
     Check,
 }
@@ -47,8 +46,8 @@ impl Engine {
         ensures { result.now ≡ name_of self }
     {
         match self {
-            Engine::Run | Engine::RunHistory => "run",
-            Engine::Steps | Engine::StepsHistory | Engine::StepsPicture => "steps",
+            Engine::Run { .. } => "run",
+            Engine::Steps(_) => "steps",
             Engine::Check => "check",
         }
     }
@@ -58,37 +57,12 @@ impl Engine {
         ensures found { IfSome result (λ engine. (name_of engine ≡ name_of self) × (shown_by engine ≡ shown)) }
         ensures none { result ≡ None → (engine : Engine) → name_of engine ≡ name_of self → shown_by engine ≢ shown }
     {
-        match self {
-            Engine::Run | Engine::RunHistory => match shown {
-                Shown::Lines => Some(Engine::Run),
-                Shown::History => Some(Engine::RunHistory),
-                Shown::Picture => None,
-            },
-            Engine::Steps | Engine::StepsHistory | Engine::StepsPicture => match shown {
-                Shown::Lines => Some(Engine::Steps),
-                Shown::History => Some(Engine::StepsHistory),
-                Shown::Picture => Some(Engine::StepsPicture),
-            },
-            Engine::Check => match shown {
-                Shown::Lines => Some(Engine::Check),
-                Shown::History | Shown::Picture => None,
-            },
-        }
-    }
-
-    /// The engine of this name that shows lines.
-    pub fn named(name: &str) -> Option<Engine>
-        ensures found { IfSome result (λ engine. (name.now ≡ name_of engine) × (shown_by engine ≡ Shown.Lines)) }
-        ensures unknown { result ≡ None → (engine : Engine) → name.now ≢ name_of engine }
-    {
-        if name == "run" {
-            Some(Engine::Run)
-        } else if name == "steps" {
-            Some(Engine::Steps)
-        } else if name == "check" {
-            Some(Engine::Check)
-        } else {
-            None
+        match (self, shown) {
+            (Engine::Run { .. }, Shown::Lines) => Some(Engine::Run { history: false }),
+            (Engine::Run { .. }, Shown::History) => Some(Engine::Run { history: true }),
+            (Engine::Steps(_), shown) => Some(Engine::Steps(shown)),
+            (Engine::Check, Shown::Lines) => Some(Engine::Check),
+            _ => None,
         }
     }
 
@@ -168,11 +142,13 @@ impl Engine {
         ensures part { (text : List ℕ) × IsAnswerOf self input.now text × AppendsPart (W.contents writer.old) (W.contents writer.new) text }
     {
         match self {
-            Engine::Run => run(alloc, input, writer),
-            Engine::RunHistory => run_history(alloc, input, writer),
-            Engine::Steps => steps(alloc, input, writer),
-            Engine::StepsHistory => steps_history(alloc, input, writer),
-            Engine::StepsPicture => steps_picture(alloc, input, writer),
+            Engine::Run { history: false } => run(alloc, input, writer),
+            Engine::Run { history: true } => write_answer(writer, script_records(alloc, input)),
+            Engine::Steps(shown) => match shown {
+                Shown::Lines => write_answer(writer, traced(alloc, input)),
+                Shown::History => write_answer(writer, schedule_records(alloc, input)),
+                Shown::Picture => write_answer(writer, drawn(alloc, input)),
+            },
             Engine::Check => check(alloc, input, writer),
         }
     }

@@ -26,8 +26,8 @@ impl fmt::Display for Hint {
 /// More about the line for which an engine refuses an input; none where no line's form is the cause, or memory is refused.
 pub fn hint_for(alloc: Global, engine: Engine, input: &[u8]) -> Option<Hint> {
     match engine {
-        Engine::Run | Engine::RunHistory => command_hint(alloc, input),
-        Engine::Steps | Engine::StepsHistory | Engine::StepsPicture => turn_hint(alloc, input),
+        Engine::Run { .. } => command_hint(alloc, input),
+        Engine::Steps(_) => turn_hint(alloc, input),
         Engine::Check => record_hint(alloc, input),
     }
 }

@@ -1,6 +1,6 @@
 //! Streams that fail at their n-th call, that fail once, and that never end; and answers that are long.
 
-use sf_engines::{Ending, Engine};
+use sf_engines::{Ending, Engine, Shown};
 use sf_text::{READS, StreamFault};
 use std::alloc::Global;
 use std::io::{Error, ErrorKind, Read, Result as IoResult, Write};
@@ -74,8 +74,18 @@ impl Read for EndlessReader {
 
 /// An engine, its input, so many bytes that three reads hand it out, and its answer.
 const ROWS: [(Engine, &[u8], usize, &[u8]); 3] = [
-    (Engine::Run, b"ask 1 key", 3, b"1 lead 1.1\n"),
-    (Engine::Steps, b"do 1 ask 1\nstep 1", 6, b"1 look 1 0\n"),
+    (
+        Engine::Run { history: false },
+        b"ask 1 key",
+        3,
+        b"1 lead 1.1\n",
+    ),
+    (
+        Engine::Steps(Shown::Lines),
+        b"do 1 ask 1\nstep 1",
+        6,
+        b"1 look 1 0\n",
+    ),
     (Engine::Check, b"{\"format\":1}", 4, b"legal: 0 events\n"),
 ];
 
@@ -163,12 +173,12 @@ fn failing_writes(rt: HostRuntime) {
 fn failing_writes_of_a_refusal(rt: HostRuntime) {
     let rows: [(Engine, &[u8], &[u8]); 3] = [
         (
-            Engine::Run,
+            Engine::Run { history: false },
             b"take 1",
             b"line 1: caller 1 has nothing to take\n",
         ),
         (
-            Engine::Steps,
+            Engine::Steps(Shown::Lines),
             b"step 1",
             b"line 1: not a turn of this schedule\n",
         ),
@@ -183,7 +193,7 @@ fn failing_writes_of_a_refusal(rt: HostRuntime) {
 fn an_endless_input_is_a_failing_read(rt: HostRuntime) -> Result<(), Fail> {
     let mut reader = EndlessReader { reads: 0 };
     let mut written: Vec<u8> = Vec::new(rt.alloc());
-    let ended = Engine::Run.start(rt.alloc(), &mut reader, &mut written);
+    let ended = Engine::Run { history: false }.start(rt.alloc(), &mut reader, &mut written);
     assert!(rt;
         matches!(ended, Err(StreamFault::CannotRead)),
         "it is read to an end"

@@ -1,78 +1,78 @@
 //! What helps with refused lines.
 
-use sf_engines::{Ending, Engine, hint_for};
+use sf_engines::{Ending, Engine, Shown, hint_for};
 use std::test::Fail;
 
 #[test]
 fn refused_lines_have_hints(rt: HostRuntime) -> Result<(), Fail> {
     let rows: [(Engine, &[u8], &str); 25] = [
         (
-            Engine::Run,
+            Engine::Run { history: false },
             b"ask 1 k\nask 2\n",
             "hint: line 2: expected `ask CALLER KEY`; callers are 1 to 65535, keys 1 to 250 bytes",
         ),
         (
-            Engine::Run,
+            Engine::Run { history: false },
             b"\xff\n",
             "hint: line 1: expected ask, chan, settle, forget, forgetcall, take or current",
         ),
         (
-            Engine::Run,
+            Engine::Run { history: false },
             b"take 0\n",
             "hint: line 1: expected `take CALLER`; callers are 1 to 65535",
         ),
         (
-            Engine::Run,
+            Engine::Run { history: false },
             b"forgetcall 2 k 1\n",
             "hint: line 1: expected `forgetcall CALLER KEY CALLER.GENERATION`; callers are 1 to 65535, keys 1 to 250 bytes, generations 1 to 4294967295",
         ),
         (
-            Engine::Steps,
+            Engine::Steps(Shown::Lines),
             b"\n",
             "hint: line 1: expected do, step or drop",
         ),
         (
-            Engine::Steps,
+            Engine::Steps(Shown::Lines),
             b"do 1 forgetcall 65 1.1\n",
             "hint: line 1: expected `do CALLER` and one of `ask PLACE`, `chan SECOND PLACE`, `settle ok TEXT`, `settle err TEXT`, `forget PLACE`, `forgetcall PLACE CALL`, `poll`, `current PLACE CALL`, `named PLACE`; callers and places are 1 to 64",
         ),
         (
-            Engine::Steps,
+            Engine::Steps(Shown::Lines),
             b"do 1 ask 1\nstep 1 3\ndo 1 forgetcall 1 1.1\n",
             "hint: line 3: a forget needs a free caller",
         ),
         (
-            Engine::Steps,
+            Engine::Steps(Shown::Lines),
             b"do 1 ask 1\nstep 1 3\ndo 1 named 1\n",
             "hint: line 3: a question needs a free caller",
         ),
         (
-            Engine::Steps,
+            Engine::Steps(Shown::Lines),
             b"step 1 1001\n",
             "hint: line 1: expected `step CALLER` or `step CALLER COUNT`; callers are 1 to 64, counts 1 to 1000",
         ),
         (
-            Engine::Steps,
+            Engine::Steps(Shown::Lines),
             b"do 1 ask 1\nstep 1 4\n",
             "hint: line 2: a step beyond the end of an operation, or with none begun",
         ),
         (
-            Engine::Steps,
+            Engine::Steps(Shown::Lines),
             b"do 1 ask 1\ndo 1 ask 2\n",
             "hint: line 2: an operation of this caller has not ended",
         ),
         (
-            Engine::Steps,
+            Engine::Steps(Shown::Lines),
             b"do 1 settle ok v\n",
             "hint: line 1: a settling needs a caller that leads",
         ),
         (
-            Engine::Steps,
+            Engine::Steps(Shown::Lines),
             b"do 1 chan 1 1\n",
             "hint: line 1: an asking needs callers that are free, different and not spent",
         ),
         (
-            Engine::Steps,
+            Engine::Steps(Shown::Lines),
             b"do 1 ask 1\ndrop 1\n",
             "hint: line 2: an operation is dropped only right after a failed exchange",
         ),
@@ -148,28 +148,28 @@ fn refused_lines_have_hints(rt: HostRuntime) -> Result<(), Fail> {
 fn a_hint_is_left_where_a_line_is_refused(rt: HostRuntime) -> Result<(), Fail> {
     let rows: [(Engine, &[u8], &[u8], Ending, bool); 5] = [
         (
-            Engine::Run,
+            Engine::Run { history: false },
             b"ask 1 k\n",
             b"1 lead 1.1\n",
             Ending::Answered,
             false,
         ),
         (
-            Engine::Run,
+            Engine::Run { history: false },
             b"foo\n",
             b"line 1: not a command\n",
             Ending::Refused,
             true,
         ),
         (
-            Engine::Run,
+            Engine::Run { history: false },
             b"take 1\n",
             b"line 1: caller 1 has nothing to take\n",
             Ending::Refused,
             false,
         ),
         (
-            Engine::Steps,
+            Engine::Steps(Shown::Lines),
             b"step 1\n",
             b"line 1: not a turn of this schedule\n",
             Ending::Refused,

@@ -1,6 +1,6 @@
 //! Inputs of real size, with ample memory.
 
-use sf_engines::{Ending, Engine};
+use sf_engines::{Ending, Engine, Shown};
 use std::alloc::{AllocError, Global};
 use std::process::Abort;
 use std::test::Fail;
@@ -39,7 +39,7 @@ fn a_long_script(rt: HostRuntime) -> Result<(), Fail> {
     answers(
         &rt,
         rt.alloc(),
-        Engine::Run,
+        Engine::Run { history: false },
         script.as_str(),
         answer.as_str(),
     )
@@ -52,7 +52,7 @@ fn a_long_schedule(rt: HostRuntime) -> Result<(), Fail> {
     answers(
         &rt,
         rt.alloc(),
-        Engine::Steps,
+        Engine::Steps(Shown::Lines),
         schedule.as_str(),
         answer.as_str(),
     )

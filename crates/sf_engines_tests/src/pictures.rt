@@ -1,6 +1,6 @@
 //! Pictures of schedules.
 
-use sf_engines::{Ending, Engine};
+use sf_engines::{Ending, Engine, Shown};
 use std::test::Fail;
 
 #[test]
@@ -8,7 +8,7 @@ fn a_picture_has_each_step_and_event(rt: HostRuntime) -> Result<(), Fail> {
     let mut schedule: &[u8] =
         b"do 1 ask 1\nstep 1 3\ndo 1 settle ok a<b>&c\nstep 1 2\ndo 2 current 1 1.1\nstep 2 2\n";
     let mut written: Vec<u8> = Vec::new(rt.alloc());
-    let ended = Engine::StepsPicture.start(rt.alloc(), &mut schedule, &mut written)?;
+    let ended = Engine::Steps(Shown::Picture).start(rt.alloc(), &mut schedule, &mut written)?;
     assert!(rt; ended == Ending::Answered, "it ends otherwise");
     let drawn = str::from_utf8(written.as_slice()).unwrap_or("no text");
     for part in [
@@ -33,7 +33,7 @@ fn a_forget_of_one_call_and_the_question_which_one_are_drawn(rt: HostRuntime) ->
     let mut schedule: &[u8] =
         b"do 1 ask 1\nstep 1 3\ndo 2 named 1\nstep 2\ndo 3 forgetcall 1 1.1\nstep 3 4\ndo 3 forgetcall 1 2.1\nstep 3\n";
     let mut written: Vec<u8> = Vec::new(rt.alloc());
-    let ended = Engine::StepsPicture.start(rt.alloc(), &mut schedule, &mut written)?;
+    let ended = Engine::Steps(Shown::Picture).start(rt.alloc(), &mut schedule, &mut written)?;
     assert!(rt; ended == Ending::Answered, "it ends otherwise");
     let drawn = str::from_utf8(written.as_slice()).unwrap_or("no text");
     for part in [
@@ -56,7 +56,7 @@ fn a_forget_of_one_call_and_the_question_which_one_are_drawn(rt: HostRuntime) ->
 fn a_refused_schedule_has_no_picture(rt: HostRuntime) -> Result<(), Fail> {
     let mut schedule: &[u8] = b"step 1\n";
     let mut written: Vec<u8> = Vec::new(rt.alloc());
-    let ended = Engine::StepsPicture.start(rt.alloc(), &mut schedule, &mut written)?;
+    let ended = Engine::Steps(Shown::Picture).start(rt.alloc(), &mut schedule, &mut written)?;
     assert!(rt;
         ended == Ending::Refused
             && written.as_slice() == b"line 1: not a turn of this schedule\n".as_slice(),

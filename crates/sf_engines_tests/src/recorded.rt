@@ -1,12 +1,12 @@
 //! What scripts and schedules did, as records.
 
-use sf_engines::{Ending, Engine};
+use sf_engines::{Ending, Engine, Shown};
 use std::test::Fail;
 
 /// An engine, its input, and its answer: each record but the first is an event.
 const ROWS: [(Engine, &[u8], &[u8]); 5] = [
     (
-        Engine::RunHistory,
+        Engine::Run { history: true },
         b"ask 1 k\nask 2 k\nsettle 1 ok v\ntake 2\n",
         b"{\"format\":3}
 {\"e\":\"lead\",\"by\":1,\"k\":\"k\",\"c\":[1,1],\"own\":null}
@@ -16,7 +16,7 @@ const ROWS: [(Engine, &[u8], &[u8]); 5] = [
 ",
     ),
     (
-        Engine::RunHistory,
+        Engine::Run { history: true },
         b"chan 1 2 k\nforget 3 k\nforget 3 j\nsettle 1 err down\n",
         b"{\"format\":3}
 {\"e\":\"lead\",\"by\":1,\"k\":\"k\",\"c\":[1,1],\"own\":[2,1]}
@@ -27,7 +27,7 @@ const ROWS: [(Engine, &[u8], &[u8]); 5] = [
 ",
     ),
     (
-        Engine::RunHistory,
+        Engine::Run { history: true },
         b"ask 1 k\nforgetcall 2 k 1.1\nask 3 k\nforgetcall 2 k 1.1\nsettle 3 ok n\nforgetcall 2 k 3.1\ncurrent k 3.1\nsettle 1 ok o\n",
         b"{\"format\":3}
 {\"e\":\"lead\",\"by\":1,\"k\":\"k\",\"c\":[1,1],\"own\":null}
@@ -42,7 +42,7 @@ const ROWS: [(Engine, &[u8], &[u8]); 5] = [
 ",
     ),
     (
-        Engine::StepsHistory,
+        Engine::Steps(Shown::History),
         b"do 1 ask 20\nstep 1 3\ndo 1 settle ok v\nstep 1 2\ndo 3 forgetcall 20 1.1\nstep 3 3\ndo 3 forgetcall 20 2.1\nstep 3\ndo 3 named 20\nstep 3\n",
         b"{\"format\":3}
 {\"e\":\"lead\",\"by\":1,\"k\":\"20\",\"c\":[1,1],\"own\":null}
@@ -53,7 +53,7 @@ const ROWS: [(Engine, &[u8], &[u8]); 5] = [
 ",
     ),
     (
-        Engine::StepsHistory,
+        Engine::Steps(Shown::History),
         b"do 1 ask 20\nstep 1 3\ndo 3 forget 20\nstep 3 3\ndo 1 settle ok v\nstep 1 2\nstep 3\n",
         b"{\"format\":3}
 {\"e\":\"lead\",\"by\":1,\"k\":\"20\",\"c\":[1,1],\"own\":null}
@@ -83,12 +83,12 @@ fn recorded_histories_are_legal(rt: HostRuntime) -> Result<(), Fail> {
 fn refused_inputs_have_no_records(rt: HostRuntime) -> Result<(), Fail> {
     let rows: [(Engine, &[u8], &[u8]); 2] = [
         (
-            Engine::RunHistory,
+            Engine::Run { history: true },
             b"ask 1 k\nask 1 k\n",
             b"line 2: caller 1 is not free\n",
         ),
         (
-            Engine::StepsHistory,
+            Engine::Steps(Shown::History),
             b"do 1 ask 1\nstep 1 4\n",
             b"line 2: not a turn of this schedule\n",
         ),

@@ -1,6 +1,6 @@
 //! Worked schedules, and lines that are no turns.
 
-use sf_engines::{Ending, Engine};
+use sf_engines::{Ending, Engine, Shown};
 use std::alloc::Global;
 use std::process::Abort;
 use std::test::Fail;
@@ -14,7 +14,7 @@ fn prints(
     ending: Ending,
 ) -> Result<(), Fail> {
     let mut written: Vec<u8> = Vec::new(alloc);
-    let ended = Engine::Steps.start(alloc, &mut &*schedule, &mut written)?;
+    let ended = Engine::Steps(Shown::Lines).start(alloc, &mut &*schedule, &mut written)?;
     let said = str::from_utf8(written.as_slice()).unwrap_or("no text");
     assert!(rt; said == printed, "{printed} answers {said}");
     assert!(rt; ended == ending, "{printed} ends otherwise");

@@ -14,7 +14,7 @@ fn answers(
     ending: Ending,
 ) -> Result<(), Fail> {
     let mut written: Vec<u8> = Vec::new(alloc);
-    let ended = Engine::Run.start(alloc, &mut script.as_bytes(), &mut written)?;
+    let ended = Engine::Run { history: false }.start(alloc, &mut script.as_bytes(), &mut written)?;
     let said = str::from_utf8(written.as_slice()).unwrap_or("no text");
     assert!(rt; said == answer, "{script} answers {said}");
     assert!(rt; ended == ending, "{script} ends otherwise");
@@ -171,7 +171,7 @@ fn lines_may_end_in_cr_lf_or_in_nothing(rt: HostRuntime) -> Result<(), Fail> {
 fn a_line_that_is_no_text_is_no_command(rt: HostRuntime) -> Result<(), Fail> {
     let mut written: Vec<u8> = Vec::new(rt.alloc());
     let script: &[u8] = b"ask 1 k\nask 2 \xff\n";
-    let ended = Engine::Run.start(rt.alloc(), &mut &*script, &mut written)?;
+    let ended = Engine::Run { history: false }.start(rt.alloc(), &mut &*script, &mut written)?;
     assert!(rt;
         written.as_slice() == b"line 2: not a command\n".as_slice(),
         "another answer"

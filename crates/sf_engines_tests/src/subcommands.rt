@@ -5,34 +5,42 @@ use sf_text::StreamFault;
 use std::test::Fail;
 
 #[test]
-fn engines_have_the_names_of_their_subcommands(rt: HostRuntime) -> Result<(), Fail> {
+fn engines_have_the_names_of_their_subcommands(rt: HostRuntime) {
     let rows = [
-        ("run", Engine::Run),
-        ("steps", Engine::Steps),
+        ("run", Engine::Run { history: false }),
+        ("steps", Engine::Steps(Shown::Lines)),
         ("check", Engine::Check),
     ];
     for (name, engine) in rows {
         assert!(rt; engine.name() == name, "{name} is called otherwise");
-        assert!(rt;
-            Engine::named(name) == Some(engine),
-            "{name} is another engine"
-        );
     }
-    for name in ["", "drive", "help", "Run", "run ", "checks"] {
-        assert!(rt; Engine::named(name).is_none(), "{name} is an engine");
-    }
-    Ok(())
 }
 
 #[test]
 fn engines_show_what_is_asked(rt: HostRuntime) {
     let rows = [
-        (Engine::Run, Shown::History, Some(Engine::RunHistory)),
-        (Engine::Steps, Shown::History, Some(Engine::StepsHistory)),
-        (Engine::StepsHistory, Shown::Lines, Some(Engine::Steps)),
+        (
+            Engine::Run { history: false },
+            Shown::History,
+            Some(Engine::Run { history: true }),
+        ),
+        (
+            Engine::Steps(Shown::Lines),
+            Shown::History,
+            Some(Engine::Steps(Shown::History)),
+        ),
+        (
+            Engine::Steps(Shown::History),
+            Shown::Lines,
+            Some(Engine::Steps(Shown::Lines)),
+        ),
         (Engine::Check, Shown::Lines, Some(Engine::Check)),
-        (Engine::Steps, Shown::Picture, Some(Engine::StepsPicture)),
-        (Engine::Run, Shown::Picture, None),
+        (
+            Engine::Steps(Shown::Lines),
+            Shown::Picture,
+            Some(Engine::Steps(Shown::Picture)),
+        ),
+        (Engine::Run { history: false }, Shown::Picture, None),
         (Engine::Check, Shown::History, None),
     ];
     for (engine, shown, expected) in rows {
