@@ -211,6 +211,7 @@ impl<'d, D: Naming, N: Naming, O: Origin> Fill<'d, D, N, O> {
     }
 
     // Asks the group for the key at the place, for a getter that owes nothing and found no letter.
+    #[inline(never)]
     fn get_asking<R: Wait, L>(
         &self,
         rt: &R,

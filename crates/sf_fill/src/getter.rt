@@ -206,6 +206,7 @@ impl<'d, D: Naming, N: Naming, O: Origin> Fill<'d, D, N, O> {
 
 impl<'d, D: Naming, N: Naming, O: Origin, L> Getter<'d, D, N, O, L> {
     /// Delivers the letters that are owed; where memory for one is refused, they are owed still.
+    #[inline(never)]
     pub fn settle_up<R: Wait>(
         self,
         rt: &R,

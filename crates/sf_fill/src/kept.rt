@@ -280,6 +280,7 @@ impl<'d, D: Naming, N: Naming, O: Origin> Kept<'d, D, N, O> {
 impl<'d, D: Naming, N: Naming, O: Origin> Fill<'d, D, N, O> {
     // A copy of the current letter that main, or else hot, has for the key at the place; entries of the key that are not
     // current are dropped. A limit that keeps nothing skips the look. What the getter counted is entered with it.
+    #[inline(never)]
     pub(crate) fn look<R: Wait>(
         &self,
         rt: &R,
@@ -410,6 +411,7 @@ impl<'d, D: Naming, N: Naming, O: Origin> Fill<'d, D, N, O> {
     }
 
     // Enters what the getter has counted and not entered yet.
+    #[inline(never)]
     pub(crate) fn enter<R: Wait>(&self, rt: &R, tallies: &mut Tallies<N>)
         ensures { tallies.new ≡ tallies.old }
     {

@@ -94,6 +94,7 @@ impl<'d, D: Naming, N: Naming, O: Origin> Near<'d, D, N, O> {
     }
 
     // Empties the slot.
+    #[inline(never)]
     fn clear(&mut self, index: usize) {
         if let Some(slot) = self.slots.get_mut(index) {
             if let Some(letter) = mem::replace(slot, None) {
@@ -160,6 +161,7 @@ impl<'d, D: Naming, N: Naming, O: Origin> Near<'d, D, N, O> {
 
     // Puts a copy of the letter into its slot, in the place of what that has, if it brings bytes and there is room; nothing is put
     // where memory is refused. The letter's note may show more then.
+    #[inline(never)]
     pub(crate) fn keep(
         &mut self,
         group: &Group<FillValue<'d, D, O>>,
