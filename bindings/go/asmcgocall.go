@@ -65,7 +65,7 @@ func letterOf(a *C.args) letter {
 
 func isStill(at C.uintptr_t, stamp Stamp) bool {
 	a := C.args{slot: C.uint64_t(at)}
-	a.letter.stamp = [2]C.uint64_t{C.uint64_t(stamp[0]), C.uint64_t(stamp[1])}
+	a.letter.stamp = [2]C.uint64_t{C.uint64_t(stamp.Place), C.uint64_t(stamp.Call)}
 	asmcgocall(isStillAt, unsafe.Pointer(&a))
 	return a.asked == C.SF_YES
 }

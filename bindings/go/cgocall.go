@@ -22,5 +22,5 @@ func letterOf(l C.letter) letter {
 }
 
 func isStill(at C.uintptr_t, stamp Stamp) bool {
-	return C.is_still(at, C.uint64_t(stamp[0]), C.uint64_t(stamp[1])) == C.SF_YES
+	return C.is_still(at, C.uint64_t(stamp.Place), C.uint64_t(stamp.Call)) == C.SF_YES
 }

@@ -128,7 +128,7 @@ func TestIsStill(t *testing.T) {
 	}
 	g := open(t, 2)
 	_, _, _, stamp := g.DoStamped("key", value(1))
-	for _, no := range []Stamp{{}, {1}, {0, 1}, {1 << 63, stamp[1]}, {stamp[0], stamp[1] + 1}, {stamp[0] + 1, stamp[1]}, {^uint64(0), ^uint64(0)}} {
+	for _, no := range []Stamp{{}, {1, 0}, {0, 1}, {1 << 63, stamp.Call}, {stamp.Place, stamp.Call + 1}, {stamp.Place + 1, stamp.Call}, {^uint64(0), ^uint64(0)}} {
 		if no == stamp || g.IsStill(no) {
 			t.Error("a stamp of nobody", no)
 		}

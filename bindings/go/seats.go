@@ -327,7 +327,9 @@ func (p *pool) settle(a asking, r *Result, watched *wait) {
 		s.ended = watched.ended
 		s.mu.Unlock()
 	}
-	s.owed.Store(0)
+	if isRaceDetected {
+		s.owed.Store(0)
+	}
 	letter := finish(s.at)
 	r.Shared, r.Stamp = letter.joiners > 0, letter.stamp
 	owed := int64(letter.joiners)
@@ -408,8 +410,9 @@ func (p *pool) join(a asking, stop <-chan struct{}) (r Result, how outcome) {
 		letter = poll(s.at)
 	}
 	p.put(a.shard, s)
-	// The leader has stored this after the rest, so that Go knows of the order, too.
-	led.owed.Load()
+	if isRaceDetected {
+		led.owed.Load()
+	}
 	switch {
 	case letter.code == C.SF_OTHER:
 		how = other
@@ -427,7 +430,7 @@ func (p *pool) isStill(stamp Stamp) bool {
 	if p.closed.Load() {
 		return false
 	}
-	shard := int(stamp[0] % shardCount)
+	shard := int(stamp.Place % shardCount)
 	if s := p.take(shard); s != nil {
 		still := isStill(s.at, stamp)
 		p.put(shard, s)

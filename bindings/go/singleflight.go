@@ -41,7 +41,7 @@ type Call struct{ caller, generation uint32 }
 
 // Stamp names the place and the call of a result, for IsStill: 16 plain bytes, to be kept with the result. The zero Stamp is that of
 // each that stood beside the library, which is never a current one.
-type Stamp [2]uint64
+type Stamp struct{ Place, Call uint64 }
 
 // Hit is what a Forget of one call found.
 type Hit uint8

@@ -2,10 +2,37 @@
 
 use crate::pool::{Letter, Pool, Seat, lock};
 use std::collections::BTreeMap;
-use std::sync::atomic::{AtomicU64, Ordering::Relaxed};
-use std::sync::{Condvar, Mutex, PoisonError};
+use std::sync::atomic::{AtomicU64, AtomicUsize, Ordering::Relaxed};
+use std::sync::{Condvar, Mutex, OnceLock, PoisonError};
 use std::task::{Poll, Waker};
-use std::time::Instant;
+use std::time::{Duration, Instant};
+
+/// So long one looks for a letter before one sleeps, about as long as it takes to sleep and be woken.
+const LOOKING_TIME: Duration = Duration::from_micros(10);
+
+/// How many threads look for a letter now.
+static LOOKING: AtomicUsize = AtomicUsize::new(0);
+
+/// How many may look at one time: each with a processor of its own, and one left for who loads.
+fn most_looking() -> usize {
+    static MOST: OnceLock<usize> = OnceLock::new();
+    *MOST.get_or_init(|| std::thread::available_parallelism().map_or(0, |processors| processors.get() - 1))
+}
+
+/// Looks for the letter for some time, unless as many look as may.
+fn look(seat: &mut Seat) -> Option<Letter> {
+    let before = LOOKING.fetch_add(1, Relaxed);
+    let mut found = seat.poll();
+    if before < most_looking() {
+        let until = Instant::now() + LOOKING_TIME;
+        while found.is_none() && Instant::now() < until {
+            std::hint::spin_loop();
+            found = seat.poll();
+        }
+    }
+    LOOKING.fetch_sub(1, Relaxed);
+    found
+}
 
 #[derive(Default)]
 struct Waits {
@@ -64,11 +91,8 @@ impl Post {
 
     /// Waits for the letter, until the deadline at the latest.
     pub(crate) fn wait(&self, seat: &mut Seat, deadline: Option<Instant>) -> Option<Letter> {
-        for _ in 0..64 {
-            if let Some(letter) = seat.poll() {
-                return Some(letter);
-            }
-            std::hint::spin_loop();
+        if let Some(letter) = look(seat) {
+            return Some(letter);
         }
         let mut waits = lock(&self.waits);
         loop {
