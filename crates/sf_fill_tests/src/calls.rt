@@ -2,7 +2,7 @@
 
 use crate::rows::{SETTING, check};
 use crate::steps::Step;
-use crate::steps::Step::{ForgetAll, Get, Put, Reload, Remove, Repeat, Stats};
+use crate::steps::Step::{ForgetAll, Get, GetKey, Put, Reload, Remove, Repeat, Stats};
 use crate::trial::{Setting, try_out};
 use std::test::Fail;
 
@@ -148,5 +148,29 @@ fn reload_and_forget_all_reach_near_letters(rt: HostRuntime) -> Result<(), Fail>
         a v=true 1.3 root=1.3 joiners=0\n\
         remove a true\n";
     check(&rt, &outcome, [said, ""], [5, 2, 3, 3, 0, 0, 3, 0]);
+    Ok(())
+}
+
+// The two keys share the only place, so what is answered has its own key. A directory's place is of one key.
+#[test]
+fn views_have_their_keys(rt: HostRuntime) -> Result<(), Fail> {
+    const STEPS: [Step; 3] = [GetKey("a"), GetKey("b"), GetKey("b")];
+    let open = Setting {
+        places: 1,
+        open: true,
+        steps: [&STEPS, &[], &[]],
+        ..SETTING
+    };
+    let outcome = try_out(&rt, rt.alloc(), open)?;
+    let said = "a own=true\nb own=true\nb own=true\n";
+    check(&rt, &outcome, [said, ""], [3, 1, 2, 2, 0, 0, 2, 0]);
+    let directory = Setting {
+        places: 2,
+        open: false,
+        ..open
+    };
+    let outcome = try_out(&rt, rt.alloc(), directory)?;
+    let said = "a by its place\nb by its place\nb by its place\n";
+    check(&rt, &outcome, [said, ""], [3, 1, 2, 2, 0, 0, 2, 0]);
     Ok(())
 }

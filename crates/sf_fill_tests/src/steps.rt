@@ -19,6 +19,8 @@ use std::thread::yield_now;
 pub enum Step {
     /// Gets the key.
     Get(&'static str),
+    /// Gets the key, and says the key of what is answered.
+    GetKey(&'static str),
     /// Reloads the key.
     Reload(&'static str),
     /// Puts the value under the key.
@@ -72,6 +74,24 @@ fn say_view<'d, D: Naming, O: Origin>(
                 "{key} v={is_v} {call} root={root} joiners={joiners}{shared}\n"
             )
         }
+        Err(fault) => write!(said, "{key} {fault}\n"),
+    };
+}
+
+// The key of what a get answers, where its place is hashed.
+fn say_key<'d, D: Naming, O: Origin>(
+    said: &mut String,
+    key: &str,
+    answer: &Result<View<'d, D, O>, LoadFault>,
+) {
+    let _ = match answer {
+        Ok(view) => match view.key() {
+            Some(own) => {
+                let is_own = own.as_slice() == key.as_bytes();
+                write!(said, "{key} own={is_own}\n")
+            }
+            None => write!(said, "{key} by its place\n"),
+        },
         Err(fault) => write!(said, "{key} {fault}\n"),
     };
 }
@@ -230,6 +250,11 @@ pub fn run<'d, D: Naming, N: Naming, O: Origin, L: LoadPath<Origin = O>>(
             Step::Get(key) => {
                 let (back, answer) = fill.get(rt, getter, key.as_bytes());
                 say_view(&mut said, key, &answer);
+                getter = back;
+            }
+            Step::GetKey(key) => {
+                let (back, answer) = fill.get(rt, getter, key.as_bytes());
+                say_key(&mut said, key, &answer);
                 getter = back;
             }
             Step::Reload(key) => {
