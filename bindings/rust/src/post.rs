@@ -19,12 +19,13 @@ fn most_looking() -> usize {
     *MOST.get_or_init(|| std::thread::available_parallelism().map_or(0, |processors| processors.get() - 1))
 }
 
-/// Looks for the letter for some time, unless as many look as may.
-fn look(seat: &mut Seat) -> Option<Letter> {
+/// Looks for the letter for some time, until the deadline at the latest, unless as many look as may.
+fn look(seat: &mut Seat, deadline: Option<Instant>) -> Option<Letter> {
     let before = LOOKING.fetch_add(1, Relaxed);
     let mut found = seat.poll();
     if before < most_looking() {
-        let until = Instant::now() + LOOKING_TIME;
+        let enough = Instant::now() + LOOKING_TIME;
+        let until = deadline.map_or(enough, |deadline| deadline.min(enough));
         while found.is_none() && Instant::now() < until {
             std::hint::spin_loop();
             found = seat.poll();
@@ -91,7 +92,7 @@ impl Post {
 
     /// Waits for the letter, until the deadline at the latest.
     pub(crate) fn wait(&self, seat: &mut Seat, deadline: Option<Instant>) -> Option<Letter> {
-        if let Some(letter) = look(seat) {
+        if let Some(letter) = look(seat, deadline) {
             return Some(letter);
         }
         let mut waits = lock(&self.waits);

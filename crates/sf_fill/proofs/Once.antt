@@ -1,6 +1,7 @@
 -- gets that a letter at hand answers, and what comes of an asking
-use Rattle.std.proofs.Common.{◌≡◌, ℕ, List, true, false, Option, Some, None, Result, Ok, Err, inl, inr, refl, sym, ap, ◌∙◌, subst}
+use Rattle.std.proofs.Common.{◌≡◌, ℕ, List, true, false, Option, Some, None, IfSome, Result, Ok, Err, inl, inr, refl, sym, ap, ◌∙◌, subst}
 use Rattle.sf_history.specs.declared.call.CallId.{CallId}
+use Rattle.std.specs.declared.alloc.AllocError.{AllocError}
 use Rattle.sf_calls.specs.Tokens.{GroupValue, CallerValue, LetterValue}
 use Rattle.sf_dir.specs.declared.refusal.Refusal.{Refusal}
 use Rattle.sf_spots.specs.declared.key_space.KeyDesk.{KeyDesk}
@@ -16,16 +17,17 @@ use Rattle.sf_fill.specs.declared.getter.Standing.{Standing}
 use Rattle.sf_fill.specs.declared.getter.Standing.TheVariants.{Free, Owing}
 use Rattle.sf_fill.specs.FillValue.{Filled}
 use Rattle.sf_fill.specs.Found.{Found, HasFoundFrom, Kept, Uncopied, get_alone, hit_counts}
-use Rattle.sf_fill.specs.Fresh.{delivered_by}
+use Rattle.sf_fill.specs.Fresh.{IsFreshGet, delivered_by}
 use Rattle.sf_fill.specs.Gets.{GetAnswer, GetsFrom, GetsOnce, HasAsked, HasGot, IsFoundGet, LooksFrom, Reply, answer_in, refusal_of, reply_of}
+use Rattle.sf_fill.specs.Hits.{IsAbsent, IsAtHand, IsNoneAtHand, IsPresent, hit_answer}
 use Rattle.sf_fill.specs.GetterValue.{GetterValue, IsOfGroup, is_owing, number_of, seen_of}
 use Rattle.sf_fill.specs.Logs.{LogValue, HasLogged, logged_by}
 use Rattle.sf_fill.specs.Owing.{HasDelivered, HasSettledUp}
 use Rattle.sf_fill.specs.Settled.{HasLookedOn, HasOnlyLooked}
 use Rattle.sf_fill.specs.Totals.{with_counts}
-use Rattle.sf_fill.proofs.Fresh.{group_found}
+use Rattle.sf_fill.proofs.Fresh.{fresh, group_found}
 use Rattle.sf_fill.proofs.Logging.{logs_none}
-use Rattle.sf_fill.proofs.LogSteps.{logs_looked}
+use Rattle.sf_fill.proofs.LogSteps.{logs_looked, logs_once}
 use Rattle.sf_fill.proofs.Looks.{looked_again, looked_twice, still_looked}
 
 module _ {E : Type 0} where
@@ -76,6 +78,22 @@ module _ {L : Type 0} (path : CallId → L → LoadAnswer → L → Type 0) (dra
         hits (Free c) (Free d) h = (seeing, inr (record { spot = spot; resolved = resolved; found = Uncopied d; found_so = (h.0, h.1, (refl, h.2)); reply_is = refl }))
         hits (Free c) (Owing o) h = elim h [ ]
         hits (Owing o) t h = let no : Some (Err e) ≡ None = h.0 in cc
+
+  at_hand_from : (s t : Standing Filled) (desk after : KeyDesk) (loaders : L) (spot : Spot) (found : Result (LetterValue Filled) AllocError) → IsSeeingSpace space desk after → IsSpotOfKey space key desk after spot
+      → LooksFrom s (spot_place spot) (Some found) t → GetsFrom path draws space key s desk after loaders loaders (t, hit_counts, hit_answer found)
+  at_hand_from s t desk after loaders spot (Ok m) seeing resolved h = hit_once AllocError s t desk after loaders spot seeing resolved m h
+  at_hand_from s t desk after loaders spot (Err e) seeing resolved h = uncopied_once AllocError s t desk after loaders spot seeing resolved e h
+
+  -- a letter was at hand for the key's place
+  pub present_once : (old new : GetterValue L) (answer : GetAnswer) → IsPresent space key old new answer → GetsOnce path draws space key old new answer
+  present_once old new answer h = record {
+    counts = hit_counts;
+    got =
+        subst (λ (l : L). GetsFrom path draws space key old.standing old.desk new.desk old.loaders l (new.standing, hit_counts, answer)) (sym (ap (λ (g : GetterValue L). g.loaders) h.at_hand.rest))
+        (subst (λ (a : GetAnswer). GetsFrom path draws space key old.standing old.desk new.desk old.loaders old.loaders (new.standing, hit_counts, a)) (sym h.at_hand.answer_is)
+        (at_hand_from old.standing new.standing old.desk new.desk old.loaders h.spot h.at_hand.found h.seeing h.resolved h.at_hand.looked));
+    counted = ap (λ (g : GetterValue L). g.counted) h.at_hand.rest;
+  }
 
   -- none was at hand, and the group was asked
   pub asked_once : (E : Type 0) (old middle new : GetterValue L) (answer : GetAnswer) (spot : Spot) → IsSeeingSpace space old.desk middle.desk → IsSpotOfKey space key old.desk middle.desk spot
@@ -139,42 +157,6 @@ module _ {L : Type 0} (path : CallId → L → LoadAnswer → L → Type 0) (dra
       looked_at : (found : Option (Result (LetterValue Filled) E)) → LooksFrom standing place found middle.standing → LooksFrom standing (spot_place spot) found middle.standing
       looked_at found h = subst (λ (p : ℕ). LooksFrom standing p found middle.standing) at h
 
-      module _ (then : KeyDesk) (stands : Standing Filled) (left : L) (told : Totals) (logged : LogValue)
-          (is_middle : record { desk = then; standing = stands; loaders = left; counted = told; log = logged } ≡ middle) where
-        hit : (counted : Totals) (answer : GetAnswer) → counted ≡ with_counts told hit_counts → GetsFrom path draws space key standing desk after loaders loaders (middle.standing, hit_counts, answer)
-            → GetsOnce path draws space key old (record { desk = then; standing = stands; loaders = left; counted = counted; log = logged }) answer
-        hit counted answer count got =
-            let parts : GetterValue L = record { desk = then; standing = stands; loaders = left; counted = told; log = logged } in
-            let same : parts ≡ record { desk = after; standing = middle.standing; loaders = loaders; counted = tallies; log = log } = is_middle ∙ rest in
-            moved parts counted hit_counts answer
-            (subst (λ (n : GetterValue L). GetsFrom path draws space key standing desk n.desk loaders n.loaders (n.standing, hit_counts, answer)) (sym same) got)
-            (ap (λ (n : GetterValue L). n.counted) same) count
-
-        pub hit_getter : (counted : Totals) (m : LetterValue Filled) (found : Result (LetterValue Filled) E) (answer : GetAnswer) → counted ≡ with_counts told hit_counts → found ≡ Ok m
-            → LooksFrom standing place (Some found) middle.standing → answer ≡ answer_in m
-            → GetsOnce path draws space key old (record { desk = then; standing = stands; loaders = left; counted = counted; log = logged }) answer
-        hit_getter counted m found answer count is_found h is_answer =
-            let new : GetterValue L = record { desk = then; standing = stands; loaders = left; counted = counted; log = logged } in
-            subst (λ (a : GetAnswer). GetsOnce path draws space key old new a) (sym is_answer)
-            (hit counted (answer_in m) count (hit_once E standing middle.standing desk after loaders spot seeing resolved m
-            (looked_at (Some (Ok m)) (subst (λ (r : Result (LetterValue Filled) E). LooksFrom standing place (Some r) middle.standing) is_found h))))
-
-        pub uncopied_getter : (counted : Totals) (e : E) (found : Result (LetterValue Filled) E) → counted ≡ with_counts told hit_counts → found ≡ Err e
-            → LooksFrom standing place (Some found) middle.standing
-            → GetsOnce path draws space key old (record { desk = then; standing = stands; loaders = left; counted = counted; log = logged }) (Err fault.Memory)
-        uncopied_getter counted e found count is_found h =
-            hit counted (Err fault.Memory) count (uncopied_once E standing middle.standing desk after loaders spot seeing resolved e
-            (looked_at (Some (Err e)) (subst (λ (r : Result (LetterValue Filled) E). LooksFrom standing place (Some r) middle.standing) is_found h)))
-
-        pub hit_logged : (found : Option (Result (LetterValue Filled) E)) → LooksFrom standing place found middle.standing
-            → HasLogged (number_of old.standing) (seen_of old.standing) (seen_of stands) old.log logged
-        hit_logged found h =
-            let parts : GetterValue L = record { desk = then; standing = stands; loaders = left; counted = told; log = logged } in
-            let same : parts ≡ record { desk = after; standing = middle.standing; loaders = loaders; counted = tallies; log = log } = is_middle ∙ rest in
-            subst (λ (o : GetterValue L). HasLogged (number_of o.standing) (seen_of o.standing) (seen_of stands) o.log logged) is
-            (subst (λ (n : GetterValue L). HasLogged (number_of standing) (seen_of standing) (seen_of n.standing) log n.log) (sym same)
-            (looks_logged standing middle.standing place found log h))
-
       pub asked_getter : (new : GetterValue L) (answer : GetAnswer) → LooksFrom {E = E} standing place None middle.standing → HasAsked path draws space key spot middle new answer
           → GetsOnce path draws space key old new answer
       asked_getter new answer h asked =
@@ -194,6 +176,58 @@ module _ {L : Type 0} (path : CallId → L → LoadAnswer → L → Type 0) (dra
     counted = once.counted ∙ ap (λ (g : GetterValue L). with_counts g.counted once.counts) settled.rest;
   }
 
+looks_none : (s : Standing Filled) (place : ℕ) → LooksFrom {E = AllocError} s place None s
+looks_none (Free c) place = (c, inl refl, inl refl)
+looks_none (Owing s) place = (refl, refl)
+
+pub some_then : {A : Type 0} (P Q : A → Type 0) (r : Option A) → ((a : A) → P a → Q a) → IfSome r P → IfSome r Q
+some_then P Q None then h = h
+some_then P Q (Some a) then h = then a h
+
+-- what a look at a place comes to, over the getter whose key was found at it
+module _ {L : Type 0} where
+  pub present_logged : (space : SpaceId) (key : List ℕ) (old new : GetterValue L) (answer : GetAnswer) → IsPresent space key old new answer
+      → HasLogged (number_of old.standing) (seen_of old.standing) (seen_of new.standing) old.log new.log
+  present_logged space key old new answer h =
+      subst (λ (l : LogValue). HasLogged (number_of old.standing) (seen_of old.standing) (seen_of new.standing) old.log l) (sym (ap (λ (g : GetterValue L). g.log) h.at_hand.rest))
+      (looks_logged old.standing new.standing (spot_place h.spot) (Some h.at_hand.found) old.log h.at_hand.looked)
+
+  -- the same over the parts of a getter whose desk was asked for the key
+  module _ (space : SpaceId) (old : GetterValue L) (desk after : KeyDesk) (standing : Standing Filled) (loaders : L) (tallies : Totals) (log : LogValue)
+      (is : record { desk = desk; standing = standing; loaders = loaders; counted = tallies; log = log } ≡ old) (seeing : IsSeeingSpace space desk after) where
+    abbrev pub asked_desk : GetterValue L
+    asked_desk = record { desk = after; standing = standing; loaders = loaders; counted = tallies; log = log }
+
+    seeing_old : IsSeeingSpace space old.desk after
+    seeing_old = subst (λ (g : GetterValue L). IsSeeingSpace space g.desk after) is seeing
+
+    same_but : (k : KeyDesk) → k ≡ after → asked_desk ≡ record old { desk = k }
+    same_but k at = ap (λ (g : GetterValue L). record g { desk = after }) is ∙ ap (λ (x : KeyDesk). record old { desk = x }) (sym at)
+
+    pub present_getter : (key : List ℕ) (spot : Spot) (place : ℕ) (new : GetterValue L) (answer : GetAnswer) → IsSpotOfKey space key desk after spot → place ≡ spot_place spot
+        → IsAtHand place asked_desk new answer → IsPresent space key old new answer
+    present_getter key spot place new answer resolved at h =
+        let same : new.desk ≡ after = ap (λ (g : GetterValue L). g.desk) h.rest in
+        record {
+          seeing = subst (λ (k : KeyDesk). IsSeeingSpace space old.desk k) (sym same) seeing_old;
+          spot = spot;
+          resolved = subst (λ (k : KeyDesk). IsSpotOfKey space key old.desk k spot) (sym same) (subst (λ (g : GetterValue L). IsSpotOfKey space key g.desk after spot) is resolved);
+          at_hand = subst (λ (g : GetterValue L). IsAtHand (spot_place spot) g new answer) (same_but new.desk same) (subst (λ (p : ℕ). IsAtHand p asked_desk new answer) at h);
+        }
+
+    pub absent_getter : (place : ℕ) (new : GetterValue L) → IsNoneAtHand place asked_desk new → IsAbsent space old new
+    absent_getter place new h =
+        let same : new.desk ≡ after = ap (λ (g : GetterValue L). g.desk) h.rest in
+        record {
+          place = place;
+          seeing = subst (λ (k : KeyDesk). IsSeeingSpace space old.desk k) (sym same) seeing_old;
+          none = subst (λ (g : GetterValue L). IsNoneAtHand place g new) (same_but new.desk same) h;
+        }
+
+    -- the key has no place
+    pub unplaced_getter : IsAbsent space old asked_desk
+    unplaced_getter = absent_getter 0 asked_desk (record { looked = looks_none standing 0; rest = refl })
+
 nothing_owed : (s : Standing Filled) → is_owing s ≡ false → HasDelivered s s
 nothing_owed (Free c) free = refl
 nothing_owed (Owing s) free = cc
@@ -209,3 +243,12 @@ module _ {L : Type 0} where
 
   pub logged_already : (g : GetterValue L) → is_owing g.standing ≡ false → g.log ≡ logged_by g.log (delivered_by g.standing g.standing)
   logged_already g free = nothing_handed g.standing g.log free
+
+  -- a letter was at hand, and nothing is owed
+  pub present_fresh : (space : SpaceId) (key : List ℕ) (old new : GetterValue L) (answer : GetAnswer) → is_owing old.standing ≡ false → IsPresent space key old new answer → IsFreshGet space key old new answer
+  present_fresh space key old new answer free h =
+      let settled : HasSettledUp old old = settled_already old free in
+      let path : CallId → L → LoadAnswer → L → Type 0 = λ call a given b. Unit {0} in
+      let draws : L → L → Type 0 = λ a b. Unit {0} in
+      fresh path draws space key old new answer (got_once path draws space key old old new answer settled (present_once path draws space key old new answer h))
+      (logs_once old old new settled (logged_already old free) (present_logged space key old new answer h))

@@ -13,6 +13,7 @@ pub mod Made
 pub mod Owing
 pub mod Found
 pub mod Gets
+pub mod Hits
 pub mod Reloads
 pub mod Counted
 pub mod Fresh

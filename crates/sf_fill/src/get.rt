@@ -1,5 +1,5 @@
 //! Gets.
-ghost use Rattle.std.specs.Prelude.{◌≡◌, ◌<◌, ◌-◌, ◌^◌, Err, IfOk, IfSome, false};
+ghost use Rattle.std.specs.Prelude.{◌≡◌, ◌<◌, ◌-◌, ◌^◌, ◌⊎◌, Err, IfOk, IfSome, None, false, true};
 ghost use Rattle.sf_calls.specs.Same.{IsPlaceOf};
 ghost use Rattle.sf_calls.specs.Seen.{IsLawful};
 ghost use Rattle.sf_spots.specs.Spots.{IsInSpace, MayBe, place_at, spot_at, spot_key, spot_place};
@@ -9,6 +9,7 @@ ghost use Rattle.sf_fill.specs.Found.{Led, HasFoundFrom, HasRunFrom, IfDone, IsD
 ghost use Rattle.sf_fill.specs.Counted.{IsCounted};
 ghost use Rattle.sf_fill.specs.Fresh.{IsFreshGet};
 ghost use Rattle.sf_fill.specs.Gets.{GetsOnce, HasAsked, HasGot, IsLoadedFor, IsOfKey, IsOfPlace, LooksFrom, counts_of, reply_of};
+ghost use Rattle.sf_fill.specs.Hits.{IsAbsent, IsAtHand, IsNoneAtHand, IsPresent};
 ghost use Rattle.sf_fill.specs.GetterValue.{is_owing, number_of, seen_of};
 ghost use Rattle.sf_fill.specs.Logs.{HasLogged};
 ghost use Rattle.sf_fill.specs.Rooted.{IsRooted};
@@ -263,8 +264,35 @@ impl<'d, D: Naming, N: Naming, O: Origin> Fill<'d, D, N, O> {
         (getter, answer)
     }
 
-    // Gets the key's value, for a getter that has delivered what it could. A hit is answered in place: only an asking takes the
-    // getter apart.
+    // Answers the key from a letter at hand, if there is one, and counts a hit then.
+    fn look_once<R: Wait, L>(
+        &self,
+        rt: &R,
+        getter: &mut Getter<'d, D, N, O, L>,
+        at: &mut KeyPlace<'d>,
+        key: &[u8],
+    ) -> Option<Result<View<'d, D, O>, LoadFault>>
+        requires room { getter.old.counted.gets < 2 ^ 64 - 1 }
+        requires space { IsInSpace D.space (spot_at key.now at.old) }
+        requires keyed { spot_key (spot_at key.now at.old) ≡ key.now }
+        ensures at_hand { IfSome result (IsAtHand (place_at at.old) getter.old getter.new) }
+        ensures none { result ≡ None → IsNoneAtHand (place_at at.old) getter.old getter.new }
+        ensures keyed { IfSome result (λ answer. IfOk answer (λ view. spot_key view.value.spot ≡ key.now)) }
+        ensures loaded { IfSome result (λ answer. IfOk answer (IsLoadedFor O.loaded key.now)) }
+        ensures same { at.new ≡ at.old }
+    {
+        let place = at.number().number();
+        let Some(found) = self.look_for(rt, getter, place, key) else {
+            return None;
+        };
+        self.count(rt, &mut getter.tallies, HIT);
+        match found {
+            Ok(letter) => Some(show(letter, at, key)),
+            Err(_) => Some(Err(LoadFault::Memory)),
+        }
+    }
+
+    // Gets the key's value, for a getter that has delivered what it could. Only an asking takes the getter apart.
     fn get_once<R: Wait, L>(
         &self,
         rt: &R,
@@ -291,17 +319,36 @@ impl<'d, D: Naming, N: Naming, O: Origin> Fill<'d, D, N, O> {
                 return (getter, Err(of_key(refusal)));
             }
         };
-        match self.look_for(rt, &mut getter, at.number().number(), key) {
-            Some(Ok(letter)) => {
-                self.count(rt, &mut getter.tallies, HIT);
-                (getter, show(letter, &mut at, key))
-            }
-            Some(Err(_)) => {
-                self.count(rt, &mut getter.tallies, HIT);
-                (getter, Err(LoadFault::Memory))
-            }
+        match self.look_once(rt, &mut getter, &mut at, key) {
+            Some(answer) => (getter, answer),
             None => self.get_asking(rt, getter, &mut at, key),
         }
+    }
+
+    /// Gets the key's value as `get` does, if a letter at hand answers it: nothing is asked, and the getter is only lent, so that a
+    /// hit moves nothing. `None` where none does, where the key has no place, where the getter owes letters, and where its Gets
+    /// stand at the greatest `u64`; nothing is counted then, and `get` loads it or says why it does not.
+    pub fn get_if_present<R: Wait, L>(
+        &self,
+        rt: &R,
+        getter: &mut Getter<'d, D, N, O, L>,
+        key: &[u8],
+    ) -> Option<Result<View<'d, D, O>, LoadFault>>
+        ensures present { IfSome result (IsPresent N.space key.now getter.old getter.new) }
+        ensures fresh { IfSome result (IsFreshGet N.space key.now getter.old getter.new) }
+        ensures absent { result ≡ None → (getter.new ≡ getter.old) ⊎ IsAbsent N.space getter.old getter.new }
+        ensures owing { is_owing getter.old.standing ≡ true → (result ≡ None) × (getter.new ≡ getter.old) }
+        ensures full { getter.old.counted.gets ≡ 2 ^ 64 - 1 → (result ≡ None) × (getter.new ≡ getter.old) }
+        ensures keyed { IfSome result (λ answer. IfOk answer (λ view. spot_key view.value.spot ≡ key.now)) }
+        ensures loaded { IfSome result (λ answer. IfOk answer (IsLoadedFor O.loaded key.now)) }
+    {
+        if getter.is_full() || getter.owes() {
+            return None;
+        }
+        let Ok(mut at) = self.space.find(&mut getter.desk, key) else {
+            return None;
+        };
+        self.look_once(rt, getter, &mut at, key)
     }
 
     /// Gets the key's value: from a cache, or by leading the key's call, or from the call that another leads. What the getter

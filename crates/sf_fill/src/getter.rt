@@ -1,5 +1,5 @@
 //! Getters: what they owe, and what they tell each other.
-ghost use Rattle.std.specs.Prelude.{IfSome, ◌≡◌, ◌↔◌, ◌-◌, ◌^◌, IsTrue, is_ok, not};
+ghost use Rattle.std.specs.Prelude.{IfSome, ◌≡◌, ◌↔◌, ◌-◌, ◌<◌, ◌^◌, IsTrue, false, is_ok, not};
 ghost use Rattle.sf_fill.specs.GetterValue.{IsOfGroup, free_caller, is_owing};
 ghost use Rattle.sf_fill.specs.Fresh.{HasAdded, delivered_by};
 ghost use Rattle.sf_fill.specs.Logs.{empty_log, logged_by};
@@ -72,7 +72,8 @@ impl<'d, D: Naming, N: Naming, O: Origin, L> Model for Getter<'d, D, N, O, L> {
 impl<'d, D: Naming, N: Naming, O: Origin, L> Getter<'d, D, N, O, L> {
     // Whether no further get can be counted.
     pub(crate) fn is_full(&self) -> bool
-        ensures { IsTrue result ↔ (self.now.counted.gets ≡ 2 ^ 64 - 1) }
+        ensures full { IsTrue result ↔ (self.now.counted.gets ≡ 2 ^ 64 - 1) }
+        ensures room { result ≡ false → self.now.counted.gets < 2 ^ 64 - 1 }
     {
         self.tallies.is_full()
     }

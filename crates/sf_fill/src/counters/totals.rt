@@ -1,5 +1,5 @@
 //! All counters of a fill: their names, what one get adds to each, and what all getters count.
-ghost use Rattle.std.specs.Prelude.{◌≡◌, ◌+◌, ◌-◌, ◌<◌, ◌≤◌, ◌^◌, ◌↔◌, IsTrue};
+ghost use Rattle.std.specs.Prelude.{◌≡◌, ◌+◌, ◌-◌, ◌<◌, ◌≤◌, ◌^◌, ◌↔◌, IsTrue, false};
 ghost use Rattle.sf_fill.specs.Ledgers.{nothing_counted};
 ghost use Rattle.sf_fill.specs.Totals.{plus, with_counts, counts_in, names_of, AreNamed, IsOfOneGet, IsWithinGets};
 
@@ -241,7 +241,8 @@ impl<N: Naming> Model for Tallies<N> {
 impl<N: Naming> Tallies<N> {
     /// Whether no further get can be counted.
     pub fn is_full(&self) -> bool
-        ensures { IsTrue result ↔ (self.now.gets ≡ 2 ^ 64 - 1) }
+        ensures full { IsTrue result ↔ (self.now.gets ≡ 2 ^ 64 - 1) }
+        ensures room { result ≡ false → self.now.gets < 2 ^ 64 - 1 }
     {
         self.gets == u64::MAX
     }

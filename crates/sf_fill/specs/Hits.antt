@@ -1,0 +1,46 @@
+-- gets that a letter at hand answers, and looks that find none
+use Rattle.std.specs.Prelude.{◌≡◌, ℕ, List, None, Result, Ok, Err, Option, Some}
+use Rattle.std.specs.declared.alloc.AllocError.{AllocError}
+use Rattle.sf_calls.specs.Tokens.{LetterValue}
+use Rattle.sf_spots.specs.declared.spot.Spot.{Spot}
+use Rattle.sf_spots.specs.Spaces.{SpaceId}
+use Rattle.sf_spots.specs.Spots.{IsSeeingSpace, IsSpotOfKey, spot_place}
+use Rattle.sf_fill.specs.declared.fault.LoadFault.TheVariants as fault
+use Rattle.sf_fill.specs.declared.getter.Standing.{Standing}
+use Rattle.sf_fill.specs.FillValue.{Filled}
+use Rattle.sf_fill.specs.Found.{hit_counts}
+use Rattle.sf_fill.specs.Gets.{GetAnswer, LooksFrom, answer_in}
+use Rattle.sf_fill.specs.GetterValue.{GetterValue}
+use Rattle.sf_fill.specs.Totals.{with_counts}
+
+-- what is answered of a letter at hand; its copy may have been refused memory
+abbrev pub hit_answer : Result (LetterValue Filled) AllocError → GetAnswer
+hit_answer (Ok l) = answer_in l
+hit_answer (Err refused) = Err fault.Memory
+
+module _ {L : Type 0} where
+  -- a look at the place found a current letter, which is answered and counted as a hit; nothing else changes
+  pub record IsAtHand (place : ℕ) (old new : GetterValue L) (answer : GetAnswer) : Type 0 where
+    pub found : Result (LetterValue Filled) AllocError
+    pub looked : LooksFrom old.standing place (Some found) new.standing
+    pub answer_is : answer ≡ hit_answer found
+    pub rest : new ≡ record old { standing = new.standing; counted = with_counts old.counted hit_counts }
+
+  -- a look at the place found none, by which the caller may have seen more; nothing else changes
+  pub record IsNoneAtHand (place : ℕ) (old new : GetterValue L) : Type 0 where
+    pub looked : LooksFrom {E = AllocError} old.standing place None new.standing
+    pub rest : new ≡ record old { standing = new.standing }
+
+module _ {L : Type 0} (space : SpaceId) where
+  -- the key has a place, for which a letter was at hand
+  pub record IsPresent (key : List ℕ) (old new : GetterValue L) (answer : GetAnswer) : Type 0 where
+    pub seeing : IsSeeingSpace space old.desk new.desk
+    pub spot : Spot
+    pub resolved : IsSpotOfKey space key old.desk new.desk spot
+    pub at_hand : IsAtHand (spot_place spot) (record old { desk = new.desk }) new answer
+
+  -- none was, by which the desk and the caller may have seen more
+  pub record IsAbsent (old new : GetterValue L) : Type 0 where
+    pub place : ℕ
+    pub seeing : IsSeeingSpace space old.desk new.desk
+    pub none : IsNoneAtHand place (record old { desk = new.desk }) new
