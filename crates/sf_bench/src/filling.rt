@@ -95,7 +95,8 @@ impl<'a, R: Wait + Clock> Gets<'a, R> {
         }
     }
 
-    // Gets keys in their order, so many from this turn on, and says whether each get was answered.
+    // Gets keys in their order, so many from this turn on, as a server does: a letter at hand first, and else a get that loads.
+    // Whether each was answered.
     fn get_in_order<'d, D: Naming, N: Naming, O: Origin, L: LoadPath<Origin = O>>(
         &self,
         fill: &Fill<'d, D, N, O>,
@@ -107,10 +108,15 @@ impl<'a, R: Wait + Clock> Gets<'a, R> {
         let mut answered = true;
         let mut turn = first;
         for _ in 0..count {
-            let (back, answer) = fill.get(self.rt, getter, self.order.key(turn));
+            let key = self.order.key(turn);
+            turn = turn.wrapping_add(1);
+            if let Some(answer) = fill.get_if_present(self.rt, &mut getter, key) {
+                answered = answered && answer.is_ok();
+                continue;
+            }
+            let (back, answer) = fill.get(self.rt, getter, key);
             answered = answered && answer.is_ok();
             getter = back;
-            turn = turn.wrapping_add(1);
         }
         (getter, answered)
     }

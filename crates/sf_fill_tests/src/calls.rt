@@ -2,7 +2,7 @@
 
 use crate::rows::{SETTING, check};
 use crate::steps::Step;
-use crate::steps::Step::{ForgetAll, Get, GetKey, Put, Reload, Remove, Repeat, Stats};
+use crate::steps::Step::{ForgetAll, Get, GetKey, GetPresent, Put, Reload, Remove, Repeat, Stats};
 use crate::trial::{Setting, try_out};
 use std::test::Fail;
 
@@ -148,6 +148,37 @@ fn reload_and_forget_all_reach_near_letters(rt: HostRuntime) -> Result<(), Fail>
         a v=true 1.3 root=1.3 joiners=0\n\
         remove a true\n";
     check(&rt, &outcome, [said, ""], [5, 2, 3, 3, 0, 0, 3, 0]);
+    Ok(())
+}
+
+// Only a letter at hand is answered to who lends its getter, from a cache or from those near, and nothing is counted but that hit.
+#[test]
+fn only_what_is_present_is_lent(rt: HostRuntime) -> Result<(), Fail> {
+    const STEPS: [Step; 7] = [
+        GetPresent("a"),
+        Get("a"),
+        GetPresent("a"),
+        GetPresent("a"),
+        Reload("a"),
+        GetPresent("a"),
+        GetPresent("abcde"),
+    ];
+    let said = "a none\n\
+        a v=true 1.1 root=1.1 joiners=0\n\
+        a v=true 1.1 root=1.1 joiners=0\n\
+        a v=true 1.1 root=1.1 joiners=0\n\
+        reload a cleared 1.1\n\
+        a none\n\
+        abcde none\n";
+    for near in [0, 4] {
+        let setting = Setting {
+            near,
+            steps: [&STEPS, &[], &[]],
+            ..SETTING
+        };
+        let outcome = try_out(&rt, rt.alloc(), setting)?;
+        check(&rt, &outcome, [said, ""], [3, 2, 1, 1, 0, 0, 1, 0]);
+    }
     Ok(())
 }
 

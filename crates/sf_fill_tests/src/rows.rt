@@ -253,6 +253,13 @@ fn no_old_answers_after_a_reload(rt: HostRuntime) -> Result<(), Fail> {
     read_beside_changes(&rt, rt.alloc(), SETTING)
 }
 
+// The same where getters keep letters near.
+#[test]
+fn no_old_answers_from_near_letters(rt: HostRuntime) -> Result<(), Fail> {
+    let near = Setting { near: 8, ..SETTING };
+    read_beside_changes(&rt, rt.alloc(), near)
+}
+
 // Both keys have one place, so getters of the one join calls of the other, and ask again.
 #[test]
 fn no_old_answers_on_one_place(rt: HostRuntime) -> Result<(), Fail> {

@@ -19,6 +19,8 @@ use std::thread::yield_now;
 pub enum Step {
     /// Gets the key.
     Get(&'static str),
+    /// Gets the key if a letter of it is at hand.
+    GetPresent(&'static str),
     /// Gets the key, and says the key of what is answered.
     GetKey(&'static str),
     /// Reloads the key.
@@ -197,8 +199,14 @@ fn read<'d, D: Naming, N: Naming, O: Origin, L: LoadPath<Origin = O>>(
                 .versions(key.as_bytes())
                 .reloaded
                 .load(Ordering::SeqCst);
-            let (back, answer) = fill.get(rt, getter, key.as_bytes());
-            getter = back;
+            let answer = match fill.get_if_present(rt, &mut getter, key.as_bytes()) {
+                Some(answer) => answer,
+                None => {
+                    let (back, answer) = fill.get(rt, getter, key.as_bytes());
+                    getter = back;
+                    answer
+                }
+            };
             if is_old(&answer, version) {
                 old = old.saturating_add(1);
             }
@@ -252,6 +260,12 @@ pub fn run<'d, D: Naming, N: Naming, O: Origin, L: LoadPath<Origin = O>>(
                 say_view(&mut said, key, &answer);
                 getter = back;
             }
+            Step::GetPresent(key) => match fill.get_if_present(rt, &mut getter, key.as_bytes()) {
+                Some(answer) => say_view(&mut said, key, &answer),
+                None => {
+                    let _ = write!(&mut said, "{key} none\n");
+                }
+            },
             Step::GetKey(key) => {
                 let (back, answer) = fill.get(rt, getter, key.as_bytes());
                 say_key(&mut said, key, &answer);

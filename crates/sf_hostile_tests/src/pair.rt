@@ -8,11 +8,12 @@ ghost use Rattle.sf_fill.specs.Made.{AreParts, AreOfGroup};
 
 use bytes::{ByteStr, Bytes};
 use sf_fill::{Fill, FillParts, FillValue, Getter, Ledgers, LoadFault, Naming, Sizes};
-use sf_group::{Begun, CallId, Caller, Group, Memory, Polled, Ticket};
+use sf_group::{Begun, CallId, Caller, Event, Group, Memory, Polled, Ticket};
 use sf_loaders::scripted::{Answer, AnyValue, FixedPicker, RoundChance, Script};
 use sf_loaders::{Loaders, Local, LocalFault};
 use sf_spots::{KeyDesk, KeySpace, open_directory};
 use sf_wait::begin_wait;
+use sf_words::PlaceNo;
 use std::alloc::Global;
 use std::marker::{Brand, Model};
 use std::process::Abort;
@@ -23,7 +24,7 @@ use std::thread::{Threads, join, yield_now};
 
 const SIZES: Sizes = Sizes {
     limit: 100,
-    log: 8,
+    log: 64,
     near: 0,
     near_limit: 0,
 };
@@ -94,6 +95,24 @@ enum Scene {
     Joined,
 }
 
+// The getter loaded once for each call that it led, and each call that it settled was handed out.
+fn check_log(rt: &impl Abort, loads: u64, log: &[Event<PlaceNo, ()>]) {
+    let (mut led, mut settled, mut handed) = (0_u64, 0_u64, 0_u64);
+    for event in log {
+        match event {
+            Event::Lead { .. } => led = led.wrapping_add(1),
+            Event::Settle { .. } => settled = settled.wrapping_add(1),
+            Event::Handed { .. } => handed = handed.wrapping_add(1),
+            _ => {}
+        }
+    }
+    assert!(rt; led == loads, "{loads} loads of {led} calls");
+    assert!(rt;
+        settled == led && handed == led,
+        "{settled} settled and {handed} handed out of {led}"
+    );
+}
+
 // A getter, and how often it was refused memory.
 struct Tried<'d, 'f, D: Naming, N: Naming> {
     getter: PairGetter<'d, 'f, D, N>,
@@ -136,12 +155,14 @@ impl<'d, 'f, D: Naming, N: Naming> Tried<'d, 'f, D, N> {
         Tried { getter, refused }
     }
 
-    // What is owed is delivered, with memory, and then a get answers the value.
+    // What is owed is delivered, with memory, and stands in the log then. A get then answers the value.
     fn end<R: Wait + Abort>(self, rt: &R, fill: &Fill<'d, D, N, AnyValue>) -> u32 {
         let Tried { getter, refused } = self;
-        let (getter, settled) = getter.settle_up(rt, fill);
+        let (mut getter, settled) = getter.settle_up(rt, fill);
         assert!(rt; settled.is_ok(), "it is refused memory again");
         assert!(rt; !getter.owes(), "it owes letters still");
+        let loads = getter.loaders().picker.asked;
+        check_log(rt, loads, getter.take_log().as_slice());
         Tried { getter, refused }.get(rt, fill).refused
     }
 }
@@ -245,7 +266,16 @@ impl<'a, 'd, 'f, D: Naming, N: Naming> Spare<'a, 'd, 'f, D, N> {
     }
 }
 
-// The letter is there, with the value where no memory was refused.
+// The first call or member of the caller of this number.
+fn first_of(caller: u32) -> CallId {
+    CallId {
+        caller,
+        generation: 1,
+    }
+}
+
+// The ticket is the spare caller's first member of the first getter's call. Its letter is there, with the value where no memory
+// was refused.
 fn take_letter<'d, D: Naming, N: Naming>(
     rt: &impl Abort,
     fill: &Fill<'d, D, N, AnyValue>,
@@ -255,7 +285,11 @@ fn take_letter<'d, D: Naming, N: Naming>(
     requires { waiting.ticket.group ≡ N.group }
 {
     let ticket = waiting.into_ticket();
-    let call = ticket.call();
+    let (call, member) = (ticket.call(), ticket.member());
+    assert!(rt;
+        call == first_of(1) && member == first_of(3),
+        "{member} joined {call}"
+    );
     match fill.group().poll(ticket) {
         Polled::Ready(_, letter) => {
             assert!(rt;
@@ -291,6 +325,13 @@ fn play_in_turn<'d, 'f, D: Naming, N: Naming, R: Wait + Abort>(
     one.end(rt, fill).wrapping_add(two.end(rt, fill))
 }
 
+/// How many gets and reloads were refused memory, and whether the load was met that was to be.
+#[derive(Clone, Copy)]
+struct Played {
+    refused: u32,
+    met: bool,
+}
+
 // The first getter gets beside the spare caller.
 fn play_beside<
     'd,
@@ -305,7 +346,7 @@ fn play_beside<
     caller: Caller<FillValue<'d, D, AnyValue>>,
     place: u32,
     flags: &'f Flags,
-) -> u32
+) -> Played
     requires own { caller.group ≡ N.group }
     requires place { IsPlaceOf N.group place }
 {
@@ -317,17 +358,16 @@ fn play_beside<
         flags,
     };
     let (tried, waiting) = join(rt, || first.get(rt), || spare.ask(rt));
-    let unmet = flags.unmet.load(Ordering::SeqCst);
+    let met = !flags.unmet.load(Ordering::SeqCst);
     let refused = tried.end(rt, fill);
-    // Where memory for a thread is refused, the two run one after the other, and the load is not met.
     assert!(rt;
-        waiting.is_some() || unmet || refused == 1,
+        waiting.is_some() || !met || refused == 1,
         "nobody joined a load that was met, and no memory was refused"
     );
     if let Some(waiting) = waiting {
         take_letter(rt, fill, waiting, refused);
     }
-    refused
+    Played { refused, met }
 }
 
 // All is named here.
@@ -346,7 +386,7 @@ fn with_all<
     place: u32,
     scene: Scene,
     flags: &'f Flags,
-) -> Result<u32, Memory>
+) -> Result<Played, Memory>
     requires space { (space_of space ≡ N.space) × (D.space ≡ N.space) }
     requires parts { AreParts N.space N.group N.getters N.ledgers parts }
     requires getters { N.getters ≡ 2 }
@@ -380,7 +420,8 @@ fn with_all<
         drop(two);
         return Ok(play_beside(rt, &fill, one, caller, place, flags));
     }
-    Ok(play_in_turn(rt, &fill, one, two, scene))
+    let refused = play_in_turn(rt, &fill, one, two, scene);
+    Ok(Played { refused, met: true })
 }
 
 fn loaders<'f>(
@@ -433,7 +474,7 @@ fn with_space<'d, 'f, D: Naming + Send + Sync, R: Wait + Threads + Abort + Sync>
     desks: Vec<KeyDesk>,
     scene: Scene,
     flags: &'f Flags,
-) -> Result<u32, Memory>
+) -> Result<Played, Memory>
     requires space { (space_of space ≡ D.space) × (places_in D.space ≤ LARGEST_PLACE) }
     requires desks { (vec_len desks ≡ 3) × AreDesksOf D.space desks.items }
 {
@@ -475,12 +516,12 @@ fn with_space<'d, 'f, D: Naming + Send + Sync, R: Wait + Threads + Abort + Sync>
     with_all::<D, Brand, R>(rt, alloc, space, parts, caller, place, scene, flags)
 }
 
-// How many gets and reloads were refused memory.
+// What the getters of a fill do, from nothing.
 fn try_out<R: Wait + Threads + Abort + Sync>(
     rt: &R,
     alloc: Global,
     scene: Scene,
-) -> Result<u32, Memory> {
+) -> Result<Played, Memory> {
     let flags = Flags {
         loading: AtomicBool::new(false),
         asked: AtomicBool::new(false),
@@ -498,21 +539,20 @@ fn try_out<R: Wait + Threads + Abort + Sync>(
     )
 }
 
-// One that is refused memory before its fill stands is tried out once more, and meets no refusal then.
+// Where memory is refused before the fill stands, or for a thread, whose load nobody meets then, the scene is tried out once
+// more. It meets no refusal then, and its load is met.
 fn check<R: Wait + Threads + Abort + Sync>(
     rt: &R,
     alloc: Global,
     scene: Scene,
 ) -> Result<(), Fail> {
-    let refused = match try_out(rt, alloc, scene) {
-        Ok(refused) => refused,
-        Err(_) => {
-            let refused = try_out(rt, alloc, scene)?;
-            assert!(rt; refused == 0, "it is refused memory again");
-            refused
-        }
-    };
-    assert!(rt; refused <= 1, "{refused} are refused memory");
+    if let Ok(Played { refused, met: true }) = try_out(rt, alloc, scene) {
+        assert!(rt; refused <= 1, "{refused} are refused memory");
+        return Ok(());
+    }
+    let Played { refused, met } = try_out(rt, alloc, scene)?;
+    assert!(rt; refused == 0, "it is refused memory again");
+    assert!(rt; met, "the load is not met");
     Ok(())
 }
 
