@@ -1,6 +1,6 @@
 use Rattle.std.proofs.Common.{rules, Some}
 use Rattle.sf_spots.specs.Spots.{spot_at}
-use Rattle.sf_fill.specs.Found.{IsDraw}
+use Rattle.sf_fill.specs.Found.{DrawsWithin}
 use Rattle.sf_fill.proofs.Once.{asked_getter, hit_getter, hit_logged, owing_getter, refused_getter, uncopied_getter}
 use Rattle.sf_fill.proofs.fill.Fill.get_once.Goals as goal
 
@@ -17,7 +17,7 @@ returns-in-Some-Ok-clause-got g c =
 
 pub returns-in-Some-Ok-clause-logged : goal.returns-in-Some-Ok-clause-logged
 returns-in-Some-Ok-clause-logged g c =
-    hit_logged (g.L.LoadPath.run_gives c.args.key.now) (IsDraw g.L.LoadPath.draw_gives) g.N.Naming.space c.args.key.now _ _ _ _ _ _ c.getter.view_is _ c.find.new.desk c.look_for.new.getter (spot_at c.args.key.now c.in-Ok.at) c.number-2.result (search rules) (search rules) (search rules) c.look_for.ensures.rest
+    hit_logged (g.L.LoadPath.run_gives c.args.key.now) (DrawsWithin g.N.Naming.limit g.L.LoadPath.draw_gives) g.N.Naming.space c.args.key.now _ _ _ _ _ _ c.getter.view_is _ c.find.new.desk c.look_for.new.getter (spot_at c.args.key.now c.in-Ok.at) c.number-2.result (search rules) (search rules) (search rules) c.look_for.ensures.rest
     _ _ _ _ _ c.getter-in-Some-Ok.view_is (Some c.in-Some-Ok.field-0) c.in-Some-Ok.ensures.looked
 
 pub returns-in-Some-Err-clause-got : goal.returns-in-Some-Err-clause-got
