@@ -92,6 +92,7 @@ fn with_all<
 ) -> Result<B::Answer, Memory>
     requires space { (space_of space ≡ N.space) × (D.space ≡ N.space) }
     requires parts { AreParts N.space N.group N.getters N.ledgers parts }
+    requires limit { sizes.keeps.limit ≡ N.limit }
     requires callers { All (IsNewCaller N.group) parts.callers.items }
     requires wants { B.wants body N.getters O.loaded }
     ensures { IfOk result (λ answer. B.ends body answer) }

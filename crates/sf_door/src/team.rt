@@ -134,6 +134,7 @@ fn with_all<
 ) -> Result<T::Answer, Memory>
     requires space { (space_of space ≡ N.space) × (D.space ≡ N.space) }
     requires parts { AreParts N.space N.group N.getters N.ledgers parts }
+    requires limit { keeps.limit ≡ N.limit }
     requires wants { T.wants team.now N.getters O.loaded }
     ensures { IfOk result (λ answer. T.ends team.now answer) }
 {

@@ -1,5 +1,5 @@
 -- what a get of a free caller comes to
-use Rattle.std.specs.Prelude.{◌≡◌, ℕ, zero, suc, ◌⊎◌, List, Result, Ok, Err}
+use Rattle.std.specs.Prelude.{◌≡◌, ℕ, zero, suc, ℤ, pos, ◌≤ℤ◌, ◌<ℤ◌, ◌⊎◌, List, Result, Ok, Err}
 use Rattle.sf_history.specs.declared.call.CallId.{CallId}
 use Rattle.sf_calls.specs.declared.outcomes.Finished.{Finished}
 use Rattle.sf_calls.specs.declared.outcomes.Finished.TheVariants.{Done, Held}
@@ -69,14 +69,15 @@ abbrev pub HasSettled : FlightValue Filled → Filled → Finished (CallerValue 
 HasSettled f v (Done c m) = (d : CallerValue Filled) × (l : LetterValue Filled) × IsDone FitsFill f v d l × HasNothing d c × HasLent l m
 HasSettled f v (Held s) = IsHeld f v s
 
--- a draw, whatever it gave
-abbrev pub IsDraw : {L : Type 0} → (L → ℕ → L → Type 0) → L → L → Type 0
-IsDraw gives old new = (draw : ℕ) × gives old draw new
+-- a draw, whatever it gave, where the limit keeps something, and else none
+abbrev pub DrawsWithin : {L : Type 0} → ℤ → (L → ℕ → L → Type 0) → L → L → Type 0
+DrawsWithin limit gives old new =
+    (limit ≤ℤ pos 0 → new ≡ old) × (pos 0 <ℤ limit → (draw : ℕ) × gives old draw new)
 
 module _ {L : Type 0} (draws : L → L → Type 0) where
-  -- one draw at most is made where a peer gave the value, and else none
+  -- there are draws just where a peer gave the value
   abbrev pub DrawsFor : Source → L → L → Type 0
-  DrawsFor Peer old new = (new ≡ old) ⊎ draws old new
+  DrawsFor Peer old new = draws old new
   DrawsFor Local old new = new ≡ old
 
   abbrev pub HasDrawn : Result (List ℕ × Source) LocalFault → L → L → Type 0
@@ -84,7 +85,7 @@ module _ {L : Type 0} (draws : L → L → Type 0) where
   HasDrawn (Err fault) old new = new ≡ old
 
 module _ {L : Type 0} (path : CallId → L → LoadAnswer → L → Type 0) (draws : L → L → Type 0) where
-  -- the loaders gave the value for the run of the call, and then there may have been a draw
+  -- the loaders gave the value for the run of the call, and then there were draws where a peer gave it
   pub record IsLoaded (p : Spot) (call : CallId) (old new : L) (v : Filled) (n : GetCounts) : Type 0 where
     pub outcome : LoadAnswer
     pub after : L

@@ -1,16 +1,22 @@
 -- what becomes of the letters that a fill's two caches keep
-use Rattle.std.specs.Prelude.{◌≡◌, ◌≢◌, ◌⊎◌, ℕ, nat_eq, cond, Option, Some, None, Result, IfOk, IsSome}
+use Rattle.std.specs.Prelude.{◌≡◌, ◌≢◌, ◌⊎◌, ℕ, ℤ, pos, ◌≤ℤ◌, ◌<ℤ◌, nat_eq, cond, List, Option, Some, None, Result, Ok, Err, IfOk, IsSome}
 use Rattle.sf_caches.specs.declared.caches.Which.{Which}
 use Rattle.sf_caches.specs.declared.caches.Which.TheVariants.{Main, Hot}
 use Rattle.sf_history.specs.History.{current_call}
 use Rattle.sf_caches.specs.Looks.{item_at, looked}
 use Rattle.sf_caches.specs.Trimming.{CachesValue, entries_of, in_one, removed}
-use Rattle.sf_calls.specs.Tokens.{CallerValue, LetterValue}
+use Rattle.sf_calls.specs.Tokens.{CallerValue, FlightValue, LetterValue}
 use Rattle.sf_calls.specs.Notes.{HasLent}
+use Rattle.sf_history.specs.declared.call.CallId.{CallId}
+use Rattle.sf_spots.specs.declared.spot.Spot.{Spot}
+use Rattle.sf_loaders.specs.LoadPath.{LoadAnswer}
+use Rattle.sf_loaders.specs.declared.faults.LocalFault.{LocalFault}
 use Rattle.sf_loaders.specs.declared.counts.Source.{Source}
 use Rattle.sf_loaders.specs.declared.counts.Source.TheVariants.{Peer, Local}
+use Rattle.sf_fill.specs.declared.second.InCache.{InCache}
+use Rattle.sf_fill.specs.declared.second.Missed.{Missed}
 use Rattle.sf_fill.specs.FillValue.{Filled}
-use Rattle.sf_fill.specs.Settled.{IsCurrentLetter}
+use Rattle.sf_fill.specs.Settled.{CopiesFollowed, IsCurrentLetter}
 
 abbrev pub LetterCaches : Type 0
 LetterCaches = CachesValue (LetterValue Filled)
@@ -74,6 +80,33 @@ module _ (such : LetterValue Filled → Type 0) (place : ℕ) where
         (IsSome found × ServesCurrent Main c d old found new)
         ⊎ ((u : CallerValue Filled) × (middle : LetterCaches) × ServesCurrent Main c u old None middle × ServesCurrent Hot u d middle found new)
 
+  -- main's copy, or else hot's; or neither has such a letter
+  abbrev pub LooksAgain : LetterCaches → Result (InCache Filled) Missed → LetterCaches → Type 0
+  LooksAgain old (Ok found) new =
+      ((found.which ≡ Main) × Serves Main old (Some found.copy) new)
+      ⊎ ((found.which ≡ Hot) × ((middle : LetterCaches) × ServesNone Main old middle × Serves Hot middle (Some found.copy) new))
+  LooksAgain old (Err missed) new = (middle : LetterCaches) × ServesNone Main old middle × ServesNone Hot middle new
+
+-- what a leader settles with that has found this: the value, with its root; or want of memory, where the copy was refused it
+abbrev pub taken_over : {E : Type 0} → Spot → CallId → Result (LetterValue Filled) E → Filled
+taken_over p call (Ok copy) = copy.value
+taken_over p call (Err refusal) = record { spot = p; root = call; result = Err LocalFault.Memory }
+
+-- it goes where it was found; and want of memory nowhere
+abbrev pub cache_by : {E : Type 0} → Result (LetterValue Filled) E → Which → Option Which
+cache_by (Ok copy) which = Some which
+cache_by (Err refusal) which = None
+
+abbrev pub cache_of : InCache Filled → Option Which
+cache_of found = cache_by found.copy found.which
+
+-- a leader settles with what a cache had of the call that its own follows, and it goes there
+pub record TakenOver (p : Spot) (f : FlightValue Filled) (v : Filled) (which : Option Which) : Type 0 where
+  pub found : InCache Filled
+  pub follows : CopiesFollowed f found.copy
+  pub value : v ≡ taken_over p f.call found.copy
+  pub goes : which ≡ cache_of found
+
 -- one of ten draws puts a peer's value into hot
 abbrev pub hot_by : ℕ → Option Which
 hot_by draw = cond (nat_eq draw 0) (Some Hot) None
@@ -83,3 +116,24 @@ module _ {L : Type 0} (gives : L → ℕ → L → Type 0) where
   abbrev pub GoesInto : Source → L → L → Option Which → Type 0
   GoesInto Local old new which = (which ≡ Some Main) × (new ≡ old)
   GoesInto Peer old new which = (draw : ℕ) × gives old draw new × (which ≡ hot_by draw)
+
+  -- where the limit keeps nothing, it goes nowhere, and nothing is drawn
+  abbrev pub GoesWithin : ℤ → Source → L → L → Option Which → Type 0
+  GoesWithin limit source old new which =
+      (limit ≤ℤ pos 0 → (which ≡ None) × (new ≡ old)) × (pos 0 <ℤ limit → GoesInto source old new which)
+
+  -- so of what a run gave; and a fault goes nowhere
+  abbrev pub AnswerGoesWithin : ℤ → Result (List ℕ × Source) LocalFault → L → L → Option Which → Type 0
+  AnswerGoesWithin limit (Ok found) old new which = GoesWithin limit found.1 old new which
+  AnswerGoesWithin limit (Err fault) old new which = (which ≡ None) × (new ≡ old)
+
+  -- so of what the loaders gave for the run of the call
+  pub record LoadsInto (path : CallId → L → LoadAnswer → L → Type 0) (limit : ℤ) (call : CallId) (old new : L) (which : Option Which) : Type 0 where
+    pub outcome : LoadAnswer
+    pub after : L
+    pub asked : path call old outcome after
+    pub goes : AnswerGoesWithin limit outcome.0 after new which
+
+  -- so of what a leader settles with
+  abbrev pub SourceGoesInto : (CallId → L → LoadAnswer → L → Type 0) → ℤ → Spot → FlightValue Filled → L → L → Filled → Option Which → Type 0
+  SourceGoesInto path limit p f old new v which = LoadsInto path limit f.call old new which ⊎ TakenOver p f v which

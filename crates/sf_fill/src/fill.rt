@@ -37,7 +37,7 @@ impl<'d, D: Naming, N: Naming, O: Origin> Model for Fill<'d, D, N, O> {
     ghost view = { λ f. f.group };
 
     // Its group has the places of its key space.
-    ghost invariant = { λ f. (f.group ≡ N.group) × (space_of f.space ≡ N.space) × (D.space ≡ N.space) × (N.group.sizes.places ≡ places_in N.space) × (places_in N.space ≤ LARGEST_PLACE) };
+    ghost invariant = { λ f. (f.group ≡ N.group) × (space_of f.space ≡ N.space) × (D.space ≡ N.space) × (N.group.sizes.places ≡ places_in N.space) × (places_in N.space ≤ LARGEST_PLACE) × (f.limit ≡ N.limit) };
 }
 
 impl<'d, D: Naming, N: Naming, O: Origin> Fill<'d, D, N, O> {

@@ -5,7 +5,7 @@ ghost use Rattle.sf_calls.specs.Seen.{IsLawful};
 ghost use Rattle.sf_spots.specs.Spots.{IsInSpace, MayBe, place_at, spot_at, spot_key, spot_place};
 ghost use Rattle.sf_fill.specs.declared.fault.LoadFault.{LoadFault};
 ghost use Rattle.sf_fill.specs.declared.fault.GetRefusal.{GetRefusal};
-ghost use Rattle.sf_fill.specs.Found.{Led, HasFoundFrom, HasRunFrom, IfDone, IsDraw, found_by};
+ghost use Rattle.sf_fill.specs.Found.{DrawsWithin, Led, HasFoundFrom, HasRunFrom, IfDone, found_by};
 ghost use Rattle.sf_fill.specs.Counted.{IsCounted};
 ghost use Rattle.sf_fill.specs.Fresh.{IsFreshGet};
 ghost use Rattle.sf_fill.specs.Gets.{GetsOnce, HasAsked, HasGot, IsLoadedFor, IsOfKey, IsOfPlace, LooksFrom, counts_of, reply_of};
@@ -138,7 +138,7 @@ impl<'d, D: Naming, N: Naming, O: Origin> Fill<'d, D, N, O> {
         L: LoadPath<Origin = O>,
         requires caller { caller.group ≡ N.group }
         requires spot { IsInSpace D.space spot × (spot_key spot ≡ key.now) × IsPlaceOf N.group (spot_place spot) }
-        ensures found { HasFoundFrom N.space key.now (L.run_gives key.now) (IsDraw L.draw_gives) spot.entry caller.entry loaders.old loaders.new (found_by result) }
+        ensures found { HasFoundFrom N.space key.now (L.run_gives key.now) (DrawsWithin N.limit L.draw_gives) spot.entry caller.entry loaders.old loaders.new (found_by result) }
         ensures logged { HasLogged caller.entry.number caller.entry.seen (seen_of (reply_of (found_by result)).0) log.old log.new }
         ensures of_place { IsOfPlace (spot_place spot.entry) (found_by result) }
         ensures of_key { IsOfKey key.now (found_by result) }
@@ -193,7 +193,7 @@ impl<'d, D: Naming, N: Naming, O: Origin> Fill<'d, D, N, O> {
         requires own { flight.call.caller ≡ flight.number }
         requires led { IsRooted flight.place flight.call flight.call flight.seen }
         requires spot { IsInSpace D.space spot × (spot_key spot ≡ key.now) × (spot_place spot ≡ flight.place) }
-        ensures run { HasRunFrom (L.run_gives key.now) (IsDraw L.draw_gives) spot.entry flight.entry loaders.old loaders.new result.0 result.1 }
+        ensures run { HasRunFrom (L.run_gives key.now) (DrawsWithin N.limit L.draw_gives) spot.entry flight.entry loaders.old loaders.new result.0 result.1 }
         ensures logged { HasLogged flight.entry.number flight.entry.seen (seen_of (reply_of (Led result.0 result.1)).0) log.old log.new }
         ensures of_place { IfDone (λ letter. letter.place ≡ flight.entry.place) result.0 }
         ensures of_key { IfDone (λ letter. MayBe letter.value.spot key.now) result.0 }
@@ -227,7 +227,7 @@ impl<'d, D: Naming, N: Naming, O: Origin> Fill<'d, D, N, O> {
         requires space { IsInSpace D.space (spot_at key.now at.old) }
         requires keyed { spot_key (spot_at key.now at.old) ≡ key.now }
         requires place { IsPlaceOf N.group (place_at at.old) }
-        ensures asked { HasAsked (L.run_gives key.now) (IsDraw L.draw_gives) N.space key.now (spot_at key.now at.old) getter.entry result.0 result.1 }
+        ensures asked { HasAsked (L.run_gives key.now) (DrawsWithin N.limit L.draw_gives) N.space key.now (spot_at key.now at.old) getter.entry result.0 result.1 }
         ensures logged { HasLogged (number_of getter.entry.standing) (seen_of getter.entry.standing) (seen_of result.0.standing) getter.entry.log result.0.log }
         ensures keyed { IfOk result.1 (λ view. spot_key view.value.spot ≡ key.now) }
         ensures loaded { IfOk result.1 (IsLoadedFor O.loaded key.now) }
@@ -302,7 +302,7 @@ impl<'d, D: Naming, N: Naming, O: Origin> Fill<'d, D, N, O> {
     where
         L: LoadPath<Origin = O>,
         requires room { getter.counted.gets < 2 ^ 64 - 1 }
-        ensures got { GetsOnce (L.run_gives key.now) (IsDraw L.draw_gives) N.space key.now getter.entry result.0 result.1 }
+        ensures got { GetsOnce (L.run_gives key.now) (DrawsWithin N.limit L.draw_gives) N.space key.now getter.entry result.0 result.1 }
         ensures logged { HasLogged (number_of getter.entry.standing) (seen_of getter.entry.standing) (seen_of result.0.standing) getter.entry.log result.0.log }
         ensures keyed { IfOk result.1 (λ view. spot_key view.value.spot ≡ key.now) }
         ensures loaded { IfOk result.1 (IsLoadedFor O.loaded key.now) }
@@ -362,7 +362,7 @@ impl<'d, D: Naming, N: Naming, O: Origin> Fill<'d, D, N, O> {
     ) -> (Getter<'d, D, N, O, L>, Result<View<'d, D, O>, LoadFault>)
     where
         L: LoadPath<Origin = O>,
-        ensures got { getter.entry.counted.gets < 2 ^ 64 - 1 → HasGot (L.run_gives key.now) (IsDraw L.draw_gives) N.space key.now getter.entry result.0 result.1 }
+        ensures got { getter.entry.counted.gets < 2 ^ 64 - 1 → HasGot (L.run_gives key.now) (DrawsWithin N.limit L.draw_gives) N.space key.now getter.entry result.0 result.1 }
         ensures counted { getter.entry.counted.gets < 2 ^ 64 - 1 → IsCounted getter.entry result.0 result.1 }
         ensures fresh { getter.entry.counted.gets < 2 ^ 64 - 1 → IsFreshGet N.space key.now getter.entry result.0 result.1 }
         ensures keyed { IfOk result.1 (λ view. spot_key view.value.spot ≡ key.now) }

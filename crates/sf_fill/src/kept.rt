@@ -18,6 +18,7 @@ use crate::fault::{LoadFault, of_key};
 use crate::fill::Fill;
 use crate::getter::Getter;
 use crate::naming::Naming;
+use crate::second::{InCache, Missed};
 use crate::value::FillValue;
 use sf_caches::{CacheStats, Caches, Which};
 use sf_group::{Caller, Flight, Group, Letter, Memory};
@@ -128,20 +129,15 @@ pub(crate) struct Kept<'d, D: Naming, N: Naming, O: Origin> {
 
 impl<'d, D: Naming, N: Naming, O: Origin> Model for Kept<'d, D, N, O> {
     ghost use Rattle.std.specs.Prelude.{◌≡◌};
+    ghost use Rattle.sf_caches.specs.Trimming.{room_of};
     ghost use Rattle.sf_fill.specs.Keeping.{LetterCaches};
 
     ghost Value = { LetterCaches };
 
     ghost view = { λ k. k.caches };
 
-    // The caches have the group's places.
-    ghost invariant = { λ k. k.caches.places ≡ N.group.sizes.places };
-}
-
-/// A letter that a cache has: a copy of it, which may have been refused memory, and which cache that is.
-pub(crate) struct InCache<V: sf_group::Fit> {
-    pub(crate) copy: Result<Letter<V>, Memory>,
-    pub(crate) which: Which,
+    // The caches have the group's places, and the limit.
+    ghost invariant = { λ k. (k.caches.places ≡ N.group.sizes.places) × (k.caches.limit ≡ room_of N.limit) };
 }
 
 impl<'d, D: Naming, N: Naming, O: Origin> Kept<'d, D, N, O> {
@@ -194,7 +190,7 @@ impl<'d, D: Naming, N: Naming, O: Origin> Kept<'d, D, N, O> {
     }
 
     // A copy of the letter that the cache has for the key at the place, which becomes its most recent, if it is of the call.
-    fn copy_of(
+    pub(crate) fn copy_of(
         &mut self,
         group: &Group<FillValue<'d, D, O>>,
         which: Which,
@@ -314,8 +310,10 @@ impl<'d, D: Naming, N: Naming, O: Origin> Fill<'d, D, N, O> {
         ensures follows { IfSome result (λ found. CopiesFollowed flight.now found) }
         ensures of_key { IfSome result (λ found. IfOk found (λ letter. MayBe letter.value.spot key.now)) }
     {
-        let InCache { copy, which: _ } = self.second_look(rt, flight, key)?;
-        Some(copy)
+        match self.second_look(rt, flight, key) {
+            Ok(InCache { copy, which: _ }) => Some(copy),
+            Err(_) => None,
+        }
     }
 
     // A copy of the letter of the key that main, or else hot, has of the call that the flight's follows; other entries stay.
@@ -324,22 +322,15 @@ impl<'d, D: Naming, N: Naming, O: Origin> Fill<'d, D, N, O> {
         rt: &R,
         flight: &Flight<FillValue<'d, D, O>>,
         key: &[u8],
-    ) -> Option<InCache<FillValue<'d, D, O>>>
+    ) -> Result<InCache<FillValue<'d, D, O>>, Missed>
         requires { flight.now.group ≡ N.group }
-        ensures follows { IfSome result (λ found. CopiesFollowed flight.now found.copy) }
-        ensures of_key { IfSome result (λ found. IfOk found.copy (λ letter. MayBe letter.value.spot key.now)) }
+        ensures follows { IfOk result (λ found. CopiesFollowed flight.now found.copy) }
+        ensures of_key { IfOk result (λ found. IfOk found.copy (λ letter. MayBe letter.value.spot key.now)) }
+        ensures call { IfErr result (λ missed. missed.call ≡ flight.now.call) }
     {
-        let call = flight.after()?;
-        if self.limit <= 0 {
-            return None;
-        }
+        let call = Kept::<'d, D, N, O>::to_find(self.limit, flight)?;
         let mut kept = self.kept.lock(rt);
-        for which in [Which::Main, Which::Hot] {
-            if let Some(copy) = kept.copy_of(&self.group, which, flight.place(), key, call) {
-                return Some(InCache { copy, which });
-            }
-        }
-        None
+        kept.look_again(&self.group, flight, key, call)
     }
 
     // Puts a copy of the letter into a cache; where memory for it is refused, nothing is put. The letter's note may show

@@ -27,6 +27,7 @@ mod near;
 mod parts;
 mod put;
 mod reload;
+mod second;
 mod sizes;
 mod value;
 mod view;

@@ -1,24 +1,23 @@
 //! What a getter does once it leads a call.
-ghost use Rattle.std.specs.Prelude.{◌≡◌, ◌≤ℤ◌, ◌<ℤ◌, pos, IfOk, None};
-ghost use Rattle.sf_fill.specs.Keeping.{GoesInto};
+ghost use Rattle.std.specs.Prelude.{◌≡◌, IfOk};
+ghost use Rattle.sf_fill.specs.Keeping.{GoesWithin, LoadsInto, SourceGoesInto, cache_of, taken_over};
 ghost use Rattle.sf_calls.specs.Same.{HasNothing, IsPlaceOf, IsSameFlight};
 ghost use Rattle.sf_calls.specs.Seen.{IsLawful};
 ghost use Rattle.sf_calls.specs.Notes.{HasLent};
 ghost use Rattle.sf_spots.specs.Spots.{IsInSpace, MayBe, spot_key, spot_place};
 ghost use Rattle.sf_fill.specs.FillValue.{FitsFill};
-ghost use Rattle.sf_fill.specs.Found.{DrawsFor, HasSettled, IsDraw, IsFromCache, IsLoaded, IsSource, second_look_counts};
+ghost use Rattle.sf_fill.specs.Found.{DrawsFor, DrawsWithin, HasSettled, IsFromCache, IsLoaded, IsSource, second_look_counts};
 ghost use Rattle.sf_fill.specs.Rooted.{IsRooted};
 ghost use Rattle.sf_fill.specs.Settled.{CopiesFollowed, IsSettled};
 ghost use Rattle.sf_fill.specs.Totals.{IsOfOneGet};
 
 use crate::counters::GetCounts;
 use crate::fill::Fill;
-use crate::kept::InCache;
 use crate::naming::Naming;
+use crate::second::{InCache, Missed};
 use crate::value::FillValue;
 use sf_caches::Which;
 use sf_group::{Caller, Finished, Flight, Letter};
-use sf_history::CallId;
 use sf_loaders::{Counts, LoadPath, LocalFault, Origin, Source};
 use sf_spots::Spot;
 use sf_wait::finish_wait;
@@ -47,21 +46,6 @@ pub(crate) const NO_RUN: Counts = Counts {
     local_load_errors: 0,
 };
 
-// Where a value of that source goes: a local one into main, and one in ten of the peers' into hot.
-fn cache_for<L: LoadPath>(limit: i64, source: Source, loaders: &mut L) -> Option<Which>
-    ensures none { limit ≤ℤ pos 0 → (result ≡ None) × (loaders.new ≡ loaders.old) }
-    ensures one { pos 0 <ℤ limit → GoesInto L.draw_gives source loaders.old loaders.new result }
-    ensures draws { DrawsFor (IsDraw L.draw_gives) source loaders.old loaders.new }
-{
-    if limit <= 0 {
-        return None;
-    }
-    match source {
-        Source::Local => Some(Which::Main),
-        Source::Peer => (loaders.draw() == 0).then_some(Which::Hot),
-    }
-}
-
 impl<'d, D: Naming, N: Naming, O: Origin> Fill<'d, D, N, O> {
     // The value for a call that is led: what a cache has of the call that it follows, and else what the loaders give.
     pub(crate) fn source<R: Wait, L>(
@@ -77,19 +61,21 @@ impl<'d, D: Naming, N: Naming, O: Origin> Fill<'d, D, N, O> {
         requires flight { (flight.old.group ≡ N.group) × IsLawful N.group.sizes flight.old.seen }
         requires led { IsRooted flight.old.place flight.old.call flight.old.call flight.old.seen }
         requires spot { IsInSpace D.space spot × (spot_key spot ≡ key.now) × (spot_place spot ≡ flight.old.place) }
-        ensures source { IsSource (L.run_gives key.now) (IsDraw L.draw_gives) spot.entry flight.old loaders.old loaders.new result.value result.counts }
+        ensures source { IsSource (L.run_gives key.now) (DrawsWithin N.limit L.draw_gives) spot.entry flight.old loaders.old loaders.new result.value result.counts }
+        ensures into { SourceGoesInto L.draw_gives (L.run_gives key.now) N.limit spot.entry flight.old loaders.old loaders.new result.value result.keep }
         ensures of_key { MayBe result.value.spot key.now }
         ensures learnt { IsSameFlight flight.old flight.new }
         ensures fits { FitsFill flight.new.place flight.new.call result.value flight.new.seen }
         ensures one { IsOfOneGet result.counts }
     {
         match self.second_look(rt, flight, key) {
-            Some(found) => self.reuse(flight, spot, found),
-            None => self.load(flight.call(), spot, key, loaders),
+            Ok(found) => self.reuse(flight, spot, found),
+            Err(missed) => self.load(missed, spot, key, loaders),
         }
     }
 
-    // What a cache has of the call that the flight's follows: the value, whose root stays.
+    // What a cache has of the call that the flight's follows: the value, whose root stays, for the same cache. Where the copy was
+    // refused memory, that is the fault.
     fn reuse(
         &self,
         flight: &mut Flight<FillValue<'d, D, O>>,
@@ -102,6 +88,8 @@ impl<'d, D: Naming, N: Naming, O: Origin> Fill<'d, D, N, O> {
         requires found { CopiesFollowed flight.old found.copy }
         requires of_key { IfOk found.copy (λ letter. MayBe letter.value.spot (spot_key spot)) }
         ensures value { IsFromCache spot.entry flight.old result.value }
+        ensures taken { result.value ≡ taken_over spot.entry flight.old.call found.entry.copy }
+        ensures keep { result.keep ≡ cache_of found.entry }
         ensures of_key { MayBe result.value.spot (spot_key spot.entry) }
         ensures counts { result.counts ≡ second_look_counts }
         ensures learnt { IsSameFlight flight.old flight.new }
@@ -126,10 +114,25 @@ impl<'d, D: Naming, N: Naming, O: Origin> Fill<'d, D, N, O> {
         }
     }
 
-    // What the loaders give for the run of the call.
+    // Where a value of that source goes: a local one into main, and one in ten of the peers' into hot. A limit that keeps nothing
+    // draws nothing.
+    fn cache_for<L: LoadPath>(&self, source: Source, loaders: &mut L) -> Option<Which>
+        ensures goes { GoesWithin L.draw_gives N.limit source loaders.old loaders.new result }
+        ensures draws { DrawsFor (DrawsWithin N.limit L.draw_gives) source loaders.old loaders.new }
+    {
+        if self.limit <= 0 {
+            return None;
+        }
+        match source {
+            Source::Local => Some(Which::Main),
+            Source::Peer => (loaders.draw() == 0).then_some(Which::Hot),
+        }
+    }
+
+    // What the loaders give for the run of the call, whose leader's second look found nothing.
     fn load<L>(
         &self,
-        call: CallId,
+        missed: Missed,
         spot: Spot<'d>,
         key: &[u8],
         loaders: &mut L,
@@ -137,10 +140,12 @@ impl<'d, D: Naming, N: Naming, O: Origin> Fill<'d, D, N, O> {
     where
         L: LoadPath<Origin = O>,
         requires spot { IsInSpace D.space spot × (spot_key spot ≡ key.now) }
-        ensures source { IsLoaded (L.run_gives key.now) (IsDraw L.draw_gives) spot.entry call loaders.old loaders.new result.value result.counts }
+        ensures source { IsLoaded (L.run_gives key.now) (DrawsWithin N.limit L.draw_gives) spot.entry missed.call loaders.old loaders.new result.value result.counts }
+        ensures into { LoadsInto L.draw_gives (L.run_gives key.now) N.limit missed.call loaders.old loaders.new result.keep }
         ensures of_key { MayBe result.value.spot key.now }
         ensures one { IsOfOneGet result.counts }
     {
+        let call = missed.call();
         let (loaded, run) = loaders.run(key, call);
         let counts = GetCounts {
             gets: 1,
@@ -150,7 +155,7 @@ impl<'d, D: Naming, N: Naming, O: Origin> Fill<'d, D, N, O> {
         };
         match loaded {
             Ok((bytes, source)) => {
-                let keep = cache_for(self.limit, source, loaders);
+                let keep = self.cache_for(source, loaders);
                 Sourced {
                     value: FillValue::of_run(spot, call, Ok(bytes)),
                     keep,

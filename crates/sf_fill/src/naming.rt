@@ -1,5 +1,5 @@
-//! Which key space, which group and which ledgers the parts of a fill are of.
-ghost use Rattle.std.specs.Prelude.{ℕ};
+//! Which key space, which group and which ledgers the parts of a fill are of, and which limit it keeps.
+ghost use Rattle.std.specs.Prelude.{ℕ, ℤ};
 ghost use Rattle.sf_spots.specs.Spaces.{SpaceId};
 ghost use Rattle.sf_calls.specs.Tokens.{GroupValue};
 ghost use Rattle.sf_fill.specs.Names.{LedgerNames};
@@ -22,9 +22,13 @@ pub trait Naming {
 
     /// The ledger of each counter.
     ghost ledgers: { LedgerNames };
+
+    /// How many bytes its caches keep at most; nothing where that is 0 or less.
+    ghost limit: { ℤ };
 }
 
 impl Naming for Brand {
+    ghost use Rattle.std.specs.Prelude.{pos};
     ghost use Rattle.sf_fill.specs.Nowhere.{no_space, no_group, no_ledgers};
 
     ghost space = { no_space };
@@ -34,4 +38,6 @@ impl Naming for Brand {
     ghost getters = { 0 };
 
     ghost ledgers = { no_ledgers };
+
+    ghost limit = { pos 0 };
 }

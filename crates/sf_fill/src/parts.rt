@@ -133,6 +133,7 @@ impl<'d, D: Naming, N: Naming, O: Origin> Fill<'d, D, N, O> {
     ) -> Result<(Fill<'d, D, N, O>, Vec<Getter<'d, D, N, O, L>>), FillParts<'d, D, O, L>>
         requires space { (space_of space ≡ N.space) × (D.space ≡ N.space) }
         requires parts { AreParts N.space N.group N.getters N.ledgers parts }
+        requires limit { sizes.limit ≡ N.limit }
         ensures made { IfOk result (λ made. (made.0 ≡ N.group) × (made.1.items ≡ new_getters sizes.log parts.entry.desks.items parts.entry.callers.items parts.entry.loaders.items)) }
         ensures count { IfOk result (λ made. vec_len made.1 ≡ N.getters) }
         ensures refused { IfErr result (λ back. back ≡ parts.entry) }
