@@ -77,6 +77,17 @@ pub fn check_indexed<K: Ord, V>(alloc: Global, history: &History<K, V>) -> Resul
     Ok(Verdict::Legal)
 }
 
+/// What `check` says, by `check_indexed` where there is memory for its maps, and by `check` where it is refused.
+pub fn verdict_on<K: Ord, V>(alloc: Global, history: &History<K, V>) -> Verdict
+    ensures legal { (result ≡ Verdict.Legal) ↔ IsLegal K.eq history.now }
+    ensures verdict { IsVerdictOf K.eq history.now result }
+{
+    match check_indexed(alloc, history) {
+        Ok(verdict) => verdict,
+        Err(_) => check(history),
+    }
+}
+
 /// An event may follow the events before it exactly where it has no cause: a law of the definitions, with nothing to run.
 pub fn no_cause_may_follow<K: Eq, V>()
     ensures { NoCauseMayFollow K V K.eq }

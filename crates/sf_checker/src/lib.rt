@@ -11,5 +11,5 @@ mod walk;
 
 pub use cause::Cause;
 pub use checking::{
-    Verdict, check, check_indexed, histories_have_one_verdict, no_cause_may_follow,
+    Verdict, check, check_indexed, histories_have_one_verdict, no_cause_may_follow, verdict_on,
 };

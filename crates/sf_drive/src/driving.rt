@@ -10,11 +10,12 @@ ghost use Rattle.sf_words.specs.declared.limits.TheConstants.{LARGEST_PLACE};
 ghost use Rattle.sf_door.specs.Opened.{places_for};
 ghost use Rattle.sf_drive.specs.Values.{StatesValues};
 
-use crate::found::{Found, said, verdict};
+use crate::found::{Found, said};
 use crate::jobs::{Crew, Ended, Entry};
 use crate::line::DriveLine;
 use crate::loaders::{AnyKey, OddPicker, ThirdFails};
 use crate::report::{DriveEnding, Report};
+use sf_checker::verdict_on;
 use sf_dir::LONGEST_KEY;
 use sf_door::{DirectoryKeys, FillSizes, Keys, Places, Sizes, Team, with_team};
 use sf_fill::{Fill, Getter, Naming};
@@ -123,7 +124,7 @@ fn found(
         gets: line.threads as u64 * line.gets as u64,
         answers,
         totals_equal,
-        verdict: verdict(alloc, &history),
+        verdict: verdict_on(alloc, &history),
     };
     Ok(Found { report, history })
 }

@@ -1,11 +1,9 @@
 //! What a drive found, and what it says of it.
 
-ghost use Rattle.std.specs.Prelude.{◌≡◌, IfOk, nat_eq, string_bytes};
-ghost use Rattle.sf_checker.specs.Checker.{IsVerdictOf};
+ghost use Rattle.std.specs.Prelude.{◌≡◌, IfOk, string_bytes};
 ghost use Rattle.sf_drive.specs.Found.{empty_settled, drive_records, said_text};
 
 use crate::report::Report;
-use sf_checker::{Verdict, check, check_indexed};
 use sf_history::{Event, History, Memory};
 use sf_replay::{TextEvent, with_text_keys, write};
 use sf_text::Text;
@@ -18,16 +16,6 @@ pub(crate) struct Found {
     pub(crate) report: Report,
     /// The merged logs.
     pub(crate) history: History<PlaceNo, ()>,
-}
-
-/// What the checker says of a history. The one without an index is slower, and needs no memory.
-pub(crate) fn verdict(alloc: Global, history: &History<PlaceNo, ()>) -> Verdict
-    ensures { IsVerdictOf nat_eq history.now result }
-{
-    match check_indexed(alloc, history) {
-        Ok(verdict) => verdict,
-        Err(_) => check(history),
-    }
 }
 
 /// The event as records have it. A log keeps no values, so a call is settled with the empty text.

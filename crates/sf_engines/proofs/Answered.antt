@@ -78,3 +78,12 @@ pub answer_part : {S E : Type 0} (bytes : S → List ℕ) (line_of : E → List 
 answer_part bytes line_of IsText IsRefusal (Ok text) old new is refused answers says = (bytes text, (Answered, is), answers)
 answer_part bytes line_of IsText IsRefusal (Err refusal) old new is refused answers says =
     (line_of refusal ++ codes "\n", (Refused, refused), says)
+
+-- the same where it answers a schedule
+pub schedule_part : {S : Type 0} (bytes : S → List ℕ) (IsText : List ℕ → Type 0) (input : List ℕ) (answered : Result S ScheduleRefusal) (old new : Option (List ℕ))
+    → IfOk answered (λ text. IsText (bytes text)) → IfErr answered (λ refusal. IsRefusalOf (lines input) refusal)
+    → IfOk answered (λ text. AppendsPart old new (bytes text))
+    → IfErr answered (λ refusal. AppendsPart old new (trace_text.refusal_text refusal ++ codes "\n"))
+    → (text : List ℕ) × ((ending : Ending) × IsWrittenAs IsText (IsScheduleRefused input) ending text) × AppendsPart old new text
+schedule_part bytes IsText input answered old new is refused =
+    answer_part bytes trace_text.refusal_text IsText (IsScheduleRefused input) answered old new is (schedule_refused input answered refused)

@@ -4,7 +4,7 @@ ghost use Rattle.std.specs.Prelude.{◌≡◌};
 ghost use Rattle.sf_engines.specs.Checking.{IsCheckOf, ending_of};
 
 use crate::ending::Ending;
-use sf_checker::{Cause, Verdict, check, check_indexed};
+use sf_checker::{Cause, Verdict, verdict_on};
 use sf_replay::{RecordRefusal, read};
 use std::alloc::Global;
 use std::fmt;
@@ -47,12 +47,7 @@ pub(crate) fn judge(alloc: Global, input: &[u8]) -> Checked
         Err(RecordRefusal::BadRecord(line)) => return Checked::BadRecord(line),
         Err(RecordRefusal::Memory) => return Checked::OutOfMemory,
     };
-    // The checker without an index is slower, and needs no memory.
-    let verdict = match check_indexed(alloc, &history) {
-        Ok(verdict) => verdict,
-        Err(_) => check(&history),
-    };
-    match verdict {
+    match verdict_on(alloc, &history) {
         Verdict::Legal => Checked::Legal(history.len() as u64),
         Verdict::Illegal { index, cause } => Checked::Illegal(index, cause),
     }
