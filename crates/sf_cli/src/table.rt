@@ -4,7 +4,7 @@ ghost use Rattle.std.specs.Prelude.{◌≡◌, IfSome, Some, slice_get, option_m
 ghost use Rattle.sf_cli.specs.Work.{work_name_of, IsShownFor};
 
 use clap::{Arg, ArgAction, Command};
-use sf_drive::{DRIVE_ABOUT, DRIVE_HELP, with_drive_options};
+use sf_drive::{DRIVE_ABOUT, DRIVE_HELP, switch, with_drive_options};
 use sf_engines::{Engine, Shown};
 use std::alloc::{AllocError, Global};
 
@@ -254,10 +254,7 @@ fn with_flags<'a>(
 /// The option, which goes with no other.
 fn option<'a>(alloc: Global, flag: Flag) -> Result<Arg<'a>, AllocError> {
     let (name, help): (&'a str, &'a str) = (flag.name, flag.help);
-    let mut option: Arg<'a> = Arg::new(alloc, name)
-        .long(name)
-        .action(ArgAction::SetTrue)
-        .help(help);
+    let mut option = switch(alloc, name, help);
     for other in FLAGS {
         let other: &'a str = other.name;
         if other != name {
@@ -269,10 +266,7 @@ fn option<'a>(alloc: Global, flag: Flag) -> Result<Arg<'a>, AllocError> {
 
 /// The command with the words of `bench`.
 fn with_names<'a>(alloc: Global, command: Command<'a>) -> Result<Command<'a>, AllocError> {
-    let list = Arg::new(alloc, "list")
-        .long("list")
-        .action(ArgAction::SetTrue)
-        .help("Prints the names of the benchmarks");
+    let list = switch(alloc, "list", "Prints the names of the benchmarks");
     let names = Arg::new(alloc, "names")
         .value_name("NAME")
         .action(ArgAction::Append)
