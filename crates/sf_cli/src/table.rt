@@ -1,10 +1,11 @@
 //! The one table of subcommands: the name, what help says, the options, and what each does.
 
-ghost use Rattle.std.specs.Prelude.{◌≡◌, IfSome, Some, slice_get, option_map, string_bytes};
-ghost use Rattle.sf_cli.specs.Work.{work_name_of, IsShownFor};
+ghost use Rattle.std.specs.Prelude.{◌≡◌, ◌≢◌, [], ◌∷◌, IfSome, IfNone, Contains, All, map, string_bytes};
+ghost use Rattle.sf_engines.specs.declared.engine.Shown.{Shown};
+ghost use Rattle.sf_cli.specs.Work.{work_name_of, works, options_of};
 
 use clap::{Arg, ArgAction, Command};
-use sf_drive::{DRIVE_ABOUT, DRIVE_HELP, with_drive_options};
+use sf_drive::{DRIVE_ABOUT, DRIVE_HELP, switch, with_drive_options};
 use sf_engines::{Engine, Shown};
 use std::alloc::{AllocError, Global};
 
@@ -166,39 +167,46 @@ build measures nothing.
 Exit status: 0 where all was measured, 2 where something was not, 3 where there
 is no proved program.";
 
-/// What the subcommand of this name does.
-pub fn named(name: &str) -> Option<Work>
-    ensures { IfSome result (λ work. name.now ≡ work_name_of work) }
+/// The first of these rows that has the name.
+fn row_of(rows: &[Row], name: &str) -> Option<Row>
+    ensures known { IfSome result (λ row. Contains rows.now row × (row.name.now ≡ name.now)) }
+    ensures unknown { IfNone result (All (λ text. text ≢ name.now) (map (λ row. row.name.now) rows.now)) }
 {
-    for row in TABLE {
-        if row.name == name {
-            return Some(row.work);
-        }
-    }
-    None
+    rows.iter().find(|row| row.name == name).copied()
 }
 
-/// What the option of this word shows.
-fn flagged(word: &str) -> Option<Shown>
-    ensures { IfSome result (λ shown. IsShownFor shown (Some word.now)) }
+/// What the subcommand of this name does, as the table has it.
+pub fn named(name: &str) -> Option<Work>
+    ensures known { IfSome result (λ work. Contains works work × (name.now ≡ work_name_of work)) }
+    ensures unknown { IfNone result ((work : Work) → name.now ≢ work_name_of work) }
 {
-    match word {
+    match row_of(&TABLE, name) {
+        Some(row) => Some(row.work),
+        None => None,
+    }
+}
+
+/// What an engine is asked to show by this option.
+fn flagged(option: &str) -> Option<Shown>
+    ensures known { IfSome result (λ shown. option.now ∷ [] ≡ options_of shown) }
+    ensures unknown { IfNone result ((shown : Shown) → option.now ∷ [] ≢ options_of shown) }
+{
+    match option {
         "--history" => Some(Shown::History),
         "--svg" => Some(Shown::Picture),
         _ => None,
     }
 }
 
-/// What the words, the program's name and the engine's first, ask to be shown: lines, or what the one option says.
-pub fn shown(words: &[String]) -> Option<Shown>
-    ensures { IfSome result (λ shown. IsShownFor shown (option_map string_bytes (slice_get words.now 2))) }
+/// What an engine is asked to show by the words after its name: lines, or what the one option says.
+pub fn shown(options: &[String]) -> Option<Shown>
+    ensures known { IfSome result (λ shown. map string_bytes options.now ≡ options_of shown) }
+    ensures unknown { IfNone result ((shown : Shown) → map string_bytes options.now ≢ options_of shown) }
 {
-    if 3 < words.len() {
-        return None;
-    }
-    match words.get(2) {
-        Some(word) => flagged(word.as_str()),
-        None => Some(Shown::Lines),
+    match options {
+        [] => Some(Shown::Lines),
+        [option] => flagged(option.as_str()),
+        _ => None,
     }
 }
 
@@ -254,10 +262,7 @@ fn with_flags<'a>(
 /// The option, which goes with no other.
 fn option<'a>(alloc: Global, flag: Flag) -> Result<Arg<'a>, AllocError> {
     let (name, help): (&'a str, &'a str) = (flag.name, flag.help);
-    let mut option: Arg<'a> = Arg::new(alloc, name)
-        .long(name)
-        .action(ArgAction::SetTrue)
-        .help(help);
+    let mut option = switch(alloc, name, help);
     for other in FLAGS {
         let other: &'a str = other.name;
         if other != name {
@@ -269,10 +274,7 @@ fn option<'a>(alloc: Global, flag: Flag) -> Result<Arg<'a>, AllocError> {
 
 /// The command with the words of `bench`.
 fn with_names<'a>(alloc: Global, command: Command<'a>) -> Result<Command<'a>, AllocError> {
-    let list = Arg::new(alloc, "list")
-        .long("list")
-        .action(ArgAction::SetTrue)
-        .help("Prints the names of the benchmarks");
+    let list = switch(alloc, "list", "Prints the names of the benchmarks");
     let names = Arg::new(alloc, "names")
         .value_name("NAME")
         .action(ArgAction::Append)

@@ -1,9 +1,10 @@
 //! What the command line asks for.
 
-ghost use Rattle.std.specs.Prelude.{◌≡◌, IfOk, IfSome, Some, slice_get, option_map, string_bytes};
+ghost use Rattle.std.specs.Prelude.{◌≡◌, ◌≢◌, IfSome, IfNone, map, string_bytes};
 ghost use Rattle.sf_engines.specs.Engines.{name_of, shown_by};
-ghost use Rattle.sf_cli.specs.Work.{IsShownFor};
-ghost use Rattle.sf_cli.specs.Usage.{subcommand_name_of, IsShownBy};
+ghost use Rattle.sf_engines.specs.declared.engine.Engine as engines;
+ghost use Rattle.sf_cli.specs.Work.{options_of};
+ghost use Rattle.sf_cli.specs.Usage.{IsAskedBy};
 
 use crate::table::{Work, named, program, shown};
 use clap::Error;
@@ -100,37 +101,37 @@ fn line(alloc: Global, words: &[String]) -> Result<DriveLine, Usage> {
     }
 }
 
-/// The engine of the same subcommand that shows what the third word says.
-fn showing(engine: Engine, words: &[String]) -> Option<Engine>
-    ensures { IfSome result (λ e. (name_of e ≡ name_of engine)
-        × IsShownFor (shown_by e) (option_map string_bytes (slice_get words.now 2))) }
+/// The engine of the same subcommand that shows what the words after its name ask for.
+fn showing(engine: Engine, options: &[String]) -> Option<Engine>
+    ensures known { IfSome result (λ e. (name_of e ≡ name_of engine)
+        × (map string_bytes options.now ≡ options_of (shown_by e))) }
+    ensures unknown { IfNone result ((e : engines.Engine) → name_of e ≡ name_of engine
+        → map string_bytes options.now ≢ options_of (shown_by e)) }
 {
-    engine.showing(shown(words)?)
+    match shown(options) {
+        Some(shown) => engine.showing(shown),
+        None => None,
+    }
 }
 
-/// The subcommand that the words ask for, the program's name first: it is the one that the second word names, and it shows
-/// what the third one says.
+/// The subcommand that the words ask for, the program's name first. The words of a drive are refused where clap refuses
+/// them, and for want of memory.
 pub fn parse(alloc: Global, words: &[String]) -> Result<Subcommand, Usage>
-    ensures name { IfOk result (λ asked. option_map string_bytes (slice_get words.now 1) ≡ Some (subcommand_name_of asked)) }
-    ensures shown { IfOk result (λ asked. IsShownBy asked (option_map string_bytes (slice_get words.now 2))) }
+    ensures { IsAskedBy (map string_bytes words.now) result }
 {
-    let work = match words.get(1) {
-        Some(name) => named(name.as_str()),
-        None => None,
+    let [_, name, options @ ..] = words else {
+        return Err(refused(alloc, words, Mistake::NotTaken));
     };
-    let mistake = match work {
-        Some(Work::Engine(engine)) => {
-            if let Some(engine) = showing(engine, words) {
-                return Ok(Subcommand::Engine(engine));
-            }
-            Mistake::NotTaken
-        }
+    match named(name.as_str()) {
+        Some(Work::Engine(engine)) => match showing(engine, options) {
+            Some(engine) => Ok(Subcommand::Engine(engine)),
+            None => Err(refused(alloc, words, Mistake::NotTaken)),
+        },
         Some(Work::Drive) => {
             let line = line(alloc, words.get(1..).unwrap_or_default())?;
-            return Ok(Subcommand::Drive(line));
+            Ok(Subcommand::Drive(line))
         }
-        Some(Work::Bench) => Mistake::Elsewhere,
-        None => Mistake::NotTaken,
-    };
-    Err(refused(alloc, words, mistake))
+        Some(Work::Bench) => Err(refused(alloc, words, Mistake::Elsewhere)),
+        None => Err(refused(alloc, words, Mistake::NotTaken)),
+    }
 }

@@ -11,6 +11,8 @@ mod progress;
 mod report;
 
 pub use driving::drive;
-pub use line::{DRIVE_ABOUT, DRIVE_HELP, DriveLine, NoDrive, drive_line, with_drive_options};
+pub use line::{
+    DRIVE_ABOUT, DRIVE_HELP, DriveLine, NoDrive, drive_line, switch, with_drive_options,
+};
 pub use progress::ProgressLine;
 pub use report::{DriveEnding, Report, status};

@@ -63,43 +63,40 @@ Example:
 Exit status: 0 where all went well, 1 where it did not, 2 for usage, want of
 memory, and a failing write.";
 
+/// An option of this name that takes no value.
+pub fn switch<'a>(alloc: Global, name: &'a str, help: &'a str) -> Arg<'a> {
+    Arg::new(alloc, name)
+        .long(name)
+        .action(ArgAction::SetTrue)
+        .help(help)
+}
+
+// An option of this name, whose value is a number from 1 to a greatest one.
+fn count<'a>(alloc: Global, name: &'a str, help: &'a str, greatest: u32) -> Arg<'a> {
+    Arg::new(alloc, name)
+        .long(name)
+        .action(ArgAction::Set)
+        .value_name("N")
+        .help(help)
+        .value_parser(clap::value_parser!(u32).range(1..=i64::from(greatest)))
+}
+
 /// The command with the options of a drive and their ranges.
 pub fn with_drive_options<'a>(
     alloc: Global,
     command: Command<'a>,
 ) -> Result<Command<'a>, AllocError> {
-    let threads = Arg::new(alloc, "threads")
-        .long("threads")
-        .action(ArgAction::Set)
-        .value_name("N")
-        .help("Threads, 1 to 64 (4 where it is absent)")
-        .value_parser(clap::value_parser!(u32).range(1..=64));
-    let keys = Arg::new(alloc, "keys")
-        .long("keys")
-        .action(ArgAction::Set)
-        .value_name("N")
-        .help("Keys, 1 to 1000 (8)")
-        .value_parser(clap::value_parser!(u32).range(1..=1_000));
-    let gets = Arg::new(alloc, "gets")
-        .long("gets")
-        .action(ArgAction::Set)
-        .value_name("N")
-        .help("Gets of each thread, 1 to 100000 (100)")
-        .value_parser(clap::value_parser!(u32).range(1..=100_000));
-    let open = Arg::new(alloc, "open")
-        .long("open")
-        .action(ArgAction::SetTrue)
-        .help("Places by a hash, 16 a key, in place of a directory");
-    let history = Arg::new(alloc, "history")
-        .long("history")
-        .action(ArgAction::SetTrue)
-        .help("Prints the records of what happened, in place of the four lines");
+    let threads = "Threads, 1 to 64 (4 where it is absent)";
+    let keys = "Keys, 1 to 1000 (8)";
+    let gets = "Gets of each thread, 1 to 100000 (100)";
+    let open = "Places by a hash, 16 a key, in place of a directory";
+    let history = "Prints the records of what happened, in place of the four lines";
     command
-        .arg(threads)?
-        .arg(keys)?
-        .arg(gets)?
-        .arg(open)?
-        .arg(history)
+        .arg(count(alloc, "threads", threads, 64))?
+        .arg(count(alloc, "keys", keys, 1_000))?
+        .arg(count(alloc, "gets", gets, 100_000))?
+        .arg(switch(alloc, "open", open))?
+        .arg(switch(alloc, "history", history))
 }
 
 // The command of a drive.

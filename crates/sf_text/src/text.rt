@@ -33,14 +33,6 @@ impl Text {
         Text { string }
     }
 
-    /// The string; it allocates nothing.
-    pub fn into_string(self) -> String
-        ensures { string_bytes result ≡ self }
-    {
-        let Text { string } = self;
-        string
-    }
-
     /// A copy of a text.
     pub fn copied(alloc: Global, text: &str) -> Result<Self, Memory>
         ensures { IfOk result (λ copy. copy ≡ text.now) }
