@@ -21,7 +21,6 @@ pub use doing::{DoFault, do_with};
 pub use job::{Job, Work};
 pub use serving::{MOST_JOBS, Unserved, serve};
 pub use waiting::{
-    begin_chan_wait, begin_wait, do_chan, finish_wait, forget_call_wait, forget_wait, go_on_wait,
-    wait,
+    begin_wait, do_chan, finish_wait, forget_call_wait, forget_wait, go_on_wait, wait,
 };
 pub use workers::{Gate, Served};

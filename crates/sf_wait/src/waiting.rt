@@ -56,10 +56,10 @@ fn begin_by<V: Fit, R: Wait>(
     unreachable!()
 }
 
-/// The caller asks for the place with a second caller. Where the place has no open call, the caller leads a new one, and
-/// the second holds its own channel; else the second joins the open one, and the caller stays free. Refused is where
-/// either has no generation left.
-pub fn begin_chan_wait<V: Fit, R: Wait>(
+/// The second caller waits for the place's letter by a ticket. Where the place has no open call, the caller leads a new
+/// one, whose flight makes a `Job`, and the second holds its own channel; else the second joins the open one, and the
+/// caller stays free. Refused is where either has no generation left.
+pub fn do_chan<V: Fit, R: Wait>(
     rt: &R,
     group: &Group<V>,
     caller: Caller<V>,
@@ -104,24 +104,6 @@ fn begin_chan_by<V: Fit, R: Wait>(
         }
     }
     unreachable!()
-}
-
-/// The second caller waits for the place's letter by a ticket. Where the place has no open call, the caller leads a new
-/// one, whose flight makes a `Job`; else the caller stays free. Refused is where either has no generation left.
-pub fn do_chan<V: Fit, R: Wait>(
-    rt: &R,
-    group: &Group<V>,
-    caller: Caller<V>,
-    second: Caller<V>,
-    place: u32,
-) -> Result<ChanBegun<V>, Spent<(Caller<V>, Caller<V>)>>
-    requires caller { caller.group ≡ group.now }
-    requires second { second.group ≡ group.now }
-    requires place { IsPlaceOf group.now place }
-    ensures begun { IfOk result (λ begun. HasChanBegun caller second place begun) }
-    ensures spent { IfErr result (λ refused. AreRefusedSpent caller second refused.back.0 refused.back.1) }
-{
-    begin_chan_wait(rt, group, caller, second, place)
 }
 
 /// The leader settles its call with the value, for good, and delivers the letters.

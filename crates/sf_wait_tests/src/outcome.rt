@@ -1,7 +1,7 @@
 //! What calls are settled with here, and what is looked at in every test.
 ghost use Rattle.std.specs.Prelude.{◌≡◌, All};
 
-use sf_group::{CallId, Caller, Fit, Forgotten, Group, Letter, Memory, Share};
+use sf_group::{CallId, Caller, Fit, Group, Letter, Memory, Share};
 use std::alloc::AllocError;
 use std::process::Abort;
 
@@ -59,17 +59,4 @@ pub fn next_caller(
         panic!(rt; "no more callers")
     };
     caller
-}
-
-pub fn check_closed(rt: &impl Abort, forgotten: Forgotten, call: CallId) {
-    match forgotten {
-        Forgotten::Closed(closed) => check_call(rt, closed, call),
-        Forgotten::Idle => panic!(rt; "it is idle"),
-    }
-}
-
-pub fn check_idle(rt: &impl Abort, forgotten: Forgotten) {
-    if let Forgotten::Closed(closed) = forgotten {
-        panic!(rt; "it closed {closed}");
-    }
 }

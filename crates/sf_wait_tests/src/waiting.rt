@@ -10,7 +10,7 @@ use sf_group::{
     Ticket,
 };
 use sf_wait::{
-    DoFault, Job, begin_chan_wait, begin_wait, do_with, finish_wait, forget_wait, go_on_wait, wait,
+    DoFault, Job, begin_wait, do_chan, do_with, finish_wait, forget_wait, go_on_wait, wait,
 };
 use std::process::Abort;
 use std::sync::Wait;
@@ -81,7 +81,7 @@ fn lead_chan(
     requires place { IsPlaceOf group.now 1 }
     ensures { (result.0.group ≡ group.now) × (result.1.group ≡ group.now) }
 {
-    match begin_chan_wait(rt, group, caller, second, 1) {
+    match do_chan(rt, group, caller, second, 1) {
         Ok(ChanBegun::Led(flight, ticket)) => (flight, ticket),
         Ok(ChanBegun::Joined(ticket, _)) => {
             ticket.abandon();
