@@ -1,6 +1,6 @@
 //! Fills of two getters, and a spare caller that joins the first one's load. Wherever one allocation is refused, each get
 //! answers the value, and one at most the fault for want of memory; what is owed is delivered then.
-ghost use Rattle.std.specs.Prelude.{◌≡◌, ◌≤◌, IfSome, vec_len};
+ghost use Rattle.std.specs.Prelude.{◌≡◌, ◌≤◌, IfSome, vec_len, pos};
 ghost use Rattle.sf_calls.specs.Same.{IsPlaceOf};
 ghost use Rattle.sf_words.specs.declared.limits.TheConstants.{LARGEST_PLACE};
 ghost use Rattle.sf_spots.specs.Spaces.{AreDesksOf, places_in, space_of};
@@ -390,6 +390,7 @@ fn with_all<
     requires space { (space_of space ≡ N.space) × (D.space ≡ N.space) }
     requires parts { AreParts N.space N.group N.getters N.ledgers parts }
     requires getters { N.getters ≡ 2 }
+    requires limit { N.limit ≡ pos 100 }
     requires own { caller.group ≡ N.group }
     requires place { IsPlaceOf N.group place }
 {
