@@ -1,5 +1,5 @@
 -- looks at letters, one after another
-use Rattle.std.proofs.Common.{◌≡◌, ℕ, Bool, true, List, [], ◌++◌, Some, None, Result, Ok, Err, IfOk, inl, inr, refl, sym, ◌∙◌, subst}
+use Rattle.std.proofs.Common.{◌≡◌, ℕ, Bool, true, List, [], ◌++◌, Option, Some, None, Result, Ok, Err, IfOk, inl, inr, refl, sym, ◌∙◌, subst}
 use Rattle.sf_history.specs.declared.call.CallId.{CallId}
 use Rattle.sf_history.specs.declared.event.Event.{Event}
 use Rattle.sf_calls.specs.Tokens.{GroupValue, CallerValue, FlightValue, LetterValue}
@@ -40,9 +40,6 @@ looked_again c d e (inr n) (inr m) = inr (nothing_again c d e n m)
 pub looked_twice : (c d : CallerValue Filled) → (u : CallerValue Filled) × HasOnlyLooked c u × HasOnlyLooked u d → HasOnlyLooked c d
 looked_twice c d h = looked_again c h.0 d h.1 h.2
 
-pub looked_on_none : (c u d : CallerValue Filled) → HasOnlyLooked c u → (x : CallerValue Filled) × HasOnlyLooked u x × HasOnlyLooked x d → (x : CallerValue Filled) × HasOnlyLooked c x × HasOnlyLooked x d
-looked_on_none c u d only on = (on.0, looked_again c u on.0 only on.1, on.2)
-
 -- so the caller is still the same
 pub still_looked : (c d : CallerValue Filled) → HasOnlyLooked c d → IsStill c d
 still_looked c d (inl is) = subst (λ (x : CallerValue Filled). IsStill c x) (sym is) (still c)
@@ -72,10 +69,8 @@ module _ (E : Type 0) where
       let on : HasLookedOn {E = E} u place (Some (Ok m)) d = subst (λ (x : Result (LetterValue Filled) E). HasLookedOn u place (Some x) d) is h in
       (on.0, looked_again c u on.0 only on.1, looked_lent on.0 d place m n on.2 lent)
 
-  pub looked_on_refused : (c u d : CallerValue Filled) (place : ℕ) (r : Result (LetterValue Filled) E) (e : E) → r ≡ Err e → HasOnlyLooked c u → HasLookedOn u place (Some r) d → HasLookedOn {E = E} c place (Some (Err e)) d
-  looked_on_refused c u d place r e is only h =
-      let on : HasLookedOn {E = E} u place (Some (Err e)) d = subst (λ (x : Result (LetterValue Filled) E). HasLookedOn u place (Some x) d) is h in
-      (on.0, looked_again c u on.0 only on.1, on.2)
+  pub looked_on : (c u d : CallerValue Filled) (place : ℕ) (found : Option (Result (LetterValue Filled) E)) → HasOnlyLooked c u → HasLookedOn u place found d → HasLookedOn c place found d
+  looked_on c u d place found only on = (on.0, looked_again c u on.0 only on.1, on.2)
 
 -- a flight may be settled with the value of the call that it follows, once it has learnt that call's letter
 pub follows_fit : (f h : FlightValue Filled) (l : LetterValue Filled) (v : Filled) → IsFollowed f l → HasLearntLeading f l.seen h → v ≡ l.value → FitsFill h.place h.call v h.seen

@@ -230,8 +230,7 @@ impl<'d, D: Naming, N: Naming, O: Origin> Near<'d, D, N, O> {
 }
 
 impl<'d, D: Naming, N: Naming, O: Origin> Fill<'d, D, N, O> {
-    // The same as a look in the caches, after one at the getter's own letters, which then have what the caches had. What the
-    // getter counted is entered where the lock is taken.
+    // The same as a look in the caches, after one at the getter's own letters.
     pub(crate) fn look_near<R: Wait>(
         &self,
         rt: &R,
@@ -249,6 +248,25 @@ impl<'d, D: Naming, N: Naming, O: Origin> Fill<'d, D, N, O> {
         if let Some(copy) = near.look(&self.group, place, key, caller) {
             return Some(copy);
         }
+        self.look_far(rt, near, tallies, place, key, caller)
+    }
+
+    // A look in the caches, of which the getter then keeps near what it found. What it counted is entered where the lock is taken.
+    #[inline(never)]
+    fn look_far<R: Wait>(
+        &self,
+        rt: &R,
+        near: &mut Near<'d, D, N, O>,
+        tallies: &mut Tallies<N>,
+        place: u32,
+        key: &[u8],
+        caller: &mut Caller<FillValue<'d, D, O>>,
+    ) -> Option<Result<Letter<FillValue<'d, D, O>>, Memory>>
+        requires { caller.old.group ≡ N.group }
+        ensures looked { HasLookedOn caller.old place result caller.new }
+        ensures of_key { IfSome result (λ found. IfOk found (λ letter. MayBe letter.value.spot key.now)) }
+        ensures tallies { tallies.new ≡ tallies.old }
+    {
         match self.look(rt, tallies, place, key, caller) {
             Some(Ok(letter)) => {
                 let mut letter = letter;
