@@ -151,9 +151,8 @@ pub fn try_out<R: Wait>(rt: &R, alloc: Global, setting: Setting) -> Result<Outco
         seed1: 0,
     });
     let sizes = FillSizes {
-        keys,
-        keeps: FillSizes::new(keys, setting.limit).keeps,
         first_generation: setting.first_generation,
+        ..FillSizes::new(keys, setting.limit)
     };
     let all = GetAll {
         rt,
