@@ -16,10 +16,11 @@ places_for (Directory of) = of.keys
 places_for (Hashed places) = places.count
 
 module _ {L : Type 0} where
-  -- a getter of the group that owes nothing, has seen nothing, has counted nothing, and has logged none of the events that it has room for
-  pub record IsNewGetter (g : GroupValue) (room : ℕ) (x : GetterValue L) : Type 0 where
+  -- a getter of the group that owes nothing, has seen nothing, has counted nothing and has logged nothing
+  pub record IsNewGetter (g : GroupValue) (x : GetterValue L) : Type 0 where
     pub caller : CallerValue Filled
     pub fresh : IsNewCaller g caller
     pub free : x.standing ≡ Free caller
     pub counted : x.counted ≡ nothing_counted
+    pub room : ℕ
     pub unlogged : x.log ≡ empty_log room

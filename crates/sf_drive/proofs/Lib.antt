@@ -1,3 +1,2 @@
-pub mod Erased
 pub mod Numbered
 pub mod Turning

@@ -1,7 +1,6 @@
 -- what each thread of a drive does
 use Rattle.std.specs.Prelude.{◌≡◌, ℕ, zero, suc, ◌+◌, ◌*◌, ◌%◌, ◌==◌, Bool, true, false, cond, not, List, [], ◌∷◌, ◌++◌, length, Result, IfOk, is_ok, codes, decimal, string_bytes}
 use Rattle.sf_history.specs.declared.event.Event.{Event}
-use Rattle.sf_calls.specs.Tokens.{GroupValue}
 use Rattle.sf_spots.specs.Spaces.{SpaceId}
 use Rattle.sf_fill.specs.declared.fault.LoadFault.{LoadFault}
 use Rattle.sf_fill.specs.declared.reload.Forgot.{Forgot}
@@ -12,7 +11,6 @@ use Rattle.sf_fill.specs.Gets.{GetAnswer}
 use Rattle.sf_fill.specs.GetterValue.{GetterValue, is_owing}
 use Rattle.sf_fill.specs.Logs.{logged_by, empty_log}
 use Rattle.sf_fill.specs.Reloads.{HasReloaded}
-use Rattle.sf_door.specs.Opened.{IsNewGetter}
 use Rattle.sf_drive.specs.declared.jobs.Ended.{Ended}
 use Rattle.sf_drive.specs.declared.jobs.Entry.{Entry}
 use Rattle.sf_drive.specs.declared.line.DriveLine.{DriveLine}
@@ -100,10 +98,3 @@ pub record IsJob {L : Type 0} (space : SpaceId) (line : DriveLine) (thread : ℕ
   pub settled : HasSettled turned done part.settled
   pub log : part.log.items ≡ done.log.events
   pub emptied : new ≡ record done { log = empty_log 0 }
-
--- what came of the job of this thread, from a new getter of the group that has room to log eight events a get; which loaders it has is not said
-pub record IsJobOf (line : DriveLine) (space : SpaceId) (group : GroupValue) (thread : ℕ) (part : Ended) : Type 0 where
-  pub old : GetterValue (Unit {0})
-  pub is_new : IsNewGetter group (8 * line.gets) old
-  pub new : GetterValue (Unit {0})
-  pub job : IsJob space line thread old new part

@@ -95,10 +95,6 @@ impl<'a, R: Wait> Team for Play<'a, R> {
 
     ghost wants = { λ play getters loaded. (getters ≡ 3) × IsOpenOrigin loaded };
 
-    ghost room = { λ play. play.setting.log };
-
-    ghost gives = { λ play space group index part. ⊤ };
-
     ghost ends = { λ play outcome. ⊤ };
 
     fn work<'d, D: Naming, N: Naming, O: Origin, L: LoadPath<Origin = O> + Drop>(

@@ -1,5 +1,0 @@
-use Rattle.sf_drive.proofs.Erased.{found_by}
-use Rattle.sf_drive.proofs.driving.CrewTeam.finish.Goals as goal
-
-pub returns : goal.returns
-returns g c = found_by c.args.self.now.line g.N.Naming.space g.N.Naming.group c.args.parts.items c.found.result c.requires.given c.found.ensures
