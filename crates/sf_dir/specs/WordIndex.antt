@@ -1,14 +1,15 @@
 -- Where the words of the table lie.
 use Rattle.std.specs.Prelude.{ℕ, ◌+◌, ◌*◌, ◌/◌, ◌≤◌}
 use Rattle.sf_dir.specs.declared.rule.Sizes.{Sizes}
+use Rattle.sf_words.specs.declared.limits.TheConstants.{LARGEST_CALLER, LARGEST_PLACE}
 
 -- 1 to 1,048,576 places, keys of at most 250 bytes, 1 to 65,535 desks
 pub record IsWithinLimits (z : Sizes) : Type 0 where
   pub some_key : 1 ≤ z.keys
-  pub keys : z.keys ≤ 1048576
+  pub keys : z.keys ≤ LARGEST_PLACE
   pub key_bytes : z.key_bytes ≤ 250
   pub some_desk : 1 ≤ z.desks
-  pub desks : z.desks ≤ 65535
+  pub desks : z.desks ≤ LARGEST_CALLER
 
 -- Where the words lie: place n is the word n, the counter is 16 words behind the last place, and the rows begin 16 words behind the counter.
 abbrev pub row_width : Sizes → ℕ

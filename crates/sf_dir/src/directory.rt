@@ -108,10 +108,13 @@ impl Directory {
         ensures desk { IsSameDesk desk.old desk.new }
         ensures names { IsNameList self.now.keys self.now.desks desk.new.seen }
 
-        ensures place { IfOk result (λ place. (place.directory ≡ self.now) × (place.key ≡ key.now)) }
-        ensures found { IfOk result (λ place. Finds desk.old.number desk.old.seen desk.new.seen place.number key.now) }
+        ensures place { IfOk result (λ place. (place.directory ≡ self.now)
+            × (place.key ≡ key.now)) }
+        ensures found { IfOk result (λ place.
+            Finds desk.old.number desk.old.seen desk.new.seen place.number key.now) }
 
-        ensures too_long { (result ≡ Err Refusal.KeyTooLong) ↔ (self.now.key_bytes < length key.now) }
+        ensures too_long { (result ≡ Err Refusal.KeyTooLong)
+            ↔ (self.now.key_bytes < length key.now) }
         ensures unchanged { result ≡ Err Refusal.KeyTooLong → desk.new ≡ desk.old }
         ensures full { result ≡ Err Refusal.Full → IsFullFor self.now.keys key.now desk.new.seen }
         ensures refused { OnErr result (AddsNone desk.old.number desk.old.seen desk.new.seen) }

@@ -69,7 +69,8 @@ pub(crate) fn has_key(
     requires row { row < row_count words.now.key }
     requires key { length key.now ≤ words.now.key.key_bytes }
     ensures own { seat.new.table_id ≡ seat.old.table_id }
-    ensures grows { Grows seat.old.me.0 seat.new.me.0 [] × (seat.new.me.0.spare ≡ seat.old.me.0.spare) }
+    ensures grows { Grows seat.old.me.0 seat.new.me.0 []
+        × (seat.new.me.0.spare ≡ seat.old.me.0.spare) }
     ensures yes { OnTrue result (IsRowOf seat.old.me.0.seen row key.now) }
     ensures no { OnFalse result (IsRowOfAnother seat.old.me.0.seen row key.now) }
 {

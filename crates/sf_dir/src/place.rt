@@ -24,7 +24,8 @@ impl<'d> Model for Place<'d> {
 
     ghost view = { λ p. place_state p.directory.now p.seat.me.0 p.number };
 
-    ghost invariant = { λ p. IsPlace p.number p.seat.me.0 × IsSeatOf p.directory.now p.seat.table_id p.seat.me.0 };
+    ghost invariant = { λ p. IsPlace p.number p.seat.me.0
+        × IsSeatOf p.directory.now p.seat.table_id p.seat.me.0 };
 }
 
 impl<'d> Place<'d> {

@@ -7,6 +7,7 @@ ghost use Rattle.sf_dir.specs.KeyRow.{hash_of, first_index};
 ghost use Rattle.sf_dir.specs.Rule.{IsTaken, IsPlaceWord};
 ghost use Rattle.sf_dir.specs.Plays.{Grows};
 ghost use Rattle.sf_dir.specs.Walk.{IsOwnSeat, IsLaidOut, IsOneDesk, IsReached, HoldsSpare, Resolves, Passes};
+ghost use Rattle.sf_words.specs.declared.limits.TheConstants.{LARGEST_PLACE};
 
 use crate::key_hash::hash;
 use crate::key_row::{has_key, write_key};
@@ -16,7 +17,7 @@ use crate::word_index::{EMPTY, counter_of};
 
 // The index of the place at which the key's walk begins: the hash's upper half, scaled down to the places.
 fn start_of(sizes: Sizes, key: &[u8]) -> u64
-    requires { (1 ≤ sizes.keys) × (sizes.keys ≤ 1048576) }
+    requires { (1 ≤ sizes.keys) × (sizes.keys ≤ LARGEST_PLACE) }
     ensures is { result ≡ first_index (hash_of sizes key.now) sizes.keys }
     ensures within { result < sizes.keys }
 {
@@ -25,7 +26,7 @@ fn start_of(sizes: Sizes, key: &[u8]) -> u64
 
 // The place that a walk comes to after this many.
 fn place_of(start: u64, passed: u64, keys: u64) -> u64
-    requires { (start < keys) × (passed < keys) × (keys ≤ 1048576) }
+    requires { (start < keys) × (passed < keys) × (keys ≤ LARGEST_PLACE) }
     ensures { result ≡ (start + passed) % keys + 1 }
 {
     let index = start + passed;
@@ -71,7 +72,8 @@ fn claim(
     requires reached { IsReached words.now.key seat.old.me.0 place key.now }
     ensures own { seat.new.table_id ≡ seat.old.table_id }
     ensures won { result ≡ 0 → Resolves seat.old.me.0 seat.new.me.0 place key.now }
-    ensures lost { result ≢ 0 → Grows seat.old.me.0 seat.new.me.0 [] × IsPlaceWord seat.new.me.0.seen place result }
+    ensures lost { result ≢ 0 → Grows seat.old.me.0 seat.new.me.0 []
+        × IsPlaceWord seat.new.me.0.seen place result }
     ensures spare { HoldsSpare words.now.key seat.new.me.0 spare.new }
 {
     let row = spare_of(words, seat, sizes, spare);
@@ -100,7 +102,8 @@ fn occupant(
     requires reached { IsReached words.now.key seat.old.me.0 place key.now }
     ensures own { seat.new.table_id ≡ seat.old.table_id }
     ensures won { result ≡ 0 → Resolves seat.old.me.0 seat.new.me.0 place key.now }
-    ensures lost { result ≢ 0 → Grows seat.old.me.0 seat.new.me.0 [] × IsPlaceWord seat.new.me.0.seen place result }
+    ensures lost { result ≢ 0 → Grows seat.old.me.0 seat.new.me.0 []
+        × IsPlaceWord seat.new.me.0.seen place result }
     ensures spare { HoldsSpare words.now.key seat.new.me.0 spare.new }
 {
     let found = look(words, seat, place);
@@ -154,7 +157,8 @@ pub(crate) fn find(
     ensures found { IfSome result (λ place. (1 ≤ place) × (place ≤ words.now.key.keys)
         × Resolves seat.old.me.0 seat.new.me.0 place key.now) }
     ensures full { IfNone result (Grows seat.old.me.0 seat.new.me.0 []
-        × ((place : ℕ) → 1 ≤ place → place ≤ words.now.key.keys → IsTaken seat.new.me.0.seen place key.now)) }
+        × ((place : ℕ) → 1 ≤ place → place ≤ words.now.key.keys
+        → IsTaken seat.new.me.0.seen place key.now)) }
     ensures spare { HoldsSpare words.now.key seat.new.me.0 spare.new }
 {
     let start = start_of(sizes, key);

@@ -54,8 +54,10 @@ impl Engine {
 
     /// The engine of the same subcommand that shows this, if there is one.
     pub fn showing(self, shown: Shown) -> Option<Engine>
-        ensures found { IfSome result (λ engine. (name_of engine ≡ name_of self) × (shown_by engine ≡ shown)) }
-        ensures none { result ≡ None → (engine : Engine) → name_of engine ≡ name_of self → shown_by engine ≢ shown }
+        ensures found { IfSome result (λ engine. (name_of engine ≡ name_of self)
+            × (shown_by engine ≡ shown)) }
+        ensures none { result ≡ None → (engine : Engine) → name_of engine ≡ name_of self
+            → shown_by engine ≢ shown }
     {
         match (self, shown) {
             (Engine::Run { .. }, Shown::Lines) => Some(Engine::Run { history: false }),
@@ -74,10 +76,14 @@ impl Engine {
         writer: &mut W,
     ) -> Result<Ending, StreamFault>
         ensures written { IfOk result (λ ending. IfSome (R.remaining reader.old) (λ input.
-            (text : List ℕ) × IsWrittenBy self input ending text × Appends (W.contents writer.old) (W.contents writer.new) text)) }
-        ensures unread { IfErr result (λ fault. fault ≡ StreamFault.CannotRead → W.contents writer.new ≡ W.contents writer.old) }
-        ensures part { IfErr result (λ fault. fault ≡ StreamFault.CannotWrite → IfSome (R.remaining reader.old) (λ input.
-            (text : List ℕ) × IsAnswerOf self input text × AppendsPart (W.contents writer.old) (W.contents writer.new) text)) }
+            (text : List ℕ) × IsWrittenBy self input ending text
+            × Appends (W.contents writer.old) (W.contents writer.new) text)) }
+        ensures unread { IfErr result (λ fault. fault ≡ StreamFault.CannotRead
+            → W.contents writer.new ≡ W.contents writer.old) }
+        ensures part { IfErr result (λ fault. fault ≡ StreamFault.CannotWrite
+            → IfSome (R.remaining reader.old) (λ input.
+            (text : List ℕ) × IsAnswerOf self input text
+            × AppendsPart (W.contents writer.old) (W.contents writer.new) text)) }
     {
         let (ending, _input) = self.answer_reader(alloc, reader, writer)?;
         Ok(ending)
@@ -92,10 +98,14 @@ impl Engine {
         hinted: &mut Option<Hint>,
     ) -> Result<Ending, StreamFault>
         ensures written { IfOk result (λ ending. IfSome (R.remaining reader.old) (λ input.
-            (text : List ℕ) × IsWrittenBy self input ending text × Appends (W.contents writer.old) (W.contents writer.new) text)) }
-        ensures unread { IfErr result (λ fault. fault ≡ StreamFault.CannotRead → W.contents writer.new ≡ W.contents writer.old) }
-        ensures part { IfErr result (λ fault. fault ≡ StreamFault.CannotWrite → IfSome (R.remaining reader.old) (λ input.
-            (text : List ℕ) × IsAnswerOf self input text × AppendsPart (W.contents writer.old) (W.contents writer.new) text)) }
+            (text : List ℕ) × IsWrittenBy self input ending text
+            × Appends (W.contents writer.old) (W.contents writer.new) text)) }
+        ensures unread { IfErr result (λ fault. fault ≡ StreamFault.CannotRead
+            → W.contents writer.new ≡ W.contents writer.old) }
+        ensures part { IfErr result (λ fault. fault ≡ StreamFault.CannotWrite
+            → IfSome (R.remaining reader.old) (λ input.
+            (text : List ℕ) × IsAnswerOf self input text
+            × AppendsPart (W.contents writer.old) (W.contents writer.new) text)) }
     {
         let (ending, input) = self.answer_reader(alloc, reader, writer)?;
         if let (Ending::Refused, Some(input)) = (ending, input) {
@@ -112,10 +122,14 @@ impl Engine {
         writer: &mut W,
     ) -> Result<(Ending, Option<Vec<u8>>), StreamFault>
         ensures written { IfOk result (λ answered. IfSome (R.remaining reader.old) (λ input.
-            (text : List ℕ) × IsWrittenBy self input answered.0 text × Appends (W.contents writer.old) (W.contents writer.new) text)) }
-        ensures unread { IfErr result (λ fault. fault ≡ StreamFault.CannotRead → W.contents writer.new ≡ W.contents writer.old) }
-        ensures part { IfErr result (λ fault. fault ≡ StreamFault.CannotWrite → IfSome (R.remaining reader.old) (λ input.
-            (text : List ℕ) × IsAnswerOf self input text × AppendsPart (W.contents writer.old) (W.contents writer.new) text)) }
+            (text : List ℕ) × IsWrittenBy self input answered.0 text
+            × Appends (W.contents writer.old) (W.contents writer.new) text)) }
+        ensures unread { IfErr result (λ fault. fault ≡ StreamFault.CannotRead
+            → W.contents writer.new ≡ W.contents writer.old) }
+        ensures part { IfErr result (λ fault. fault ≡ StreamFault.CannotWrite
+            → IfSome (R.remaining reader.old) (λ input.
+            (text : List ℕ) × IsAnswerOf self input text
+            × AppendsPart (W.contents writer.old) (W.contents writer.new) text)) }
     {
         match read_all(alloc, reader) {
             Ok(input) => {
@@ -137,9 +151,12 @@ impl Engine {
         input: &[u8],
         writer: &mut W,
     ) -> Result<Ending, StreamFault>
-        ensures written { IfOk result (λ ending. (text : List ℕ) × IsWrittenBy self input.now ending text × Appends (W.contents writer.old) (W.contents writer.new) text) }
+        ensures written { IfOk result (λ ending.
+            (text : List ℕ) × IsWrittenBy self input.now ending text
+            × Appends (W.contents writer.old) (W.contents writer.new) text) }
         ensures err { IfErr result (λ fault. fault ≡ StreamFault.CannotWrite) }
-        ensures part { (text : List ℕ) × IsAnswerOf self input.now text × AppendsPart (W.contents writer.old) (W.contents writer.new) text }
+        ensures part { (text : List ℕ) × IsAnswerOf self input.now text
+            × AppendsPart (W.contents writer.old) (W.contents writer.new) text }
     {
         match self {
             Engine::Run { history: false } => run(alloc, input, writer),

@@ -21,7 +21,8 @@ pub(crate) fn run<W: Write>(
     input: &[u8],
     writer: &mut W,
 ) -> Result<Ending, StreamFault>
-    ensures written { IfOk result (λ ending. (text : List ℕ) × IsWrittenBy (Engine.Run false) input.now ending text
+    ensures written { IfOk result (λ ending.
+        (text : List ℕ) × IsWrittenBy (Engine.Run false) input.now ending text
         × Appends (W.contents writer.old) (W.contents writer.new) text) }
     ensures err { IfErr result (λ fault. fault ≡ StreamFault.CannotWrite) }
     ensures part { (text : List ℕ) × IsAnswerOf (Engine.Run false) input.now text
@@ -40,10 +41,12 @@ pub(crate) fn write_answer<W: Write, E: Display + Drop>(
 ) -> Result<Ending, StreamFault>
     ensures answered { IfOk answered (λ text. IfOk result (λ ending. (ending ≡ Ending.Answered)
         × Appends (W.contents writer.old) (W.contents writer.new) (string_bytes text))) }
-    ensures refused { IfErr answered (λ refusal. IfSome (E.output refusal) (λ said. IfOk result (λ ending. (ending ≡ Ending.Refused)
+    ensures refused { IfErr answered (λ refusal.
+        IfSome (E.output refusal) (λ said. IfOk result (λ ending. (ending ≡ Ending.Refused)
         × Appends (W.contents writer.old) (W.contents writer.new) (said ++ codes "\n")))) }
     ensures err { IfErr result (λ fault. fault ≡ StreamFault.CannotWrite) }
-    ensures answered_part { IfOk answered (λ text. AppendsPart (W.contents writer.old) (W.contents writer.new) (string_bytes text)) }
+    ensures answered_part { IfOk answered (λ text.
+        AppendsPart (W.contents writer.old) (W.contents writer.new) (string_bytes text)) }
     ensures refused_part { IfErr answered (λ refusal. IfSome (E.output refusal) (λ said.
         AppendsPart (W.contents writer.old) (W.contents writer.new) (said ++ codes "\n"))) }
 {
@@ -65,7 +68,8 @@ pub(crate) fn check<W: Write>(
     input: &[u8],
     writer: &mut W,
 ) -> Result<Ending, StreamFault>
-    ensures written { IfOk result (λ ending. (text : List ℕ) × IsWrittenBy Engine.Check input.now ending text
+    ensures written { IfOk result (λ ending.
+        (text : List ℕ) × IsWrittenBy Engine.Check input.now ending text
         × Appends (W.contents writer.old) (W.contents writer.new) text) }
     ensures err { IfErr result (λ fault. fault ≡ StreamFault.CannotWrite) }
     ensures part { (text : List ℕ) × IsAnswerOf Engine.Check input.now text

@@ -16,6 +16,7 @@ use Rattle.sf_lists.proofs.Lists.{by_push, list_any_push_kept, list_any_push_las
 use Rattle.sf_history.proofs.LegalHistories.{same_call_self, legal_front, legal_last}
 use Rattle.sf_history.proofs.Kept.{held_from_last}
 use Rattle.sf_history.proofs.Members.{Each, each_map, IsApart, Apart, members, joins, members_push, joined_members, IsOther, few}
+use Rattle.sf_words.specs.declared.limits.TheConstants.{LARGEST_CALLER}
 
 -- no call stands twice
 abbrev Once : List CallId → Type 0
@@ -114,7 +115,7 @@ module _ {K V : Type 0} where
 
   -- one who holds no ticket is no member of such a call
   unlisted : (eq : K → K → Bool) (g : GroupState K V) (a : ℕ) (c : CallId) (l : List CallId) → IsKept eq g → is_handed g.history c ≡ false → held_ticket g a ≡ None → Each (λ m. list_any (gives (ticket_of c m)) g.history ≡ true) l → Each IsCallWithin l
-      → Each (IsOther a 65535) l
+      → Each (IsOther a LARGEST_CALLER) l
   unlisted eq g a c [] kept unhanded none gave within = tt
   unlisted eq g a c (m ∷ l) kept unhanded none gave within = (
     (
@@ -129,11 +130,11 @@ module _ {K V : Type 0} where
   )
 
   -- so there is room for one more joiner
-  pub room_for_joiner : (eq : K → K → Bool) (g : GroupState K V) (a : ℕ) (c : CallId) → IsKept eq g → 1 ≤ a → a ≤ 65535 → is_handed g.history c ≡ false → held_ticket g a ≡ None → ((m : CallId) → list_any (names m) g.history ≡ true → IsCallWithin m)
-      → joined g.history c + 1 ≤ 65535
+  pub room_for_joiner : (eq : K → K → Bool) (g : GroupState K V) (a : ℕ) (c : CallId) → IsKept eq g → 1 ≤ a → a ≤ LARGEST_CALLER → is_handed g.history c ≡ false → held_ticket g a ≡ None → ((m : CallId) → list_any (names m) g.history ≡ true → IsCallWithin m)
+      → joined g.history c + 1 ≤ LARGEST_CALLER
   room_for_joiner eq g a c kept low high unhanded none within =
       let l : List CallId = members g.history c in
       let gave = given g.history c in
-      let most : length l + 1 ≤ 65535 = few a 65535 l low high (unlisted eq g a c l kept unhanded none gave (each_map _ _ (λ m is. within m is) l (named g.history c))) (apart eq g c l kept unhanded gave (once eq g.history c kept.legal)) in
+      let most : length l + 1 ≤ LARGEST_CALLER = few a LARGEST_CALLER l low high (unlisted eq g a c l kept unhanded none gave (each_map _ _ (λ m is. within m is) l (named g.history c))) (apart eq g c l kept unhanded gave (once eq g.history c kept.legal)) in
       let same : joined g.history c ≡ length l = joined_members g.history c in
       omega arith

@@ -16,6 +16,7 @@ use Rattle.sf_history.specs.State.{GroupState, IsKept, IsCaller, Leads, Holds, g
 use Rattle.sf_lists.proofs.Lists.{list_any_push_cases, list_any_push_kept, list_any_push_parts}
 use Rattle.sf_history.proofs.LegalHistories.{same_call_is, other_call, legal_push, fold_push, next_push}
 use Rattle.sf_history.proofs.Members.{joined_push}
+use Rattle.sf_words.specs.declared.limits.TheConstants.{LARGEST_CALLER}
 
 -- the Settle of another call leaves the call that is led
 settle_leaves : (found : Option CallId) (call c : CallId) → found ≡ Some c → same_call call c ≡ false → cond (holds_call found call) None found ≡ Some c
@@ -141,7 +142,7 @@ module _ {K V : Type 0} where
 
   -- an event that may follow, of a caller of the group that is ready for it, keeps the group's promises
   pub kept_event : (eq : K → K → Bool) (g : GroupState K V) (e : Event K V) → IsKept eq g → MayFollow eq g.history e → IsWithinLimits e → IsCaller g (maker e) → IsReady g e → NamesInOrder g e
-      → ((a : ℕ) → next_generation g.first g.history a + uses a e ≤ 2 ^ 32) → ((c : CallId) → joined g.history c + cond {A = ℕ} (enters c e) 1 0 ≤ 65535) → IsKept eq (with_events g (e ∷ []))
+      → ((a : ℕ) → next_generation g.first g.history a + uses a e ≤ 2 ^ 32) → ((c : CallId) → joined g.history c + cond {A = ℕ} (enters c e) 1 0 ≤ LARGEST_CALLER) → IsKept eq (with_events g (e ∷ []))
   kept_event eq g e kept follows limited made ready ordered room places = record {
     few = kept.few;
     first = kept.first;

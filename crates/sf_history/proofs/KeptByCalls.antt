@@ -19,6 +19,7 @@ use Rattle.sf_lists.proofs.Lists.{list_any_push_kept, list_any_push_none, list_a
 use Rattle.sf_history.proofs.LegalHistories.{same_call_is, same_call_self, open_named, led_named, led_was_led, led_unsettled, handed_settled, open_unsettled, last_given}
 use Rattle.sf_history.proofs.Joiners.{room_for_joiner}
 use Rattle.sf_history.proofs.Kept.{NamesInOrder, kept_event, held_from_last}
+use Rattle.sf_words.specs.declared.limits.TheConstants.{LARGEST_CALLER, LARGEST_GENERATION}
 
 -- an option that is none
 none_is : {X : Type 0} (o : Option X) → is_none o ≡ true → o ≡ None
@@ -60,8 +61,8 @@ module _ {K V : Type 0} where
   free_parts g a free = let parts = and_parts _ _ free in (none_is _ parts.0, none_is _ parts.1)
 
   -- a caller that is not spent has a generation left
-  unspent : (g : GroupState K V) (a : ℕ) → is_spent g a ≡ false → next_generation g.first g.history a ≤ 4294967295
-  unspent g a left = ltb-false 4294967295 (next_generation g.first g.history a) left
+  unspent : (g : GroupState K V) (a : ℕ) → is_spent g a ≡ false → next_generation g.first g.history a ≤ LARGEST_GENERATION
+  unspent g a left = ltb-false LARGEST_GENERATION (next_generation g.first g.history a) left
 
   -- a caller's next call or member is new
   next_is_new : (eq : K → K → Bool) (g : GroupState K V) (a : ℕ) → IsKept eq g → list_any (names (next_id g a)) g.history ≡ false
@@ -73,7 +74,7 @@ module _ {K V : Type 0} where
       elim (cases_Bool (a == b)) [
         | inl is ↦
             let same : a ≡ b = eqb-true _ _ is in
-            let below = subst (λ (n : ℕ). next_generation g.first g.history n ≤ 4294967295) same (unspent g a left) in
+            let below = subst (λ (n : ℕ). next_generation g.first g.history n ≤ LARGEST_GENERATION) same (unspent g a left) in
             let one = at_most_one (a == b) in
             omega arith
         | inr isnt ↦
@@ -158,7 +159,7 @@ module _ {K V : Type 0} where
       by_event (Handed by call) is = cc
 
   -- an event that is no Enter takes no joiner's place
-  no_joiner : (eq : K → K → Bool) (g : GroupState K V) → IsKept eq g → (c : CallId) → joined g.history c + 0 ≤ 65535
+  no_joiner : (eq : K → K → Bool) (g : GroupState K V) → IsKept eq g → (c : CallId) → joined g.history c + 0 ≤ LARGEST_CALLER
   no_joiner eq g kept c = let most = kept.few_joined c in omega arith
 
   -- a free caller with a generation left leads a new call
@@ -212,7 +213,7 @@ module _ {K V : Type 0} where
       ] in
       let number = made_within eq g a kept caller in
       let unhanded : is_handed g.history c ≡ false = false_from_ne_true _ (λ handed. true≢false (sym (handed_settled eq g.history c kept.legal handed) ∙ open_unsettled eq g.history k c kept.legal opened)) in
-      let places : (d : CallId) → joined g.history d + cond {A = ℕ} (same_call c d) 1 0 ≤ 65535 = λ d. elim (cases_Bool (same_call c d)) [
+      let places : (d : CallId) → joined g.history d + cond {A = ℕ} (same_call c d) 1 0 ≤ LARGEST_CALLER = λ d. elim (cases_Bool (same_call c d)) [
         | inl same ↦
             let one : cond {A = ℕ} (same_call c d) 1 0 ≡ 1 = cond-true _ _ _ same in
             let most = room_for_joiner eq g a c kept number.0 number.1 unhanded (free_parts g a free).1 (λ m named. named_within g.history m kept.limited named) in

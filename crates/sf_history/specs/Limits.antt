@@ -3,12 +3,13 @@ use Rattle.std.specs.Prelude.{ℕ, ◌<◌, ◌≤◌, IfSome}
 use Rattle.sf_history.specs.declared.call.CallId.{CallId}
 use Rattle.sf_history.specs.declared.event.Event.{Event}
 use Rattle.sf_history.specs.declared.event.Event.TheVariants.{Lead, Enter, Forget, ForgetCall, Settle, Handed}
+use Rattle.sf_words.specs.declared.limits.TheConstants.{LARGEST_CALLER, LARGEST_GENERATION}
 
 abbrev pub IsCallerNumber : ℕ → Type 0
-IsCallerNumber n = (0 < n) × (n ≤ 65535)
+IsCallerNumber n = (0 < n) × (n ≤ LARGEST_CALLER)
 
 abbrev pub IsCallWithin : CallId → Type 0
-IsCallWithin c = IsCallerNumber c.caller × (0 < c.generation) × (c.generation ≤ 4294967295)
+IsCallWithin c = IsCallerNumber c.caller × (0 < c.generation) × (c.generation ≤ LARGEST_GENERATION)
 
 module _ {K V : Type 0} where
   -- the event's maker, and each call, member and own channel that it names, are within the limits

@@ -9,6 +9,7 @@ use Rattle.sf_history.specs.Calls.{same_call}
 use Rattle.sf_history.specs.History.{holds_call, names, was_led, is_settled, is_handed, joined, next_generation, maker}
 use Rattle.sf_history.specs.Legal.{IsLegal}
 use Rattle.sf_history.specs.Limits.{IsWithinLimits}
+use Rattle.sf_words.specs.declared.limits.TheConstants.{LARGEST_CALLER, LARGEST_GENERATION}
 
 -- the sequential group: its callers, 1 to so many, their first generation, what happened, and the members that took their letter
 pub record GroupState (K V : Type 0) : Type 0 where
@@ -66,7 +67,7 @@ module _ {K V : Type 0} where
 
   -- a caller is spent that has used its last generation
   abbrev pub is_spent : GroupState K V → ℕ → Bool
-  is_spent g a = nat_lt 4294967295 (next_generation g.first g.history a)
+  is_spent g a = nat_lt LARGEST_GENERATION (next_generation g.first g.history a)
 
   -- the caller's next call or member
   abbrev pub next_id : GroupState K V → ℕ → CallId
@@ -103,7 +104,7 @@ module _ {K V : Type 0} where
 
   -- what every sequential group keeps
   pub record IsKept (eq : K → K → Bool) (g : GroupState K V) : Type 0 where
-    pub few : g.callers ≤ 65535
+    pub few : g.callers ≤ LARGEST_CALLER
     pub first : 0 < g.first
     pub legal : IsLegal eq g.history
     pub limited : All IsWithinLimits g.history
@@ -114,4 +115,4 @@ module _ {K V : Type 0} where
     pub holds_one : (a : ℕ) (t : Ticket) → Holds g a t → last_ticket g.history a ≡ Some t
     pub taken_named : (m : CallId) → has_taken g.taken m ≡ true → list_any (names m) g.history ≡ true
     pub taken_handed : (t : Ticket) → list_any (gives t) g.history ≡ true → has_taken g.taken t.member ≡ true → is_handed g.history t.call ≡ true
-    pub few_joined : (c : CallId) → joined g.history c ≤ 65535
+    pub few_joined : (c : CallId) → joined g.history c ≤ LARGEST_CALLER

@@ -82,7 +82,8 @@ pub enum Event<K, V> {
 
 /// Another value equal to the one that the event settles the call with, if it does.
 fn share_settled<K, V: Share>(event: &mut Event<K, V>, settled: CallId) -> Result<Option<V>, Memory>
-    ensures shared { IfOk result (λ found. found ≡ (if settles settled event.old then result_in event.old else None)) }
+    ensures shared { IfOk result (λ found.
+        found ≡ (if settles settled event.old then result_in event.old else None)) }
     ensures same { event.new ≡ event.old }
 {
     match event {
@@ -169,7 +170,8 @@ impl<K, V> History<K, V> {
         value: V,
         joiners: u32,
     ) -> Result<(), V>
-        ensures ok { OnOk result (self.new ≡ self.old ++ Settle by call value joiners ∷ Handed by call ∷ []) }
+        ensures ok { OnOk result
+            (self.new ≡ self.old ++ Settle by call value joiners ∷ Handed by call ∷ []) }
         ensures refused { IfErr result (λ back. back ≡ value) }
         ensures unchanged { OnErr result (self.new ≡ self.old) }
     {

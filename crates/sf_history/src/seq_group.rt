@@ -8,6 +8,7 @@ ghost use Rattle.sf_history.specs.Legal.{IsLegal};
 ghost use Rattle.sf_history.specs.Limits.{IsCallWithin, IsWithinLimits};
 ghost use Rattle.sf_history.specs.State.{GroupState, IsCaller, Leads, Holds, led_call, held_ticket, is_free, is_spent, next_id};
 ghost use Rattle.sf_history.specs.Sequential.{ask_of, ask_chan_of, settle_of, forget_of, forget_call_of, take_of, is_current_of, IsRefusal, MayAskChan};
+ghost use Rattle.sf_words.specs.declared.limits.TheConstants.{LARGEST_CALLER};
 
 use crate::call::{CallId, Ticket};
 use crate::command::{Asked, ChanAsked, Forgotten, Taken};
@@ -35,17 +36,34 @@ impl<K: Eq, V> Model for SeqGroup<K, V> {
 
     ghost Value = { GroupState K V };
 
-    ghost view = { λ g. record { callers = g.callers; first = g.first_generation; history = g.history; taken = g.taken.items } };
+    ghost view = { λ g.
+        record {
+          callers = g.callers;
+          first = g.first_generation;
+          history = g.history;
+          taken = g.taken.items;
+        } };
 
-    ghost invariant = { λ g. IsKept K.eq (record { callers = g.callers; first = g.first_generation; history = g.history; taken = g.taken.items }) };
+    ghost invariant = { λ g.
+        IsKept K.eq (record {
+          callers = g.callers;
+          first = g.first_generation;
+          history = g.history;
+          taken = g.taken.items;
+        }) };
 }
 
 impl<K: Eq, V> SeqGroup<K, V> {
     /// A group of this many callers, 1 to 65,535, numbered from 1, whose first generation is 1 to 4,294,967,295.
     pub fn new(alloc: Global, callers: u32, first_generation: u32) -> Self
-        requires callers { (0 < callers) × (callers ≤ 65535) }
+        requires callers { (0 < callers) × (callers ≤ LARGEST_CALLER) }
         requires first_generation { 0 < first_generation }
-        ensures { result ≡ record { callers = callers; first = first_generation; history = []; taken = [] } }
+        ensures { result ≡ record {
+          callers = callers;
+          first = first_generation;
+          history = [];
+          taken = [];
+        } }
     {
         SeqGroup {
             callers,
@@ -112,7 +130,8 @@ impl<K: Eq, V> SeqGroup<K, V> {
         requires caller { IsCaller self.old caller }
         requires second { IsCaller self.old second }
         ensures callers { self.new.callers ≡ self.old.callers }
-        ensures ok { IfOk result (λ asked. ask_chan_of K.eq self.old caller second key ≡ Ok (asked, self.new)) }
+        ensures ok { IfOk result (λ asked.
+            ask_chan_of K.eq self.old caller second key ≡ Ok (asked, self.new)) }
         ensures refused { IfErr result (IsRefusal (ask_chan_of K.eq self.old caller second key)) }
         ensures unchanged { OnErr result (self.new ≡ self.old) }
     {
@@ -146,8 +165,10 @@ impl<K: Eq, V> SeqGroup<K, V> {
     pub fn settle(&mut self, caller: u32, value: V) -> Result<(CallId, u32), (ModelRefusal, V)>
         requires { IsCaller self.old caller }
         ensures callers { self.new.callers ≡ self.old.callers }
-        ensures ok { IfOk result (λ settled. settle_of self.old caller value ≡ Ok (settled, self.new)) }
-        ensures refused { IfErr result (λ refused. IsRefusal (settle_of self.old caller value) refused.0) }
+        ensures ok { IfOk result (λ settled.
+            settle_of self.old caller value ≡ Ok (settled, self.new)) }
+        ensures refused { IfErr result (λ refused.
+            IsRefusal (settle_of self.old caller value) refused.0) }
         ensures unchanged { IfErr result (λ refused. (refused.1 ≡ value) × (self.new ≡ self.old)) }
     {
         let Some(call) = walk::led_call(self.history.events(), caller) else {
@@ -169,7 +190,8 @@ impl<K: Eq, V> SeqGroup<K, V> {
         V: Drop,
         requires { IsCaller self.old caller }
         ensures callers { self.new.callers ≡ self.old.callers }
-        ensures ok { IfOk result (λ forgotten. forget_of K.eq self.old caller key ≡ Ok (forgotten, self.new)) }
+        ensures ok { IfOk result (λ forgotten.
+            forget_of K.eq self.old caller key ≡ Ok (forgotten, self.new)) }
         ensures refused { IfErr result (IsRefusal (forget_of K.eq self.old caller key)) }
         ensures unchanged { OnErr result (self.new ≡ self.old) }
     {
@@ -197,7 +219,8 @@ impl<K: Eq, V> SeqGroup<K, V> {
         requires caller { IsCaller self.old caller }
         requires call { IsCallWithin call }
         ensures callers { self.new.callers ≡ self.old.callers }
-        ensures ok { IfOk result (λ hit. forget_call_of K.eq self.old caller key call ≡ Ok (hit, self.new)) }
+        ensures ok { IfOk result (λ hit.
+            forget_call_of K.eq self.old caller key call ≡ Ok (hit, self.new)) }
         ensures refused { IfErr result (IsRefusal (forget_call_of K.eq self.old caller key call)) }
         ensures unchanged { OnErr result (self.new ≡ self.old) }
     {
@@ -254,8 +277,10 @@ impl<K: Eq, V> SeqGroup<K, V> {
 
         // It is legal, and says of each caller which call it leads and which ticket it holds: there is one at most.
         ensures legal { IsLegal K.eq self.now.history }
-        ensures leads { (a : ℕ) (c : CallId) → (led_call self.now.history a ≡ Some c) ↔ Leads self.now a c }
-        ensures holds { (a : ℕ) (t : Ticket) → (held_ticket self.now a ≡ Some t) ↔ Holds self.now a t }
+        ensures leads { (a : ℕ) (c : CallId) → (led_call self.now.history a ≡ Some c)
+            ↔ Leads self.now a c }
+        ensures holds { (a : ℕ) (t : Ticket) → (held_ticket self.now a ≡ Some t)
+            ↔ Holds self.now a t }
 
         // Its events are made by the group's callers, and are within the limits of records, so that where the keys are too, what
         // is written of it reads back.
@@ -286,7 +311,8 @@ impl<K: Eq, V> SeqGroup<K, V> {
 
     /// Refuses a caller that leads or holds a ticket.
     fn check_free(&self, caller: u32) -> Result<(), ModelRefusal>
-        ensures { MatchResult result (λ _. is_free self.now caller ≡ true) (λ e. (is_free self.now caller ≡ false) × (e ≡ ModelRefusal.NotFree caller)) }
+        ensures { MatchResult result (λ _. is_free self.now caller ≡ true) (λ e.
+            (is_free self.now caller ≡ false) × (e ≡ ModelRefusal.NotFree caller)) }
     {
         if walk::led_call(self.history.events(), caller).is_some()
             || self.held_ticket(caller).is_some()
@@ -298,7 +324,9 @@ impl<K: Eq, V> SeqGroup<K, V> {
 
     /// The caller's next call or member. Refuses a caller that is spent.
     fn next_id(&self, caller: u32) -> Result<CallId, ModelRefusal>
-        ensures { MatchResult result (λ id. (is_spent self.now caller ≡ false) × (id ≡ next_id self.now caller)) (λ e. (is_spent self.now caller ≡ true) × (e ≡ ModelRefusal.Spent caller)) }
+        ensures { MatchResult result (λ id. (is_spent self.now caller ≡ false)
+            × (id ≡ next_id self.now caller)) (λ e. (is_spent self.now caller ≡ true)
+            × (e ≡ ModelRefusal.Spent caller)) }
     {
         let generation = walk::next_generation(
             self.first_generation,
@@ -313,8 +341,10 @@ impl<K: Eq, V> SeqGroup<K, V> {
 
     /// The next call of the caller and the next member of its second. Refuses as an asking with a channel does.
     fn next_ids(&self, caller: u32, second: u32) -> Result<(CallId, CallId), ModelRefusal>
-        ensures ok { IfOk result (λ ids. MayAskChan self.now caller second × (ids ≡ (next_id self.now caller, next_id self.now second))) }
-        ensures refused { IfErr result (λ e. (key : K) → ask_chan_of K.eq self.now caller second key ≡ Err e) }
+        ensures ok { IfOk result (λ ids. MayAskChan self.now caller second
+            × (ids ≡ (next_id self.now caller, next_id self.now second))) }
+        ensures refused { IfErr result (λ e.
+            (key : K) → ask_chan_of K.eq self.now caller second key ≡ Err e) }
     {
         self.check_free(caller)?;
         if second == caller {

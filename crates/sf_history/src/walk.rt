@@ -78,7 +78,8 @@ pub(crate) fn is_current<K: Eq, V>(events: &[Event<K, V>], key: &K, call: CallId
 
 /// What a Forget of the call finds.
 pub fn hit<K: Eq, V>(events: &[Event<K, V>], key: &K, call: CallId) -> Hit
-    ensures { result ≡ hit_of (open_call K.eq events.now key.now) (current_call K.eq events.now key.now) call }
+    ensures { result ≡ hit_of (open_call K.eq events.now key.now)
+        (current_call K.eq events.now key.now) call }
 {
     if is_call(open_call(events, key), call) {
         Hit::Closed

@@ -27,7 +27,8 @@ impl<'k, O: Origin> Model for Given<'k, O> {
 
     ghost view = { λ g. record { key = g.key.now; bytes = g.bytes } };
 
-    ghost invariant = { λ g. IfSome g.bytes (λ bytes. (call : CallId) → O.loaded g.key.now call bytes) };
+    ghost invariant = { λ g.
+        IfSome g.bytes (λ bytes. (call : CallId) → O.loaded g.key.now call bytes) };
 }
 
 impl<'k, O: Origin> Given<'k, O> {

@@ -28,7 +28,13 @@ pub struct Loaders<P, F, L, C> {
 impl<P, F, L, C> Loaders<P, F, L, C> {
     /// A set of loaders, of which no peer has failed yet.
     pub fn new(picker: P, peer: F, local: L, chance: C) -> Self
-        ensures { result ≡ record { picker = picker; peer = peer; local = local; chance = chance; peer_fault = None } }
+        ensures { result ≡ record {
+          picker = picker;
+          peer = peer;
+          local = local;
+          chance = chance;
+          peer_fault = None;
+        } }
     {
         Loaders {
             picker,
@@ -117,9 +123,12 @@ impl<P: Picker, F: Peer, L: Local<Origin = F::Origin>, C: Chance> LoadPath for L
     ghost use Rattle.std.specs.Prelude.{◌≡◌};
     ghost use Rattle.sf_loaders.specs.LoadPath.{IsLoadOf};
 
-    ghost run_gives = { λ key call old answer new. IsLoadOf P.pick_gives F.fetch_gives L.load_gives key call old answer new × (new.chance ≡ old.chance) };
+    ghost run_gives = { λ key call old answer new.
+        IsLoadOf P.pick_gives F.fetch_gives L.load_gives key call old answer new
+        × (new.chance ≡ old.chance) };
 
-    ghost draw_gives = { λ old draw new. C.draw_gives old.chance draw new.chance × (new ≡ record old { chance = new.chance }) };
+    ghost draw_gives = { λ old draw new. C.draw_gives old.chance draw new.chance
+        × (new ≡ record old { chance = new.chance }) };
 
     fn run(&mut self, key: &[u8], call: CallId) -> (Result<(Bytes, Source), LocalFault>, Counts) {
         load_once(self, key, call)

@@ -15,6 +15,7 @@ use Rattle.sf_history.specs.Limits.{IsCallerNumber, IsCallWithin, IsWithinLimits
 use Rattle.sf_replay.specs.Record.{TextEvent, in_range, up_to, short, call_from, newest_format, lead_in, enter_in, forget_in, forget_call_in, settle_in, handed_in, event_of_kind, event_in}
 use Rattle.sf_replay.specs.Written.{HasCount, HasShortKey}
 use Rattle.sf_replay.proofs.RecordJson.{call_of, option_of, json_of_event}
+use Rattle.sf_words.specs.declared.limits.TheConstants.{LARGEST_CALLER, LARGEST_GENERATION}
 
 -- ---- the JSON as data
 
@@ -57,8 +58,8 @@ up_is n within = cond-true _ (Some n) None (le-leb n 4294967295 within)
 short_is : (key : List ℕ) → length key ≤ 250 → short key ≡ Some key
 short_is key within = cond-true _ (Some key) None (le-leb (length key) 250 within)
 
-call_is : (c : CallId) → IsCallWithin c → call_from (in_range 65535 c.caller) (in_range 4294967295 c.generation) ≡ Some c
-call_is c within = rw (range_is 65535 c.caller within.0.0 within.0.1, range_is 4294967295 c.generation within.1 within.2) refl
+call_is : (c : CallId) → IsCallWithin c → call_from (in_range LARGEST_CALLER c.caller) (in_range LARGEST_GENERATION c.generation) ≡ Some c
+call_is c within = rw (range_is LARGEST_CALLER c.caller within.0.0 within.0.1, range_is LARGEST_GENERATION c.generation within.1 within.2) refl
 
 small : (n : ℕ) → IsCallerNumber n → n < 2 ^ 64
 small n within = omega (arith, within.1)
@@ -87,17 +88,17 @@ event_is (Handed by call) within count = rw (of_number by (small by within.0), o
 
 data_reads : (entered : CallId → ℕ) (e : TextEvent) → IsWithinLimits e → HasCount e → HasShortKey e → event_in newest_format entered (event_data e) ≡ Some e
 unfolding event_in event_of_kind lead_in enter_in forget_in forget_call_in settle_in handed_in
-data_reads entered (Lead by key call None) within count short = rw (range_is 65535 by within.0.0 within.0.1, short_is key short, call_is call within.1) refl
-data_reads entered (Lead by key call (Some own)) within count short = rw (range_is 65535 by within.0.0 within.0.1, short_is key short, call_is call within.1, call_is own within.2) refl
-data_reads entered (Enter by key call member) within count short = rw (range_is 65535 by within.0.0 within.0.1, short_is key short, call_is call within.1, call_is member within.2) refl
-data_reads entered (Forget by key None) within count short = rw (range_is 65535 by within.0.0 within.0.1, short_is key short) refl
-data_reads entered (Forget by key (Some closed)) within count short = rw (range_is 65535 by within.0.0 within.0.1, short_is key short, call_is closed within.1) refl
-data_reads entered (ForgetCall by key call Closed) within count short = rw (range_is 65535 by within.0.0 within.0.1, short_is key short, call_is call within.1) refl
-data_reads entered (ForgetCall by key call Cleared) within count short = rw (range_is 65535 by within.0.0 within.0.1, short_is key short, call_is call within.1) refl
-data_reads entered (ForgetCall by key call Missed) within count short = rw (range_is 65535 by within.0.0 within.0.1, short_is key short, call_is call within.1) refl
-data_reads entered (Settle by call (Ok value) joiners) within count short = rw (range_is 65535 by within.0.0 within.0.1, call_is call within.1, up_is joiners count) refl
-data_reads entered (Settle by call (Err error) joiners) within count short = rw (range_is 65535 by within.0.0 within.0.1, call_is call within.1, up_is joiners count) refl
-data_reads entered (Handed by call) within count short = rw (range_is 65535 by within.0.0 within.0.1, call_is call within.1) refl
+data_reads entered (Lead by key call None) within count short = rw (range_is LARGEST_CALLER by within.0.0 within.0.1, short_is key short, call_is call within.1) refl
+data_reads entered (Lead by key call (Some own)) within count short = rw (range_is LARGEST_CALLER by within.0.0 within.0.1, short_is key short, call_is call within.1, call_is own within.2) refl
+data_reads entered (Enter by key call member) within count short = rw (range_is LARGEST_CALLER by within.0.0 within.0.1, short_is key short, call_is call within.1, call_is member within.2) refl
+data_reads entered (Forget by key None) within count short = rw (range_is LARGEST_CALLER by within.0.0 within.0.1, short_is key short) refl
+data_reads entered (Forget by key (Some closed)) within count short = rw (range_is LARGEST_CALLER by within.0.0 within.0.1, short_is key short, call_is closed within.1) refl
+data_reads entered (ForgetCall by key call Closed) within count short = rw (range_is LARGEST_CALLER by within.0.0 within.0.1, short_is key short, call_is call within.1) refl
+data_reads entered (ForgetCall by key call Cleared) within count short = rw (range_is LARGEST_CALLER by within.0.0 within.0.1, short_is key short, call_is call within.1) refl
+data_reads entered (ForgetCall by key call Missed) within count short = rw (range_is LARGEST_CALLER by within.0.0 within.0.1, short_is key short, call_is call within.1) refl
+data_reads entered (Settle by call (Ok value) joiners) within count short = rw (range_is LARGEST_CALLER by within.0.0 within.0.1, call_is call within.1, up_is joiners count) refl
+data_reads entered (Settle by call (Err error) joiners) within count short = rw (range_is LARGEST_CALLER by within.0.0 within.0.1, call_is call within.1, up_is joiners count) refl
+data_reads entered (Handed by call) within count short = rw (range_is LARGEST_CALLER by within.0.0 within.0.1, call_is call within.1) refl
 
 pub event_reads : (entered : CallId → ℕ) (e : TextEvent) → IsWithinLimits e → HasCount e → HasShortKey e → option_and_then (event_in newest_format entered) (of_json (json_of_event e)) ≡ Some e
 event_reads entered e within count short = ap (option_and_then (event_in newest_format entered)) (event_is e within count) ∙ data_reads entered e within count short

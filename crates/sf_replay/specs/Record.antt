@@ -10,6 +10,7 @@ use Rattle.sf_history.specs.declared.event.Event.TheVariants.{Lead, Enter, Forge
 use Rattle.sf_history.specs.declared.event.Hit.{Hit}
 use Rattle.sf_history.specs.declared.event.Hit.TheVariants.{Closed, Cleared, Missed}
 use Rattle.sf_text.specs.Texts.{same_text}
+use Rattle.sf_words.specs.declared.limits.TheConstants.{LARGEST_CALLER, LARGEST_GENERATION}
 
 -- an event whose key is a text, settled with a text or with an error's
 abbrev pub TextEvent : Type 0
@@ -33,7 +34,7 @@ abbrev pub count_in : Data → Option ℕ
 count_in d = option_and_then (up_to 4294967295) (option_and_then as_u64 (as_number d))
 
 abbrev pub caller_in : Data → Option ℕ
-caller_in d = number_in 65535 d
+caller_in d = number_in LARGEST_CALLER d
 
 -- a call or a member is the array of its caller and its generation
 abbrev pub call_from : Option ℕ → Option ℕ → Option CallId
@@ -44,7 +45,7 @@ call_from (Some caller) (Some generation) = Some (record { caller = caller; gene
 abbrev pub call_of_items : Items → Option CallId
 call_of_items no_items = None
 call_of_items (item a no_items) = None
-call_of_items (item a (item b no_items)) = call_from (number_in 65535 a) (number_in 4294967295 b)
+call_of_items (item a (item b no_items)) = call_from (number_in LARGEST_CALLER a) (number_in LARGEST_GENERATION b)
 call_of_items (item a (item b (item c more))) = None
 
 abbrev pub call_in : Data → Option CallId

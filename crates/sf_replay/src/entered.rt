@@ -39,7 +39,8 @@ impl Entered {
     pub fn note(&mut self, format: u32, event: &TextEvent) -> Result<(), Memory>
         requires room { format ≡ 1 → (c : CallId) → entered_in self.now c + 1 < 2 ^ 64 }
         ensures { OnOk result (format ≡ 1 → (c : CallId)
-            → entered_in self.new c ≡ entered_in self.old c + (if enters c event.now then 1 else 0)) }
+            → entered_in self.new c ≡ entered_in self.old c
+            + (if enters c event.now then 1 else 0)) }
     {
         match event {
             Event::Enter { call, .. } if format == FIRST_FORMAT => {

@@ -109,14 +109,16 @@ fn format_of(alloc: Global, line: &[u8]) -> Result<Option<u32>, Memory>
 
 /// What stands between the line feeds.
 fn parts(alloc: Global, text: &[u8]) -> Result<Vec<&[u8]>, Memory>
-    ensures { IfOk result (λ parts. map (λ part. part.now) parts.items ≡ slice_split (λ byte. byte == 10) text.now) }
+    ensures { IfOk result (λ parts.
+        map (λ part. part.now) parts.items ≡ slice_split (λ byte. byte == 10) text.now) }
 {
     text.split(|byte| *byte == b'\n').collect(alloc)
 }
 
 /// Takes off the last line where nothing stands in it.
 fn drop_empty_last(lines: &mut Vec<&[u8]>)
-    ensures { map (λ line. line.now) lines.new.items ≡ without_empty_last (map (λ line. line.now) lines.old.items) }
+    ensures { map (λ line. line.now) lines.new.items
+        ≡ without_empty_last (map (λ line. line.now) lines.old.items) }
 {
     let Some(last) = lines.last() else {
         return;
@@ -140,8 +142,10 @@ fn history(
     format: u32,
     lines: &[&[u8]],
 ) -> Result<History<Text, Result<Text, Text>>, RecordRefusal>
-    ensures ok { IfOk result (λ history. events_of format [] (map (λ line. line.now) lines.now) ≡ Ok history) }
-    ensures bad { IfErr result (λ refusal. IsRecordRefusal refusal (events_of format [] (map (λ line. line.now) lines.now))) }
+    ensures ok { IfOk result (λ history.
+        events_of format [] (map (λ line. line.now) lines.now) ≡ Ok history) }
+    ensures bad { IfErr result (λ refusal.
+        IsRecordRefusal refusal (events_of format [] (map (λ line. line.now) lines.now))) }
 {
     let mut events = Vec::new(alloc);
     let mut entered = Entered::new(alloc);
@@ -160,8 +164,10 @@ fn history_of_lines(
     alloc: Global,
     lines: &[&[u8]],
 ) -> Result<History<Text, Result<Text, Text>>, RecordRefusal>
-    ensures ok { IfOk result (λ history. history_of_lines (map (λ line. line.now) lines.now) ≡ Ok history) }
-    ensures bad { IfErr result (λ refusal. IsRecordRefusal refusal (history_of_lines (map (λ line. line.now) lines.now))) }
+    ensures ok { IfOk result (λ history.
+        history_of_lines (map (λ line. line.now) lines.now) ≡ Ok history) }
+    ensures bad { IfErr result (λ refusal.
+        IsRecordRefusal refusal (history_of_lines (map (λ line. line.now) lines.now))) }
 {
     let [first, records @ ..] = lines else {
         return Err(RecordRefusal::BadRecord(1));

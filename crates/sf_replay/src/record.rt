@@ -333,7 +333,8 @@ pub(crate) fn event(
     entered: &Entered,
     value: &Value,
 ) -> Result<Option<TextEvent>, Memory>
-    ensures { IfOk result (λ found. found ≡ event_in format (entered_in entered.now) (view value.now)) }
+    ensures { IfOk result (λ found.
+        found ≡ event_in format (entered_in entered.now) (view value.now)) }
 {
     match text_at(value, "e") {
         Some(kind) => event_of_kind(alloc, format, entered, kind, value),

@@ -132,7 +132,8 @@ fn record(alloc: Global, event: &TextEvent) -> Result<String, Memory>
 #[tactic(auto, unfolding(crate::specs::Written::history_text))]
 pub fn write(alloc: Global, history: &History<Text, Result<Text, Text>>) -> Result<String, Memory>
     ensures text { IfOk result (λ string. string_bytes string ≡ history_text history.now) }
-    ensures reads_back { IfOk result (λ string. All IsWithinLimits history.now → All HasShortKey history.now → history_of (string_bytes string) ≡ Ok history.now) }
+    ensures reads_back { IfOk result (λ string. All IsWithinLimits history.now
+        → All HasShortKey history.now → history_of (string_bytes string) ≡ Ok history.now) }
 {
     let mut text = String::from_str(alloc, FORMAT_LINE)?;
     for event in history.events() {

@@ -39,6 +39,7 @@ use Rattle.sf_schedules.proofs.Compared.{same_key_is}
 use Rattle.sf_schedules.proofs.Flags.{turn_fair}
 use Rattle.sf_schedules.proofs.Callers.{Fair, fair_begins}
 use Rattle.sf_schedules.proofs.Ranges.{ask_calls, ask_keys, ask_nexts, forget_calls, forget_keys, forget_nexts, fresh, own_in, settle_calls, settle_keys, settle_nexts, stage_at, open_in_within}
+use Rattle.sf_words.specs.declared.limits.TheConstants.{LARGEST_CALLER}
 
 module _ {V : Type 0} where
   module _ (z : Setting) (h : List (Event ℕ V)) (w : World V) (least : 1 ≤ z.first) (sound : Sound z.first h w) (size : w.callers ≡ z.callers) (within : AreWithin z w) where
@@ -303,18 +304,18 @@ module _ {V : Type 0} where
   pub worlds_are_within : WorldsAreWithin V
   worlds_are_within z s least is = run_within z s [] (first_world z.callers z.first) least (fair_begins z) (record { keys = λ k. tt; calls = λ a. tt; nexts = λ a. tt; stages = λ a. tt }) is
 
-caller_number : (z : Setting) (n : ℕ) → z.callers ≤ 65535 → IsCaller z n → IsCallerNumber n
+caller_number : (z : Setting) (n : ℕ) → z.callers ≤ LARGEST_CALLER → IsCaller z n → IsCallerNumber n
 caller_number z n few who = let high : n ≤ z.callers = who.1 in (who.0, omega (arith, high, few))
 
-top_lawful : (z : Setting) (o : Option ℕ) → z.callers ≤ 65535 → TopIn z o → IsCallerOrNone o
+top_lawful : (z : Setting) (o : Option ℕ) → z.callers ≤ LARGEST_CALLER → TopIn z o → IsCallerOrNone o
 top_lawful z None few is = tt
 top_lawful z (Some n) few is = caller_number z n few is
 
-pub key_lawful : (z : Setting) (v : KeyState) → z.callers ≤ 65535 → KeyIn z v → IsKeyState v
+pub key_lawful : (z : Setting) (v : KeyState) → z.callers ≤ LARGEST_CALLER → KeyIn z v → IsKeyState v
 key_lawful z Never few is = tt
 key_lawful z (Names a g cleared) few is = (caller_number z a few is.0, is.1)
 
-pub word_lawful : (z : Setting) (u : CallState) → z.callers ≤ 65535 → WordIn z u → IsCallState u
+pub word_lawful : (z : Setting) (u : CallState) → z.callers ≤ LARGEST_CALLER → WordIn z u → IsCallState u
 word_lawful z word.Free few is = tt
 word_lawful z (word.Open s) few is = (is.0, top_lawful z s.top few is.1)
 word_lawful z (word.Forgot s) few is = (is.0, top_lawful z s.top few is.1)

@@ -16,6 +16,7 @@ use Rattle.sf_schedules.specs.declared.turn.Turn.TheVariants as turn
 use Rattle.sf_schedules.specs.World.{World, first_world}
 use Rattle.sf_schedules.specs.Turns.{turned}
 use Rattle.sf_schedules.specs.Events.{turn_events}
+use Rattle.sf_words.specs.declared.limits.TheConstants.{LARGEST_GENERATION}
 
 -- where schedules are played: callers and places are numbered from 1, and each caller's first generation is this
 pub record Setting : Type 0 where
@@ -45,7 +46,7 @@ module _ {V : Type 0} where
 
   -- the caller may ask: it is free, and has a generation left
   abbrev pub MayAsk : World V → ℕ → Type 0
-  MayAsk w a = (w.stages a ≡ Free) × (w.generations a ≤ 4294967295)
+  MayAsk w a = (w.stages a ≡ Free) × (w.generations a ≤ LARGEST_GENERATION)
 
   -- what the start of an operation asks of the world
   abbrev pub MayStart : Setting → World V → ℕ → Op V → Type 0

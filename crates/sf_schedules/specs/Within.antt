@@ -22,6 +22,7 @@ use Rattle.sf_schedules.specs.declared.turn.Turn.{Turn}
 use Rattle.sf_schedules.specs.World.{World}
 use Rattle.sf_schedules.specs.Events.{world_after}
 use Rattle.sf_schedules.specs.Schedules.{Setting, IsCaller, IsSchedule}
+use Rattle.sf_words.specs.declared.limits.TheConstants.{LARGEST_CALLER, LARGEST_GENERATION}
 
 abbrev pub TopIn : Setting → Option ℕ → Type 0
 TopIn z None = Unit {0}
@@ -79,7 +80,7 @@ ForgetIn z (forget.LastClear c) = CallIn z c
 
 -- who asks is a caller with a generation left
 abbrev pub AskerIn : Setting → ℕ → ℕ → Type 0
-AskerIn z x n = IsCaller z x × (n ≤ 4294967295)
+AskerIn z x n = IsCaller z x × (n ≤ LARGEST_GENERATION)
 
 module _ {V : Type 0} where
   -- the stage of the caller x, whose next generation is n
@@ -112,4 +113,4 @@ WorldsAreWithin V = (z : Setting) (s : List (Turn V)) → 1 ≤ z.first → IsSc
 
 -- words are lawful
 abbrev pub WordsAreLawful : Type 0 → Type 0
-WordsAreLawful V = (z : Setting) (s : List (Turn V)) → 1 ≤ z.first → z.callers ≤ 65535 → IsSchedule z s → AreLawful (world_after z.callers z.first s)
+WordsAreLawful V = (z : Setting) (s : List (Turn V)) → 1 ≤ z.first → z.callers ≤ LARGEST_CALLER → IsSchedule z s → AreLawful (world_after z.callers z.first s)

@@ -11,6 +11,7 @@ use Rattle.sf_schedules.specs.declared.letter.Letter.{Letter}
 use Rattle.sf_schedules.specs.declared.operation.Stage.{Stage}
 use Rattle.sf_schedules.specs.declared.operation.Stage.TheVariants as stage
 use Rattle.sf_lists.specs.Functions.{put}
+use Rattle.sf_words.specs.declared.limits.TheConstants.{LARGEST_GENERATION}
 
 pub record World (V : Type 0) : Type 0 where
   pub callers : ℕ
@@ -60,7 +61,7 @@ next_id w a = record { caller = a; generation = w.generations a }
 
 -- a caller is spent that has used its last generation
 abbrev pub is_spent : {V : Type 0} → World V → ℕ → Bool
-is_spent w a = nat_lt 4294967295 (w.generations a)
+is_spent w a = nat_lt LARGEST_GENERATION (w.generations a)
 
 -- the key word names the call, not cleared
 abbrev pub key_of : CallId → KeyState

@@ -5,6 +5,7 @@ use Rattle.sf_schedules.specs.declared.operation.Stage.{Stage}
 use Rattle.sf_schedules.specs.declared.operation.Stage.TheVariants as stage
 use Rattle.sf_schedules.specs.Stages.{field_of, top_in, place_in, is_asking, second_in, first_in, AreWithin}
 use Rattle.sf_steps.specs.declared.machine.caller_row.CallerRow.{CallerRow}
+use Rattle.sf_words.specs.declared.limits.TheConstants.{LARGEST_GENERATION}
 
 module _ {V : Type 0} where
   -- the row of a caller that has done nothing yet
@@ -19,7 +20,7 @@ module _ {V : Type 0} where
   -- second, has a generation left
   pub record IsLawful (callers places : ℕ) (row : CallerRow V) : Type 0 where
     pub place : (1 ≤ place_in row.stage) × (place_in row.stage ≤ places)
-    pub unspent : is_asking row.stage ≡ true → row.generation ≤ 4294967295
+    pub unspent : is_asking row.stage ≡ true → row.generation ≤ LARGEST_GENERATION
     pub top : top_in row.call ≤ callers
     pub next : field_of row.next ≤ callers
     pub stage : AreWithin callers row.stage

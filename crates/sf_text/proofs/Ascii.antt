@@ -9,6 +9,7 @@ use Rattle.std.specs.Prelude.{All, cond, decimal}
 use Rattle.std.specs.List.{AllByRecursion, slice_split, onto_first, position_or_len, after_first}
 use Rattle.sf_history.specs.declared.call.CallId.{CallId}
 use Rattle.sf_text.specs.Words.{IsToken, IsNumber, IsCallerWord, IsCallWord}
+use Rattle.sf_words.specs.declared.limits.TheConstants.{LARGEST_CALLER, LARGEST_GENERATION}
 
 abbrev pub AreAscii : List ℕ → Type 0
 AreAscii bs = AllByRecursion (λ b. b < 128) bs
@@ -34,12 +35,12 @@ number_ascii greatest w n small is =
     subst AreAscii (sym is.2) (recursion_from_All (λ b. b < 128) (decimal n) (All-from_ascii (decimal n) (IsAscii-decimal n fits)))
 
 pub caller_ascii : (w : List ℕ) (a : ℕ) → IsCallerWord w a → AreAscii w
-caller_ascii w a is = number_ascii 65535 w a (omega arith) is
+caller_ascii w a is = number_ascii LARGEST_CALLER w a (omega arith) is
 
 pub call_ascii : (w : List ℕ) (c : CallId) → IsCallWord w c → AreAscii w
 call_ascii w c is =
     let before = caller_ascii _ c.caller is.caller in
-    let after = number_ascii 4294967295 _ c.generation (omega arith) is.generation in
+    let after = number_ascii LARGEST_GENERATION _ c.generation (omega arith) is.generation in
     let dot : get_or w (position_or_len (λ b. b == 46) w) 0 ≡ 46 = eqb-true _ _ (passes_at_first (λ b. b == 46) w 0 is.dotted) in
     let whole = split_at_first (λ b. b == 46) w 0 is.dotted in
     let rest : All (λ b. b < 128) (get_or w (position_or_len (λ b. b == 46) w) 0 ∷ after_first (λ b. b == 46) w) =

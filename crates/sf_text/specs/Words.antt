@@ -2,6 +2,7 @@
 use Rattle.std.specs.Prelude.{◌≡◌, ℕ, ◌<◌, ◌≤◌, ◌==◌, List, length, All, decimal}
 use Rattle.std.specs.List.{slice_split, position_or_len, before_first, after_first}
 use Rattle.sf_history.specs.declared.call.CallId.{CallId}
+use Rattle.sf_words.specs.declared.limits.TheConstants.{LARGEST_CALLER, LARGEST_GENERATION}
 
 -- words are parted by one space
 abbrev pub words : List ℕ → List (List ℕ)
@@ -13,7 +14,7 @@ IsNumber greatest w n = (0 < n) × (n ≤ greatest) × (w ≡ decimal n)
 
 -- callers are numbered from 1 to 65,535
 abbrev pub IsCallerWord : List ℕ → ℕ → Type 0
-IsCallerWord w a = IsNumber 65535 w a
+IsCallerWord w a = IsNumber LARGEST_CALLER w a
 
 -- keys and texts: 1 to 250 printable bytes
 abbrev pub IsToken : List ℕ → Type 0
@@ -23,4 +24,4 @@ IsToken w = (0 < length w) × (length w ≤ 250) × All (λ b. (33 ≤ b) × (b 
 pub record IsCallWord (w : List ℕ) (c : CallId) : Type 0 where
   pub dotted : position_or_len (λ b. b == 46) w < length w
   pub caller : IsCallerWord (before_first (λ b. b == 46) w) c.caller
-  pub generation : IsNumber 4294967295 (after_first (λ b. b == 46) w) c.generation
+  pub generation : IsNumber LARGEST_GENERATION (after_first (λ b. b == 46) w) c.generation

@@ -36,7 +36,8 @@ pub fn lines(alloc: Global, input: &[u8]) -> Result<Vec<&[u8]>, Memory>
 }
 
 fn parts(alloc: Global, input: &[u8]) -> Result<Vec<&[u8]>, Memory>
-    ensures { IfOk result (λ parts. map (λ x. x.now) parts.items ≡ slice_split (λ b. b == 10) input.now) }
+    ensures { IfOk result (λ parts.
+        map (λ x. x.now) parts.items ≡ slice_split (λ b. b == 10) input.now) }
 {
     input.split(|b| *b == b'\n').collect(alloc)
 }

@@ -58,7 +58,8 @@ impl From<AllocError> for ReadFault {
 
 /// All bytes that a reader has left, in at most `READS` reads. A failed read is not tried again.
 pub fn read_all<R: Read>(alloc: Global, reader: &mut R) -> Result<Vec<u8>, ReadFault>
-    ensures { IfOk result (λ input. IfSome (R.remaining reader.old) (λ bytes. input.items ≡ bytes)) }
+    ensures { IfOk result (λ input.
+        IfSome (R.remaining reader.old) (λ bytes. input.items ≡ bytes)) }
 {
     let mut input = Vec::new(alloc);
     let mut buffer = [0u8; 4096];
@@ -109,9 +110,12 @@ const LONGEST_LINE: usize = 256;
 /// Writes one line as the whole answer, and hands it on. Where it fails, a beginning of the line is written, and nothing of
 /// one that is longer than 255 bytes.
 pub fn write_line<W: Write, D: Display + Drop>(writer: &mut W, line: D) -> Result<(), StreamFault>
-    ensures ok { OnOk result (IfSome (D.output line) (λ text. Appends (W.contents writer.old) (W.contents writer.new) (text ++ codes "\n"))) }
+    ensures ok { OnOk result
+        (IfSome (D.output line) (λ text.
+        Appends (W.contents writer.old) (W.contents writer.new) (text ++ codes "\n"))) }
     ensures err { IfErr result (λ fault. fault ≡ StreamFault.CannotWrite) }
-    ensures part { IfSome (D.output line) (λ text. AppendsPart (W.contents writer.old) (W.contents writer.new) (text ++ codes "\n")) }
+    ensures part { IfSome (D.output line) (λ text.
+        AppendsPart (W.contents writer.old) (W.contents writer.new) (text ++ codes "\n")) }
 {
     let mut text = InlineText::<LONGEST_LINE>::new();
     let Ok(()) = writeln!(text, "{line}") else {

@@ -16,7 +16,8 @@ fn is_decimal(word: &str, n: u32) -> bool
 
 /// The number from 1 to a greatest one that the word is, in decimal with no sign and no leading zero.
 pub fn number(word: &str, greatest: u32) -> Option<u32>
-    ensures { MatchOption result ((n : ℕ) → IsNumber greatest word.now n → ⊥) (IsNumber greatest word.now) }
+    ensures { MatchOption result ((n : ℕ) → IsNumber greatest word.now n → ⊥)
+        (IsNumber greatest word.now) }
 {
     let Ok(n) = word.parse::<u32>() else {
         return None;

@@ -30,6 +30,7 @@ use Rattle.sf_word_chans.specs.Both.{AreAskers, alone, SitBoth, Ask, MayLook, lo
 use Rattle.sf_word_chans.specs.Changes.{StayBoth}
 use Rattle.sf_word_chans.proofs.Alone.{Serves, Stand, stand}
 use Rattle.sf_word_chans.proofs.Going.{moves_both, Ends, stay_both}
+use Rattle.sf_words.specs.declared.limits.TheConstants.{LARGEST_GENERATION}
 
 -- a turn of the caller names it alone
 pub by_first : (V : Type 0) (a b : ℕ) → AreBy {V = V} (a ∷ b ∷ []) (turn.Step a ∷ [])
@@ -61,12 +62,12 @@ module _ {V : Type 0} where
       }
 
   -- the start
-  chan_ran : (z : Setting) (h : List (Event ℕ V)) (w : World V) (a b k : ℕ) → IsCaller z a → IsCaller z b → b ≢ a → IsPlace z k → w.stages a ≡ stage.Free → w.stages b ≡ stage.Free → w.generations a ≤ 4294967295 → w.generations b ≤ 4294967295
+  chan_ran : (z : Setting) (h : List (Event ℕ V)) (w : World V) (a b k : ℕ) → IsCaller z a → IsCaller z b → b ≢ a → IsPlace z k → w.stages a ≡ stage.Free → w.stages b ≡ stage.Free → w.generations a ≤ LARGEST_GENERATION → w.generations b ≤ LARGEST_GENERATION
       → Ran z h w (turn.Start a (op.Chan b k) ∷ []) (with_stage (with_stage w b (stage.Seconding a)) a (stage.Asking k (Some b) (ask.Look false))) []
   chan_ran z h w a b k caller second apart place at second_at left second_left = record {
     allowed = ((caller, (place, second, apart, (at, left), (second_at, second_left)), tt), tt);
     world = ap started_at at
-        ∙ (ap (λ e. cond e w (chan_started w a b k (w.stages b))) (le-ltb 4294967295 (w.generations a) left)
+        ∙ (ap (λ e. cond e w (chan_started w a b k (w.stages b))) (le-ltb LARGEST_GENERATION (w.generations a) left)
         ∙ (ap (λ q. chan_started w a b k q) second_at ∙ ap (λ e. cond e w target) able));
     events = refl;
   }
@@ -78,7 +79,7 @@ module _ {V : Type 0} where
       started_at q = started w a (op.Chan b k) q
 
       able : ((b == a) || is_spent w b) ≡ false
-      able = ap (λ e. e || is_spent w b) (ne_eqb b a apart) ∙ le-ltb 4294967295 (w.generations b) second_left
+      able = ap (λ e. e || is_spent w b) (ne_eqb b a apart) ∙ le-ltb LARGEST_GENERATION (w.generations b) second_left
 
   abbrev pub chan_world : World V → Askers → World V
   chan_world w c = with_stage (with_stage w c.second (stage.Seconding c.number)) c.number (stage.Asking c.place (Some c.second) (ask.Look false))
@@ -86,8 +87,8 @@ module _ {V : Type 0} where
   pub chan_begun : (c : Askers) (v : View V) (s : List (Turn V)) → AreAskers c → Ask c v stage.Free stage.Free → Stand c v stage.Free stage.Free s
       → Ran (setting_of c.sizes) (history_of c.sizes s) (world_of c.sizes s) (turn.Start c.number (op.Chan c.second c.place) ∷ []) (chan_world (world_of c.sizes s) c) []
   chan_begun c v s are asks at =
-      let left = subst (λ g. g ≤ 4294967295) (sym (at.next ∙ asks.next)) are.generation.1 in
-      let second_left = subst (λ g. g ≤ 4294967295) (sym (at.second_next ∙ asks.second_next)) are.second_generation.1 in
+      let left = subst (λ g. g ≤ LARGEST_GENERATION) (sym (at.next ∙ asks.next)) are.generation.1 in
+      let second_left = subst (λ g. g ≤ LARGEST_GENERATION) (sym (at.second_next ∙ asks.second_next)) are.second_generation.1 in
       chan_ran (setting_of c.sizes) (history_of c.sizes s) (world_of c.sizes s) c.number c.second c.place asks.sit.first.caller asks.sit.second.caller asks.apart are.place at.first at.second left second_left
 
   started_look : (c : Askers) (v : View V) (s : List (Turn V)) → AreAskers c → Ask c v stage.Free stage.Free → Stand c v stage.Free stage.Free s

@@ -14,6 +14,7 @@ use Rattle.sf_word_steps.specs.declared.view.View.{View}
 use Rattle.sf_word_steps.specs.View.{setting_of, claim}
 use Rattle.sf_word_steps.specs.Stands.{Sits, next_in, Goes}
 use Rattle.sf_word_chans.specs.declared.askers.Askers.{Askers}
+use Rattle.sf_words.specs.declared.limits.TheConstants.{LARGEST_CALLER, LARGEST_GENERATION}
 
 -- the call that the caller leads next, and the member that the second is next
 abbrev pub call_of : Askers → CallId
@@ -25,9 +26,9 @@ member_of c = record { caller = c.second; generation = c.second_generation }
 -- who may ask
 pub record AreAskers (c : Askers) : Type 0 where
   pub place : IsPlace (setting_of c.sizes) c.place
-  pub callers : c.sizes.callers ≤ 65535
-  pub generation : (1 ≤ c.generation) × (c.generation ≤ 4294967295)
-  pub second_generation : (1 ≤ c.second_generation) × (c.second_generation ≤ 4294967295)
+  pub callers : c.sizes.callers ≤ LARGEST_CALLER
+  pub generation : (1 ≤ c.generation) × (c.generation ≤ LARGEST_GENERATION)
+  pub second_generation : (1 ≤ c.second_generation) × (c.second_generation ≤ LARGEST_GENERATION)
 
 module _ {V : Type 0} where
   -- what the seat knows, as a seat of this caller alone

@@ -99,7 +99,9 @@ pub(crate) fn enter<V: Fit>(
     requires asks { AskAt askers seat.old.me.0 (ask.Enter called seen) }
     ensures own { (seat.new.table_id ≡ seat.old.table_id) × (seat.new.me.1 ≡ seat.old.me.1) }
     ensures won { IsTrue result → HasJoined askers called seat.old.me.0 seat.new.me.0 }
-    ensures lost { IsFalse result → LoseBoth askers (call called.caller) (call_code (Open seen)) seat.old.me.0 seat.new.me.0 (lost_first askers last) (lost_second askers last) }
+    ensures lost { IsFalse result
+        → LoseBoth askers (call called.caller) (call_code (Open seen)) seat.old.me.0 seat.new.me.0
+        (lost_first askers last) (lost_second askers last) }
     ensures exchanged { HaveExchanged askers 1 seat.old.me.0 seat.new.me.0 }
 {
     let Some(old) = CallWord::new(CallState::Open(seen)) else {

@@ -64,10 +64,13 @@ pub(crate) fn peek<V: Fit>(
     requires called { (1 ≤ called.caller) × (called.caller ≤ askers.sizes.callers) }
     requires asks { AskAt askers seat.old.me.0 (ask.Peek called) }
     ensures own { (seat.new.table_id ≡ seat.old.table_id) × (seat.new.me.1 ≡ seat.old.me.1) }
-    ensures told { StayAt askers seat.old.me.0 seat.new.me.0 (peeked (Some askers.second) called (is_forgot_in called.generation result) (open_in called.generation result)) }
+    ensures told { StayAt askers seat.old.me.0 seat.new.me.0
+        (peeked (Some askers.second) called (is_forgot_in called.generation result)
+        (open_in called.generation result)) }
     ensures exchanged { HaveExchanged askers 0 seat.old.me.0 seat.new.me.0 }
     ensures shown { (world_of askers.sizes seat.new.me.0.known.turns).calls called.caller ≡ result }
-    ensures other { (seen : LeaderState) → open_in called.generation result ≡ Some seen → (called.caller ≢ askers.number) × (called.caller ≢ askers.second) }
+    ensures other { (seen : LeaderState) → open_in called.generation result ≡ Some seen
+        → (called.caller ≢ askers.number) × (called.caller ≢ askers.second) }
     ensures range { IsCallFor askers.sizes.callers result }
 {
     let found = load_turns::<V, CallId, Brand>(
@@ -167,7 +170,9 @@ pub(crate) fn lead<V: Fit>(
     requires asks { AskAt askers seat.old.me.0 (ask.Lead seen forgot) }
     ensures own { (seat.new.table_id ≡ seat.old.table_id) × (seat.new.me.1 ≡ seat.old.me.1) }
     ensures won { IsTrue result → HasLed askers (after_of seen forgot) seat.old.me.0 seat.new.me.0 }
-    ensures lost { IsFalse result → LoseBoth askers (key askers.place) (key_code seen) seat.old.me.0 seat.new.me.0 (lost_first askers last) (lost_second askers last) }
+    ensures lost { IsFalse result
+        → LoseBoth askers (key askers.place) (key_code seen) seat.old.me.0 seat.new.me.0
+        (lost_first askers last) (lost_second askers last) }
     ensures exchanged { HaveExchanged askers 1 seat.old.me.0 seat.new.me.0 }
 {
     let _ = forgot;

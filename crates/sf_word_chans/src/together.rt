@@ -23,12 +23,16 @@ pub fn ask_together<V: Fit>(
     requires second { (second.table_id ≡ words.now.table_id) × (second.me.1 ≡ []) }
     requires sizes { askers.sizes ≡ words.now.key }
     requires askers { AreAskers askers }
-    requires free { Sits askers.sizes askers.number seat.me.0 Free × (next_in askers.sizes seat.me.0 askers.number ≡ askers.generation) }
-    requires second_free { Sits askers.sizes askers.second second.me.0 Free × (next_in askers.sizes second.me.0 askers.second ≡ askers.second_generation) }
+    requires free { Sits askers.sizes askers.number seat.me.0 Free
+        × (next_in askers.sizes seat.me.0 askers.number ≡ askers.generation) }
+    requires second_free { Sits askers.sizes askers.second second.me.0 Free
+        × (next_in askers.sizes second.me.0 askers.second ≡ askers.second_generation) }
     ensures first { (result.1.table_id ≡ words.now.table_id) × (result.1.me.1 ≡ []) }
     ensures second { (result.2.table_id ≡ words.now.table_id) × (result.2.me.1 ≡ []) }
-    ensures asked { HasAsked askers tries seat.me.0 second.me.0 result.1.me.0 result.2.me.0 result.0 }
-    ensures exchanged { HaveAskedSo askers tries seat.me.0 second.me.0 result.1.me.0 result.2.me.0 result.0 }
+    ensures asked { HasAsked askers tries seat.me.0 second.me.0 result.1.me.0 result.2.me.0
+        result.0 }
+    ensures exchanged { HaveAskedSo askers tries seat.me.0 second.me.0 result.1.me.0 result.2.me.0
+        result.0 }
 {
     take_in(words, &mut seat, second, askers.sizes, askers.number);
     let attempt = try_both(words, &mut seat, askers, tries);

@@ -36,6 +36,7 @@ use Rattle.sf_word_steps.specs.Changes.{Stays}
 use Rattle.sf_schedules.proofs.Named.{IsAlone}
 use Rattle.sf_word_steps.proofs.Ways.{Ran, ran_then, step_ran, ask_ran, writes_none, writes_call, stands, uses, moves_by, goes_by}
 use Rattle.sf_word_steps.proofs.Changing.{changes_append, changed_once}
+use Rattle.sf_words.specs.declared.limits.TheConstants.{LARGEST_GENERATION}
 
 -- a test of two codes is one of what they say
 pub key_test : (x y : KeyState) → IsKeyState x → IsKeyState y → eqb (key_code x) (key_code y) ≡ same_key x y
@@ -108,7 +109,7 @@ module _ {V : Type 0} where
   alike_next w u a x keys calls nexts (next b) others = ap (λ f. next_code (f b)) nexts ∙ ap next_code (put_else w.nexts a x b others)
 
   -- look
-  started_look : (z : Sizes) (a k : ℕ) (s : List (Turn V)) → IsCaller (setting_of z) a → IsPlace (setting_of z) k → (world_of z s).stages a ≡ stage.Free → (world_of z s).generations a ≤ 4294967295
+  started_look : (z : Sizes) (a k : ℕ) (s : List (Turn V)) → IsCaller (setting_of z) a → IsPlace (setting_of z) k → (world_of z s).stages a ≡ stage.Free → (world_of z s).generations a ≤ LARGEST_GENERATION
       → Ran (setting_of z) (history_of z s) (world_of z s) (turn.Start a (op.Ask k) ∷ turn.Step a ∷ []) (ask_stepped (with_stage (world_of z s) a (stage.Asking k None (ask.Look false))) a k None (ask.Look false)) []
   started_look z a k s caller place at left =
       let w : World V = world_of z s in
@@ -127,7 +128,7 @@ module _ {V : Type 0} where
       let w : World V = world_of z s in
       let u : World V = ask_stepped (with_stage w a (stage.Asking k None (ask.Look false))) a k None (ask.Look false) in (
         ((λ b e. inl e), ((λ b e. inl e), tt)),
-        record { world = u; events = []; ran = started_look z a k s (free.0.caller) place at (subst (λ g. g ≤ 4294967295) (sym used) free.1); writes = writes_none z.callers w u (key k) n found refl refl refl; cells = refl },
+        record { world = u; events = []; ran = started_look z a k s (free.0.caller) place at (subst (λ g. g ≤ LARGEST_GENERATION) (sym used) free.1); writes = writes_none z.callers w u (key k) n found refl refl refl; cells = refl },
       )))
   look_move z a k v place (inr again) = subst (λ ts. Moves z v (key k) (λ n. n) (λ _. ts)) (sym (look_turns_are z a k v (stage.Asking k None (ask.Look true)) again))
       (moves_by z a v (stage.Asking k None (ask.Look true)) (key k) (λ n. n) (λ _. turn.Step a ∷ []) again (asking_alone k None (ask.Look true))
@@ -161,7 +162,7 @@ module _ {V : Type 0} where
           let o : Made z v w (turn.Start a (op.Ask k) ∷ turn.Step a ∷ []) = record { before = m.before; comes = m.comes; whole = subst (λ ts. IsSchedule (setting_of z) (m.before ++ ts)) (look_turns_are z a k v stage.Free free.0) m.whole; view = m.view ∙ ap (λ ts. view_after v (m.before ++ ts)) (look_turns_are z a k v stage.Free free.0) } in
           let mid : World V = with_stage w₀ a (stage.Asking k None (ask.Look false)) in
           let u : World V = ask_stepped mid a k None (ask.Look false) in
-          let ran = started_look z a k m.before (free.0.caller) place (stands z a v stage.Free m.before free.0 free_alone m.comes) (subst (λ g. g ≤ 4294967295) (sym (uses z a v stage.Free m.before free.0 free_alone m.comes)) free.1) in (
+          let ran = started_look z a k m.before (free.0.caller) place (stands z a v stage.Free m.before free.0 free_alone m.comes) (subst (λ g. g ≤ LARGEST_GENERATION) (sym (uses z a v stage.Free m.before free.0 free_alone m.comes)) free.1) in (
             stays_by z a v w stage.Free (stage.Asking k None (looked None x)) (turn.Start a (op.Ask k) ∷ turn.Step a ∷ []) u free.0 free_alone o ran
                 (put_here mid.stages a (stage.Asking k None (looked None (w₀.keys k))) ∙ ap (λ y. stage.Asking k None (looked None y)) (sym is)) refl (alike_none w₀ u a refl refl refl),
             known (turn.Start a (op.Ask k) ∷ turn.Step a ∷ []) u o refl ran.world refl,

@@ -28,6 +28,7 @@ use Rattle.sf_word_steps.specs.Changes.{changes, tried, IsKeyOrTried, Stays, Los
 use Rattle.sf_word_steps.specs.Attempts.{lost_stage, HasAttempted, HasLed, HasJoined, Trying, HasTried}
 use Rattle.sf_schedules.proofs.Named.{makers_are_callers}
 use Rattle.sf_word_steps.proofs.Changing.{changes_append, tried_left, tried_right}
+use Rattle.sf_words.specs.declared.limits.TheConstants.{LARGEST_GENERATION}
 
 pub key_apart : (k j : ℕ) → key k ≡ key j → j ≡ k
 key_apart k j e = cc
@@ -179,11 +180,11 @@ module _ {V : Type 0} where
       (tries_once z a k (call_code seen) (call c.caller) x y (lost_stage k last) (λ j e. call_apart c.caller k j e) two (ap call_code shown))
 
   -- the tries begin, and go on
-  pub trying_none : (z : Sizes) (a g k tries : ℕ) (v : View V) → Sits z a v stage.Free → next_in z v a ≡ g → g ≤ 4294967295 → Trying z a k tries 0 v v
+  pub trying_none : (z : Sizes) (a g k tries : ℕ) (v : View V) → Sits z a v stage.Free → next_in z v a ≡ g → g ≤ LARGEST_GENERATION → Trying z a k tries 0 v v
   trying_none z a g k tries v sits is left = record {
     at = stage.Free;
     done = tries_none z a k v stage.Free sits;
-    may = λ some. inl (sits, subst (λ n. n ≤ 4294967295) (sym is) left);
+    may = λ some. inl (sits, subst (λ n. n ≤ LARGEST_GENERATION) (sym is) left);
     free = λ e. refl;
   }
 

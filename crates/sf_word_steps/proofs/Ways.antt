@@ -38,6 +38,7 @@ use Rattle.sf_word_steps.specs.Stands.{SitsWith, Sits, next_in, GoesWith, Goes}
 use Rattle.sf_word_steps.specs.Forgets.{forget_op}
 use Rattle.sf_schedules.proofs.Named.{IsAlone, spared_others, spared_stage, spared_generation, others_none, makers_are_callers}
 use Rattle.sf_schedules.proofs.Parts.{schedule_append}
+use Rattle.sf_words.specs.declared.limits.TheConstants.{LARGEST_GENERATION}
 
 module _ {V : Type 0} where
   -- the turns are allowed here, come to this world, and add these events
@@ -63,11 +64,11 @@ module _ {V : Type 0} where
   pub leave_ran : (z : Setting) (h : List (Event ℕ V)) (w : World V) (a : ℕ) (p : Stage V) → IsCaller z a → MayLeave p → w.stages a ≡ p → Ran z h w (turn.Leave a ∷ []) (left w a p) []
   leave_ran z h w a p caller may at = record { allowed = ((caller, subst MayLeave (sym at) may), tt); world = ap (λ q. left w a q) at; events = refl }
 
-  pub ask_ran : (z : Setting) (h : List (Event ℕ V)) (w : World V) (a k : ℕ) → IsCaller z a → IsPlace z k → w.stages a ≡ stage.Free → w.generations a ≤ 4294967295
+  pub ask_ran : (z : Setting) (h : List (Event ℕ V)) (w : World V) (a k : ℕ) → IsCaller z a → IsPlace z k → w.stages a ≡ stage.Free → w.generations a ≤ LARGEST_GENERATION
       → Ran z h w (turn.Start a (op.Ask k) ∷ []) (with_stage w a (stage.Asking k None (ask.Look false))) []
   ask_ran z h w a k caller place at left = record {
     allowed = ((caller, (place, (at, left)), tt), tt);
-    world = ap started_at at ∙ ap (λ b. cond b w (with_stage w a (stage.Asking k None (ask.Look false)))) (le-ltb 4294967295 (w.generations a) left);
+    world = ap started_at at ∙ ap (λ b. cond b w (with_stage w a (stage.Asking k None (ask.Look false)))) (le-ltb LARGEST_GENERATION (w.generations a) left);
     events = refl;
   }
     where

@@ -14,6 +14,7 @@ use Rattle.sf_word_steps.specs.declared.view.View.{View}
 use Rattle.sf_word_steps.specs.Words.{words_in}
 use Rattle.sf_word_steps.specs.View.{setting_of, sizes_of, world_of, history_of}
 use Rattle.sf_calls.specs.Seen.{Adds}
+use Rattle.sf_words.specs.declared.limits.TheConstants.{LARGEST_GENERATION}
 
 -- a seat at the table of words of a group of these sizes
 abbrev pub IsSeatOf : TableId → TableId → Sizes → Type 0
@@ -56,7 +57,7 @@ module _ {V : Type 0} where
 
   -- where an asking begins, or looks again after a failed exchange
   abbrev pub MayLook : Sizes → ℕ → ℕ → View V → Type 0
-  MayLook z a k v = (Sits z a v stage.Free × (next_in z v a ≤ 4294967295)) ⊎ Sits z a v (stage.Asking k None (ask.Look true))
+  MayLook z a k v = (Sits z a v stage.Free × (next_in z v a ≤ LARGEST_GENERATION)) ⊎ Sits z a v (stage.Asking k None (ask.Look true))
 
   -- its first look starts it
   abbrev pub look_turns : Stage V → ℕ → ℕ → List (Turn V)

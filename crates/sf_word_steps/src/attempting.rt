@@ -11,6 +11,7 @@ ghost use Rattle.sf_word_steps.specs.View.{setting_of, world_of};
 ghost use Rattle.sf_word_steps.specs.Stands.{IsSeatOf, Sits, next_in, MayLook};
 ghost use Rattle.sf_word_steps.specs.Attempts.{HasAttempted, HasLed, HasJoined, HasTried};
 ghost use Rattle.sf_word_steps.specs.Exchanges.{HasExchanged, HasTriedSo};
+ghost use Rattle.sf_words.specs.declared.limits.TheConstants.{LARGEST_CALLER};
 
 use crate::actor::Actor;
 use crate::entering::{enter, link, ready_join};
@@ -77,12 +78,15 @@ fn lead_on<V: Fit>(
     requires own { IsSeatOf seat.old.table_id words.now.table_id words.now.key }
     requires sizes { actor.sizes ≡ words.now.key }
     requires place { IsPlace (setting_of actor.sizes) actor.place }
-    requires generation { (1 ≤ generation) × (next_in actor.sizes seat.old.me.0 actor.number ≡ generation) }
-    requires by { actor.number ≤ 65535 }
+    requires generation { (1 ≤ generation)
+        × (next_in actor.sizes seat.old.me.0 actor.number ≡ generation) }
+    requires by { actor.number ≤ LARGEST_CALLER }
     requires seen { IsKeyFor actor.sizes.callers seen }
-    requires asks { Sits actor.sizes actor.number seat.old.me.0 (Asking actor.place None (ask.ReadyLead seen forgot)) }
+    requires asks { Sits actor.sizes actor.number seat.old.me.0
+        (Asking actor.place None (ask.ReadyLead seen forgot)) }
     ensures own { (seat.new.table_id ≡ seat.old.table_id) × (seat.new.me.1 ≡ seat.old.me.1) }
-    ensures led { HasLed actor.sizes actor.number generation actor.place last seen seat.old.me.0 seat.new.me.0 result }
+    ensures led { HasLed actor.sizes actor.number generation actor.place last seen seat.old.me.0
+        seat.new.me.0 result }
     ensures exchanged { HasExchanged actor.sizes actor.number 1 seat.old.me.0 seat.new.me.0 }
 {
     ready(words, seat, actor, generation, seen, forgot);
@@ -105,13 +109,17 @@ fn join_on<V: Fit>(
 ) -> Attempt
     requires own { IsSeatOf seat.old.table_id words.now.table_id words.now.key }
     requires sizes { actor.sizes ≡ words.now.key }
-    requires called { (1 ≤ called.caller) × (called.caller ≤ actor.sizes.callers) × (called.caller ≢ actor.number) }
-    requires generation { (1 ≤ generation) × (next_in actor.sizes seat.old.me.0 actor.number ≡ generation) }
-    requires by { actor.number ≤ 65535 }
+    requires called { (1 ≤ called.caller) × (called.caller ≤ actor.sizes.callers)
+        × (called.caller ≢ actor.number) }
+    requires generation { (1 ≤ generation)
+        × (next_in actor.sizes seat.old.me.0 actor.number ≡ generation) }
+    requires by { actor.number ≤ LARGEST_CALLER }
     requires seen { IsCallFor actor.sizes.callers (Open seen) }
-    requires asks { Sits actor.sizes actor.number seat.old.me.0 (Asking actor.place None (ask.ReadyJoin called seen)) }
+    requires asks { Sits actor.sizes actor.number seat.old.me.0
+        (Asking actor.place None (ask.ReadyJoin called seen)) }
     ensures own { (seat.new.table_id ≡ seat.old.table_id) × (seat.new.me.1 ≡ seat.old.me.1) }
-    ensures joined { HasJoined actor.sizes actor.number generation actor.place called last (Open seen) seat.old.me.0 seat.new.me.0 result }
+    ensures joined { HasJoined actor.sizes actor.number generation actor.place called last
+        (Open seen) seat.old.me.0 seat.new.me.0 result }
     ensures exchanged { HasExchanged actor.sizes actor.number 1 seat.old.me.0 seat.new.me.0 }
 {
     ready_join(words, seat, actor, generation, called, seen);
@@ -136,13 +144,16 @@ fn follow_on<V: Fit>(
     requires own { IsSeatOf seat.old.table_id words.now.table_id words.now.key }
     requires sizes { actor.sizes ≡ words.now.key }
     requires place { IsPlace (setting_of actor.sizes) actor.place }
-    requires generation { (1 ≤ generation) × (next_in actor.sizes seat.old.me.0 actor.number ≡ generation) }
-    requires by { actor.number ≤ 65535 }
+    requires generation { (1 ≤ generation)
+        × (next_in actor.sizes seat.old.me.0 actor.number ≡ generation) }
+    requires by { actor.number ≤ LARGEST_CALLER }
     requires seen { IsKeyFor actor.sizes.callers seen × (seen ≡ key_of called) }
     requires shown { (world_of actor.sizes seat.old.me.0.known.turns).keys actor.place ≡ seen }
-    requires asks { Sits actor.sizes actor.number seat.old.me.0 (Asking actor.place None (ask.Peek called)) }
+    requires asks { Sits actor.sizes actor.number seat.old.me.0
+        (Asking actor.place None (ask.Peek called)) }
     ensures own { (seat.new.table_id ≡ seat.old.table_id) × (seat.new.me.1 ≡ seat.old.me.1) }
-    ensures attempted { HasAttempted actor.sizes actor.number generation actor.place last seat.old.me.0 seat.new.me.0 result }
+    ensures attempted { HasAttempted actor.sizes actor.number generation actor.place last
+        seat.old.me.0 seat.new.me.0 result }
     ensures exchanged { HasExchanged actor.sizes actor.number 1 seat.old.me.0 seat.new.me.0 }
 {
     let word = peek(words, seat, actor, called);
@@ -171,11 +182,13 @@ pub(crate) fn try_once<V: Fit>(
     requires own { IsSeatOf seat.old.table_id words.now.table_id words.now.key }
     requires sizes { actor.sizes ≡ words.now.key }
     requires place { IsPlace (setting_of actor.sizes) actor.place }
-    requires generation { (1 ≤ generation) × (next_in actor.sizes seat.old.me.0 actor.number ≡ generation) }
-    requires by { actor.number ≤ 65535 }
+    requires generation { (1 ≤ generation)
+        × (next_in actor.sizes seat.old.me.0 actor.number ≡ generation) }
+    requires by { actor.number ≤ LARGEST_CALLER }
     requires may { MayLook actor.sizes actor.number actor.place seat.old.me.0 }
     ensures own { (seat.new.table_id ≡ seat.old.table_id) × (seat.new.me.1 ≡ seat.old.me.1) }
-    ensures attempted { HasAttempted actor.sizes actor.number generation actor.place last seat.old.me.0 seat.new.me.0 result }
+    ensures attempted { HasAttempted actor.sizes actor.number generation actor.place last
+        seat.old.me.0 seat.new.me.0 result }
     ensures exchanged { HasExchanged actor.sizes actor.number 1 seat.old.me.0 seat.new.me.0 }
 {
     let seen = look(words, seat, actor);
@@ -209,12 +222,15 @@ pub fn try_often<V: Fit>(
     requires own { IsSeatOf seat.old.table_id words.now.table_id words.now.key }
     requires sizes { actor.sizes ≡ words.now.key }
     requires place { IsPlace (setting_of actor.sizes) actor.place }
-    requires generation { (1 ≤ generation) × (next_in actor.sizes seat.old.me.0 actor.number ≡ generation) }
-    requires by { actor.number ≤ 65535 }
+    requires generation { (1 ≤ generation)
+        × (next_in actor.sizes seat.old.me.0 actor.number ≡ generation) }
+    requires by { actor.number ≤ LARGEST_CALLER }
     requires free { Sits actor.sizes actor.number seat.old.me.0 Free }
     ensures own { (seat.new.table_id ≡ seat.old.table_id) × (seat.new.me.1 ≡ seat.old.me.1) }
-    ensures tried { HasTried actor.sizes actor.number generation actor.place tries seat.old.me.0 seat.new.me.0 result }
-    ensures exchanged { HasTriedSo actor.sizes actor.number tries seat.old.me.0 seat.new.me.0 result }
+    ensures tried { HasTried actor.sizes actor.number generation actor.place tries seat.old.me.0
+        seat.new.me.0 result }
+    ensures exchanged { HasTriedSo actor.sizes actor.number tries seat.old.me.0 seat.new.me.0
+        result }
 {
     for failed in 0..tries {
         let attempt = try_once(words, seat, actor, generation, failed + 1 == tries);

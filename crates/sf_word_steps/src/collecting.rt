@@ -27,13 +27,21 @@ fn look_in<V: Fit>(
     requires own { IsSeatOf seat.old.table_id words.now.table_id words.now.key }
     requires sizes { actor.sizes ≡ words.now.key }
     requires by { (1 ≤ actor.number) × (actor.number ≤ actor.sizes.callers) }
-    requires holds { Sits actor.sizes actor.number seat.old.me.0 (Holding actor.place generation called) }
+    requires holds { Sits actor.sizes actor.number seat.old.me.0
+        (Holding actor.place generation called) }
     requires none { seat.old.me.1 ≡ [] }
     ensures own { seat.new.table_id ≡ seat.old.table_id }
-    ensures full { IsTrue result → GoesWith actor.sizes actor.number seat.old.me.0 seat.new.me.0 Free [] 0 (actor.number ∷ []) }
-    ensures found { IsTrue result → HasFound V.fits actor.number actor.place called (history_of actor.sizes seat.new.me.0.known.turns) seat.new.me.1 }
-    ensures waits { IsFalse result → Goes actor.sizes actor.number seat.old.me.0 seat.new.me.0 (Holding actor.place generation called) [] 0 }
-    ensures unhanded { IsFalse result → (seat.new.me.1 ≡ []) × (is_handed (history_of actor.sizes seat.new.me.0.known.turns) called ≡ false) }
+    ensures full { IsTrue result
+        → GoesWith actor.sizes actor.number seat.old.me.0 seat.new.me.0 Free [] 0
+        (actor.number ∷ []) }
+    ensures found { IsTrue result
+        → HasFound V.fits actor.number actor.place called
+        (history_of actor.sizes seat.new.me.0.known.turns) seat.new.me.1 }
+    ensures waits { IsFalse result
+        → Goes actor.sizes actor.number seat.old.me.0 seat.new.me.0
+        (Holding actor.place generation called) [] 0 }
+    ensures unhanded { IsFalse result → (seat.new.me.1 ≡ [])
+        × (is_handed (history_of actor.sizes seat.new.me.0.known.turns) called ≡ false) }
 {
     let _ = called;
     let found = load_cell::<V, u32, Brand>(
@@ -79,13 +87,20 @@ pub fn collect<V: Fit>(
     requires own { IsSeatOf seat.old.table_id words.now.table_id words.now.key }
     requires sizes { actor.sizes ≡ words.now.key }
     requires by { (1 ≤ actor.number) × (actor.number ≤ actor.sizes.callers) }
-    requires holds { Sits actor.sizes actor.number seat.old.me.0 (Holding actor.place generation called) }
+    requires holds { Sits actor.sizes actor.number seat.old.me.0
+        (Holding actor.place generation called) }
     requires none { seat.old.me.1 ≡ [] }
     ensures own { (seat.new.table_id ≡ seat.old.table_id) × (seat.new.me.1 ≡ []) }
-    ensures ready { IfSome result (λ l. Goes actor.sizes actor.number seat.old.me.0 seat.new.me.0 Free [] 0) }
-    ensures answer { IfSome result (λ l. IsAnswer V.fits actor.place called (history_of actor.sizes seat.new.me.0.known.turns) l) }
-    ensures pending { IfNone result (Goes actor.sizes actor.number seat.old.me.0 seat.new.me.0 (Holding actor.place generation called) [] 0) }
-    ensures unhanded { IfNone result (is_handed (history_of actor.sizes seat.new.me.0.known.turns) called ≡ false) }
+    ensures ready { IfSome result (λ l.
+        Goes actor.sizes actor.number seat.old.me.0 seat.new.me.0 Free [] 0) }
+    ensures answer { IfSome result (λ l.
+        IsAnswer V.fits actor.place called (history_of actor.sizes seat.new.me.0.known.turns)
+        l) }
+    ensures pending { IfNone result
+        (Goes actor.sizes actor.number seat.old.me.0 seat.new.me.0
+        (Holding actor.place generation called) [] 0) }
+    ensures unhanded { IfNone result
+        (is_handed (history_of actor.sizes seat.new.me.0.known.turns) called ≡ false) }
 {
     if !look_in(words, seat, actor, generation, called) {
         return None;

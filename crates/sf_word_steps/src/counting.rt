@@ -8,6 +8,7 @@ ghost use Rattle.sf_schedules.specs.Events.{settled};
 ghost use Rattle.sf_word_steps.specs.View.{setting_of};
 ghost use Rattle.sf_word_steps.specs.Stands.{IsSeatOf, Sits, Goes};
 ghost use Rattle.sf_word_steps.specs.Settles.{call_of, IsJoined};
+ghost use Rattle.sf_words.specs.declared.limits.TheConstants.{LARGEST_CALLER};
 
 use crate::actor::Actor;
 use crate::numbering::next_index;
@@ -36,9 +37,12 @@ fn count_one<V: Fit>(
     requires sizes { actor.sizes ≡ words.now.key }
     requires member { IsCaller (setting_of actor.sizes) member }
     requires room { joiners < actor.sizes.callers }
-    requires settles { Sits actor.sizes actor.number seat.old.me.0 (Settling actor.place generation own value.now (settle.Count joiners member top)) }
+    requires settles { Sits actor.sizes actor.number seat.old.me.0
+        (Settling actor.place generation own value.now (settle.Count joiners member top)) }
     ensures own { (seat.new.table_id ≡ seat.old.table_id) × (seat.new.me.1 ≡ seat.old.me.1) }
-    ensures told { Goes actor.sizes actor.number seat.old.me.0 seat.new.me.0 (Settling actor.place generation own value.now (after_count (joiners + 1) top result)) [] 0 }
+    ensures told { Goes actor.sizes actor.number seat.old.me.0 seat.new.me.0
+        (Settling actor.place generation own value.now
+        (after_count (joiners + 1) top result)) [] 0 }
 {
     let _ = generation;
     let _ = own;
@@ -70,10 +74,12 @@ fn count_joiners<V: Fit>(
 ) -> u32
     requires own { IsSeatOf seat.old.table_id words.now.table_id words.now.key }
     requires sizes { actor.sizes ≡ words.now.key }
-    requires settles { Sits actor.sizes actor.number seat.old.me.0 (Settling actor.place generation own value.now (settle.Count 0 top top)) }
+    requires settles { Sits actor.sizes actor.number seat.old.me.0
+        (Settling actor.place generation own value.now (settle.Count 0 top top)) }
     ensures own { (seat.new.table_id ≡ seat.old.table_id) × (seat.new.me.1 ≡ seat.old.me.1) }
     ensures some { 1 ≤ result }
-    ensures counted { Goes actor.sizes actor.number seat.old.me.0 seat.new.me.0 (Settling actor.place generation own value.now (settle.Follow result top)) [] 0 }
+    ensures counted { Goes actor.sizes actor.number seat.old.me.0 seat.new.me.0
+        (Settling actor.place generation own value.now (settle.Follow result top)) [] 0 }
 {
     let mut member = top;
     for joiners in 0..actor.sizes.callers {
@@ -110,10 +116,14 @@ pub fn settle_and_count<V: Fit>(
     requires by { (1 ≤ actor.number) × (actor.number ≤ actor.sizes.callers) }
     requires place { IsPlace (setting_of actor.sizes) actor.place }
     requires generation { 1 ≤ generation }
-    requires number { actor.sizes.callers ≤ 65535 }
-    requires leads { Sits actor.sizes actor.number seat.old.me.0 (Leading actor.place generation own) }
+    requires number { actor.sizes.callers ≤ LARGEST_CALLER }
+    requires leads { Sits actor.sizes actor.number seat.old.me.0
+        (Leading actor.place generation own) }
     ensures own { (seat.new.table_id ≡ seat.old.table_id) × (seat.new.me.1 ≡ seat.old.me.1) }
-    ensures settled { Goes actor.sizes actor.number seat.old.me.0 seat.new.me.0 (at_members actor.place generation own value.now result.joiners result.top) (settled actor.number (call_of actor.number generation) own value.now result.joiners result.top) 0 }
+    ensures settled { Goes actor.sizes actor.number seat.old.me.0 seat.new.me.0
+        (at_members actor.place generation own value.now result.joiners result.top)
+        (settled actor.number (call_of actor.number generation) own value.now result.joiners
+        result.top) 0 }
     ensures joined { IsJoined result.top result.joiners }
 {
     let top = settle_often(words, seat, actor, generation, own, value);

@@ -48,10 +48,14 @@ pub(crate) fn follow<V: Fit>(
     requires own { IsSeatOf seat.old.table_id words.now.table_id words.now.key }
     requires sizes { actor.sizes ≡ words.now.key }
     requires member { IsCaller (setting_of actor.sizes) member }
-    requires settles { Sits actor.sizes actor.number seat.old.me.0 (at_step actor delivery value.now (settle.Follow delivery.joiners member)) }
+    requires settles { Sits actor.sizes actor.number seat.old.me.0
+        (at_step actor delivery value.now (settle.Follow delivery.joiners member)) }
     ensures own { (seat.new.table_id ≡ seat.old.table_id) × (seat.new.me.1 ≡ seat.old.me.1) }
-    ensures told { Goes actor.sizes actor.number seat.old.me.0 seat.new.me.0 (at_step actor delivery value.now (settle.PeekMember delivery.joiners member result)) [] 0 }
-    ensures lists { (l : List CallId) → Lists actor delivery seat.old.me.0 (Some member) l → Lists actor delivery seat.new.me.0 (Some member) l }
+    ensures told { Goes actor.sizes actor.number seat.old.me.0 seat.new.me.0
+        (at_step actor delivery value.now
+        (settle.PeekMember delivery.joiners member result)) [] 0 }
+    ensures lists { (l : List CallId) → Lists actor delivery seat.old.me.0 (Some member) l
+        → Lists actor delivery seat.new.me.0 (Some member) l }
 {
     let _ = delivery;
     let _ = value;
@@ -81,11 +85,15 @@ pub(crate) fn peek_member<V: Fit>(
     requires own { IsSeatOf seat.old.table_id words.now.table_id words.now.key }
     requires sizes { actor.sizes ≡ words.now.key }
     requires member { IsCaller (setting_of actor.sizes) member }
-    requires settles { Sits actor.sizes actor.number seat.old.me.0 (at_step actor delivery value.now (settle.PeekMember delivery.joiners member next)) }
+    requires settles { Sits actor.sizes actor.number seat.old.me.0
+        (at_step actor delivery value.now (settle.PeekMember delivery.joiners member next)) }
     requires none { seat.old.me.1 ≡ [] }
     ensures own { (seat.new.table_id ≡ seat.old.table_id) × IsOut seat.new.me.1 member }
-    ensures told { GoesWith actor.sizes actor.number seat.old.me.0 seat.new.me.0 (at_step actor delivery value.now (settle.Deliver delivery.joiners (call_of member result) next)) [] 0 (member ∷ []) }
-    ensures lists { (l : List CallId) → Lists actor delivery seat.old.me.0 (Some member) l → Lists actor delivery seat.new.me.0 (Some member) l }
+    ensures told { GoesWith actor.sizes actor.number seat.old.me.0 seat.new.me.0
+        (at_step actor delivery value.now
+        (settle.Deliver delivery.joiners (call_of member result) next)) [] 0 (member ∷ []) }
+    ensures lists { (l : List CallId) → Lists actor delivery seat.old.me.0 (Some member) l
+        → Lists actor delivery seat.new.me.0 (Some member) l }
     ensures generation { IsGeneration result }
 {
     let _ = delivery;
@@ -120,10 +128,14 @@ pub(crate) fn peek_own<V: Fit>(
     requires sizes { actor.sizes ≡ words.now.key }
     requires channel { delivery.own ≡ Some channel }
     requires member { IsCaller (setting_of actor.sizes) channel.caller }
-    requires settles { Sits actor.sizes actor.number seat.old.me.0 (at_step actor delivery value.now (settle.PeekOwn delivery.joiners)) }
+    requires settles { Sits actor.sizes actor.number seat.old.me.0
+        (at_step actor delivery value.now (settle.PeekOwn delivery.joiners)) }
     requires none { seat.old.me.1 ≡ [] }
     ensures own { (seat.new.table_id ≡ seat.old.table_id) × IsOut seat.new.me.1 channel.caller }
-    ensures told { GoesWith actor.sizes actor.number seat.old.me.0 seat.new.me.0 (at_step actor delivery value.now (settle.DeliverOwn delivery.joiners (call_of channel.caller result))) [] 0 (channel.caller ∷ []) }
+    ensures told { GoesWith actor.sizes actor.number seat.old.me.0 seat.new.me.0
+        (at_step actor delivery value.now
+        (settle.DeliverOwn delivery.joiners (call_of channel.caller result))) [] 0
+        (channel.caller ∷ []) }
     ensures generation { IsGeneration result }
 {
     let _ = delivery;
@@ -156,14 +168,23 @@ pub(crate) fn deliver<V: Fit>(
 )
     requires own { IsSeatOf seat.old.table_id words.now.table_id words.now.key }
     requires sizes { actor.sizes ≡ words.now.key }
-    requires member { IsCaller (setting_of actor.sizes) member.caller × IsGeneration member.generation }
-    requires settles { SitsWith actor.sizes actor.number seat.old.me.0 (at_step actor delivery letter.value (settle.Deliver delivery.joiners member next)) (member.caller ∷ []) }
+    requires member { IsCaller (setting_of actor.sizes) member.caller
+        × IsGeneration member.generation }
+    requires settles { SitsWith actor.sizes actor.number seat.old.me.0
+        (at_step actor delivery letter.value (settle.Deliver delivery.joiners member next))
+        (member.caller ∷ []) }
     requires out { IsOut seat.old.me.1 member.caller }
     requires letter { letter ≡ letter_for actor delivery letter.value }
-    requires fits { V.fits actor.place (call_of actor.number delivery.generation) letter.value (history_of actor.sizes seat.old.me.0.known.turns) }
+    requires fits { V.fits actor.place (call_of actor.number delivery.generation) letter.value
+        (history_of actor.sizes seat.old.me.0.known.turns) }
     ensures own { (seat.new.table_id ≡ seat.old.table_id) × (seat.new.me.1 ≡ []) }
-    ensures told { Goes actor.sizes actor.number seat.old.me.0 seat.new.me.0 (at_members actor.place delivery.generation delivery.own letter.value delivery.joiners next) (handed actor.number (call_of actor.number delivery.generation) delivery.own next) 0 }
-    ensures lists { (n : CallId) (l : List CallId) → Lists actor delivery seat.old.me.0 (Some member.caller) (n ∷ l) → Lists actor delivery seat.new.me.0 next l }
+    ensures told { Goes actor.sizes actor.number seat.old.me.0 seat.new.me.0
+        (at_members actor.place delivery.generation delivery.own letter.value delivery.joiners
+        next) (handed actor.number (call_of actor.number delivery.generation) delivery.own
+        next) 0 }
+    ensures lists { (n : CallId) (l : List CallId)
+        → Lists actor delivery seat.old.me.0 (Some member.caller) (n ∷ l)
+        → Lists actor delivery seat.new.me.0 next l }
 {
     let _ = delivery;
     let _ = next;
@@ -194,13 +215,18 @@ pub(crate) fn deliver_own<V: Fit>(
 )
     requires own { IsSeatOf seat.old.table_id words.now.table_id words.now.key }
     requires sizes { actor.sizes ≡ words.now.key }
-    requires member { IsCaller (setting_of actor.sizes) channel.caller × IsGeneration channel.generation }
-    requires settles { SitsWith actor.sizes actor.number seat.old.me.0 (at_step actor delivery letter.value (settle.DeliverOwn delivery.joiners channel)) (channel.caller ∷ []) }
+    requires member { IsCaller (setting_of actor.sizes) channel.caller
+        × IsGeneration channel.generation }
+    requires settles { SitsWith actor.sizes actor.number seat.old.me.0
+        (at_step actor delivery letter.value (settle.DeliverOwn delivery.joiners channel))
+        (channel.caller ∷ []) }
     requires out { IsOut seat.old.me.1 channel.caller }
     requires letter { letter ≡ letter_for actor delivery letter.value }
-    requires fits { V.fits actor.place (call_of actor.number delivery.generation) letter.value (history_of actor.sizes seat.old.me.0.known.turns) }
+    requires fits { V.fits actor.place (call_of actor.number delivery.generation) letter.value
+        (history_of actor.sizes seat.old.me.0.known.turns) }
     ensures own { (seat.new.table_id ≡ seat.old.table_id) × (seat.new.me.1 ≡ []) }
-    ensures told { Goes actor.sizes actor.number seat.old.me.0 seat.new.me.0 Free (Handed actor.number (call_of actor.number delivery.generation) ∷ []) 0 }
+    ensures told { Goes actor.sizes actor.number seat.old.me.0 seat.new.me.0 Free
+        (Handed actor.number (call_of actor.number delivery.generation) ∷ []) 0 }
 {
     let _ = delivery;
     let Some(full) = CallWord::new(CallState::Full {

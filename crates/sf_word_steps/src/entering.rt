@@ -10,6 +10,7 @@ ghost use Rattle.sf_word_steps.specs.Stands.{IsSeatOf, Sits, next_in, Goes};
 ghost use Rattle.sf_word_steps.specs.Changes.{Stays, Loses};
 ghost use Rattle.sf_word_steps.specs.Exchanges.{HasExchanged};
 ghost use Rattle.sf_word_steps.specs.Attempts.{lost_stage};
+ghost use Rattle.sf_words.specs.declared.limits.TheConstants.{LARGEST_CALLER};
 
 use crate::actor::Actor;
 use crate::numbering::{call_index, next_index};
@@ -31,10 +32,13 @@ pub(crate) fn ready_join<V: Fit>(
 )
     requires own { IsSeatOf seat.old.table_id words.now.table_id words.now.key }
     requires sizes { actor.sizes ≡ words.now.key }
-    requires generation { (1 ≤ generation) × (next_in actor.sizes seat.old.me.0 actor.number ≡ generation) }
-    requires asks { Sits actor.sizes actor.number seat.old.me.0 (Asking actor.place None (ask.ReadyJoin called seen)) }
+    requires generation { (1 ≤ generation)
+        × (next_in actor.sizes seat.old.me.0 actor.number ≡ generation) }
+    requires asks { Sits actor.sizes actor.number seat.old.me.0
+        (Asking actor.place None (ask.ReadyJoin called seen)) }
     ensures own { (seat.new.table_id ≡ seat.old.table_id) × (seat.new.me.1 ≡ seat.old.me.1) }
-    ensures told { Stays actor.sizes actor.number seat.old.me.0 seat.new.me.0 (Asking actor.place None (ask.Link called seen)) }
+    ensures told { Stays actor.sizes actor.number seat.old.me.0 seat.new.me.0
+        (Asking actor.place None (ask.Link called seen)) }
     ensures exchanged { HasExchanged actor.sizes actor.number 0 seat.old.me.0 seat.new.me.0 }
 {
     let _ = called;
@@ -63,9 +67,11 @@ pub(crate) fn link<V: Fit>(
     requires own { IsSeatOf seat.old.table_id words.now.table_id words.now.key }
     requires sizes { actor.sizes ≡ words.now.key }
     requires seen { IsCallFor actor.sizes.callers (Open seen) }
-    requires asks { Sits actor.sizes actor.number seat.old.me.0 (Asking actor.place None (ask.Link called seen)) }
+    requires asks { Sits actor.sizes actor.number seat.old.me.0
+        (Asking actor.place None (ask.Link called seen)) }
     ensures own { (seat.new.table_id ≡ seat.old.table_id) × (seat.new.me.1 ≡ seat.old.me.1) }
-    ensures told { Stays actor.sizes actor.number seat.old.me.0 seat.new.me.0 (Asking actor.place None (ask.Enter called seen)) }
+    ensures told { Stays actor.sizes actor.number seat.old.me.0 seat.new.me.0
+        (Asking actor.place None (ask.Enter called seen)) }
     ensures exchanged { HasExchanged actor.sizes actor.number 0 seat.old.me.0 seat.new.me.0 }
 {
     let _ = called;
@@ -95,13 +101,21 @@ pub(crate) fn enter<V: Fit>(
     requires own { IsSeatOf seat.old.table_id words.now.table_id words.now.key }
     requires sizes { actor.sizes ≡ words.now.key }
     requires called { (1 ≤ called.caller) × (called.caller ≤ actor.sizes.callers) }
-    requires generation { (1 ≤ generation) × (next_in actor.sizes seat.old.me.0 actor.number ≡ generation) }
-    requires by { actor.number ≤ 65535 }
+    requires generation { (1 ≤ generation)
+        × (next_in actor.sizes seat.old.me.0 actor.number ≡ generation) }
+    requires by { actor.number ≤ LARGEST_CALLER }
     requires seen { IsCallFor actor.sizes.callers (Open seen) }
-    requires asks { Sits actor.sizes actor.number seat.old.me.0 (Asking actor.place None (ask.Enter called seen)) }
+    requires asks { Sits actor.sizes actor.number seat.old.me.0
+        (Asking actor.place None (ask.Enter called seen)) }
     ensures own { (seat.new.table_id ≡ seat.old.table_id) × (seat.new.me.1 ≡ seat.old.me.1) }
-    ensures won { IsTrue result → Goes actor.sizes actor.number seat.old.me.0 seat.new.me.0 (Holding actor.place generation called) (Enter actor.number actor.place called (record { caller = actor.number; generation = generation }) ∷ []) 1 }
-    ensures lost { IsFalse result → Loses actor.sizes actor.number (call called.caller) (call_code (Open seen)) seat.old.me.0 seat.new.me.0 (lost_stage actor.place last) }
+    ensures won { IsTrue result
+        → Goes actor.sizes actor.number seat.old.me.0 seat.new.me.0
+        (Holding actor.place generation called)
+        (Enter actor.number actor.place called
+        (record { caller = actor.number; generation = generation }) ∷ []) 1 }
+    ensures lost { IsFalse result
+        → Loses actor.sizes actor.number (call called.caller) (call_code (Open seen)) seat.old.me.0
+        seat.new.me.0 (lost_stage actor.place last) }
     ensures exchanged { HasExchanged actor.sizes actor.number 1 seat.old.me.0 seat.new.me.0 }
 {
     let _ = generation;

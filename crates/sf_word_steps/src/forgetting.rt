@@ -77,7 +77,9 @@ fn forget_look<V: Fit>(
     requires place { IsPlace (setting_of actor.sizes) actor.place }
     requires may { MayForget actor.sizes actor.number actor.place target seat.old.me.0 }
     ensures own { (seat.new.table_id ≡ seat.old.table_id) × (seat.new.me.1 ≡ seat.old.me.1) }
-    ensures told { Went actor.sizes actor.number seat.old.me.0 seat.new.me.0 (forget_looked actor.place target result) (look_events actor.number actor.place target result) }
+    ensures told { Went actor.sizes actor.number seat.old.me.0 seat.new.me.0
+        (forget_looked actor.place target result)
+        (look_events actor.number actor.place target result) }
     ensures exchanged { HasExchanged actor.sizes actor.number 0 seat.old.me.0 seat.new.me.0 }
     ensures shown { (world_of actor.sizes seat.new.me.0.known.turns).keys actor.place ≡ result }
     ensures range { IsKeyFor actor.sizes.callers result }
@@ -106,12 +108,16 @@ fn forget_peek<V: Fit>(
     requires own { IsSeatOf seat.old.table_id words.now.table_id words.now.key }
     requires sizes { actor.sizes ≡ words.now.key }
     requires called { (1 ≤ called.caller) × (called.caller ≤ actor.sizes.callers) }
-    requires asks { Sits actor.sizes actor.number seat.old.me.0 (Forgetting actor.place target (forget.Peek called)) }
+    requires asks { Sits actor.sizes actor.number seat.old.me.0
+        (Forgetting actor.place target (forget.Peek called)) }
     ensures own { (seat.new.table_id ≡ seat.old.table_id) × (seat.new.me.1 ≡ seat.old.me.1) }
-    ensures told { Went actor.sizes actor.number seat.old.me.0 seat.new.me.0 (peek_stage actor.place target called result) (peek_adds actor.number actor.place target called result) }
+    ensures told { Went actor.sizes actor.number seat.old.me.0 seat.new.me.0
+        (peek_stage actor.place target called result)
+        (peek_adds actor.number actor.place target called result) }
     ensures exchanged { HasExchanged actor.sizes actor.number 0 seat.old.me.0 seat.new.me.0 }
     ensures shown { (world_of actor.sizes seat.new.me.0.known.turns).calls called.caller ≡ result }
-    ensures other { (seen : LeaderState) → open_in called.generation result ≡ Some seen → called.caller ≢ actor.number }
+    ensures other { (seen : LeaderState) → open_in called.generation result ≡ Some seen
+        → called.caller ≢ actor.number }
     ensures range { IsCallFor actor.sizes.callers result }
 {
     let found = load_turns::<V, CallId, Brand>(
@@ -142,10 +148,16 @@ fn close_forgotten<V: Fit>(
     requires sizes { actor.sizes ≡ words.now.key }
     requires called { (1 ≤ called.caller) × (called.caller ≤ actor.sizes.callers) }
     requires seen { IsCallFor actor.sizes.callers (Open seen) }
-    requires asks { Sits actor.sizes actor.number seat.old.me.0 (Forgetting actor.place target (forget.Close called seen)) }
+    requires asks { Sits actor.sizes actor.number seat.old.me.0
+        (Forgetting actor.place target (forget.Close called seen)) }
     ensures own { (seat.new.table_id ≡ seat.old.table_id) × (seat.new.me.1 ≡ seat.old.me.1) }
-    ensures won { IsTrue result → Goes actor.sizes actor.number seat.old.me.0 seat.new.me.0 (Forgetting actor.place target (forget.LastClear called)) (closes actor.number actor.place target called ∷ []) 0 }
-    ensures lost { IsFalse result → Loses actor.sizes actor.number (call called.caller) (call_code (Open seen)) seat.old.me.0 seat.new.me.0 (lost_forget actor.place target last) }
+    ensures won { IsTrue result
+        → Goes actor.sizes actor.number seat.old.me.0 seat.new.me.0
+        (Forgetting actor.place target (forget.LastClear called))
+        (closes actor.number actor.place target called ∷ []) 0 }
+    ensures lost { IsFalse result
+        → Loses actor.sizes actor.number (call called.caller) (call_code (Open seen)) seat.old.me.0
+        seat.new.me.0 (lost_forget actor.place target last) }
     ensures exchanged { HasExchanged actor.sizes actor.number 1 seat.old.me.0 seat.new.me.0 }
 {
     let Some(old) = CallWord::new(CallState::Open(seen)) else {
@@ -181,10 +193,15 @@ fn first_clear<V: Fit>(
     requires sizes { actor.sizes ≡ words.now.key }
     requires place { IsPlace (setting_of actor.sizes) actor.place }
     requires called { IsKeyFor actor.sizes.callers (key_of called) }
-    requires asks { Sits actor.sizes actor.number seat.old.me.0 (Forgetting actor.place target (forget.FirstClear called)) }
+    requires asks { Sits actor.sizes actor.number seat.old.me.0
+        (Forgetting actor.place target (forget.FirstClear called)) }
     ensures own { (seat.new.table_id ≡ seat.old.table_id) × (seat.new.me.1 ≡ seat.old.me.1) }
-    ensures won { IsTrue result → Goes actor.sizes actor.number seat.old.me.0 seat.new.me.0 Free (clears actor.number actor.place target called ∷ []) 0 }
-    ensures lost { IsFalse result → Loses actor.sizes actor.number (key actor.place) (key_code (key_of called)) seat.old.me.0 seat.new.me.0 (lost_forget actor.place target last) }
+    ensures won { IsTrue result
+        → Goes actor.sizes actor.number seat.old.me.0 seat.new.me.0 Free
+        (clears actor.number actor.place target called ∷ []) 0 }
+    ensures lost { IsFalse result
+        → Loses actor.sizes actor.number (key actor.place) (key_code (key_of called)) seat.old.me.0
+        seat.new.me.0 (lost_forget actor.place target last) }
     ensures exchanged { HasExchanged actor.sizes actor.number 1 seat.old.me.0 seat.new.me.0 }
 {
     let Some(old) = KeyWord::new(KeyState::Names {
@@ -227,7 +244,8 @@ fn last_clear<V: Fit>(
     requires sizes { actor.sizes ≡ words.now.key }
     requires place { IsPlace (setting_of actor.sizes) actor.place }
     requires called { IsKeyFor actor.sizes.callers (key_of called) }
-    requires asks { Sits actor.sizes actor.number seat.old.me.0 (Forgetting actor.place target (forget.LastClear called)) }
+    requires asks { Sits actor.sizes actor.number seat.old.me.0
+        (Forgetting actor.place target (forget.LastClear called)) }
     ensures own { (seat.new.table_id ≡ seat.old.table_id) × (seat.new.me.1 ≡ seat.old.me.1) }
     ensures told { Goes actor.sizes actor.number seat.old.me.0 seat.new.me.0 Free [] 0 }
     ensures exchanged { HasExchanged actor.sizes actor.number 0 seat.old.me.0 seat.new.me.0 }
@@ -270,9 +288,11 @@ fn clear_on<V: Fit>(
     requires sizes { actor.sizes ≡ words.now.key }
     requires place { IsPlace (setting_of actor.sizes) actor.place }
     requires called { IsKeyFor actor.sizes.callers (key_of called) }
-    requires asks { Sits actor.sizes actor.number seat.old.me.0 (Forgetting actor.place target (forget.FirstClear called)) }
+    requires asks { Sits actor.sizes actor.number seat.old.me.0
+        (Forgetting actor.place target (forget.FirstClear called)) }
     ensures own { (seat.new.table_id ≡ seat.old.table_id) × (seat.new.me.1 ≡ seat.old.me.1) }
-    ensures cleared { HasCleared actor.sizes actor.number actor.place target called last seat.old.me.0 seat.new.me.0 result }
+    ensures cleared { HasCleared actor.sizes actor.number actor.place target called last
+        seat.old.me.0 seat.new.me.0 result }
     ensures exchanged { HasExchanged actor.sizes actor.number 1 seat.old.me.0 seat.new.me.0 }
 {
     if first_clear(words, seat, actor, target, called, last) {
@@ -297,9 +317,11 @@ fn close_on<V: Fit>(
     requires place { IsPlace (setting_of actor.sizes) actor.place }
     requires called { IsKeyFor actor.sizes.callers (key_of called) }
     requires seen { IsCallFor actor.sizes.callers (Open seen) }
-    requires asks { Sits actor.sizes actor.number seat.old.me.0 (Forgetting actor.place target (forget.Close called seen)) }
+    requires asks { Sits actor.sizes actor.number seat.old.me.0
+        (Forgetting actor.place target (forget.Close called seen)) }
     ensures own { (seat.new.table_id ≡ seat.old.table_id) × (seat.new.me.1 ≡ seat.old.me.1) }
-    ensures closed { HasClosed actor.sizes actor.number actor.place target called last (Open seen) seat.old.me.0 seat.new.me.0 result }
+    ensures closed { HasClosed actor.sizes actor.number actor.place target called last
+        (Open seen) seat.old.me.0 seat.new.me.0 result }
     ensures exchanged { HasExchanged actor.sizes actor.number 1 seat.old.me.0 seat.new.me.0 }
 {
     if close_forgotten(words, seat, actor, target, called, seen, last) {
@@ -325,10 +347,13 @@ fn forget_on<V: Fit>(
     requires place { IsPlace (setting_of actor.sizes) actor.place }
     requires called { IsKeyFor actor.sizes.callers (key_of called) }
     requires meant { IsMeant target called }
-    requires shown { (world_of actor.sizes seat.old.me.0.known.turns).keys actor.place ≡ key_of called }
-    requires asks { Sits actor.sizes actor.number seat.old.me.0 (Forgetting actor.place target (forget.Peek called)) }
+    requires shown { (world_of actor.sizes seat.old.me.0.known.turns).keys actor.place
+        ≡ key_of called }
+    requires asks { Sits actor.sizes actor.number seat.old.me.0
+        (Forgetting actor.place target (forget.Peek called)) }
     ensures own { (seat.new.table_id ≡ seat.old.table_id) × (seat.new.me.1 ≡ seat.old.me.1) }
-    ensures forgot { HasForgot actor.sizes actor.number actor.place target last seat.old.me.0 seat.new.me.0 result }
+    ensures forgot { HasForgot actor.sizes actor.number actor.place target last seat.old.me.0
+        seat.new.me.0 result }
     ensures exchanged { HasForgotBy actor.sizes actor.number seat.old.me.0 seat.new.me.0 result }
 {
     let word = forget_peek(words, seat, actor, target, called);
@@ -354,7 +379,8 @@ fn forget_once<V: Fit>(
     requires place { IsPlace (setting_of actor.sizes) actor.place }
     requires may { MayForget actor.sizes actor.number actor.place target seat.old.me.0 }
     ensures own { (seat.new.table_id ≡ seat.old.table_id) × (seat.new.me.1 ≡ seat.old.me.1) }
-    ensures forgot { HasForgot actor.sizes actor.number actor.place target last seat.old.me.0 seat.new.me.0 result }
+    ensures forgot { HasForgot actor.sizes actor.number actor.place target last seat.old.me.0
+        seat.new.me.0 result }
     ensures exchanged { HasForgotBy actor.sizes actor.number seat.old.me.0 seat.new.me.0 result }
 {
     let seen = forget_look(words, seat, actor, target);
@@ -378,8 +404,10 @@ pub fn forget_often<V: Fit>(
     requires place { IsPlace (setting_of actor.sizes) actor.place }
     requires free { Sits actor.sizes actor.number seat.old.me.0 Free }
     ensures own { (seat.new.table_id ≡ seat.old.table_id) × (seat.new.me.1 ≡ seat.old.me.1) }
-    ensures forgot { HasForgottenOften actor.sizes actor.number actor.place target tries seat.old.me.0 seat.new.me.0 result }
-    ensures exchanged { HasForgotSo actor.sizes actor.number tries seat.old.me.0 seat.new.me.0 result }
+    ensures forgot { HasForgottenOften actor.sizes actor.number actor.place target tries
+        seat.old.me.0 seat.new.me.0 result }
+    ensures exchanged { HasForgotSo actor.sizes actor.number tries seat.old.me.0 seat.new.me.0
+        result }
 {
     for failed in 0..tries {
         let attempt = forget_once(words, seat, actor, target, failed + 1 == tries);

@@ -35,13 +35,21 @@ fn hand_one<V: Fit, W: Wakes>(
     requires own { IsSeatOf seat.old.table_id words.now.table_id words.now.key }
     requires words { words.now.table_id.words ≡ words_in words.now.key }
     requires sizes { actor.sizes ≡ words.now.key }
-    requires settles { Sits actor.sizes actor.number seat.old.me.0 (at_step actor delivery value.old (settle.Follow delivery.joiners member)) }
+    requires settles { Sits actor.sizes actor.number seat.old.me.0
+        (at_step actor delivery value.old (settle.Follow delivery.joiners member)) }
     requires none { seat.old.me.1 ≡ [] }
-    requires fits { V.fits actor.place (call_of actor.number delivery.generation) value.old (history_of actor.sizes seat.old.me.0.known.turns) }
+    requires fits { V.fits actor.place (call_of actor.number delivery.generation) value.old
+        (history_of actor.sizes seat.old.me.0.known.turns) }
     ensures own { (seat.new.table_id ≡ seat.old.table_id) × (seat.new.me.1 ≡ []) }
     ensures value { value.new ≡ value.old }
-    ensures handed { IfOk result (λ next. Goes actor.sizes actor.number seat.old.me.0 seat.new.me.0 (at_members actor.place delivery.generation delivery.own value.old delivery.joiners next) (handed actor.number (call_of actor.number delivery.generation) delivery.own next) 0) }
-    ensures lists { IfOk result (λ next. (n : CallId) (l : List CallId) → Lists actor delivery seat.old.me.0 (Some member) (n ∷ l) → Lists actor delivery seat.new.me.0 next l) }
+    ensures handed { IfOk result (λ next.
+        Goes actor.sizes actor.number seat.old.me.0 seat.new.me.0
+        (at_members actor.place delivery.generation delivery.own value.old delivery.joiners
+        next) (handed actor.number (call_of actor.number delivery.generation)
+        delivery.own next) 0) }
+    ensures lists { IfOk result (λ next. (n : CallId) (l : List CallId)
+        → Lists actor delivery seat.old.me.0 (Some member) (n ∷ l)
+        → Lists actor delivery seat.new.me.0 next l) }
     ensures refused { IfErr result (λ e. seat.new.me ≡ seat.old.me) }
 {
     let copy = value.share()?;
@@ -78,13 +86,21 @@ fn hand_members<V: Fit, W: Wakes>(
     requires own { IsSeatOf seat.old.table_id words.now.table_id words.now.key }
     requires words { words.now.table_id.words ≡ words_in words.now.key }
     requires sizes { actor.sizes ≡ words.now.key }
-    requires settles { Sits actor.sizes actor.number seat.old.me.0 (at_step actor delivery value.old (settle.Follow delivery.joiners first)) }
+    requires settles { Sits actor.sizes actor.number seat.old.me.0
+        (at_step actor delivery value.old (settle.Follow delivery.joiners first)) }
     requires none { seat.old.me.1 ≡ [] }
-    requires fits { V.fits actor.place (call_of actor.number delivery.generation) value.old (history_of actor.sizes seat.old.me.0.known.turns) }
+    requires fits { V.fits actor.place (call_of actor.number delivery.generation) value.old
+        (history_of actor.sizes seat.old.me.0.known.turns) }
     ensures own { (seat.new.table_id ≡ seat.old.table_id) × (seat.new.me.1 ≡ []) }
     ensures value { value.new ≡ value.old }
-    ensures handed { IfOk result (λ u. Goes actor.sizes actor.number seat.old.me.0 seat.new.me.0 (at_own actor.place delivery.generation value.old delivery.joiners delivery.own) (handed actor.number (call_of actor.number delivery.generation) delivery.own None) 0) }
-    ensures refused { IfErr result (λ member. Goes actor.sizes actor.number seat.old.me.0 seat.new.me.0 (at_step actor delivery value.old (settle.Follow delivery.joiners member)) [] 0) }
+    ensures handed { IfOk result (λ u.
+        Goes actor.sizes actor.number seat.old.me.0 seat.new.me.0
+        (at_own actor.place delivery.generation value.old delivery.joiners delivery.own)
+        (handed actor.number (call_of actor.number delivery.generation) delivery.own None)
+        0) }
+    ensures refused { IfErr result (λ member.
+        Goes actor.sizes actor.number seat.old.me.0 seat.new.me.0
+        (at_step actor delivery value.old (settle.Follow delivery.joiners member)) [] 0) }
 {
     let mut top = Some(first);
     for served in 0..actor.sizes.callers {
@@ -113,12 +129,16 @@ fn hand_own<V: Fit, W: Wakes>(
     requires words { words.now.table_id.words ≡ words_in words.now.key }
     requires sizes { actor.sizes ≡ words.now.key }
     requires channel { delivery.own ≡ Some channel }
-    requires settles { Sits actor.sizes actor.number seat.old.me.0 (at_step actor delivery value.old (settle.PeekOwn delivery.joiners)) }
+    requires settles { Sits actor.sizes actor.number seat.old.me.0
+        (at_step actor delivery value.old (settle.PeekOwn delivery.joiners)) }
     requires none { seat.old.me.1 ≡ [] }
-    requires fits { V.fits actor.place (call_of actor.number delivery.generation) value.old (history_of actor.sizes seat.old.me.0.known.turns) }
+    requires fits { V.fits actor.place (call_of actor.number delivery.generation) value.old
+        (history_of actor.sizes seat.old.me.0.known.turns) }
     ensures own { (seat.new.table_id ≡ seat.old.table_id) × (seat.new.me.1 ≡ []) }
     ensures value { value.new ≡ value.old }
-    ensures handed { IfOk result (λ u. Goes actor.sizes actor.number seat.old.me.0 seat.new.me.0 Free (Handed actor.number (call_of actor.number delivery.generation) ∷ []) 0) }
+    ensures handed { IfOk result (λ u.
+        Goes actor.sizes actor.number seat.old.me.0 seat.new.me.0 Free
+        (Handed actor.number (call_of actor.number delivery.generation) ∷ []) 0) }
     ensures refused { IfErr result (λ e. seat.new.me ≡ seat.old.me) }
 {
     let copy = value.share()?;
@@ -154,13 +174,22 @@ fn hand_list<V: Fit, W: Wakes>(
     requires own { IsSeatOf seat.old.table_id words.now.table_id words.now.key }
     requires words { words.now.table_id.words ≡ words_in words.now.key }
     requires sizes { actor.sizes ≡ words.now.key }
-    requires settles { Sits actor.sizes actor.number seat.old.me.0 (at_members actor.place delivery.generation delivery.own value.old delivery.joiners top) }
+    requires settles { Sits actor.sizes actor.number seat.old.me.0
+        (at_members actor.place delivery.generation delivery.own value.old delivery.joiners
+        top) }
     requires none { seat.old.me.1 ≡ [] }
-    requires fits { V.fits actor.place (call_of actor.number delivery.generation) value.old (history_of actor.sizes seat.old.me.0.known.turns) }
+    requires fits { V.fits actor.place (call_of actor.number delivery.generation) value.old
+        (history_of actor.sizes seat.old.me.0.known.turns) }
     ensures own { (seat.new.table_id ≡ seat.old.table_id) × (seat.new.me.1 ≡ []) }
     ensures value { value.new ≡ value.old }
-    ensures handed { IfOk result (λ u. Goes actor.sizes actor.number seat.old.me.0 seat.new.me.0 (at_own actor.place delivery.generation value.old delivery.joiners delivery.own) (handed_list actor.number (call_of actor.number delivery.generation) delivery.own top) 0) }
-    ensures refused { IfErr result (λ member. Goes actor.sizes actor.number seat.old.me.0 seat.new.me.0 (at_step actor delivery value.old (settle.Follow delivery.joiners member)) [] 0) }
+    ensures handed { IfOk result (λ u.
+        Goes actor.sizes actor.number seat.old.me.0 seat.new.me.0
+        (at_own actor.place delivery.generation value.old delivery.joiners delivery.own)
+        (handed_list actor.number (call_of actor.number delivery.generation) delivery.own
+        top) 0) }
+    ensures refused { IfErr result (λ member.
+        Goes actor.sizes actor.number seat.old.me.0 seat.new.me.0
+        (at_step actor delivery value.old (settle.Follow delivery.joiners member)) [] 0) }
 {
     let Some(first) = top else {
         return Ok(());
@@ -182,13 +211,22 @@ pub fn hand_out<V: Fit, W: Wakes>(
     requires own { IsSeatOf seat.old.table_id words.now.table_id words.now.key }
     requires words { words.now.table_id.words ≡ words_in words.now.key }
     requires sizes { actor.sizes ≡ words.now.key }
-    requires settles { Sits actor.sizes actor.number seat.old.me.0 (at_members actor.place delivery.generation delivery.own value.old delivery.joiners top) }
+    requires settles { Sits actor.sizes actor.number seat.old.me.0
+        (at_members actor.place delivery.generation delivery.own value.old delivery.joiners
+        top) }
     requires none { seat.old.me.1 ≡ [] }
-    requires fits { V.fits actor.place (call_of actor.number delivery.generation) value.old (history_of actor.sizes seat.old.me.0.known.turns) }
+    requires fits { V.fits actor.place (call_of actor.number delivery.generation) value.old
+        (history_of actor.sizes seat.old.me.0.known.turns) }
     ensures own { (seat.new.table_id ≡ seat.old.table_id) × (seat.new.me.1 ≡ []) }
     ensures value { value.new ≡ value.old }
-    ensures handed { IfOk result (λ u. Goes actor.sizes actor.number seat.old.me.0 seat.new.me.0 Free (handed_later actor.number (call_of actor.number delivery.generation) delivery.own top) 0) }
-    ensures refused { IfErr result (λ left. Goes actor.sizes actor.number seat.old.me.0 seat.new.me.0 (at_members actor.place delivery.generation delivery.own value.old delivery.joiners left) [] 0) }
+    ensures handed { IfOk result (λ u.
+        Goes actor.sizes actor.number seat.old.me.0 seat.new.me.0 Free
+        (handed_later actor.number (call_of actor.number delivery.generation) delivery.own
+        top) 0) }
+    ensures refused { IfErr result (λ left.
+        Goes actor.sizes actor.number seat.old.me.0 seat.new.me.0
+        (at_members actor.place delivery.generation delivery.own value.old delivery.joiners
+        left) [] 0) }
     ensures owed { IfErr result (λ left. IsOwed left delivery.own) }
 {
     if let Err(member) = hand_list(words, resting, seat, actor, delivery, value, top) {

@@ -15,6 +15,7 @@ ghost use Rattle.sf_word_steps.specs.Stands.{IsSeatOf, Sits, next_in, MayLook};
 ghost use Rattle.sf_word_steps.specs.Changes.{Stays, Loses};
 ghost use Rattle.sf_word_steps.specs.Exchanges.{HasExchanged};
 ghost use Rattle.sf_word_steps.specs.Attempts.{lost_stage, HasLedAfter};
+ghost use Rattle.sf_words.specs.declared.limits.TheConstants.{LARGEST_CALLER};
 
 use crate::actor::Actor;
 use crate::numbering::{call_index, key_index};
@@ -35,7 +36,8 @@ pub(crate) fn look<V: Fit>(words: &Words<V>, seat: &mut WordSeat<V>, actor: Acto
     requires place { IsPlace (setting_of actor.sizes) actor.place }
     requires may { MayLook actor.sizes actor.number actor.place seat.old.me.0 }
     ensures own { (seat.new.table_id ≡ seat.old.table_id) × (seat.new.me.1 ≡ seat.old.me.1) }
-    ensures told { Stays actor.sizes actor.number seat.old.me.0 seat.new.me.0 (Asking actor.place None (looked None result)) }
+    ensures told { Stays actor.sizes actor.number seat.old.me.0 seat.new.me.0
+        (Asking actor.place None (looked None result)) }
     ensures exchanged { HasExchanged actor.sizes actor.number 0 seat.old.me.0 seat.new.me.0 }
     ensures shown { (world_of actor.sizes seat.new.me.0.known.turns).keys actor.place ≡ result }
     ensures range { IsKeyFor actor.sizes.callers result }
@@ -63,12 +65,16 @@ pub(crate) fn peek<V: Fit>(
     requires own { IsSeatOf seat.old.table_id words.now.table_id words.now.key }
     requires sizes { actor.sizes ≡ words.now.key }
     requires called { (1 ≤ called.caller) × (called.caller ≤ actor.sizes.callers) }
-    requires asks { Sits actor.sizes actor.number seat.old.me.0 (Asking actor.place None (ask.Peek called)) }
+    requires asks { Sits actor.sizes actor.number seat.old.me.0
+        (Asking actor.place None (ask.Peek called)) }
     ensures own { (seat.new.table_id ≡ seat.old.table_id) × (seat.new.me.1 ≡ seat.old.me.1) }
-    ensures told { Stays actor.sizes actor.number seat.old.me.0 seat.new.me.0 (Asking actor.place None (peeked None called (is_forgot_in called.generation result) (open_in called.generation result))) }
+    ensures told { Stays actor.sizes actor.number seat.old.me.0 seat.new.me.0
+        (Asking actor.place None (peeked None called (is_forgot_in called.generation result)
+        (open_in called.generation result))) }
     ensures exchanged { HasExchanged actor.sizes actor.number 0 seat.old.me.0 seat.new.me.0 }
     ensures shown { (world_of actor.sizes seat.new.me.0.known.turns).calls called.caller ≡ result }
-    ensures other { (seen : LeaderState) → open_in called.generation result ≡ Some seen → called.caller ≢ actor.number }
+    ensures other { (seen : LeaderState) → open_in called.generation result ≡ Some seen
+        → called.caller ≢ actor.number }
     ensures range { IsCallFor actor.sizes.callers result }
 {
     let found = load_turns::<V, CallId, Brand>(
@@ -95,10 +101,13 @@ pub(crate) fn ready<V: Fit>(
 )
     requires own { IsSeatOf seat.old.table_id words.now.table_id words.now.key }
     requires sizes { actor.sizes ≡ words.now.key }
-    requires generation { (1 ≤ generation) × (next_in actor.sizes seat.old.me.0 actor.number ≡ generation) }
-    requires asks { Sits actor.sizes actor.number seat.old.me.0 (Asking actor.place None (ask.ReadyLead seen forgot)) }
+    requires generation { (1 ≤ generation)
+        × (next_in actor.sizes seat.old.me.0 actor.number ≡ generation) }
+    requires asks { Sits actor.sizes actor.number seat.old.me.0
+        (Asking actor.place None (ask.ReadyLead seen forgot)) }
     ensures own { (seat.new.table_id ≡ seat.old.table_id) × (seat.new.me.1 ≡ seat.old.me.1) }
-    ensures told { Stays actor.sizes actor.number seat.old.me.0 seat.new.me.0 (Asking actor.place None (ask.Lead seen forgot)) }
+    ensures told { Stays actor.sizes actor.number seat.old.me.0 seat.new.me.0
+        (Asking actor.place None (ask.Lead seen forgot)) }
     ensures exchanged { HasExchanged actor.sizes actor.number 0 seat.old.me.0 seat.new.me.0 }
 {
     let _ = seen;
@@ -133,13 +142,19 @@ pub(crate) fn lead<V: Fit>(
     requires own { IsSeatOf seat.old.table_id words.now.table_id words.now.key }
     requires sizes { actor.sizes ≡ words.now.key }
     requires place { IsPlace (setting_of actor.sizes) actor.place }
-    requires generation { (1 ≤ generation) × (next_in actor.sizes seat.old.me.0 actor.number ≡ generation) }
-    requires by { actor.number ≤ 65535 }
+    requires generation { (1 ≤ generation)
+        × (next_in actor.sizes seat.old.me.0 actor.number ≡ generation) }
+    requires by { actor.number ≤ LARGEST_CALLER }
     requires seen { IsKeyFor actor.sizes.callers seen }
-    requires asks { Sits actor.sizes actor.number seat.old.me.0 (Asking actor.place None (ask.Lead seen forgot)) }
+    requires asks { Sits actor.sizes actor.number seat.old.me.0
+        (Asking actor.place None (ask.Lead seen forgot)) }
     ensures own { (seat.new.table_id ≡ seat.old.table_id) × (seat.new.me.1 ≡ seat.old.me.1) }
-    ensures won { IsTrue result → HasLedAfter actor.sizes actor.number actor.place generation seat.old.me.0 seat.new.me.0 (after_of seen forgot) }
-    ensures lost { IsFalse result → Loses actor.sizes actor.number (key actor.place) (key_code seen) seat.old.me.0 seat.new.me.0 (lost_stage actor.place last) }
+    ensures won { IsTrue result
+        → HasLedAfter actor.sizes actor.number actor.place generation seat.old.me.0 seat.new.me.0
+        (after_of seen forgot) }
+    ensures lost { IsFalse result
+        → Loses actor.sizes actor.number (key actor.place) (key_code seen) seat.old.me.0
+        seat.new.me.0 (lost_stage actor.place last) }
     ensures exchanged { HasExchanged actor.sizes actor.number 1 seat.old.me.0 seat.new.me.0 }
 {
     let _ = forgot;

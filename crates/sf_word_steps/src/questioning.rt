@@ -61,10 +61,12 @@ fn question_peek<V: Fit>(
     requires sizes { actor.sizes ≡ words.now.key }
     requires place { IsPlace (setting_of actor.sizes) actor.place }
     requires called { IsCaller (setting_of actor.sizes) called.caller }
-    requires led { was_led_on (history_of actor.sizes seat.old.me.0.known.turns) actor.place called ≡ true }
+    requires led { was_led_on (history_of actor.sizes seat.old.me.0.known.turns) actor.place called
+        ≡ true }
     requires free { Sits actor.sizes actor.number seat.old.me.0 Free }
     ensures own { (seat.new.table_id ≡ seat.old.table_id) × (seat.new.me.1 ≡ seat.old.me.1) }
-    ensures peeked { HasPeeked actor.sizes actor.number actor.place called seat.old.me.0 seat.new.me.0 result }
+    ensures peeked { HasPeeked actor.sizes actor.number actor.place called seat.old.me.0
+        seat.new.me.0 result }
 {
     let found = load_turns::<V, (u32, CallId), Brand>(
         words,
@@ -89,9 +91,11 @@ fn question_look<V: Fit>(
     requires own { IsSeatOf seat.old.table_id words.now.table_id words.now.key }
     requires sizes { actor.sizes ≡ words.now.key }
     requires place { IsPlace (setting_of actor.sizes) actor.place }
-    requires asks { Sits actor.sizes actor.number seat.old.me.0 (Questioning actor.place called current.Look) }
+    requires asks { Sits actor.sizes actor.number seat.old.me.0
+        (Questioning actor.place called current.Look) }
     ensures own { (seat.new.table_id ≡ seat.old.table_id) × (seat.new.me.1 ≡ seat.old.me.1) }
-    ensures looked { HasLooked actor.sizes actor.number actor.place called seat.old.me.0 seat.new.me.0 result }
+    ensures looked { HasLooked actor.sizes actor.number actor.place called seat.old.me.0
+        seat.new.me.0 result }
 {
     let found = load_turns::<V, u32, Brand>(
         words,
@@ -117,12 +121,16 @@ pub fn ask_current<V: Fit>(
     requires own { IsSeatOf seat.old.table_id words.now.table_id words.now.key }
     requires sizes { actor.sizes ≡ words.now.key }
     requires place { IsPlace (setting_of actor.sizes) actor.place }
-    requires led { was_led_on (history_of actor.sizes seat.old.me.0.known.turns) actor.place called ≡ true }
+    requires led { was_led_on (history_of actor.sizes seat.old.me.0.known.turns) actor.place called
+        ≡ true }
     requires free { Sits actor.sizes actor.number seat.old.me.0 Free }
     ensures own { (seat.new.table_id ≡ seat.old.table_id) × (seat.new.me.1 ≡ seat.old.me.1) }
     ensures free { Goes actor.sizes actor.number seat.old.me.0 seat.new.me.0 Free [] 0 }
-    ensures right { IsTrue result → WasCurrent actor.sizes actor.place called seat.old.me.0 seat.new.me.0 }
-    ensures outdated { IsFalse result → current_call nat_eq (history_of actor.sizes seat.new.me.0.known.turns) actor.place ≢ Some called }
+    ensures right { IsTrue result
+        → WasCurrent actor.sizes actor.place called seat.old.me.0 seat.new.me.0 }
+    ensures outdated { IsFalse result
+        → current_call nat_eq (history_of actor.sizes seat.new.me.0.known.turns) actor.place
+        ≢ Some called }
 {
     if question_peek(words, seat, actor, called) {
         return false;

@@ -10,6 +10,7 @@ ghost use Rattle.sf_word_steps.specs.Words.{IsKeyFor, IsCallFor};
 ghost use Rattle.sf_word_steps.specs.View.{setting_of};
 ghost use Rattle.sf_word_steps.specs.Stands.{IsSeatOf, Sits, Goes};
 ghost use Rattle.sf_word_steps.specs.Settles.{MaySettle, IsLeadersWord, Fails, HasPeeked, HasSettled};
+ghost use Rattle.sf_words.specs.declared.limits.TheConstants.{LARGEST_CALLER};
 
 use crate::actor::Actor;
 use crate::numbering::{call_index, key_index};
@@ -35,9 +36,11 @@ fn own_peek<V: Fit>(
     requires own { IsSeatOf seat.old.table_id words.now.table_id words.now.key }
     requires sizes { actor.sizes ≡ words.now.key }
     requires by { (1 ≤ actor.number) × (actor.number ≤ actor.sizes.callers) }
-    requires may { MaySettle actor.sizes actor.number actor.place generation own value.now seat.old.me.0 }
+    requires may { MaySettle actor.sizes actor.number actor.place generation own value.now
+        seat.old.me.0 }
     ensures own { (seat.new.table_id ≡ seat.old.table_id) × (seat.new.me.1 ≡ seat.old.me.1) }
-    ensures told { HasPeeked actor.sizes actor.number actor.place generation own value.now seat.old.me.0 seat.new.me.0 result }
+    ensures told { HasPeeked actor.sizes actor.number actor.place generation own value.now
+        seat.old.me.0 seat.new.me.0 result }
     ensures leads { IsLeadersWord generation result }
     ensures range { IsCallFor actor.sizes.callers result }
 {
@@ -71,10 +74,15 @@ fn close_own<V: Fit>(
     requires sizes { actor.sizes ≡ words.now.key }
     requires by { (1 ≤ actor.number) × (actor.number ≤ actor.sizes.callers) }
     requires seen { IsCallFor actor.sizes.callers (Open seen) }
-    requires asks { Sits actor.sizes actor.number seat.old.me.0 (Settling actor.place generation own value.now (settle.Close seen)) }
+    requires asks { Sits actor.sizes actor.number seat.old.me.0
+        (Settling actor.place generation own value.now (settle.Close seen)) }
     ensures own { (seat.new.table_id ≡ seat.old.table_id) × (seat.new.me.1 ≡ seat.old.me.1) }
-    ensures won { IsTrue result → HasSettled actor.sizes actor.number actor.place generation own value.now seat.old.me.0 seat.new.me.0 seen.top }
-    ensures lost { IsFalse result → Fails actor.sizes actor.number actor.place generation 1 own value.now seat.old.me.0 seat.new.me.0 }
+    ensures won { IsTrue result
+        → HasSettled actor.sizes actor.number actor.place generation own value.now seat.old.me.0
+        seat.new.me.0 seen.top }
+    ensures lost { IsFalse result
+        → Fails actor.sizes actor.number actor.place generation 1 own value.now seat.old.me.0
+        seat.new.me.0 }
 {
     let _ = generation;
     let _ = own;
@@ -113,10 +121,12 @@ fn clear_own<V: Fit>(
     requires by { (1 ≤ actor.number) × (actor.number ≤ actor.sizes.callers) }
     requires place { IsPlace (setting_of actor.sizes) actor.place }
     requires generation { 1 ≤ generation }
-    requires number { actor.number ≤ 65535 }
-    requires asks { Sits actor.sizes actor.number seat.old.me.0 (Settling actor.place generation own value.now (settle.Clear top)) }
+    requires number { actor.number ≤ LARGEST_CALLER }
+    requires asks { Sits actor.sizes actor.number seat.old.me.0
+        (Settling actor.place generation own value.now (settle.Clear top)) }
     ensures own { (seat.new.table_id ≡ seat.old.table_id) × (seat.new.me.1 ≡ seat.old.me.1) }
-    ensures told { Goes actor.sizes actor.number seat.old.me.0 seat.new.me.0 (at_count actor.place generation own value.now top) [] 0 }
+    ensures told { Goes actor.sizes actor.number seat.old.me.0 seat.new.me.0
+        (at_count actor.place generation own value.now top) [] 0 }
 {
     let _ = own;
     let _ = value;
@@ -161,11 +171,16 @@ fn settle_once<V: Fit>(
     requires by { (1 ≤ actor.number) × (actor.number ≤ actor.sizes.callers) }
     requires place { IsPlace (setting_of actor.sizes) actor.place }
     requires generation { 1 ≤ generation }
-    requires number { actor.number ≤ 65535 }
-    requires may { MaySettle actor.sizes actor.number actor.place generation own value.now seat.old.me.0 }
+    requires number { actor.number ≤ LARGEST_CALLER }
+    requires may { MaySettle actor.sizes actor.number actor.place generation own value.now
+        seat.old.me.0 }
     ensures own { (seat.new.table_id ≡ seat.old.table_id) × (seat.new.me.1 ≡ seat.old.me.1) }
-    ensures settled { IfSome result (λ top. HasSettled actor.sizes actor.number actor.place generation own value.now seat.old.me.0 seat.new.me.0 top) }
-    ensures failed { IfNone result (Fails actor.sizes actor.number actor.place generation 1 own value.now seat.old.me.0 seat.new.me.0) }
+    ensures settled { IfSome result (λ top.
+        HasSettled actor.sizes actor.number actor.place generation own value.now seat.old.me.0
+        seat.new.me.0 top) }
+    ensures failed { IfNone result
+        (Fails actor.sizes actor.number actor.place generation 1 own value.now seat.old.me.0
+        seat.new.me.0) }
 {
     let word = own_peek(words, seat, actor, generation, own, value);
     match word {
@@ -198,10 +213,12 @@ pub(crate) fn settle_often<V: Fit>(
     requires by { (1 ≤ actor.number) × (actor.number ≤ actor.sizes.callers) }
     requires place { IsPlace (setting_of actor.sizes) actor.place }
     requires generation { 1 ≤ generation }
-    requires number { actor.sizes.callers ≤ 65535 }
-    requires leads { Sits actor.sizes actor.number seat.old.me.0 (Leading actor.place generation own) }
+    requires number { actor.sizes.callers ≤ LARGEST_CALLER }
+    requires leads { Sits actor.sizes actor.number seat.old.me.0
+        (Leading actor.place generation own) }
     ensures own { (seat.new.table_id ≡ seat.old.table_id) × (seat.new.me.1 ≡ seat.old.me.1) }
-    ensures settled { HasSettled actor.sizes actor.number actor.place generation own value.now seat.old.me.0 seat.new.me.0 result }
+    ensures settled { HasSettled actor.sizes actor.number actor.place generation own value.now
+        seat.old.me.0 seat.new.me.0 result }
 {
     for failed in 0..actor.sizes.callers + 1 {
         match settle_once(words, seat, actor, generation, own, value) {

@@ -60,7 +60,8 @@ pub fn exchange_turns<V: Fit, A, J: Plan<V>>(
 ) -> u64
     requires own { IsSeatOf seat.old.table_id words.now.table_id words.now.key }
     requires word { IsWord words.now.key J.word × (word ≡ index words.now.key J.word) }
-    requires moves { Moves words.now.key seat.old.me.0 J.word (λ n. either (n == old) new n) J.turns }
+    requires moves { Moves words.now.key seat.old.me.0 J.word (λ n.
+        either (n == old) new n) J.turns }
     ensures own { seat.new.table_id ≡ seat.old.table_id }
     ensures told { ToldFound J.word J.turns seat.old.me result seat.new.me }
 {
@@ -99,7 +100,8 @@ pub(crate) fn store_cell<V: Fit, A, J: CellPlan<V>>(
 )
     requires own { IsSeatOf seat.old.table_id words.now.table_id words.now.key }
     requires word { IsWord words.now.key J.word × (word ≡ index words.now.key J.word) }
-    requires moves { MovesCell V.fits words.now.key seat.old.me J.word (λ _. new) (λ _. J.turns new) (λ _. J.handle new) }
+    requires moves { MovesCell V.fits words.now.key seat.old.me J.word (λ _. new) (λ _.
+        J.turns new) (λ _. J.handle new) }
     ensures own { seat.new.table_id ≡ seat.old.table_id }
     ensures told { ToldHandledStore V.fits (J.turns new) (J.handle new) seat.old.me seat.new.me }
 {

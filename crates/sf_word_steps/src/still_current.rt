@@ -83,8 +83,12 @@ pub fn is_still_current<V: Fit>(
     requires place { IsPlace (setting_of sizes) place }
     ensures own { (seat.new.table_id ≡ seat.old.table_id) × (seat.new.me.1 ≡ seat.old.me.1) }
     ensures stays { Stays sizes seat.old.me.0 seat.new.me.0 }
-    ensures right { IsTrue result → WasCurrent place called (history_of sizes seat.old.me.0.known.turns) (history_of sizes seat.old.me.0.known.turns) (history_of sizes seat.new.me.0.known.turns) }
-    ensures outdated { IsFalse result → current_call nat_eq (history_of sizes seat.new.me.0.known.turns) place ≢ Some called }
+    ensures right { IsTrue result
+        → WasCurrent place called (history_of sizes seat.old.me.0.known.turns)
+        (history_of sizes seat.old.me.0.known.turns)
+        (history_of sizes seat.new.me.0.known.turns) }
+    ensures outdated { IsFalse result
+        → current_call nat_eq (history_of sizes seat.new.me.0.known.turns) place ≢ Some called }
 {
     // No caller of another number leads a call.
     if called.caller < 1 || called.caller > sizes.callers {

@@ -8,8 +8,9 @@ use Rattle.sf_words.specs.declared.call_word.CallState.{CallState}
 use Rattle.sf_words.specs.declared.call_word.CallState.TheVariants.{Free, Open, Forgot, Done, Listed, Full}
 use Rattle.sf_words.proofs.NextCodes.{next_of, next_of-next_code, next_code-lawful}
 use Rattle.sf_words.proofs.Flags.{flag_bit, flag_of-bit}
+use Rattle.sf_words.specs.declared.limits.TheConstants.{LARGEST_CALLER}
 
-pub fields_of-code_of : (generation tag own top : ℕ) → tag ≤ 15 → own ≤ 1 → top ≤ 65535
+pub fields_of-code_of : (generation tag own top : ℕ) → tag ≤ 15 → own ≤ 1 → top ≤ LARGEST_CALLER
     → let f : Fields = record { generation = generation; tag = tag; own = own; zero = 0; top = top } in fields_of (code_of f) ≡ f
 fields_of-code_of generation tag own top tag_fits own_fits top_fits =
     let at_generation : (generation * 4294967296 + tag * 268435456 + own * 134217728 + 0 * 1048576 + top) / 4294967296 ≡ generation = omega arith in

@@ -5,8 +5,9 @@ use Rattle.sf_words.specs.KeyWord.{Fields, IsKeyState, IsKeyWord, IsNaming, KeyC
 use Rattle.sf_words.specs.declared.key_word.KeyState.{KeyState}
 use Rattle.sf_words.specs.declared.key_word.KeyState.TheVariants.{Never, Names}
 use Rattle.sf_words.proofs.Flags.{flag_bit, flag_of-bit}
+use Rattle.sf_words.specs.declared.limits.TheConstants.{LARGEST_CALLER}
 
-pub fields_of-code_of : (generation cleared caller : ℕ) → cleared ≤ 1 → caller ≤ 65535
+pub fields_of-code_of : (generation cleared caller : ℕ) → cleared ≤ 1 → caller ≤ LARGEST_CALLER
     → let f : Fields = record { generation = generation; cleared = cleared; zero = 0; caller = caller } in fields_of (code_of f) ≡ f
 fields_of-code_of generation cleared caller small low =
     let at_generation : (generation * 4294967296 + cleared * 2147483648 + 0 * 1048576 + caller) / 4294967296 ≡ generation = omega arith in

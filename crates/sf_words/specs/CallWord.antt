@@ -4,6 +4,7 @@ use Rattle.sf_words.specs.NextWord.{IsCallerOrNone, next_code}
 use Rattle.sf_words.specs.declared.call_word.LeaderState.{LeaderState}
 use Rattle.sf_words.specs.declared.call_word.CallState.{CallState}
 use Rattle.sf_words.specs.declared.call_word.CallState.TheVariants.{Free, Open, Forgot, Done, Listed, Full}
+use Rattle.sf_words.specs.declared.limits.TheConstants.{LARGEST_CALLER, LARGEST_GENERATION}
 
 -- bits 63 to 32, 31 to 28, 27, 26 to 20, and 19 to 0
 pub record Fields : Type 0 where
@@ -27,7 +28,7 @@ pub record IsUsed (f : Fields) : Type 0 where
   pub generation : 1 ≤ f.generation
   pub tag : (1 ≤ f.tag) × (f.tag ≤ 5)
   pub zero : f.zero ≡ 0
-  pub top : f.top ≤ 65535
+  pub top : f.top ≤ LARGEST_CALLER
   pub bare : 4 ≤ f.tag → (f.own ≡ 0) × (f.top ≡ 0)
 
 -- a lawful call word: the whole word 0, or that of a caller that has asked
@@ -35,7 +36,7 @@ abbrev pub IsCallWord : ℕ → Type 0
 IsCallWord w = (w ≡ 0) ⊎ IsUsed (fields_of w)
 
 abbrev pub IsGeneration : ℕ → Type 0
-IsGeneration g = (1 ≤ g) × (g ≤ 4294967295)
+IsGeneration g = (1 ≤ g) × (g ≤ LARGEST_GENERATION)
 
 abbrev pub IsLeaderState : LeaderState → Type 0
 IsLeaderState s = IsGeneration s.generation × IsCallerOrNone s.top

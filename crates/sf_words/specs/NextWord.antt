@@ -1,9 +1,10 @@
 -- Next words: one a caller, with the member that comes after it in a joiner list. And caller fields, of which such a
 -- word is one.
 use Rattle.std.specs.Prelude.{◌≡◌, ℕ, ◌≤◌, Option, Some, None}
+use Rattle.sf_words.specs.declared.limits.TheConstants.{LARGEST_CALLER}
 
 abbrev pub IsCallerNumber : ℕ → Type 0
-IsCallerNumber n = (1 ≤ n) × (n ≤ 65535)
+IsCallerNumber n = (1 ≤ n) × (n ≤ LARGEST_CALLER)
 
 -- a caller, or none
 abbrev pub IsCallerOrNone : Option ℕ → Type 0
@@ -12,7 +13,7 @@ IsCallerOrNone (Some n) = IsCallerNumber n
 
 -- a lawful next word is a caller field, with all other bits zero
 abbrev pub IsNextWord : ℕ → Type 0
-IsNextWord w = w ≤ 65535
+IsNextWord w = w ≤ LARGEST_CALLER
 
 -- a caller field: the caller's number, or 0 for none. It is the number that a next word is packed into
 abbrev pub next_code : Option ℕ → ℕ

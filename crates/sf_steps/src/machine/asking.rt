@@ -48,7 +48,8 @@ fn looked(second: Option<u32>, found: KeyState) -> AskStep
 
 /// What an asking does after its peek.
 fn peeked(second: Option<u32>, call: CallId, found: CallState) -> AskStep
-    ensures step { result ≡ askings.peeked second call (is_forgot_in call.generation found) (open_in call.generation found) }
+    ensures step { result ≡ askings.peeked second call (is_forgot_in call.generation found)
+        (open_in call.generation found) }
     ensures top { ask_top result ≤ top_in found }
 {
     match found {
@@ -83,10 +84,15 @@ impl<V: Drop> World<V> {
     ) -> Result<Step<V>, Memory>
         requires caller { caller ≤ self.old.callers }
         requires asks { (world_of self.old).stages caller ≡ Asking place second step }
-        ensures world { OnOk result (world_of self.new ≡ askings.ask_stepped (world_of self.old) caller place second step) }
-        ensures caller { IfOk result (λ done. (done.caller ≡ ask_stepper caller second step) × (done.answer ≡ None)) }
-        ensures act { IfOk result (λ done. done.act ≡ ask_act (world_of self.old) caller place second step) }
-        ensures events { IfOk result (λ done. done.events.items ≡ ask_events (world_of self.old) caller place second step) }
+        ensures world { OnOk result
+            (world_of self.new ≡ askings.ask_stepped (world_of self.old) caller place second
+            step) }
+        ensures caller { IfOk result (λ done. (done.caller ≡ ask_stepper caller second step)
+            × (done.answer ≡ None)) }
+        ensures act { IfOk result (λ done.
+            done.act ≡ ask_act (world_of self.old) caller place second step) }
+        ensures events { IfOk result (λ done.
+            done.events.items ≡ ask_events (world_of self.old) caller place second step) }
         ensures unchanged { OnErr result (world_of self.new ≡ world_of self.old) }
         ensures sizes { SameSizes self.old self.new }
     {
@@ -115,9 +121,11 @@ impl<V: Drop> World<V> {
     /// The asking goes on at a step.
     pub(crate) fn asks_on(&mut self, caller: u32, place: u32, second: Option<u32>, step: AskStep)
         requires caller { caller ≤ self.old.callers }
-        requires asks { (before : AnyStep) × ((world_of self.old).stages caller ≡ Asking place second before) }
+        requires asks { (before : AnyStep)
+            × ((world_of self.old).stages caller ≡ Asking place second before) }
         requires top { ask_top step ≤ self.old.callers }
-        ensures world { world_of self.new ≡ with_stage (world_of self.old) caller (Asking place second step) }
+        ensures world { world_of self.new ≡ with_stage (world_of self.old) caller
+            (Asking place second step) }
         ensures sizes { SameSizes self.old self.new }
     {
         self.set_stage(
@@ -133,10 +141,14 @@ impl<V: Drop> World<V> {
     /// The caller loads the call word of the call's leader.
     fn peek_to_ask(&mut self, caller: u32, place: u32, second: Option<u32>, call: CallId) -> Step<V>
         requires caller { caller ≤ self.old.callers }
-        requires asks { (before : AnyStep) × ((world_of self.old).stages caller ≡ Asking place second before) }
-        ensures world { world_of self.new ≡ with_stage (world_of self.old) caller (Asking place second (askings.peeked second call
-            (is_forgot_in call.generation ((world_of self.old).calls call.caller)) (open_in call.generation ((world_of self.old).calls call.caller)))) }
-        ensures act { (result.caller ≡ caller) × (result.act ≡ act_of.Peek call.caller ((world_of self.old).calls call.caller)) }
+        requires asks { (before : AnyStep)
+            × ((world_of self.old).stages caller ≡ Asking place second before) }
+        ensures world { world_of self.new ≡ with_stage (world_of self.old) caller
+            (Asking place second (askings.peeked second call
+            (is_forgot_in call.generation ((world_of self.old).calls call.caller))
+            (open_in call.generation ((world_of self.old).calls call.caller)))) }
+        ensures act { (result.caller ≡ caller)
+            × (result.act ≡ act_of.Peek call.caller ((world_of self.old).calls call.caller)) }
         ensures quiet { (result.events.items ≡ []) × (result.answer ≡ None) }
         ensures sizes { SameSizes self.old self.new }
     {
@@ -159,9 +171,12 @@ impl<V: Drop> World<V> {
         forgot: bool,
     ) -> Step<V>
         requires caller { caller ≤ self.old.callers }
-        requires asks { (before : AnyStep) × ((world_of self.old).stages caller ≡ Asking place second before) }
-        ensures world { world_of self.new ≡ askings.ready_own (world_of self.old) caller place second seen forgot }
-        ensures act { (result.caller ≡ askings.joiner caller second) × (result.act ≡ ready_own_act (world_of self.old) caller second) }
+        requires asks { (before : AnyStep)
+            × ((world_of self.old).stages caller ≡ Asking place second before) }
+        ensures world { world_of self.new ≡ askings.ready_own (world_of self.old) caller place
+            second seen forgot }
+        ensures act { (result.caller ≡ askings.joiner caller second)
+            × (result.act ≡ ready_own_act (world_of self.old) caller second) }
         ensures quiet { (result.events.items ≡ []) × (result.answer ≡ None) }
         ensures sizes { SameSizes self.old self.new }
     {
@@ -186,9 +201,12 @@ impl<V: Drop> World<V> {
         forgot: bool,
     ) -> Step<V>
         requires caller { caller ≤ self.old.callers }
-        requires asks { (world_of self.old).stages caller ≡ Asking place second (ReadyLead seen forgot) }
-        ensures world { world_of self.new ≡ askings.ask_stepped (world_of self.old) caller place second (ReadyLead seen forgot) }
-        ensures act { (result.caller ≡ caller) × (result.act ≡ act_of.Ready (next_id (world_of self.old) caller) false) }
+        requires asks { (world_of self.old).stages caller
+            ≡ Asking place second (ReadyLead seen forgot) }
+        ensures world { world_of self.new ≡ askings.ask_stepped (world_of self.old) caller place
+            second (ReadyLead seen forgot) }
+        ensures act { (result.caller ≡ caller)
+            × (result.act ≡ act_of.Ready (next_id (world_of self.old) caller) false) }
         ensures quiet { (result.events.items ≡ []) × (result.answer ≡ None) }
         ensures sizes { SameSizes self.old self.new }
     {
@@ -213,11 +231,18 @@ impl<V: Drop> World<V> {
         seen: KeyState,
     ) -> Result<Step<V>, Memory>
         requires caller { caller ≤ self.old.callers }
-        requires asks { (before : AnyStep) × ((world_of self.old).stages caller ≡ Asking place second before) }
-        ensures world { OnOk result (world_of self.new ≡ askings.after_lead (world_of self.old) caller place second (same_key ((world_of self.old).keys place) seen)) }
+        requires asks { (before : AnyStep)
+            × ((world_of self.old).stages caller ≡ Asking place second before) }
+        ensures world { OnOk result
+            (world_of self.new ≡ askings.after_lead (world_of self.old) caller place second
+            (same_key ((world_of self.old).keys place) seen)) }
         ensures caller { IfOk result (λ done. (done.caller ≡ caller) × (done.answer ≡ None)) }
-        ensures act { IfOk result (λ done. done.act ≡ act_of.Lead place (next_id (world_of self.old) caller) (same_key ((world_of self.old).keys place) seen)) }
-        ensures events { IfOk result (λ done. done.events.items ≡ lead_events (world_of self.old) caller place second (same_key ((world_of self.old).keys place) seen)) }
+        ensures act { IfOk result (λ done.
+            done.act ≡ act_of.Lead place (next_id (world_of self.old) caller)
+            (same_key ((world_of self.old).keys place) seen)) }
+        ensures events { IfOk result (λ done.
+            done.events.items ≡ lead_events (world_of self.old) caller place second
+            (same_key ((world_of self.old).keys place) seen)) }
         ensures unchanged { OnErr result (world_of self.new ≡ world_of self.old) }
         ensures sizes { SameSizes self.old self.new }
     {
@@ -243,10 +268,14 @@ impl<V: Drop> World<V> {
     /// The caller leads, and the second of a chan holds the ticket of the own channel, which is the result.
     fn take_lead(&mut self, caller: u32, place: u32, second: Option<u32>) -> Option<CallId>
         requires caller { caller ≤ self.old.callers }
-        requires asks { (before : AnyStep) × ((world_of self.old).stages caller ≡ Asking place second before) }
+        requires asks { (before : AnyStep)
+            × ((world_of self.old).stages caller ≡ Asking place second before) }
         ensures own { result ≡ askings.own_of (world_of self.old) second }
-        ensures world { world_of self.new ≡ with_used (with_stage (askings.holds_own (world_of self.old) caller place second) caller
-            (Leading place ((world_of self.old).generations caller) (askings.own_of (world_of self.old) second))) caller }
+        ensures world { world_of self.new
+            ≡ with_used (with_stage (askings.holds_own (world_of self.old) caller place second)
+            caller
+            (Leading place ((world_of self.old).generations caller)
+            (askings.own_of (world_of self.old) second))) caller }
         ensures sizes { SameSizes self.old self.new }
     {
         let call = self.next_call(caller);

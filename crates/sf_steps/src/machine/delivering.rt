@@ -45,7 +45,8 @@ fn handed<V: Drop>(
     led: LedCall,
     next: Option<u32>,
 ) -> Result<Vec<Event<PlaceNo, V>>, Memory>
-    ensures { IfOk result (λ events. events.items ≡ added.handed led.call.caller led.call led.own next) }
+    ensures { IfOk result (λ events.
+        events.items ≡ added.handed led.call.caller led.call led.own next) }
 {
     if next.is_none() && led.own.is_none() {
         return one_handed(alloc, led.call);
@@ -70,9 +71,15 @@ impl<V: Share> World<V> {
     /// The leader loads the next word of a member.
     pub(crate) fn follow(&mut self, led: LedCall, joiners: u32, member: u32) -> Step<V>
         requires caller { led.call.caller ≤ self.old.callers }
-        requires settles { (v : V) × ((world_of self.old).stages led.call.caller ≡ Settling led.place led.call.generation led.own v (step_of.Follow joiners member)) }
-        ensures world { world_of self.new ≡ stepped (world_of self.old) led.call.caller ((world_of self.old).stages led.call.caller) }
-        ensures act { (result.caller ≡ led.call.caller) × (result.act ≡ act_at (world_of self.old) led.call.caller ((world_of self.old).stages led.call.caller)) }
+        requires settles { (v : V)
+            × ((world_of self.old).stages led.call.caller
+            ≡ Settling led.place led.call.generation led.own v
+            (step_of.Follow joiners member)) }
+        ensures world { world_of self.new ≡ stepped (world_of self.old) led.call.caller
+            ((world_of self.old).stages led.call.caller) }
+        ensures act { (result.caller ≡ led.call.caller)
+            × (result.act ≡ act_at (world_of self.old) led.call.caller
+            ((world_of self.old).stages led.call.caller)) }
         ensures quiet { (result.events.items ≡ []) × (result.answer ≡ None) }
         ensures sizes { SameSizes self.old self.new }
     {
@@ -98,9 +105,15 @@ impl<V: Share> World<V> {
         next: Option<u32>,
     ) -> Step<V>
         requires caller { led.call.caller ≤ self.old.callers }
-        requires settles { (v : V) × ((world_of self.old).stages led.call.caller ≡ Settling led.place led.call.generation led.own v (step_of.PeekMember joiners member next)) }
-        ensures world { world_of self.new ≡ stepped (world_of self.old) led.call.caller ((world_of self.old).stages led.call.caller) }
-        ensures act { (result.caller ≡ led.call.caller) × (result.act ≡ act_at (world_of self.old) led.call.caller ((world_of self.old).stages led.call.caller)) }
+        requires settles { (v : V)
+            × ((world_of self.old).stages led.call.caller
+            ≡ Settling led.place led.call.generation led.own v
+            (step_of.PeekMember joiners member next)) }
+        ensures world { world_of self.new ≡ stepped (world_of self.old) led.call.caller
+            ((world_of self.old).stages led.call.caller) }
+        ensures act { (result.caller ≡ led.call.caller)
+            × (result.act ≡ act_at (world_of self.old) led.call.caller
+            ((world_of self.old).stages led.call.caller)) }
         ensures quiet { (result.events.items ≡ []) × (result.answer ≡ None) }
         ensures sizes { SameSizes self.old self.new }
     {
@@ -133,11 +146,21 @@ impl<V: Share> World<V> {
         next: Option<u32>,
     ) -> Result<Step<V>, Memory>
         requires caller { led.call.caller ≤ self.old.callers }
-        requires settles { (v : V) × ((world_of self.old).stages led.call.caller ≡ Settling led.place led.call.generation led.own v (step_of.Deliver joiners member next)) }
-        ensures world { OnOk result (world_of self.new ≡ stepped (world_of self.old) led.call.caller ((world_of self.old).stages led.call.caller)) }
-        ensures caller { IfOk result (λ step. (step.caller ≡ led.call.caller) × (step.answer ≡ None)) }
-        ensures act { IfOk result (λ step. step.act ≡ act_at (world_of self.old) led.call.caller ((world_of self.old).stages led.call.caller)) }
-        ensures events { IfOk result (λ step. step.events.items ≡ added.step_events (world_of self.old) led.call.caller ((world_of self.old).stages led.call.caller)) }
+        requires settles { (v : V)
+            × ((world_of self.old).stages led.call.caller
+            ≡ Settling led.place led.call.generation led.own v
+            (step_of.Deliver joiners member next)) }
+        ensures world { OnOk result
+            (world_of self.new ≡ stepped (world_of self.old) led.call.caller
+            ((world_of self.old).stages led.call.caller)) }
+        ensures caller { IfOk result (λ step. (step.caller ≡ led.call.caller)
+            × (step.answer ≡ None)) }
+        ensures act { IfOk result (λ step.
+            step.act ≡ act_at (world_of self.old) led.call.caller
+            ((world_of self.old).stages led.call.caller)) }
+        ensures events { IfOk result (λ step.
+            step.events.items ≡ added.step_events (world_of self.old) led.call.caller
+            ((world_of self.old).stages led.call.caller)) }
         ensures unchanged { OnErr result (world_of self.new ≡ world_of self.old) }
         ensures sizes { SameSizes self.old self.new }
     {
@@ -162,9 +185,14 @@ impl<V: Share> World<V> {
     /// The leader loads the call word of its own channel.
     pub(crate) fn peek_channel(&mut self, led: LedCall, joiners: u32) -> Step<V>
         requires caller { led.call.caller ≤ self.old.callers }
-        requires settles { (v : V) × ((world_of self.old).stages led.call.caller ≡ Settling led.place led.call.generation led.own v (step_of.PeekOwn joiners)) }
-        ensures world { world_of self.new ≡ stepped (world_of self.old) led.call.caller ((world_of self.old).stages led.call.caller) }
-        ensures act { (result.caller ≡ led.call.caller) × (result.act ≡ act_at (world_of self.old) led.call.caller ((world_of self.old).stages led.call.caller)) }
+        requires settles { (v : V)
+            × ((world_of self.old).stages led.call.caller
+            ≡ Settling led.place led.call.generation led.own v (step_of.PeekOwn joiners)) }
+        ensures world { world_of self.new ≡ stepped (world_of self.old) led.call.caller
+            ((world_of self.old).stages led.call.caller) }
+        ensures act { (result.caller ≡ led.call.caller)
+            × (result.act ≡ act_at (world_of self.old) led.call.caller
+            ((world_of self.old).stages led.call.caller)) }
         ensures quiet { (result.events.items ≡ []) × (result.answer ≡ None) }
         ensures sizes { SameSizes self.old self.new }
     {
@@ -200,11 +228,21 @@ impl<V: Share> World<V> {
         member: CallId,
     ) -> Result<Step<V>, Memory>
         requires caller { led.call.caller ≤ self.old.callers }
-        requires settles { (v : V) × ((world_of self.old).stages led.call.caller ≡ Settling led.place led.call.generation led.own v (step_of.DeliverOwn joiners member)) }
-        ensures world { OnOk result (world_of self.new ≡ stepped (world_of self.old) led.call.caller ((world_of self.old).stages led.call.caller)) }
-        ensures caller { IfOk result (λ step. (step.caller ≡ led.call.caller) × (step.answer ≡ None)) }
-        ensures act { IfOk result (λ step. step.act ≡ act_at (world_of self.old) led.call.caller ((world_of self.old).stages led.call.caller)) }
-        ensures events { IfOk result (λ step. step.events.items ≡ added.step_events (world_of self.old) led.call.caller ((world_of self.old).stages led.call.caller)) }
+        requires settles { (v : V)
+            × ((world_of self.old).stages led.call.caller
+            ≡ Settling led.place led.call.generation led.own v
+            (step_of.DeliverOwn joiners member)) }
+        ensures world { OnOk result
+            (world_of self.new ≡ stepped (world_of self.old) led.call.caller
+            ((world_of self.old).stages led.call.caller)) }
+        ensures caller { IfOk result (λ step. (step.caller ≡ led.call.caller)
+            × (step.answer ≡ None)) }
+        ensures act { IfOk result (λ step.
+            step.act ≡ act_at (world_of self.old) led.call.caller
+            ((world_of self.old).stages led.call.caller)) }
+        ensures events { IfOk result (λ step.
+            step.events.items ≡ added.step_events (world_of self.old) led.call.caller
+            ((world_of self.old).stages led.call.caller)) }
         ensures unchanged { OnErr result (world_of self.new ≡ world_of self.old) }
         ensures sizes { SameSizes self.old self.new }
     {

@@ -2,6 +2,7 @@
 
 ghost use Rattle.std.specs.Prelude.{◌≡◌, ◌≤◌, [], ◌∷◌, IfOk};
 ghost use Rattle.std.specs.Vec.{vec_capacity};
+ghost use Rattle.sf_words.specs.declared.limits.TheConstants.{LARGEST_PLACE};
 
 use sf_history::{Event, Memory};
 use sf_words::PlaceNo;
@@ -35,7 +36,7 @@ pub(crate) fn one_event<V: Drop>(
 
 /// The key of a place in events.
 pub(crate) fn key_of(place: u32) -> PlaceNo
-    requires { (1 ≤ place) × (place ≤ 1048576) }
+    requires { (1 ≤ place) × (place ≤ LARGEST_PLACE) }
     ensures { result ≡ place }
 {
     PlaceNo::from_index(place as usize - 1)

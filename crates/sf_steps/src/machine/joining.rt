@@ -23,7 +23,8 @@ impl<V: Drop> World<V> {
     /// Who joins: the second of a chan, or the caller itself.
     pub(crate) fn joiner(&self, caller: u32, second: Option<u32>) -> u32
         requires caller { caller ≤ self.now.callers }
-        requires asks { (place : ℕ) × (before : AnyStep) × ((world_of self.now).stages caller ≡ Asking place second before) }
+        requires asks { (place : ℕ) × (before : AnyStep)
+            × ((world_of self.now).stages caller ≡ Asking place second before) }
         ensures who { result ≡ askings.joiner caller second }
         ensures within { result ≤ self.now.callers }
         ensures asks { is_asking ((world_of self.now).stages result) ≡ true }
@@ -41,9 +42,13 @@ impl<V: Drop> World<V> {
         seen: LeaderState,
     ) -> Step<V>
         requires caller { caller ≤ self.old.callers }
-        requires asks { (world_of self.old).stages caller ≡ Asking place second (step_of.ReadyJoin call seen) }
-        ensures world { world_of self.new ≡ askings.ask_stepped (world_of self.old) caller place second (step_of.ReadyJoin call seen) }
-        ensures act { (result.caller ≡ askings.joiner caller second) × (result.act ≡ act_of.Ready (next_id (world_of self.old) (askings.joiner caller second)) true) }
+        requires asks { (world_of self.old).stages caller
+            ≡ Asking place second (step_of.ReadyJoin call seen) }
+        ensures world { world_of self.new ≡ askings.ask_stepped (world_of self.old) caller place
+            second (step_of.ReadyJoin call seen) }
+        ensures act { (result.caller ≡ askings.joiner caller second)
+            × (result.act ≡ act_of.Ready
+            (next_id (world_of self.old) (askings.joiner caller second)) true) }
         ensures quiet { (result.events.items ≡ []) × (result.answer ≡ None) }
         ensures sizes { SameSizes self.old self.new }
     {
@@ -70,9 +75,12 @@ impl<V: Drop> World<V> {
         seen: LeaderState,
     ) -> Step<V>
         requires caller { caller ≤ self.old.callers }
-        requires asks { (world_of self.old).stages caller ≡ Asking place second (step_of.Link call seen) }
-        ensures world { world_of self.new ≡ askings.ask_stepped (world_of self.old) caller place second (step_of.Link call seen) }
-        ensures act { (result.caller ≡ askings.joiner caller second) × (result.act ≡ act_of.Link seen.top) }
+        requires asks { (world_of self.old).stages caller
+            ≡ Asking place second (step_of.Link call seen) }
+        ensures world { world_of self.new ≡ askings.ask_stepped (world_of self.old) caller place
+            second (step_of.Link call seen) }
+        ensures act { (result.caller ≡ askings.joiner caller second)
+            × (result.act ≡ act_of.Link seen.top) }
         ensures quiet { (result.events.items ≡ []) × (result.answer ≡ None) }
         ensures sizes { SameSizes self.old self.new }
     {
@@ -92,11 +100,20 @@ impl<V: Drop> World<V> {
         seen: LeaderState,
     ) -> Result<Step<V>, Memory>
         requires caller { caller ≤ self.old.callers }
-        requires asks { (before : AnyStep) × ((world_of self.old).stages caller ≡ Asking place second before) }
-        ensures world { OnOk result (world_of self.new ≡ askings.after_enter (world_of self.old) caller place second call seen (is_open_with seen ((world_of self.old).calls call.caller))) }
-        ensures caller { IfOk result (λ done. (done.caller ≡ askings.joiner caller second) × (done.answer ≡ None)) }
-        ensures act { IfOk result (λ done. done.act ≡ act_of.Enter call (is_open_with seen ((world_of self.old).calls call.caller))) }
-        ensures events { IfOk result (λ done. done.events.items ≡ enter_events (world_of self.old) place call (askings.joiner caller second) (is_open_with seen ((world_of self.old).calls call.caller))) }
+        requires asks { (before : AnyStep)
+            × ((world_of self.old).stages caller ≡ Asking place second before) }
+        ensures world { OnOk result
+            (world_of self.new ≡ askings.after_enter (world_of self.old) caller place second
+            call seen (is_open_with seen ((world_of self.old).calls call.caller))) }
+        ensures caller { IfOk result (λ done. (done.caller ≡ askings.joiner caller second)
+            × (done.answer ≡ None)) }
+        ensures act { IfOk result (λ done.
+            done.act ≡ act_of.Enter call
+            (is_open_with seen ((world_of self.old).calls call.caller))) }
+        ensures events { IfOk result (λ done.
+            done.events.items ≡ enter_events (world_of self.old) place call
+            (askings.joiner caller second)
+            (is_open_with seen ((world_of self.old).calls call.caller))) }
         ensures unchanged { OnErr result (world_of self.new ≡ world_of self.old) }
         ensures sizes { SameSizes self.old self.new }
     {
@@ -135,9 +152,12 @@ impl<V: Drop> World<V> {
     /// The joiner holds a ticket of the call; where that is the second of a chan, the caller is free.
     fn take_ticket(&mut self, caller: u32, place: u32, second: Option<u32>, call: CallId)
         requires caller { caller ≤ self.old.callers }
-        requires asks { (before : AnyStep) × ((world_of self.old).stages caller ≡ Asking place second before) }
+        requires asks { (before : AnyStep)
+            × ((world_of self.old).stages caller ≡ Asking place second before) }
         ensures world { let j = askings.joiner caller second in
-            world_of self.new ≡ with_used (with_stage (with_stage (world_of self.old) caller Free) j (Holding place ((world_of self.old).generations j) call)) j }
+            world_of self.new
+            ≡ with_used (with_stage (with_stage (world_of self.old) caller Free) j
+            (Holding place ((world_of self.old).generations j) call)) j }
         ensures sizes { SameSizes self.old self.new }
     {
         let by = self.joiner(caller, second);

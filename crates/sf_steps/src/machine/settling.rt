@@ -107,7 +107,8 @@ impl<V: Share> World<V> {
         requires member { settle_member step ≤ self.old.callers }
         requires top { settle_top step ≤ self.old.callers }
         requires count { settle_count step ≤ self.old.callers }
-        ensures world { world_of self.new ≡ with_stage (world_of self.old) caller (settling_at step ((world_of self.old).stages caller)) }
+        ensures world { world_of self.new ≡ with_stage (world_of self.old) caller
+            (settling_at step ((world_of self.old).stages caller)) }
         ensures sizes { SameSizes self.old self.new }
     {
         let Stage::Settling {
@@ -149,9 +150,12 @@ impl<V: Share> World<V> {
     /// The settle goes on to the members from this top on, and then to the own channel; with neither it ends.
     fn goes_to_members(&mut self, led: LedCall, joiners: u32, top: Option<u32>)
         requires caller { led.call.caller ≤ self.old.callers }
-        requires settles { (v : V) × (before : AnyStep) × ((world_of self.old).stages led.call.caller ≡ Settling led.place led.call.generation led.own v before) }
+        requires settles { (v : V) × (before : AnyStep)
+            × ((world_of self.old).stages led.call.caller
+            ≡ Settling led.place led.call.generation led.own v before) }
         requires top { field_of top ≤ self.old.callers }
-        ensures world { world_of self.new ≡ with_stage (world_of self.old) led.call.caller (members_at joiners top ((world_of self.old).stages led.call.caller)) }
+        ensures world { world_of self.new ≡ with_stage (world_of self.old) led.call.caller
+            (members_at joiners top ((world_of self.old).stages led.call.caller)) }
         ensures sizes { SameSizes self.old self.new }
     {
         let caller = led.call.caller;
@@ -171,10 +175,15 @@ impl<V: Share> World<V> {
         top: Option<u32>,
     ) -> Result<V, Memory>
         requires caller { led.call.caller ≤ self.old.callers }
-        requires settles { (v : V) × (before : AnyStep) × ((world_of self.old).stages led.call.caller ≡ Settling led.place led.call.generation led.own v before) }
+        requires settles { (v : V) × (before : AnyStep)
+            × ((world_of self.old).stages led.call.caller
+            ≡ Settling led.place led.call.generation led.own v before) }
         requires top { field_of top ≤ self.old.callers }
-        ensures value { IfOk result (λ value. result_in ((world_of self.old).stages led.call.caller) ≡ Some value) }
-        ensures world { OnOk result (world_of self.new ≡ with_stage (world_of self.old) led.call.caller (members_at joiners top ((world_of self.old).stages led.call.caller))) }
+        ensures value { IfOk result (λ value.
+            result_in ((world_of self.old).stages led.call.caller) ≡ Some value) }
+        ensures world { OnOk result
+            (world_of self.new ≡ with_stage (world_of self.old) led.call.caller
+            (members_at joiners top ((world_of self.old).stages led.call.caller))) }
         ensures unchanged { OnErr result (world_of self.new ≡ world_of self.old) }
         ensures sizes { SameSizes self.old self.new }
     {
@@ -189,9 +198,12 @@ impl<V: Share> World<V> {
     /// The settle goes on to the count of the members from this top on; with none it goes on as after the count.
     fn goes_to_count(&mut self, led: LedCall, top: Option<u32>)
         requires caller { led.call.caller ≤ self.old.callers }
-        requires settles { (v : V) × (before : AnyStep) × ((world_of self.old).stages led.call.caller ≡ Settling led.place led.call.generation led.own v before) }
+        requires settles { (v : V) × (before : AnyStep)
+            × ((world_of self.old).stages led.call.caller
+            ≡ Settling led.place led.call.generation led.own v before) }
         requires top { field_of top ≤ self.old.callers }
-        ensures world { world_of self.new ≡ with_stage (world_of self.old) led.call.caller (count_at top ((world_of self.old).stages led.call.caller)) }
+        ensures world { world_of self.new ≡ with_stage (world_of self.old) led.call.caller
+            (count_at top ((world_of self.old).stages led.call.caller)) }
         ensures sizes { SameSizes self.old self.new }
     {
         match top {
@@ -211,10 +223,15 @@ impl<V: Share> World<V> {
     /// another one.
     fn settle_on(&mut self, led: LedCall, top: Option<u32>) -> Result<V, Memory>
         requires caller { led.call.caller ≤ self.old.callers }
-        requires settles { (v : V) × (before : AnyStep) × ((world_of self.old).stages led.call.caller ≡ Settling led.place led.call.generation led.own v before) }
+        requires settles { (v : V) × (before : AnyStep)
+            × ((world_of self.old).stages led.call.caller
+            ≡ Settling led.place led.call.generation led.own v before) }
         requires top { field_of top ≤ self.old.callers }
-        ensures value { IfOk result (λ value. result_in ((world_of self.old).stages led.call.caller) ≡ Some value) }
-        ensures world { OnOk result (world_of self.new ≡ with_stage (world_of self.old) led.call.caller (count_at top ((world_of self.old).stages led.call.caller))) }
+        ensures value { IfOk result (λ value.
+            result_in ((world_of self.old).stages led.call.caller) ≡ Some value) }
+        ensures world { OnOk result
+            (world_of self.new ≡ with_stage (world_of self.old) led.call.caller
+            (count_at top ((world_of self.old).stages led.call.caller))) }
         ensures unchanged { OnErr result (world_of self.new ≡ world_of self.old) }
         ensures sizes { SameSizes self.old self.new }
     {
@@ -245,11 +262,20 @@ impl<V: Share> World<V> {
     /// The leader loads its own call word, which is open, or was closed by a Forget.
     fn peek_own(&mut self, led: LedCall) -> Result<Step<V>, Memory>
         requires caller { led.call.caller ≤ self.old.callers }
-        requires settles { (v : V) × ((world_of self.old).stages led.call.caller ≡ Settling led.place led.call.generation led.own v step_of.Peek) }
-        ensures world { OnOk result (world_of self.new ≡ stepped (world_of self.old) led.call.caller ((world_of self.old).stages led.call.caller)) }
-        ensures caller { IfOk result (λ step. (step.caller ≡ led.call.caller) × (step.answer ≡ None)) }
-        ensures act { IfOk result (λ step. step.act ≡ act_at (world_of self.old) led.call.caller ((world_of self.old).stages led.call.caller)) }
-        ensures events { IfOk result (λ step. step.events.items ≡ added.step_events (world_of self.old) led.call.caller ((world_of self.old).stages led.call.caller)) }
+        requires settles { (v : V)
+            × ((world_of self.old).stages led.call.caller
+            ≡ Settling led.place led.call.generation led.own v step_of.Peek) }
+        ensures world { OnOk result
+            (world_of self.new ≡ stepped (world_of self.old) led.call.caller
+            ((world_of self.old).stages led.call.caller)) }
+        ensures caller { IfOk result (λ step. (step.caller ≡ led.call.caller)
+            × (step.answer ≡ None)) }
+        ensures act { IfOk result (λ step.
+            step.act ≡ act_at (world_of self.old) led.call.caller
+            ((world_of self.old).stages led.call.caller)) }
+        ensures events { IfOk result (λ step.
+            step.events.items ≡ added.step_events (world_of self.old) led.call.caller
+            ((world_of self.old).stages led.call.caller)) }
         ensures unchanged { OnErr result (world_of self.new ≡ world_of self.old) }
         ensures sizes { SameSizes self.old self.new }
     {
@@ -272,9 +298,13 @@ impl<V: Share> World<V> {
         found: CallState,
     ) -> Result<Vec<Event<PlaceNo, V>>, Memory>
         requires caller { led.call.caller ≤ self.old.callers }
-        requires settles { (v : V) × ((world_of self.old).stages led.call.caller ≡ Settling led.place led.call.generation led.own v step_of.Peek) }
+        requires settles { (v : V)
+            × ((world_of self.old).stages led.call.caller
+            ≡ Settling led.place led.call.generation led.own v step_of.Peek) }
         requires found { found ≡ (world_of self.old).calls led.call.caller }
-        ensures events { IfOk result (λ events. events.items ≡ added.step_events (world_of self.old) led.call.caller ((world_of self.old).stages led.call.caller)) }
+        ensures events { IfOk result (λ events.
+            events.items ≡ added.step_events (world_of self.old) led.call.caller
+            ((world_of self.old).stages led.call.caller)) }
         ensures world { world_of self.new ≡ world_of self.old }
         ensures sizes { SameSizes self.old self.new }
     {
@@ -291,11 +321,20 @@ impl<V: Share> World<V> {
     /// The leader exchanges its own call word to done.
     fn close_own(&mut self, led: LedCall, seen: LeaderState) -> Result<Step<V>, Memory>
         requires caller { led.call.caller ≤ self.old.callers }
-        requires settles { (v : V) × ((world_of self.old).stages led.call.caller ≡ Settling led.place led.call.generation led.own v (step_of.Close seen)) }
-        ensures world { OnOk result (world_of self.new ≡ stepped (world_of self.old) led.call.caller ((world_of self.old).stages led.call.caller)) }
-        ensures caller { IfOk result (λ step. (step.caller ≡ led.call.caller) × (step.answer ≡ None)) }
-        ensures act { IfOk result (λ step. step.act ≡ act_at (world_of self.old) led.call.caller ((world_of self.old).stages led.call.caller)) }
-        ensures events { IfOk result (λ step. step.events.items ≡ added.step_events (world_of self.old) led.call.caller ((world_of self.old).stages led.call.caller)) }
+        requires settles { (v : V)
+            × ((world_of self.old).stages led.call.caller
+            ≡ Settling led.place led.call.generation led.own v (step_of.Close seen)) }
+        ensures world { OnOk result
+            (world_of self.new ≡ stepped (world_of self.old) led.call.caller
+            ((world_of self.old).stages led.call.caller)) }
+        ensures caller { IfOk result (λ step. (step.caller ≡ led.call.caller)
+            × (step.answer ≡ None)) }
+        ensures act { IfOk result (λ step.
+            step.act ≡ act_at (world_of self.old) led.call.caller
+            ((world_of self.old).stages led.call.caller)) }
+        ensures events { IfOk result (λ step.
+            step.events.items ≡ added.step_events (world_of self.old) led.call.caller
+            ((world_of self.old).stages led.call.caller)) }
         ensures unchanged { OnErr result (world_of self.new ≡ world_of self.old) }
         ensures sizes { SameSizes self.old self.new }
     {
@@ -324,9 +363,14 @@ impl<V: Share> World<V> {
     /// The leader of a forgotten call clears the key word, if it still names the call.
     fn clear_own(&mut self, led: LedCall, top: Option<u32>) -> Step<V>
         requires caller { led.call.caller ≤ self.old.callers }
-        requires settles { (v : V) × ((world_of self.old).stages led.call.caller ≡ Settling led.place led.call.generation led.own v (step_of.Clear top)) }
-        ensures world { world_of self.new ≡ stepped (world_of self.old) led.call.caller ((world_of self.old).stages led.call.caller) }
-        ensures act { (result.caller ≡ led.call.caller) × (result.act ≡ act_at (world_of self.old) led.call.caller ((world_of self.old).stages led.call.caller)) }
+        requires settles { (v : V)
+            × ((world_of self.old).stages led.call.caller
+            ≡ Settling led.place led.call.generation led.own v (step_of.Clear top)) }
+        ensures world { world_of self.new ≡ stepped (world_of self.old) led.call.caller
+            ((world_of self.old).stages led.call.caller) }
+        ensures act { (result.caller ≡ led.call.caller)
+            × (result.act ≡ act_at (world_of self.old) led.call.caller
+            ((world_of self.old).stages led.call.caller)) }
         ensures quiet { (result.events.items ≡ []) × (result.answer ≡ None) }
         ensures sizes { SameSizes self.old self.new }
     {
@@ -340,9 +384,15 @@ impl<V: Share> World<V> {
     /// The leader loads the next word of a member, and counts it.
     fn count(&mut self, led: LedCall, joiners: u32, member: u32, top: u32) -> Step<V>
         requires caller { led.call.caller ≤ self.old.callers }
-        requires settles { (v : V) × ((world_of self.old).stages led.call.caller ≡ Settling led.place led.call.generation led.own v (step_of.Count joiners member top)) }
-        ensures world { world_of self.new ≡ stepped (world_of self.old) led.call.caller ((world_of self.old).stages led.call.caller) }
-        ensures act { (result.caller ≡ led.call.caller) × (result.act ≡ act_at (world_of self.old) led.call.caller ((world_of self.old).stages led.call.caller)) }
+        requires settles { (v : V)
+            × ((world_of self.old).stages led.call.caller
+            ≡ Settling led.place led.call.generation led.own v
+            (step_of.Count joiners member top)) }
+        ensures world { world_of self.new ≡ stepped (world_of self.old) led.call.caller
+            ((world_of self.old).stages led.call.caller) }
+        ensures act { (result.caller ≡ led.call.caller)
+            × (result.act ≡ act_at (world_of self.old) led.call.caller
+            ((world_of self.old).stages led.call.caller)) }
         ensures quiet { (result.events.items ≡ []) × (result.answer ≡ None) }
         ensures sizes { SameSizes self.old self.new }
     {
@@ -360,11 +410,20 @@ impl<V: Share> World<V> {
         step: SettleStep,
     ) -> Result<Step<V>, Memory>
         requires caller { led.call.caller ≤ self.old.callers }
-        requires settles { (v : V) × ((world_of self.old).stages led.call.caller ≡ Settling led.place led.call.generation led.own v step) }
-        ensures world { OnOk result (world_of self.new ≡ stepped (world_of self.old) led.call.caller ((world_of self.old).stages led.call.caller)) }
-        ensures caller { IfOk result (λ done. (done.caller ≡ led.call.caller) × (done.answer ≡ None)) }
-        ensures act { IfOk result (λ done. done.act ≡ act_at (world_of self.old) led.call.caller ((world_of self.old).stages led.call.caller)) }
-        ensures events { IfOk result (λ done. done.events.items ≡ added.step_events (world_of self.old) led.call.caller ((world_of self.old).stages led.call.caller)) }
+        requires settles { (v : V)
+            × ((world_of self.old).stages led.call.caller
+            ≡ Settling led.place led.call.generation led.own v step) }
+        ensures world { OnOk result
+            (world_of self.new ≡ stepped (world_of self.old) led.call.caller
+            ((world_of self.old).stages led.call.caller)) }
+        ensures caller { IfOk result (λ done. (done.caller ≡ led.call.caller)
+            × (done.answer ≡ None)) }
+        ensures act { IfOk result (λ done.
+            done.act ≡ act_at (world_of self.old) led.call.caller
+            ((world_of self.old).stages led.call.caller)) }
+        ensures events { IfOk result (λ done.
+            done.events.items ≡ added.step_events (world_of self.old) led.call.caller
+            ((world_of self.old).stages led.call.caller)) }
         ensures unchanged { OnErr result (world_of self.new ≡ world_of self.old) }
         ensures sizes { SameSizes self.old self.new }
     {

@@ -7,6 +7,7 @@ ghost use Rattle.sf_steps.specs.Rows.{IsLawful, row_at};
 ghost use Rattle.sf_schedules.specs.Stages.{field_of, top_in, place_in, is_asking, second_in, first_in, AreWithin, is_settling};
 ghost use Rattle.sf_steps.specs.Settling.{result_in};
 ghost use Rattle.sf_schedules.specs.declared.operation.Stage.TheVariants as stage;
+ghost use Rattle.sf_words.specs.declared.limits.TheConstants.{LARGEST_GENERATION, LARGEST_PLACE};
 
 use crate::machine::caller_row::{CallerRow, first_rows};
 use sf_history::{CallId, Memory, Share};
@@ -27,7 +28,7 @@ pub struct World<V> {
     alloc: Global,
     ghost keys_for_places: { length keys.items ≡ places + 1 },
     ghost rows_for_callers: { length rows.items ≡ callers + 1 },
-    ghost places_in_range: { (1 ≤ places) × (places ≤ 1048576) },
+    ghost places_in_range: { (1 ≤ places) × (places ≤ LARGEST_PLACE) },
     ghost lawful: { (a : ℕ) → IsLawful callers places (row_at rows.items a) },
     ghost paired: { (a b : ℕ) → second_in (row_at rows.items a).stage ≡ Some b
         → first_in (row_at rows.items b).stage ≡ Some a },
@@ -194,7 +195,8 @@ impl<V: Drop> World<V> {
     pub(crate) fn exchange_key(&mut self, place: u32, seen: KeyState, word: KeyState) -> bool
         requires { place ≤ self.old.places }
         ensures is_seen { result ≡ same_key ((world_of self.old).keys place) seen }
-        ensures world { world_of self.new ≡ cond result (with_key (world_of self.old) place word) (world_of self.old) }
+        ensures world { world_of self.new ≡ cond result (with_key (world_of self.old) place word)
+            (world_of self.old) }
         ensures stages { (world_of self.new).stages ≡ (world_of self.old).stages }
         ensures sizes { SameSizes self.old self.new }
     {
@@ -209,7 +211,8 @@ impl<V: Drop> World<V> {
     pub(crate) fn exchange_call(&mut self, caller: u32, seen: LeaderState, word: CallState) -> bool
         requires { top_in word ≤ self.old.callers }
         ensures is_seen { result ≡ is_open_with seen ((world_of self.old).calls caller) }
-        ensures world { world_of self.new ≡ cond result (with_call (world_of self.old) caller word) (world_of self.old) }
+        ensures world { world_of self.new ≡ cond result (with_call (world_of self.old) caller word)
+            (world_of self.old) }
         ensures stages { (world_of self.new).stages ≡ (world_of self.old).stages }
         ensures sizes { SameSizes self.old self.new }
     {
@@ -225,8 +228,10 @@ impl<V: Drop> World<V> {
         requires caller { caller ≤ self.old.callers }
         requires alone { first_in ((world_of self.old).stages caller) ≡ None }
         requires place { (1 ≤ place_in stage) × (place_in stage ≤ self.old.places) }
-        requires spent { is_asking stage ≡ true → (world_of self.old).generations caller ≤ 4294967295 }
-        requires second { (b : ℕ) → second_in stage ≡ Some b → first_in ((world_of self.old).stages b) ≡ Some caller }
+        requires spent { is_asking stage ≡ true
+            → (world_of self.old).generations caller ≤ LARGEST_GENERATION }
+        requires second { (b : ℕ) → second_in stage ≡ Some b
+            → first_in ((world_of self.old).stages b) ≡ Some caller }
         requires within { AreWithin self.old.callers stage }
         ensures world { world_of self.new ≡ with_stage (world_of self.old) caller stage }
         ensures stage { (world_of self.new).stages caller ≡ stage }
@@ -244,18 +249,24 @@ impl<V: Drop> World<V> {
         caller: u32,
         stage: Stage<V>,
     )
-        requires callers { (second ≤ self.old.callers) × (caller ≤ self.old.callers) × (second ≢ caller) }
+        requires callers { (second ≤ self.old.callers) × (caller ≤ self.old.callers)
+            × (second ≢ caller) }
         requires alone { first_in ((world_of self.old).stages caller) ≡ None }
-        requires first { (a : ℕ) → first_in ((world_of self.old).stages second) ≡ Some a → a ≡ caller }
+        requires first { (a : ℕ) → first_in ((world_of self.old).stages second) ≡ Some a
+            → a ≡ caller }
         requires places { (1 ≤ place_in stage) × (place_in stage ≤ self.old.places)
             × (1 ≤ place_in second_stage) × (place_in second_stage ≤ self.old.places) }
-        requires spent { is_asking stage ≡ true → (world_of self.old).generations caller ≤ 4294967295 }
-        requires second_spent { is_asking second_stage ≡ true → (world_of self.old).generations second ≤ 4294967295 }
-        requires second { (b : ℕ) → second_in stage ≡ Some b → (b ≡ second) × (first_in second_stage ≡ Some caller) }
+        requires spent { is_asking stage ≡ true
+            → (world_of self.old).generations caller ≤ LARGEST_GENERATION }
+        requires second_spent { is_asking second_stage ≡ true
+            → (world_of self.old).generations second ≤ LARGEST_GENERATION }
+        requires second { (b : ℕ) → second_in stage ≡ Some b → (b ≡ second)
+            × (first_in second_stage ≡ Some caller) }
         requires no_second { second_in second_stage ≡ None }
         requires within { AreWithin self.old.callers stage }
         requires second_within { AreWithin self.old.callers second_stage }
-        ensures world { world_of self.new ≡ with_stage (with_stage (world_of self.old) second second_stage) caller stage }
+        ensures world { world_of self.new
+            ≡ with_stage (with_stage (world_of self.old) second second_stage) caller stage }
         ensures stage { (world_of self.new).stages caller ≡ stage }
         ensures second_stage { (world_of self.new).stages second ≡ second_stage }
         ensures generations { (world_of self.new).generations ≡ (world_of self.old).generations }
@@ -294,7 +305,7 @@ impl<V: Drop> World<V> {
     pub(crate) fn use_generation(&mut self, caller: u32)
         requires caller { caller ≤ self.old.callers }
         requires asks { is_asking ((world_of self.old).stages caller) ≡ false }
-        requires room { (world_of self.old).generations caller ≤ 4294967295 }
+        requires room { (world_of self.old).generations caller ≤ LARGEST_GENERATION }
         ensures world { world_of self.new ≡ with_used (world_of self.old) caller }
         ensures stages { (world_of self.new).stages ≡ (world_of self.old).stages }
         ensures sizes { SameSizes self.old self.new }
@@ -310,7 +321,8 @@ impl<V: Share> World<V> {
     pub(crate) fn share_result(&mut self, caller: u32) -> Result<V, Memory>
         requires caller { caller ≤ self.old.callers }
         requires settles { is_settling ((world_of self.old).stages caller) ≡ true }
-        ensures value { IfOk result (λ value. result_in ((world_of self.old).stages caller) ≡ Some value) }
+        ensures value { IfOk result (λ value.
+            result_in ((world_of self.old).stages caller) ≡ Some value) }
         ensures world { world_of self.new ≡ world_of self.old }
         ensures sizes { SameSizes self.old self.new }
     {

@@ -39,7 +39,8 @@ impl Player {
 
     /// Whether one of the steps led the call on the place.
     fn was_led(&self, place: u32, call: CallId) -> bool
-        ensures { result ≡ list_any (λ s. was_led_on s.events.items place call) self.now.steps.items }
+        ensures { result ≡ list_any (λ s.
+            was_led_on s.events.items place call) self.now.steps.items }
     {
         self.steps
             .iter()
@@ -48,7 +49,8 @@ impl Player {
 
     /// Whether a question is of a call that was led.
     fn asks_of_led(&self, op: &Op<Outcome>) -> bool
-        ensures { (ts : List (Turn Outcome)) → IsAfter self.now ts → IsTrue result ↔ AsksOfLed (events_of 64 1 ts) op.now }
+        ensures { (ts : List (Turn Outcome)) → IsAfter self.now ts → IsTrue result
+            ↔ AsksOfLed (events_of 64 1 ts) op.now }
     {
         match op {
             Op::Current { place, call } => self.was_led(*place, *call),
@@ -59,7 +61,8 @@ impl Player {
     /// Starts an operation; false, and nothing changes, where that is no turn of a schedule.
     pub(crate) fn start(&mut self, caller: u32, op: Op<Outcome>) -> bool
         ensures turn { (ts : List (Turn Outcome)) → IsAfter self.old ts
-            → MatchBool result (IsAfter self.new (ts ++ turn.Start caller op ∷ [])) (IsSchedule text_setting (ts ++ turn.Start caller op ∷ []) → ⊥) }
+            → MatchBool result (IsAfter self.new (ts ++ turn.Start caller op ∷ []))
+            (IsSchedule text_setting (ts ++ turn.Start caller op ∷ []) → ⊥) }
     {
         if !self.world.may_start(caller, &op) || !self.asks_of_led(&op) {
             return false;
@@ -71,7 +74,9 @@ impl Player {
     /// Makes the next step of a caller's operation; false, and nothing changes, where that is no turn of a schedule.
     pub(crate) fn step(&mut self, caller: u32) -> Result<bool, Memory>
         ensures turn { (ts : List (Turn Outcome)) → IsAfter self.old ts
-            → IfOk result (λ done. MatchBool done (IsAfter self.new (ts ++ turn.Step caller ∷ [])) (IsSchedule text_setting (ts ++ turn.Step caller ∷ []) → ⊥)) }
+            → IfOk result (λ done.
+            MatchBool done (IsAfter self.new (ts ++ turn.Step caller ∷ []))
+            (IsSchedule text_setting (ts ++ turn.Step caller ∷ []) → ⊥)) }
     {
         if !self.world.may_step(caller) {
             return Ok(false);
@@ -85,7 +90,8 @@ impl Player {
     /// Leaves a caller's operation; false, and nothing changes, where that is no turn of a schedule.
     pub(crate) fn leave(&mut self, caller: u32) -> bool
         ensures turn { (ts : List (Turn Outcome)) → IsAfter self.old ts
-            → MatchBool result (IsAfter self.new (ts ++ turn.Leave caller ∷ [])) (IsSchedule text_setting (ts ++ turn.Leave caller ∷ []) → ⊥) }
+            → MatchBool result (IsAfter self.new (ts ++ turn.Leave caller ∷ []))
+            (IsSchedule text_setting (ts ++ turn.Leave caller ∷ []) → ⊥) }
     {
         if !self.world.may_leave(caller) {
             return false;
@@ -97,7 +103,9 @@ impl Player {
     /// Makes so many steps of a caller's operation; false where one of them is no turn of a schedule.
     fn steps(&mut self, caller: u32, count: u32) -> Result<bool, Memory>
         ensures turns { (ts : List (Turn Outcome)) → IsAfter self.old ts
-            → IfOk result (λ done. MatchBool done (IsAfter self.new (ts ++ replicate count (turn.Step caller))) (IsSchedule text_setting (ts ++ replicate count (turn.Step caller)) → ⊥)) }
+            → IfOk result (λ done.
+            MatchBool done (IsAfter self.new (ts ++ replicate count (turn.Step caller)))
+            (IsSchedule text_setting (ts ++ replicate count (turn.Step caller)) → ⊥)) }
     {
         for _i in 0..count {
             if !self.step(caller)? {
@@ -110,7 +118,9 @@ impl Player {
     /// Makes the turns that a line says; false where one of them is no turn of a schedule.
     pub(crate) fn obey(&mut self, line: ScheduleLine) -> Result<bool, Memory>
         ensures turns { (ts : List (Turn Outcome)) → IsAfter self.old ts
-            → IfOk result (λ done. MatchBool done (IsAfter self.new (ts ++ turns_of line)) (IsSchedule text_setting (ts ++ turns_of line) → ⊥)) }
+            → IfOk result (λ done.
+            MatchBool done (IsAfter self.new (ts ++ turns_of line))
+            (IsSchedule text_setting (ts ++ turns_of line) → ⊥)) }
     {
         match line {
             ScheduleLine::Do { caller, op } => Ok(self.start(caller, op)),

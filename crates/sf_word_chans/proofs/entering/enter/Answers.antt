@@ -12,13 +12,14 @@ use Rattle.sf_word_chans.proofs.EnterSteps.{enter_move, enter_won, enter_lost}
 use Rattle.sf_schedules.specs.declared.operation.AskStep.TheVariants as ask
 use Rattle.sf_word_chans.proofs.Exchanging.{exchanged_last}
 use Rattle.sf_word_chans.proofs.entering.enter.Goals as goal
+use Rattle.sf_words.specs.declared.limits.TheConstants.{LARGEST_CALLER}
 
 pub exchange_turns-found-requires-clause-moves : goal.exchange_turns-found-requires-clause-moves
 exchange_turns-found-requires-clause-moves g c =
     let v = c.args.seat.now.me.0 in
     let a = c.args.askers in
     let caller = c.requires.asks.sit.second.caller in
-    let high : a.second ≤ 65535 = let most = c.requires.askers.callers in let in_range = caller.1 in omega (arith, most, in_range) in
+    let high : a.second ≤ LARGEST_CALLER = let most = c.requires.askers.callers in let in_range = caller.1 in omega (arith, most, in_range) in
     let old_is : c.in-Some.old ≡ Open c.args.seen = c.in-Some.ensures.1 in
     let new_is : c.in-Some-new.new ≡ Open (with_top c.args.seen a.second) = c.in-Some-new.ensures.1 in
     let lawful : IsCallFor a.sizes.callers (Open (with_top c.args.seen a.second)) = ((c.requires.seen.0.0, (caller.0, high)), caller.1) in

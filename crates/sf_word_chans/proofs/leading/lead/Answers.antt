@@ -11,13 +11,14 @@ use Rattle.sf_word_chans.proofs.LeadSteps.{lead_move, lead_won, lead_lost}
 use Rattle.sf_schedules.specs.declared.operation.AskStep.TheVariants as ask
 use Rattle.sf_word_chans.proofs.Exchanging.{exchanged_last}
 use Rattle.sf_word_chans.proofs.leading.lead.Goals as goal
+use Rattle.sf_words.specs.declared.limits.TheConstants.{LARGEST_CALLER}
 
 pub exchange_turns-found-requires-clause-moves : goal.exchange_turns-found-requires-clause-moves
 exchange_turns-found-requires-clause-moves g c =
     let v = c.args.seat.now.me.0 in
     let a = c.args.askers in
     let caller = c.requires.asks.sit.first.caller in
-    let high : a.number ≤ 65535 = let most = c.requires.askers.callers in let in_range = caller.1 in omega (arith, most, in_range) in
+    let high : a.number ≤ LARGEST_CALLER = let most = c.requires.askers.callers in let in_range = caller.1 in omega (arith, most, in_range) in
     let named : IsKeyState (Names a.number a.generation false) = ((caller.0, high), c.requires.askers.generation) in
     let old_is : c.in-Some.old ≡ c.args.seen = c.in-Some.ensures.1 in
     let new_is : c.in-Some-new.new ≡ Names a.number a.generation false = c.in-Some-new.ensures.1 in

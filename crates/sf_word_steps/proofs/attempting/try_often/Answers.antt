@@ -3,10 +3,11 @@ use Rattle.sf_word_steps.specs.Attempts.{Trying}
 use Rattle.sf_word_steps.proofs.Trying.{trying_none, trying_more, tried_now, tried_all}
 use Rattle.sf_word_steps.proofs.Exchanging.{tried_so}
 use Rattle.sf_word_steps.proofs.attempting.try_often.Goals as goal
+use Rattle.sf_words.specs.declared.limits.TheConstants.{LARGEST_GENERATION}
 
 pub loop-failed-init : goal.loop-failed-init
 loop-failed-init g c =
-    let high : c.args.generation ≤ 4294967295 = let fits = c.ranges.generation.fits in omega arith in
+    let high : c.args.generation ≤ LARGEST_GENERATION = let fits = c.ranges.generation.fits in omega arith in
     (refl, refl, trying_none c.args.actor.sizes c.args.actor.number c.args.generation c.args.actor.place c.args.tries c.args.seat.now.me.0 c.requires.free c.requires.generation.1 high, omega arith)
 
 pub returns-in_default : goal.returns-in_default

@@ -12,12 +12,13 @@ use Rattle.sf_schedules.specs.declared.operation.AskStep.TheVariants as ask
 use Rattle.sf_word_steps.proofs.LookSteps.{asking_alone}
 use Rattle.sf_word_steps.proofs.Exchanging.{exchanged_last}
 use Rattle.sf_word_steps.proofs.leading.lead.Goals as goal
+use Rattle.sf_words.specs.declared.limits.TheConstants.{LARGEST_GENERATION}
 
 pub exchange_turns-found-requires-clause-moves : goal.exchange_turns-found-requires-clause-moves
 exchange_turns-found-requires-clause-moves g c =
     let v = c.args.seat.now.me.0 in
     let low = c.requires.generation.0 in
-    let high : c.args.generation ≤ 4294967295 = let fits = c.ranges.generation.fits in omega arith in
+    let high : c.args.generation ≤ LARGEST_GENERATION = let fits = c.ranges.generation.fits in omega arith in
     let named : IsKeyState (Names c.args.actor.number c.args.generation false) = ((c.requires.asks.caller.0, c.requires.by), (low, high)) in
     let old_is : c.in-Some.old ≡ c.args.seen = c.in-Some.ensures.1 in
     let new_is : c.in-Some-new.new ≡ Names c.args.actor.number c.args.generation false = c.in-Some-new.ensures.1 in

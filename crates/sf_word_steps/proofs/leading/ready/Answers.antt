@@ -9,12 +9,13 @@ use Rattle.sf_schedules.specs.declared.operation.Stage.TheVariants.{Asking}
 use Rattle.sf_schedules.specs.declared.operation.AskStep.TheVariants as ask
 use Rattle.sf_word_steps.proofs.Exchanging.{exchanged_once}
 use Rattle.sf_word_steps.proofs.leading.ready.Goals as goal
+use Rattle.sf_words.specs.declared.limits.TheConstants.{LARGEST_GENERATION}
 
 pub store_turns-requires-clause-moves : goal.store_turns-requires-clause-moves
 store_turns-requires-clause-moves g c =
     let v = c.args.seat.now.me.0 in
     let low = c.requires.generation.0 in
-    let high : c.args.generation ≤ 4294967295 = let fits = c.ranges.generation.fits in omega arith in
+    let high : c.args.generation ≤ LARGEST_GENERATION = let fits = c.ranges.generation.fits in omega arith in
     let lawful : IsCallState (ready_state c.args.generation) = ((low, high), tt) in
     let is : c.in-Some.word ≡ ready_state c.args.generation = c.in-Some.ensures.1 in
     subst (λ (z : Sizes). Moves z v (call c.args.actor.number) (λ _. c.pack_call.result) (λ _. Step c.args.actor.number ∷ [])) c.requires.sizes

@@ -8,13 +8,14 @@ use Rattle.sf_words.specs.KeyWord.{IsKeyState, key_code}
 use Rattle.sf_word_steps.specs.Words.{key}
 use Rattle.sf_word_steps.proofs.SettleSteps.{settle_clear_move, settle_clear_told}
 use Rattle.sf_word_steps.proofs.settling.clear_own.Goals as goal
+use Rattle.sf_words.specs.declared.limits.TheConstants.{LARGEST_GENERATION}
 
 pub exchange_turns-requires-clause-moves : goal.exchange_turns-requires-clause-moves
 exchange_turns-requires-clause-moves g c =
     let v = c.args.seat.now.me.0 in
     let old_is : c.in-Some.old ≡ Names c.args.actor.number c.args.generation false = c.in-Some.ensures.1 in
     let new_is : c.in-Some-new.new ≡ Names c.args.actor.number c.args.generation true = c.in-Some-new.ensures.1 in
-    let high : c.args.generation ≤ 4294967295 = let fits = c.ranges.generation.fits in omega arith in
+    let high : c.args.generation ≤ LARGEST_GENERATION = let fits = c.ranges.generation.fits in omega arith in
     let named : IsKeyState (Names c.args.actor.number c.args.generation false) = ((c.requires.by.0, c.requires.number), (c.requires.generation, high)) in
     subst (λ (z : Sizes). Moves z v (key c.args.actor.place) (λ n. either (n == c.pack_key.result) c.pack_key-2.result n) (λ _. Step c.args.actor.number ∷ [])) c.requires.sizes
     (settle_clear_move c.args.actor.sizes c.args.actor.number c.args.actor.place c.args.generation c.pack_key.result c.pack_key-2.result c.args.own c.args.value.now c.args.top v c.requires.asks (named, c.requires.by.1)

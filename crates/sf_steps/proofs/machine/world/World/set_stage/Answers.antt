@@ -8,6 +8,7 @@ use Rattle.sf_steps.specs.declared.machine.caller_row.CallerRow.{CallerRow}
 use Rattle.sf_steps.specs.Running.{world_of}
 use Rattle.sf_steps.proofs.Rows.{lent_row, generation_kept, stage_set, paired_set, lawful_set}
 use Rattle.sf_steps.proofs.machine.world.World.set_stage.Goals as goal
+use Rattle.sf_words.specs.declared.limits.TheConstants.{LARGEST_GENERATION}
 
 pub returns-clause-world : goal.returns-clause-world
 returns-clause-world g c =
@@ -35,7 +36,7 @@ pub invariant_of-self-clause-lawful : goal.invariant_of-self-clause-lawful
 invariant_of-self-clause-lawful g c =
     let within : c.args.caller < length c.args.self.now.rows.items = omega arith in
     let is = lent_row c.args.self.now.rows.items c.args.caller c.index_mut.result.now within c.index_mut.ensures.value in
-    let spent : is_asking c.args.stage ≡ true → c.index_mut.result.now.generation ≤ 4294967295 = λ asks. subst (λ (n : ℕ). n ≤ 4294967295) (sym (ap (λ (r : CallerRow g.row.V.Denot). r.generation) is)) (c.requires.spent asks) in
+    let spent : is_asking c.args.stage ≡ true → c.index_mut.result.now.generation ≤ LARGEST_GENERATION = λ asks. subst (λ (n : ℕ). n ≤ LARGEST_GENERATION) (sym (ap (λ (r : CallerRow g.row.V.Denot). r.generation) is)) (c.requires.spent asks) in
     lawful_set c.args.self.now.callers (λ k. slice_index_or c.args.self.now.keys.items k Never) c.args.self.now.rows.items c.args.caller c.index_mut.result.now within is c.args.self.now.callers c.args.self.now.places (record c.index_mut.result.now { stage = c.args.stage }) c.args.self.now.lawful
     (λ old. record { place = c.requires.place; unspent = spent; top = old.top; next = old.next; stage = c.requires.within })
 

@@ -10,6 +10,7 @@ use Rattle.sf_steps.specs.Rows.{ArePaired}
 use Rattle.sf_steps.specs.Running.{world_of}
 use Rattle.sf_steps.proofs.Rows.{still_below, lent_row, generation_kept, stage_set, paired_puts, lawful_set}
 use Rattle.sf_steps.proofs.machine.world.World.set_stages.Goals as goal
+use Rattle.sf_words.specs.declared.limits.TheConstants.{LARGEST_GENERATION}
 
 pub returns-clause-world : goal.returns-clause-world
 returns-clause-world g c =
@@ -56,9 +57,9 @@ invariant_of-self-clause-lawful g c =
     let is = lent_row c.args.self.now.rows.items c.args.second c.index_mut.result.now within c.index_mut.ensures.value in
     let within_2 : c.args.caller < length (slice_set c.args.self.now.rows.items c.args.second (record c.index_mut.result.now { stage = c.args.second_stage })) = still_below c.args.self.now.rows.items c.args.second (record c.index_mut.result.now { stage = c.args.second_stage }) c.args.caller (omega (arith, c.requires.callers.1)) in
     let is_2 = lent_row (slice_set c.args.self.now.rows.items c.args.second (record c.index_mut.result.now { stage = c.args.second_stage })) c.args.caller c.index_mut-2.result.now within_2 c.index_mut-2.ensures.value in
-    let second_spent : is_asking c.args.second_stage ≡ true → c.index_mut.result.now.generation ≤ 4294967295 = λ asks. subst (λ (n : ℕ). n ≤ 4294967295) (sym (ap (λ (r : CallerRow g.row.V.Denot). r.generation) is)) (c.requires.second_spent asks) in
+    let second_spent : is_asking c.args.second_stage ≡ true → c.index_mut.result.now.generation ≤ LARGEST_GENERATION = λ asks. subst (λ (n : ℕ). n ≤ LARGEST_GENERATION) (sym (ap (λ (r : CallerRow g.row.V.Denot). r.generation) is)) (c.requires.second_spent asks) in
     let kept = ap (λ (f : ℕ → ℕ). f c.args.caller) (generation_kept c.args.self.now.callers (λ k. slice_index_or c.args.self.now.keys.items k Never) c.args.self.now.rows.items c.args.second c.index_mut.result.now within is (record c.index_mut.result.now { stage = c.args.second_stage }) refl) in
-    let spent : is_asking c.args.stage ≡ true → c.index_mut-2.result.now.generation ≤ 4294967295 = λ asks. subst (λ (n : ℕ). n ≤ 4294967295) (sym (ap (λ (r : CallerRow g.row.V.Denot). r.generation) is_2 ∙ kept)) (c.requires.spent asks) in
+    let spent : is_asking c.args.stage ≡ true → c.index_mut-2.result.now.generation ≤ LARGEST_GENERATION = λ asks. subst (λ (n : ℕ). n ≤ LARGEST_GENERATION) (sym (ap (λ (r : CallerRow g.row.V.Denot). r.generation) is_2 ∙ kept)) (c.requires.spent asks) in
     lawful_set c.args.self.now.callers (λ k. slice_index_or c.args.self.now.keys.items k Never) (slice_set c.args.self.now.rows.items c.args.second (record c.index_mut.result.now { stage = c.args.second_stage })) c.args.caller c.index_mut-2.result.now within_2 is_2 c.args.self.now.callers c.args.self.now.places (record c.index_mut-2.result.now { stage = c.args.stage })
     (lawful_set c.args.self.now.callers (λ k. slice_index_or c.args.self.now.keys.items k Never) c.args.self.now.rows.items c.args.second c.index_mut.result.now within is c.args.self.now.callers c.args.self.now.places (record c.index_mut.result.now { stage = c.args.second_stage }) c.args.self.now.lawful
     (λ old. record { place = (c.requires.places.2, c.requires.places.3); unspent = second_spent; top = old.top; next = old.next; stage = c.requires.second_within }))

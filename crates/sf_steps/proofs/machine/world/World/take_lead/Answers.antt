@@ -9,6 +9,7 @@ use Rattle.sf_lists.proofs.Functions.{put_else}
 use Rattle.sf_steps.proofs.Worlds.{leads_alone, leads_with}
 use Rattle.sf_steps.proofs.Rows.{past_free}
 use Rattle.sf_steps.proofs.machine.world.World.take_lead.Goals as goal
+use Rattle.sf_words.specs.declared.limits.TheConstants.{LARGEST_GENERATION}
 
 pub use_generation-requires-clause-asks : goal.use_generation-requires-clause-asks
 use_generation-requires-clause-asks g c =
@@ -17,7 +18,7 @@ use_generation-requires-clause-asks g c =
 pub use_generation-requires-clause-room : goal.use_generation-requires-clause-room
 use_generation-requires-clause-room g c =
     let same : (world_of c.set_stage.new.self).generations c.args.caller ≡ (world_of c.args.self.now).generations c.args.caller = ap (λ (row : ℕ → ℕ). row c.args.caller) c.set_stage.ensures.generations in
-    let left : (world_of c.args.self.now).generations c.args.caller ≤ 4294967295 = (c.args.self.now.lawful c.args.caller).unspent (ap is_asking c.requires.asks.1) in
+    let left : (world_of c.args.self.now).generations c.args.caller ≤ LARGEST_GENERATION = (c.args.self.now.lawful c.args.caller).unspent (ap is_asking c.requires.asks.1) in
     omega arith
 
 pub returns-in_default-clause-world : goal.returns-in_default-clause-world
@@ -60,7 +61,7 @@ pub use_generation-requires-2-clause-room : goal.use_generation-requires-2-claus
 use_generation-requires-2-clause-room g c =
     let second = is_second (world_of c.args.self.now).stages c.args.self.now.callers c.args.caller c.args.place c.in-Some.second c.args.second c.requires.asks.0 (past_free c.args.self.now.rows.items c.args.self.now.callers c.args.self.now.rows_for_callers) c.args.self.now.paired c.requires.asks.1 c.in-Some.is in
     let same : (world_of c.set_stages.new.self).generations c.in-Some.second ≡ (world_of c.args.self.now).generations c.in-Some.second = ap (λ (row : ℕ → ℕ). row c.in-Some.second) c.set_stages.ensures.generations in
-    let left : (world_of c.args.self.now).generations c.in-Some.second ≤ 4294967295 = (c.args.self.now.lawful c.in-Some.second).unspent second.asks in
+    let left : (world_of c.args.self.now).generations c.in-Some.second ≤ LARGEST_GENERATION = (c.args.self.now.lawful c.in-Some.second).unspent second.asks in
     omega arith
 
 pub use_generation-requires-3-clause-asks : goal.use_generation-requires-3-clause-asks
@@ -73,7 +74,7 @@ use_generation-requires-3-clause-room g c =
     let other : c.args.caller ≢ c.in-Some.second = λ is. second.apart (sym is) in
     let same : (world_of c.use_generation-2.new.self).generations c.args.caller ≡ (world_of c.args.self.now).generations c.args.caller =
     ap (λ (x : World g.row.V.Denot). x.generations c.args.caller) c.use_generation-2.ensures.world ∙ (put_else (world_of c.set_stages.new.self).generations c.in-Some.second ((world_of c.set_stages.new.self).generations c.in-Some.second + 1) c.args.caller other ∙ ap (λ (row : ℕ → ℕ). row c.args.caller) c.set_stages.ensures.generations) in
-    let left : (world_of c.args.self.now).generations c.args.caller ≤ 4294967295 = (c.args.self.now.lawful c.args.caller).unspent (ap is_asking c.requires.asks.1) in
+    let left : (world_of c.args.self.now).generations c.args.caller ≤ LARGEST_GENERATION = (c.args.self.now.lawful c.args.caller).unspent (ap is_asking c.requires.asks.1) in
     omega arith
 
 pub returns-clause-world : goal.returns-clause-world

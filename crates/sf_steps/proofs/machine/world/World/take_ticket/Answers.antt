@@ -5,6 +5,7 @@ use Rattle.sf_steps.proofs.Seconds.{is_second, one_first}
 use Rattle.sf_steps.proofs.Worlds.{joins_alone, joins_with}
 use Rattle.sf_steps.proofs.Rows.{past_free}
 use Rattle.sf_steps.proofs.machine.world.World.take_ticket.Goals as goal
+use Rattle.sf_words.specs.declared.limits.TheConstants.{LARGEST_GENERATION}
 
 pub set_stages-requires-clause-callers : goal.set_stages-requires-clause-callers
 set_stages-requires-clause-callers g c =
@@ -19,14 +20,14 @@ set_stages-requires-clause-first g c =
 pub use_generation-requires-clause-room : goal.use_generation-requires-clause-room
 use_generation-requires-clause-room g c =
     let same : (world_of c.set_stage.new.self).generations c.args.caller ≡ (world_of c.args.self.now).generations c.args.caller = ap (λ (row : ℕ → ℕ). row c.args.caller) c.set_stage.ensures.generations in
-    let left : (world_of c.args.self.now).generations c.args.caller ≤ 4294967295 = (c.args.self.now.lawful c.args.caller).unspent (ap is_asking c.requires.asks.1) in
+    let left : (world_of c.args.self.now).generations c.args.caller ≤ LARGEST_GENERATION = (c.args.self.now.lawful c.args.caller).unspent (ap is_asking c.requires.asks.1) in
     omega arith
 
 pub use_generation-requires-in-Some-clause-room : goal.use_generation-requires-in-Some-clause-room
 use_generation-requires-in-Some-clause-room g c =
     let second = is_second (world_of c.args.self.now).stages c.args.self.now.callers c.args.caller c.args.place c.in-Some.second c.args.second c.requires.asks.0 (past_free c.args.self.now.rows.items c.args.self.now.callers c.args.self.now.rows_for_callers) c.args.self.now.paired c.requires.asks.1 c.in-Some.is in
     let same : (world_of c.set_stages.new.self).generations c.in-Some.second ≡ (world_of c.args.self.now).generations c.in-Some.second = ap (λ (row : ℕ → ℕ). row c.in-Some.second) c.set_stages.ensures.generations in
-    let left : (world_of c.args.self.now).generations c.in-Some.second ≤ 4294967295 = (c.args.self.now.lawful c.in-Some.second).unspent second.asks in
+    let left : (world_of c.args.self.now).generations c.in-Some.second ≤ LARGEST_GENERATION = (c.args.self.now.lawful c.in-Some.second).unspent second.asks in
     omega arith
 
 pub returns-in-None-clause-world : goal.returns-in-None-clause-world
