@@ -12,7 +12,7 @@ use crate::wide::MaybeCall;
 use sf_calls::{ChanBegun, Fit, NotBegun};
 use sf_history::CallId;
 use sf_word_chans::{Askers, ask_together};
-use sf_word_steps::Attempt;
+use sf_word_steps::AskAttempt;
 
 // The generations that two callers use next. None where either is spent.
 fn generations(next: u64, second_next: u64) -> Option<(u32, u32)>
@@ -81,7 +81,7 @@ impl<V: Fit> Group<V> {
             tries,
         );
         match attempt {
-            Attempt::Led(after) => Ok(ChanBegun::Led(
+            AskAttempt::Led(after) => Ok(ChanBegun::Led(
                 Flight {
                     seat,
                     number,
@@ -100,7 +100,7 @@ impl<V: Fit> Group<V> {
                     member,
                 },
             )),
-            Attempt::Joined(open) => Ok(ChanBegun::Joined(
+            AskAttempt::Joined(open) => Ok(ChanBegun::Joined(
                 Ticket {
                     seat: second_seat,
                     number: second_number,
@@ -111,7 +111,7 @@ impl<V: Fit> Group<V> {
                 },
                 Caller { seat, number, next },
             )),
-            Attempt::Lost => Err(NotBegun::Busy(
+            AskAttempt::Lost => Err(NotBegun::Busy(
                 tries,
                 (
                     Caller { seat, number, next },

@@ -18,8 +18,8 @@ use sf_calls::{Begun, Fit, MOST_CALLERS, MOST_PLACES, NotBegun, Sizes};
 use sf_history::{CallId, Forgotten, Hit};
 use sf_schedules::Letter as Cell;
 use sf_word_steps::{
-    Actor, Attempt, Deals, ForgetAttempt, Law, Resting, View, WordSeat, Words, forget_often,
-    try_often, word_count,
+    Actor, AskAttempt, Deals, ForgetAttempt, Law, Resting, View, WordSeat, Words, forget_often,
+    ask_often, word_count,
 };
 use std::alloc::{AllocError, Global};
 use std::marker::Model;
@@ -162,9 +162,9 @@ impl<V: Fit> Group<V> {
             number: number as u32,
             place,
         };
-        let attempt = try_often(&self.table.shared, &mut seat, actor, generation, tries);
+        let attempt = ask_often(&self.table.shared, &mut seat, actor, generation, tries);
         match attempt {
-            Attempt::Led(after) => Ok(Begun::Lead(Flight {
+            AskAttempt::Led(after) => Ok(Begun::Lead(Flight {
                 seat,
                 number,
                 next: next + 1,
@@ -173,7 +173,7 @@ impl<V: Fit> Group<V> {
                 own: MaybeCall::none(),
                 after: MaybeCall::of(after),
             })),
-            Attempt::Joined(call) => Ok(Begun::Join(Ticket {
+            AskAttempt::Joined(call) => Ok(Begun::Join(Ticket {
                 seat,
                 number,
                 next: next + 1,
@@ -181,7 +181,7 @@ impl<V: Fit> Group<V> {
                 call,
                 member,
             })),
-            Attempt::Lost => Err(NotBegun::Busy(tries, Caller { seat, number, next })),
+            AskAttempt::Lost => Err(NotBegun::Busy(tries, Caller { seat, number, next })),
         }
     }
 

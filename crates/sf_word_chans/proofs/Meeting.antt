@@ -7,8 +7,8 @@ use Rattle.sf_schedules.specs.declared.operation.Stage.TheVariants as stage
 use Rattle.sf_calls.specs.declared.sizes.Sizes.{Sizes}
 use Rattle.sf_word_steps.specs.declared.view.Claim.{Claim}
 use Rattle.sf_word_steps.specs.declared.view.View.{View}
-use Rattle.sf_word_steps.specs.declared.attempting.Attempt.{Attempt}
-use Rattle.sf_word_steps.specs.declared.attempting.Attempt.TheVariants.{Led, Joined, Lost}
+use Rattle.sf_word_steps.specs.declared.asking.AskAttempt.{AskAttempt}
+use Rattle.sf_word_steps.specs.declared.asking.AskAttempt.TheVariants.{Led, Joined, Lost}
 use Rattle.sf_word_steps.specs.Words.{key}
 use Rattle.sf_word_steps.specs.View.{AreApart, rest_of, first_of_all, claim, all_of, both_of, without_first, first_alone, world_of}
 use Rattle.sf_word_steps.specs.Plays.{view_after, Made}
@@ -91,7 +91,7 @@ module _ {V : Type 0} where
     turns = refl;
   }
 
-  asked_alone : (c : Askers) (tries : ℕ) (v w x y : View V) (r : Attempt) → Met c v w x → HasTried c tries x y r → HasAsked c tries v w (alone c.number y) (alone c.second y) r
+  asked_alone : (c : Askers) (tries : ℕ) (v w x y : View V) (r : AskAttempt) → Met c v w x → HasTried c tries x y r → HasAsked c tries v w (alone c.number y) (alone c.second y) r
   asked_alone c tries v w x y (Led after) met t = (together c v w x y (stage.Leading c.place c.generation (Some (member_of c))) (stage.Holding c.place c.second_generation (call_of c)) (event.Lead c.number c.place (call_of c) (Some (member_of c)) ∷ []) [] 1 1 met t.0, record { before = t.1.before; last = t.1.last; current = t.1.current })
   asked_alone c tries v w x y (Joined d) met t = together c v w x y stage.Free (stage.Holding c.place c.second_generation d) [] (event.Enter c.second c.place d (member_of c) ∷ []) 0 1 met t
   asked_alone c tries v w x y Lost met t = (
@@ -112,24 +112,24 @@ module _ {V : Type 0} where
     pub told : y.told ≡ []
     pub cells : y.cells ≡ []
 
-  pub whole : (c : Askers) (tries : ℕ) (x y : View V) (r : Attempt) → HasTried c tries x y r → Whole c y
+  pub whole : (c : Askers) (tries : ℕ) (x y : View V) (r : AskAttempt) → HasTried c tries x y r → Whole c y
   whole c tries x y (Led after) t = record { callers = t.0.callers; told = t.0.told; cells = t.0.cells }
   whole c tries x y (Joined d) t = record { callers = t.callers; told = t.told; cells = t.cells }
   whole c tries x y Lost t = record { callers = t.goes.callers; told = t.goes.told; cells = t.goes.cells }
 
-  pub asked : (c : Askers) (tries : ℕ) (v w x y v' w' : View V) (r : Attempt) → Met c v w x → HasTried c tries x y r → v' ≡ first_alone y → w' ≡ without_first y → HasAsked c tries v w v' w' r
+  pub asked : (c : Askers) (tries : ℕ) (v w x y v' w' : View V) (r : AskAttempt) → Met c v w x → HasTried c tries x y r → v' ≡ first_alone y → w' ≡ without_first y → HasAsked c tries v w v' w' r
   asked c tries v w x y v' w' r met t first second =
       let all = whole c tries x y r t in
       subst (λ (u : View V). HasAsked c tries v w v' u r) (sym (second ∙ cut_second c y all.callers all.told))
       (subst (λ (u : View V). HasAsked c tries v w u (alone c.second y) r) (sym (first ∙ cut_first c y all.callers)) (asked_alone c tries v w x y r met t))
 
   -- how often the two tried, from what each had known
-  so_from : (z : Sizes) (a tries : ℕ) (v x y : View V) (r : Attempt) → HasExchanged z a 0 v x → HasTriedSo z a tries x y r → HasTriedSo z a tries v y r
+  so_from : (z : Sizes) (a tries : ℕ) (v x y : View V) (r : AskAttempt) → HasExchanged z a 0 v x → HasTriedSo z a tries x y r → HasTriedSo z a tries v y r
   so_from z a tries v x y (Led after) none some = omega (arith, none, some)
   so_from z a tries v x y (Joined d) none some = omega (arith, none, some)
   so_from z a tries v x y Lost none some = omega (arith, none, some)
 
-  pub asked_so : (c : Askers) (tries : ℕ) (v w x y v' w' : View V) (r : Attempt) → Met c v w x → HaveTriedSo c tries x y r → v' ≡ first_alone y → w' ≡ without_first y → HaveAskedSo c tries v w v' w' r
+  pub asked_so : (c : Askers) (tries : ℕ) (v w x y v' w' : View V) (r : AskAttempt) → Met c v w x → HaveTriedSo c tries x y r → v' ≡ first_alone y → w' ≡ without_first y → HaveAskedSo c tries v w v' w' r
   asked_so c tries v w x y v' w' r met so first second =
       let old = met.second_exchanged in
       let none = so.1 in (

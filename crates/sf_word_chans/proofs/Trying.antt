@@ -14,8 +14,8 @@ use Rattle.sf_schedules.specs.World.{World, first_world}
 use Rattle.sf_schedules.specs.Turns.{run}
 use Rattle.sf_schedules.proofs.RightAnswers.{run_append}
 use Rattle.sf_word_steps.specs.declared.view.View.{View}
-use Rattle.sf_word_steps.specs.declared.attempting.Attempt.{Attempt}
-use Rattle.sf_word_steps.specs.declared.attempting.Attempt.TheVariants.{Led, Joined, Lost}
+use Rattle.sf_word_steps.specs.declared.asking.AskAttempt.{AskAttempt}
+use Rattle.sf_word_steps.specs.declared.asking.AskAttempt.TheVariants.{Led, Joined, Lost}
 use Rattle.sf_word_steps.specs.Words.{Word, key, call, next, HasWord, IsOthers, code_at}
 use Rattle.sf_word_steps.specs.View.{world_of}
 use Rattle.sf_word_steps.specs.Changes.{tried, IsKeyOrTried}
@@ -81,8 +81,8 @@ module _ {V : Type 0} where
   }
 
   -- one failed exchange, of the place's key word or of a call word
-  pub try_once : (c : Askers) (n : ℕ) (y : Word) (v w : View V) (p q : Stage V) → ((j : ℕ) → y ≡ key j → j ≡ c.place) → LoseBoth c y n v w p q → code_at (world_of c.sizes v.known.turns) y ≡ n → TryBoth c 1 v w p q
-  try_once c n y v w p q mine l was = record { goes = l.goes; asks = l.asks; count = λ xs sub. l.changed xs (sub y (in_all y mine l.tries)) was }
+  pub ask_once : (c : Askers) (n : ℕ) (y : Word) (v w : View V) (p q : Stage V) → ((j : ℕ) → y ≡ key j → j ≡ c.place) → LoseBoth c y n v w p q → code_at (world_of c.sizes v.known.turns) y ≡ n → TryBoth c 1 v w p q
+  ask_once c n y v w p q mine l was = record { goes = l.goes; asks = l.asks; count = λ xs sub. l.changed xs (sub y (in_all y mine l.tries)) was }
     where
       in_all : (y : Word) → ((j : ℕ) → y ≡ key j → j ≡ c.place) → IsKeyOrTried c.number y (world_of c.sizes v.known.turns) l.goes.first.turns → HasWord (key c.place ∷ tried c.number (world_of c.sizes v.known.turns) l.goes.first.turns) y
       in_all (key j) is t = inl (ap key (sym (is j refl)))
@@ -128,30 +128,30 @@ module _ {V : Type 0} where
   Holds c d = stage.Holding c.place c.second_generation d
 
   -- what a step before adds to an attempt
-  pub attempted_after : (c : Askers) (last : Bool) (v w x : View V) (p q : Stage V) (r : Attempt) → StayBoth c v w p q → HasAttempted c last w x r → HasAttempted c last v x r
+  pub attempted_after : (c : Askers) (last : Bool) (v w x : View V) (p q : Stage V) (r : AskAttempt) → StayBoth c v w p q → HasAttempted c last w x r → HasAttempted c last v x r
   attempted_after c last v w x p q (Led after) one two = (go_after c v w x p q (Leads c) (Holds c (call_of c)) (event.Lead c.number c.place (call_of c) (Some (member_of c)) ∷ []) [] 1 1 one.goes two.0, two.1)
   attempted_after c last v w x p q (Joined d) one two = go_after c v w x p q stage.Free (Holds c d) [] (event.Enter c.second c.place d (member_of c) ∷ []) 0 1 one.goes two
   attempted_after c last v w x p q Lost one two = try_again c 0 1 v w x p q (lost_first c last) (lost_second c last) (try_none c v w p q one.asks one.goes) two
 
   -- an attempt to lead, after its look
-  pub led_now : (c : Askers) (last : Bool) (seen : KeyState) (v w x : View V) (p q : Stage V) (r : Attempt) → StayBoth c v w p q → (world_of c.sizes w.known.turns).keys c.place ≡ seen → HasLedOn c last seen w x r → HasAttempted c last v x r
+  pub led_now : (c : Askers) (last : Bool) (seen : KeyState) (v w x : View V) (p q : Stage V) (r : AskAttempt) → StayBoth c v w p q → (world_of c.sizes w.known.turns).keys c.place ≡ seen → HasLedOn c last seen w x r → HasAttempted c last v x r
   led_now c last seen v w x p q (Led after) one shown two = attempted_after c last v w x p q (Led after) one two
   led_now c last seen v w x p q (Joined d) one shown two = absurd two
-  led_now c last seen v w x p q Lost one shown two = attempted_after c last v w x p q Lost one (try_once c (key_code seen) (key c.place) w x (lost_first c last) (lost_second c last) (λ j e. key_apart c.place j e) two (ap key_code shown))
+  led_now c last seen v w x p q Lost one shown two = attempted_after c last v w x p q Lost one (ask_once c (key_code seen) (key c.place) w x (lost_first c last) (lost_second c last) (λ j e. key_apart c.place j e) two (ap key_code shown))
 
   -- the same, after a peek
-  pub led_later : (c : Askers) (last : Bool) (seen : KeyState) (w x y : View V) (p q : Stage V) (r : Attempt) → (world_of c.sizes w.known.turns).keys c.place ≡ seen → StayBoth c w x p q → HasLedOn c last seen x y r → HasAttempted c last w y r
+  pub led_later : (c : Askers) (last : Bool) (seen : KeyState) (w x y : View V) (p q : Stage V) (r : AskAttempt) → (world_of c.sizes w.known.turns).keys c.place ≡ seen → StayBoth c w x p q → HasLedOn c last seen x y r → HasAttempted c last w y r
   led_later c last seen w x y p q (Led after) shown stays two = attempted_after c last w x y p q (Led after) stays two
   led_later c last seen w x y p q (Joined d) shown stays two = absurd two
   led_later c last seen w x y p q Lost shown stays two =
-      try_once c (key_code seen) (key c.place) w y (lost_first c last) (lost_second c last) (λ j e. key_apart c.place j e) (lose_after c (key_code seen) (key c.place) w x y p q (lost_first c last) (lost_second c last) tt tt stays two) (ap key_code shown)
+      ask_once c (key_code seen) (key c.place) w y (lost_first c last) (lost_second c last) (λ j e. key_apart c.place j e) (lose_after c (key_code seen) (key c.place) w x y p q (lost_first c last) (lost_second c last) tt tt stays two) (ap key_code shown)
 
   -- an attempt to join, after its peek
-  pub joined_later : (c : Askers) (d : CallId) (last : Bool) (seen : CallState) (w x y : View V) (p q : Stage V) (r : Attempt) → StayBoth c w x p q → (world_of c.sizes x.known.turns).calls d.caller ≡ seen → HasJoinedOn c d last seen x y r → HasAttempted c last w y r
+  pub joined_later : (c : Askers) (d : CallId) (last : Bool) (seen : CallState) (w x y : View V) (p q : Stage V) (r : AskAttempt) → StayBoth c w x p q → (world_of c.sizes x.known.turns).calls d.caller ≡ seen → HasJoinedOn c d last seen x y r → HasAttempted c last w y r
   joined_later c d last seen w x y p q (Led after) stays shown two = absurd two
   joined_later c d last seen w x y p q (Joined e) stays shown two = attempted_after c last w x y p q (Joined e) stays two.1
   joined_later c d last seen w x y p q Lost stays shown two = attempted_after c last w x y p q Lost stays
-      (try_once c (call_code seen) (call d.caller) x y (lost_first c last) (lost_second c last) (λ j e. call_apart d.caller c.place j e) two (ap call_code shown))
+      (ask_once c (call_code seen) (call d.caller) x y (lost_first c last) (lost_second c last) (λ j e. call_apart d.caller c.place j e) two (ap call_code shown))
 
   -- the tries begin, and go on
   pub trying_none : (c : Askers) (tries : ℕ) (v : View V) → Ask c v stage.Free stage.Free → Trying c tries 0 v v
@@ -175,7 +175,7 @@ module _ {V : Type 0} where
   }
 
   -- an attempt that did not fail ends the asking
-  pub tried_now : (c : Askers) (tries failed : ℕ) (v w x : View V) (last : Bool) (r : Attempt) → (r ≢ Lost) → Trying c tries failed v w → HasAttempted c last w x r → HasTried c tries v x r
+  pub tried_now : (c : Askers) (tries failed : ℕ) (v w x : View V) (last : Bool) (r : AskAttempt) → (r ≢ Lost) → Trying c tries failed v w → HasAttempted c last w x r → HasTried c tries v x r
   tried_now c tries failed v w x last (Led after) some t one = (go_after c v w x t.at t.second_at (Leads c) (Holds c (call_of c)) (event.Lead c.number c.place (call_of c) (Some (member_of c)) ∷ []) [] 1 1 t.done.goes one.0, one.1)
   tried_now c tries failed v w x last (Joined d) some t one = go_after c v w x t.at t.second_at stage.Free (Holds c d) [] (event.Enter c.second c.place d (member_of c) ∷ []) 0 1 t.done.goes one
   tried_now c tries failed v w x last Lost some t one = absurd (some refl)

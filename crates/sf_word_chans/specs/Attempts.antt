@@ -9,8 +9,8 @@ use Rattle.sf_words.specs.CallWord.{call_code}
 use Rattle.sf_schedules.specs.declared.operation.Stage.{Stage}
 use Rattle.sf_schedules.specs.declared.operation.Stage.TheVariants as stage
 use Rattle.sf_word_steps.specs.declared.view.View.{View}
-use Rattle.sf_word_steps.specs.declared.attempting.Attempt.{Attempt}
-use Rattle.sf_word_steps.specs.declared.attempting.Attempt.TheVariants.{Led, Joined, Lost}
+use Rattle.sf_word_steps.specs.declared.asking.AskAttempt.{AskAttempt}
+use Rattle.sf_word_steps.specs.declared.asking.AskAttempt.TheVariants.{Led, Joined, Lost}
 use Rattle.sf_word_steps.specs.Words.{key, call}
 use Rattle.sf_word_steps.specs.Attempts.{IsAfter}
 use Rattle.sf_word_chans.specs.declared.askers.Askers.{Askers}
@@ -28,19 +28,19 @@ module _ {V : Type 0} where
   HasJoined c d v w = GoBoth c v w stage.Free (stage.Holding c.place c.second_generation d) [] (event.Enter c.second c.place d (member_of c) ∷ []) 0 1
 
   -- how one attempt of an asking ends
-  abbrev pub HasAttempted : Askers → Bool → View V → View V → Attempt → Type 0
+  abbrev pub HasAttempted : Askers → Bool → View V → View V → AskAttempt → Type 0
   HasAttempted c last v w (Led after) = HasLed c after v w
   HasAttempted c last v w (Joined d) = HasJoined c d v w
   HasAttempted c last v w Lost = TryBoth c 1 v w (lost_first c last) (lost_second c last)
 
   -- how the end of an attempt that leads ends, which saw this key word
-  abbrev pub HasLedOn : Askers → Bool → KeyState → View V → View V → Attempt → Type 0
+  abbrev pub HasLedOn : Askers → Bool → KeyState → View V → View V → AskAttempt → Type 0
   HasLedOn c last seen v w (Led after) = HasLed c after v w
   HasLedOn c last seen v w (Joined d) = ⊥
   HasLedOn c last seen v w Lost = LoseBoth c (key c.place) (key_code seen) v w (lost_first c last) (lost_second c last)
 
   -- how the end of one that joins ends, which saw this call word
-  abbrev pub HasJoinedOn : Askers → CallId → Bool → CallState → View V → View V → Attempt → Type 0
+  abbrev pub HasJoinedOn : Askers → CallId → Bool → CallState → View V → View V → AskAttempt → Type 0
   HasJoinedOn c called last seen v w (Led after) = ⊥
   HasJoinedOn c called last seen v w (Joined d) = (d ≡ called) × HasJoined c d v w
   HasJoinedOn c called last seen v w Lost = LoseBoth c (call called.caller) (call_code seen) v w (lost_first c last) (lost_second c last)
@@ -55,7 +55,7 @@ module _ {V : Type 0} where
     pub second_free : failed ≡ tries → second_at ≡ stage.Free
 
   -- how an asking of so many tries ends
-  abbrev pub HasTried : Askers → ℕ → View V → View V → Attempt → Type 0
+  abbrev pub HasTried : Askers → ℕ → View V → View V → AskAttempt → Type 0
   HasTried c tries v w (Led after) = HasLed c after v w
   HasTried c tries v w (Joined d) = HasJoined c d v w
   HasTried c tries v w Lost = TryBoth c tries v w stage.Free stage.Free

@@ -5,8 +5,8 @@ use Rattle.sf_history.specs.declared.event.Event.TheVariants as event
 use Rattle.sf_schedules.specs.declared.operation.Stage.{Stage}
 use Rattle.sf_schedules.specs.declared.operation.Stage.TheVariants as stage
 use Rattle.sf_word_steps.specs.declared.view.View.{View}
-use Rattle.sf_word_steps.specs.declared.attempting.Attempt.{Attempt}
-use Rattle.sf_word_steps.specs.declared.attempting.Attempt.TheVariants.{Led, Joined, Lost}
+use Rattle.sf_word_steps.specs.declared.asking.AskAttempt.{AskAttempt}
+use Rattle.sf_word_steps.specs.declared.asking.AskAttempt.TheVariants.{Led, Joined, Lost}
 use Rattle.sf_word_steps.specs.Stands.{Goes}
 use Rattle.sf_word_steps.specs.Attempts.{IsAfter}
 use Rattle.sf_word_chans.specs.declared.askers.Askers.{Askers}
@@ -20,7 +20,7 @@ module _ {V : Type 0} where
     pub second : Goes c.sizes c.second w w' q y n
     pub turns : w'.known.turns ≡ v'.known.turns
 
-  abbrev pub HasAsked : Askers → ℕ → View V → View V → View V → View V → Attempt → Type 0
+  abbrev pub HasAsked : Askers → ℕ → View V → View V → View V → View V → AskAttempt → Type 0
   HasAsked c tries v w v' w' (Led after) = GoTogether c v w v' w' (stage.Leading c.place c.generation (Some (member_of c))) (stage.Holding c.place c.second_generation (call_of c)) (event.Lead c.number c.place (call_of c) (Some (member_of c)) ∷ []) [] 1 1
       × IsAfter c.sizes c.place v' (event.Lead c.number c.place (call_of c) (Some (member_of c))) after
   HasAsked c tries v w v' w' (Joined d) = GoTogether c v w v' w' stage.Free (stage.Holding c.place c.second_generation d) [] (event.Enter c.second c.place d (member_of c) ∷ []) 0 1

@@ -7,9 +7,9 @@ ghost use Rattle.sf_word_chans.specs.Together.{HasAsked};
 ghost use Rattle.sf_word_chans.specs.Exchanges.{HaveAskedSo};
 
 use crate::askers::Askers;
-use crate::attempting::try_both;
+use crate::asking::ask_both;
 use sf_calls::Fit;
-use sf_word_steps::{Attempt, Deals, WordSeat, Words, take_in};
+use sf_word_steps::{AskAttempt, Deals, WordSeat, Words, take_in};
 
 /// The caller asks with the second, in so many tries. Answers how that ended, and the seats of the two.
 pub fn ask_together<V: Fit>(
@@ -18,7 +18,7 @@ pub fn ask_together<V: Fit>(
     second: WordSeat<V>,
     askers: Askers,
     tries: u32,
-) -> (Attempt, WordSeat<V>, WordSeat<V>)
+) -> (AskAttempt, WordSeat<V>, WordSeat<V>)
     requires own { IsSeatOf seat.table_id words.now.table_id words.now.key × (seat.me.1 ≡ []) }
     requires second { (second.table_id ≡ words.now.table_id) × (second.me.1 ≡ []) }
     requires sizes { askers.sizes ≡ words.now.key }
@@ -35,7 +35,7 @@ pub fn ask_together<V: Fit>(
         result.0 }
 {
     take_in(words, &mut seat, second, askers.sizes, askers.number);
-    let attempt = try_both(words, &mut seat, askers, tries);
+    let attempt = ask_both(words, &mut seat, askers, tries);
     let first = words.split_seat::<Deals>(&mut seat);
     (attempt, first, seat)
 }

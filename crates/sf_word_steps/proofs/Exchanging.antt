@@ -18,8 +18,8 @@ use Rattle.sf_schedules.proofs.Named.{IsAlone}
 use Rattle.sf_calls.specs.declared.sizes.Sizes.{Sizes}
 use Rattle.sf_word_steps.specs.declared.view.View.{View}
 use Rattle.sf_word_steps.specs.View.{Has, world_of}
-use Rattle.sf_word_steps.specs.declared.attempting.Attempt.{Attempt}
-use Rattle.sf_word_steps.specs.declared.attempting.Attempt.TheVariants.{Led, Joined, Lost}
+use Rattle.sf_word_steps.specs.declared.asking.AskAttempt.{AskAttempt}
+use Rattle.sf_word_steps.specs.declared.asking.AskAttempt.TheVariants.{Led, Joined, Lost}
 use Rattle.sf_word_steps.specs.declared.forgetting.ForgetAttempt.{ForgetAttempt}
 use Rattle.sf_word_steps.specs.declared.forgetting.ForgetAttempt.TheVariants as forgot
 use Rattle.sf_word_steps.specs.Plays.{Made}
@@ -121,7 +121,7 @@ module _ {V : Type 0} where
       exchanged_once z a 0 v w p again (forgetting_alone k target (forget.Look true)) (subst (λ q. Made z v w (forget_turns q a k target)) (stage_is z a v p again) m) refl
 
   -- the try that ends a loop, after so many that failed
-  pub tried_so : (z : Sizes) (a tries failed : ℕ) (v w x : View V) (r : Attempt) → r ≢ Lost → failed + 1 ≤ tries → HasExchanged z a failed v w → HasExchanged z a 1 w x → HasTriedSo z a tries v x r
+  pub tried_so : (z : Sizes) (a tries failed : ℕ) (v w x : View V) (r : AskAttempt) → r ≢ Lost → failed + 1 ≤ tries → HasExchanged z a failed v w → HasExchanged z a 1 w x → HasTriedSo z a tries v x r
   tried_so z a tries failed v w x (Led after) some few old one = omega (arith, few, old, one)
   tried_so z a tries failed v w x (Joined c) some few old one = omega (arith, few, old, one)
   tried_so z a tries failed v w x Lost some few old one = absurd (some refl)

@@ -21,8 +21,8 @@ use Rattle.sf_words.specs.KeyWord.{key_code}
 use Rattle.sf_words.specs.declared.call_word.CallState.{CallState}
 use Rattle.sf_words.specs.CallWord.{call_code}
 use Rattle.sf_schedules.specs.declared.operation.Stage.TheVariants as stage
-use Rattle.sf_word_steps.specs.declared.attempting.Attempt.{Attempt}
-use Rattle.sf_word_steps.specs.declared.attempting.Attempt.TheVariants.{Led, Joined, Lost}
+use Rattle.sf_word_steps.specs.declared.asking.AskAttempt.{AskAttempt}
+use Rattle.sf_word_steps.specs.declared.asking.AskAttempt.TheVariants.{Led, Joined, Lost}
 use Rattle.sf_word_steps.specs.Stands.{Sits, next_in, Goes}
 use Rattle.sf_word_steps.specs.Changes.{changes, tried, IsKeyOrTried, Stays, Loses, Tries, HasChanged}
 use Rattle.sf_word_steps.specs.Attempts.{lost_stage, HasAttempted, HasLed, HasJoined, Trying, HasTried}
@@ -151,7 +151,7 @@ module _ {V : Type 0} where
   busy_after z a k n v w p t = (t.goes.turns, t.goes.knows, t.count (key k ∷ tried a (world_of z v.known.turns) t.goes.turns) (λ y has. has))
 
   -- what a step before adds to an attempt
-  pub attempted_after : (z : Sizes) (a g k : ℕ) (last : Bool) (v w x : View V) (p : Stage V) (r : Attempt) → Goes z a v w p [] 0 → HasAttempted z a g k last w x r → HasAttempted z a g k last v x r
+  pub attempted_after : (z : Sizes) (a g k : ℕ) (last : Bool) (v w x : View V) (p : Stage V) (r : AskAttempt) → Goes z a v w p [] 0 → HasAttempted z a g k last w x r → HasAttempted z a g k last v x r
   attempted_after z a g k last v w x p (Led after) one two = (goes_after z a v w x p (stage.Leading k g None) (event.Lead a k (record { caller = a; generation = g }) None ∷ []) 1 one two.0, two.1)
   attempted_after z a g k last v w x p (Joined c) one two = goes_after z a v w x p (stage.Holding k g c) (event.Enter a k c (record { caller = a; generation = g }) ∷ []) 1 one two
   attempted_after z a g k last v w x p Lost one two = tries_again z a k 0 1 v w x p (lost_stage k last) (record { goes = one; count = λ xs sub. omega arith }) two
@@ -160,20 +160,20 @@ module _ {V : Type 0} where
   still_next z a g v w p is goes = let used = goes.used in omega (arith, used, is)
 
   -- an attempt to lead, after its look
-  pub led_now : (z : Sizes) (a g k : ℕ) (last : Bool) (seen : KeyState) (v w x : View V) (p : Stage V) (r : Attempt) → Goes z a v w p [] 0 → (world_of z w.known.turns).keys k ≡ seen → HasLed z a g k last seen w x r → HasAttempted z a g k last v x r
+  pub led_now : (z : Sizes) (a g k : ℕ) (last : Bool) (seen : KeyState) (v w x : View V) (p : Stage V) (r : AskAttempt) → Goes z a v w p [] 0 → (world_of z w.known.turns).keys k ≡ seen → HasLed z a g k last seen w x r → HasAttempted z a g k last v x r
   led_now z a g k last seen v w x p (Led after) one shown two = attempted_after z a g k last v w x p (Led after) one two
   led_now z a g k last seen v w x p (Joined c) one shown two = absurd two
   led_now z a g k last seen v w x p Lost one shown two = attempted_after z a g k last v w x p Lost one (tries_once z a k (key_code seen) (key k) w x (lost_stage k last) (λ j e. key_apart k j e) two (ap key_code shown))
 
   -- the same, after a peek
-  pub led_later : (z : Sizes) (a g k : ℕ) (last : Bool) (seen : KeyState) (w x y : View V) (q : Stage V) (r : Attempt) → (world_of z w.known.turns).keys k ≡ seen → Stays z a w x q → HasLed z a g k last seen x y r → HasAttempted z a g k last w y r
+  pub led_later : (z : Sizes) (a g k : ℕ) (last : Bool) (seen : KeyState) (w x y : View V) (q : Stage V) (r : AskAttempt) → (world_of z w.known.turns).keys k ≡ seen → Stays z a w x q → HasLed z a g k last seen x y r → HasAttempted z a g k last w y r
   led_later z a g k last seen w x y q (Led after) shown stays two = attempted_after z a g k last w x y q (Led after) stays.goes two
   led_later z a g k last seen w x y q (Joined c) shown stays two = absurd two
   led_later z a g k last seen w x y q Lost shown stays two =
       tries_once z a k (key_code seen) (key k) w y (lost_stage k last) (λ j e. key_apart k j e) (loses_after z a (key_code seen) (key k) w x y q (lost_stage k last) tt stays two) (ap key_code shown)
 
   -- an attempt to join, after its peek
-  pub joined_later : (z : Sizes) (a g k : ℕ) (c : CallId) (last : Bool) (seen : CallState) (w x y : View V) (q : Stage V) (r : Attempt) → Goes z a w x q [] 0 → (world_of z x.known.turns).calls c.caller ≡ seen → HasJoined z a g k c last seen x y r → HasAttempted z a g k last w y r
+  pub joined_later : (z : Sizes) (a g k : ℕ) (c : CallId) (last : Bool) (seen : CallState) (w x y : View V) (q : Stage V) (r : AskAttempt) → Goes z a w x q [] 0 → (world_of z x.known.turns).calls c.caller ≡ seen → HasJoined z a g k c last seen x y r → HasAttempted z a g k last w y r
   joined_later z a g k c last seen w x y q (Led after) goes shown two = absurd two
   joined_later z a g k c last seen w x y q (Joined d) goes shown two = goes_after z a w x y q (stage.Holding k g d) (event.Enter a k d (record { caller = a; generation = g }) ∷ []) 1 goes two.1
   joined_later z a g k c last seen w x y q Lost goes shown two = attempted_after z a g k last w x y q Lost goes
@@ -197,7 +197,7 @@ module _ {V : Type 0} where
   }
 
   -- an attempt that did not fail ends the asking
-  pub tried_now : (z : Sizes) (a g k tries failed : ℕ) (v w x : View V) (last : Bool) (r : Attempt) → (r ≢ Lost) → Trying z a k tries failed v w → HasAttempted z a g k last w x r → HasTried z a g k tries v x r
+  pub tried_now : (z : Sizes) (a g k tries failed : ℕ) (v w x : View V) (last : Bool) (r : AskAttempt) → (r ≢ Lost) → Trying z a k tries failed v w → HasAttempted z a g k last w x r → HasTried z a g k tries v x r
   tried_now z a g k tries failed v w x last (Led after) some t one = (goes_after z a v w x t.at (stage.Leading k g None) (event.Lead a k (record { caller = a; generation = g }) None ∷ []) 1 t.done.goes one.0, one.1)
   tried_now z a g k tries failed v w x last (Joined c) some t one = goes_after z a v w x t.at (stage.Holding k g c) (event.Enter a k c (record { caller = a; generation = g }) ∷ []) 1 t.done.goes one
   tried_now z a g k tries failed v w x last Lost some t one = absurd (some refl)

@@ -15,8 +15,8 @@ use Rattle.sf_words.specs.declared.key_word.KeyState.{KeyState}
 use Rattle.sf_words.specs.KeyWord.{key_code}
 use Rattle.sf_words.specs.declared.call_word.CallState.{CallState}
 use Rattle.sf_words.specs.CallWord.{call_code}
-use Rattle.sf_word_steps.specs.declared.attempting.Attempt.{Attempt}
-use Rattle.sf_word_steps.specs.declared.attempting.Attempt.TheVariants.{Led, Joined, Lost}
+use Rattle.sf_word_steps.specs.declared.asking.AskAttempt.{AskAttempt}
+use Rattle.sf_word_steps.specs.declared.asking.AskAttempt.TheVariants.{Led, Joined, Lost}
 use Rattle.sf_word_steps.specs.Stands.{Goes, MayLook}
 use Rattle.sf_word_steps.specs.Changes.{Loses, Tries}
 
@@ -37,19 +37,19 @@ module _ {V : Type 0} where
   HasLedAfter z a k g v w after = Goes z a v w (stage.Leading k g None) (event.Lead a k (record { caller = a; generation = g }) None ∷ []) 1 × IsAfter z k w (event.Lead a k (record { caller = a; generation = g }) None) after
 
   -- how one attempt of an asking ends
-  abbrev pub HasAttempted : Sizes → ℕ → ℕ → ℕ → Bool → View V → View V → Attempt → Type 0
+  abbrev pub HasAttempted : Sizes → ℕ → ℕ → ℕ → Bool → View V → View V → AskAttempt → Type 0
   HasAttempted z a g k last v w (Led after) = HasLedAfter z a k g v w after
   HasAttempted z a g k last v w (Joined c) = Goes z a v w (stage.Holding k g c) (event.Enter a k c (record { caller = a; generation = g }) ∷ []) 1
   HasAttempted z a g k last v w Lost = Tries z a k 1 v w (lost_stage k last)
 
   -- how the end of an attempt that leads ends, which saw this key word: where it lost, the word was changed since it said so
-  abbrev pub HasLed : Sizes → ℕ → ℕ → ℕ → Bool → KeyState → View V → View V → Attempt → Type 0
+  abbrev pub HasLed : Sizes → ℕ → ℕ → ℕ → Bool → KeyState → View V → View V → AskAttempt → Type 0
   HasLed z a g k last seen v w (Led after) = HasLedAfter z a k g v w after
   HasLed z a g k last seen v w (Joined c) = ⊥
   HasLed z a g k last seen v w Lost = Loses z a (key k) (key_code seen) v w (lost_stage k last)
 
   -- how the end of one that joins ends, which saw this call word
-  abbrev pub HasJoined : Sizes → ℕ → ℕ → ℕ → CallId → Bool → CallState → View V → View V → Attempt → Type 0
+  abbrev pub HasJoined : Sizes → ℕ → ℕ → ℕ → CallId → Bool → CallState → View V → View V → AskAttempt → Type 0
   HasJoined z a g k c last seen v w (Led after) = ⊥
   HasJoined z a g k c last seen v w (Joined d) = (d ≡ c) × Goes z a v w (stage.Holding k g d) (event.Enter a k d (record { caller = a; generation = g }) ∷ []) 1
   HasJoined z a g k c last seen v w Lost = Loses z a (call c.caller) (call_code seen) v w (lost_stage k last)
@@ -62,7 +62,7 @@ module _ {V : Type 0} where
     pub free : failed ≡ tries → at ≡ stage.Free
 
   -- how an asking of so many tries ends
-  abbrev pub HasTried : Sizes → ℕ → ℕ → ℕ → ℕ → View V → View V → Attempt → Type 0
+  abbrev pub HasTried : Sizes → ℕ → ℕ → ℕ → ℕ → View V → View V → AskAttempt → Type 0
   HasTried z a g k tries v w (Led after) = HasLedAfter z a k g v w after
   HasTried z a g k tries v w (Joined c) = Goes z a v w (stage.Holding k g c) (event.Enter a k c (record { caller = a; generation = g }) ∷ []) 1
   HasTried z a g k tries v w Lost = Tries z a k tries v w stage.Free

@@ -13,8 +13,8 @@ use Rattle.sf_schedules.specs.Turns.{turned}
 use Rattle.sf_calls.specs.declared.sizes.Sizes.{Sizes}
 use Rattle.sf_word_steps.specs.declared.view.View.{View}
 use Rattle.sf_word_steps.specs.View.{world_of}
-use Rattle.sf_word_steps.specs.declared.attempting.Attempt.{Attempt}
-use Rattle.sf_word_steps.specs.declared.attempting.Attempt.TheVariants.{Led, Joined, Lost}
+use Rattle.sf_word_steps.specs.declared.asking.AskAttempt.{AskAttempt}
+use Rattle.sf_word_steps.specs.declared.asking.AskAttempt.TheVariants.{Led, Joined, Lost}
 use Rattle.sf_word_steps.specs.declared.forgetting.ForgetAttempt.{ForgetAttempt}
 use Rattle.sf_word_steps.specs.declared.forgetting.ForgetAttempt.TheVariants as forgot
 
@@ -55,7 +55,7 @@ module _ {V : Type 0} where
   HasExchanged z a n v w = exchanges_of z a w.known.turns ≡ exchanges_of z a v.known.turns + n
 
   -- how often an asking of so many tries made an exchange: so often where all failed, and else at most so often
-  abbrev pub HasTriedSo : Sizes → ℕ → ℕ → View V → View V → Attempt → Type 0
+  abbrev pub HasTriedSo : Sizes → ℕ → ℕ → View V → View V → AskAttempt → Type 0
   HasTriedSo z a tries v w (Led after) = exchanges_of z a w.known.turns ≤ exchanges_of z a v.known.turns + tries
   HasTriedSo z a tries v w (Joined c) = exchanges_of z a w.known.turns ≤ exchanges_of z a v.known.turns + tries
   HasTriedSo z a tries v w Lost = HasExchanged z a tries v w

@@ -20,9 +20,9 @@ ghost use Rattle.sf_word_steps.specs.Forgets as forgets;
 ghost use Rattle.sf_word_steps.specs.Forgets.{IsMeant, lost_forget, MayForget, peek_stage, peek_adds, HasForgot, HasCleared, HasClosed, HasForgottenOften};
 
 use crate::actor::Actor;
-use crate::attempting::{is_forgot, opened};
+use crate::asking::{is_forgot, opened};
 use crate::numbering::{call_index, key_index};
-use crate::questioning::{named_by, names};
+use crate::questions::{named_by, names};
 use crate::rule::{WordSeat, Words};
 use crate::steps::{exchange_turns, load_turns};
 use sf_calls::Fit;

@@ -8,9 +8,9 @@ ghost use Rattle.sf_word_steps.specs.View.{setting_of, history_of};
 ghost use Rattle.sf_word_steps.specs.Stands.{IsSeatOf};
 ghost use Rattle.sf_word_steps.specs.StillCurrents.{HasFoundForgot, HasFoundNamed, Stays};
 
-use crate::attempting::is_forgot;
+use crate::asking::is_forgot;
 use crate::numbering::{call_index, key_index};
-use crate::questioning::names;
+use crate::questions::names;
 use crate::rule::{WordSeat, Words};
 use crate::steps::load_turns;
 use sf_calls::{Fit, Sizes};

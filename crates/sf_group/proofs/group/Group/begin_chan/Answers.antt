@@ -9,7 +9,7 @@ use Rattle.sf_calls.specs.declared.outcomes.ChanBegun.TheVariants as begun
 use Rattle.sf_calls.specs.declared.outcomes.NotBegun.TheVariants as not_begun
 use Rattle.sf_calls.specs.Tokens.{GroupValue, CallerValue}
 use Rattle.sf_calls.specs.Begins.{HasChanBegun, AreRefusedSpent}
-use Rattle.sf_word_steps.specs.declared.attempting.Attempt.{Attempt}
+use Rattle.sf_word_steps.specs.declared.asking.AskAttempt.{AskAttempt}
 use Rattle.sf_word_steps.specs.View.{setting_of, sizes_of}
 use Rattle.sf_word_steps.specs.Stands.{Sits, next_in, Goes}
 use Rattle.sf_word_chans.specs.declared.askers.Askers.{Askers}
@@ -68,7 +68,7 @@ invariant_of-result g c =
     let askers : Askers = record { sizes = c.self.inside.sizes; number = one.number; second = two.number; place = k; generation = i; second_generation = j } in
     let same : sizes_of v ≡ c.self.inside.sizes = ap (λ (x : CallerValue _). x.group.sizes) c.caller.view_is ∙ ap (λ (x : GroupValue). x.sizes) (c.requires.caller ∙ sym c.self.view_is) in
     let second_same : sizes_of w ≡ c.self.inside.sizes = ap (λ (x : CallerValue _). x.group.sizes) c.second.view_is ∙ ap (λ (x : GroupValue). x.sizes) (c.requires.second ∙ sym c.self.view_is) in
-    let asked = subst (λ (r : Attempt). HasAsked askers c.args.tries v w v' w' r) c.in-Led.is c.ask_together-attempt.ensures.asked in
+    let asked = subst (λ (r : AskAttempt). HasAsked askers c.args.tries v w v' w' r) c.in-Led.is c.ask_together-attempt.ensures.asked in
     let first = subst (λ (z : Sizes). Goes z one.number v v' (stage.Leading k i (Some (record { caller = two.number; generation = j }))) (event.Lead one.number k (record { caller = one.number; generation = i }) (Some (record { caller = two.number; generation = j })) ∷ []) 1) (sym same) asked.0.first in
     let now = stands_now one.number 1 one.next v v' (stage.Leading k i (Some (record { caller = two.number; generation = j }))) (event.Lead one.number k (record { caller = one.number; generation = i }) (Some (record { caller = two.number; generation = j })) ∷ []) c.caller.invariant.1 first in
     let whole : sizes_of v' ≡ c.args.self.now.sizes = sizes_are c.self.inside.sizes one.number v' (stage.Leading k i (Some (record { caller = two.number; generation = j }))) asked.0.first.sits ∙ ap (λ (x : GroupValue). x.sizes) c.self.view_is in
@@ -114,7 +114,7 @@ returns-in-Led-clause-begun g c =
     let second_left : j ≤ 4294967295 = omega (arith, second_is, second_most) in
     let next : next_in (sizes_of v) v one.number ≡ i = sym (given.0 ∙ c.caller.invariant.1) in
     let second_next : next_in (sizes_of w) w two.number ≡ j = sym (given.1 ∙ c.second.invariant.1) in
-    let asked = subst (λ (r : Attempt). HasAsked askers c.args.tries v w v' w' r) c.in-Led.is c.ask_together-attempt.ensures.asked in
+    let asked = subst (λ (r : AskAttempt). HasAsked askers c.args.tries v w v' w' r) c.in-Led.is c.ask_together-attempt.ensures.asked in
     let first = subst (λ (z : Sizes). Goes z one.number v v' (stage.Leading k i (Some (record { caller = two.number; generation = j }))) (event.Lead one.number k (record { caller = one.number; generation = i }) (Some (record { caller = two.number; generation = j })) ∷ []) 1) (sym same) asked.0.first in
     let second = subst (λ (z : Sizes). Goes z two.number w w' (stage.Holding k j (record { caller = one.number; generation = i })) [] 1) (sym second_same) asked.0.second in
     subst (λ (o : Option CallId). HasChanBegun c.args.caller c.args.second k (begun.Led (flight_of c.ask_together-attempt.result.1.table_id v' one.number k (record { caller = one.number; generation = i }) o) (ticket_of c.ask_together-attempt.result.2.table_id w' two.number k (record { caller = one.number; generation = i }) (record { caller = two.number; generation = j })))) (sym c.of.ensures)
@@ -147,7 +147,7 @@ returns-in-Joined-clause-begun g c =
     let second_left : j ≤ 4294967295 = omega (arith, second_is, second_most) in
     let next : next_in (sizes_of v) v one.number ≡ i = sym (given.0 ∙ c.caller.invariant.1) in
     let second_next : next_in (sizes_of w) w two.number ≡ j = sym (given.1 ∙ c.second.invariant.1) in
-    let asked = subst (λ (r : Attempt). HasAsked askers c.args.tries v w v' w' r) c.in-Joined.is c.ask_together-attempt.ensures.asked in
+    let asked = subst (λ (r : AskAttempt). HasAsked askers c.args.tries v w v' w' r) c.in-Joined.is c.ask_together-attempt.ensures.asked in
     let first = subst (λ (z : Sizes). Goes z one.number v v' stage.Free [] 0) (sym same) asked.first in
     let second = subst (λ (z : Sizes). Goes z two.number w w' (stage.Holding k j c.in-Joined.open) (event.Enter two.number k c.in-Joined.open (record { caller = two.number; generation = j }) ∷ []) 1) (sym second_same) asked.second in
     subst (λ (x : CallerValue _). HasChanBegun x c.args.second k (begun.Joined (ticket_of c.ask_together-attempt.result.2.table_id w' two.number k c.in-Joined.open (record { caller = two.number; generation = j })) (caller_of c.ask_together-attempt.result.1.table_id v' one.number))) c.caller.view_is
@@ -179,11 +179,11 @@ returns-in-Lost-clause-refused g c =
     let second_left : j ≤ 4294967295 = omega (arith, second_is, second_most) in
     let next : next_in (sizes_of v) v one.number ≡ i = sym (given.0 ∙ c.caller.invariant.1) in
     let second_next : next_in (sizes_of w) w two.number ≡ j = sym (given.1 ∙ c.second.invariant.1) in
-    let asked = subst (λ (r : Attempt). HasAsked askers c.args.tries v w v' w' r) c.in-Lost.is c.ask_together-attempt.ensures.asked in
+    let asked = subst (λ (r : AskAttempt). HasAsked askers c.args.tries v w v' w' r) c.in-Lost.is c.ask_together-attempt.ensures.asked in
     let first = subst (λ (z : Sizes). Goes z one.number v v' stage.Free [] 0) (sym same) asked.0.first in
     let second = subst (λ (z : Sizes). Goes z two.number w w' stage.Free [] 0) (sym second_same) asked.0.second in
     let changed = subst (λ (z : Sizes). HaveChanged z one.number two.number k c.args.tries v.known.turns w.known.turns v'.known.turns) (sym same) asked.1 in
-    let so = subst (λ (r : Attempt). HaveAskedSo askers c.args.tries v w v' w' r) c.in-Lost.is c.ask_together-attempt.ensures.exchanged in
+    let so = subst (λ (r : AskAttempt). HaveAskedSo askers c.args.tries v w v' w' r) c.in-Lost.is c.ask_together-attempt.ensures.exchanged in
     let all = subst (λ (z : Sizes). HasExchanged z one.number c.args.tries v v') (sym same) so.0 in
     let none = subst (λ (z : Sizes). HasExchanged z two.number 0 w w') (sym second_same) so.1 in
     subst (λ (x : CallerValue _). HasNotBegunChan x c.args.second k c.args.tries (not_begun.Busy c.args.tries (caller_of c.ask_together-attempt.result.1.table_id v' one.number, caller_of c.ask_together-attempt.result.2.table_id w' two.number))) c.caller.view_is
@@ -204,8 +204,8 @@ returns-in-Led-clause-tried g c =
     let askers : Askers = record { sizes = c.self.inside.sizes; number = one.number; second = two.number; place = k; generation = i; second_generation = j } in
     let same : sizes_of v ≡ c.self.inside.sizes = ap (λ (x : CallerValue _). x.group.sizes) c.caller.view_is ∙ ap (λ (x : GroupValue). x.sizes) (c.requires.caller ∙ sym c.self.view_is) in
     let second_same : sizes_of w ≡ c.self.inside.sizes = ap (λ (x : CallerValue _). x.group.sizes) c.second.view_is ∙ ap (λ (x : GroupValue). x.sizes) (c.requires.second ∙ sym c.self.view_is) in
-    let asked = subst (λ (r : Attempt). HasAsked askers c.args.tries v w v' w' r) c.in-Led.is c.ask_together-attempt.ensures.asked in
-    let so = subst (λ (r : Attempt). HaveAskedSo askers c.args.tries v w v' w' r) c.in-Led.is c.ask_together-attempt.ensures.exchanged in
+    let asked = subst (λ (r : AskAttempt). HasAsked askers c.args.tries v w v' w' r) c.in-Led.is c.ask_together-attempt.ensures.asked in
+    let so = subst (λ (r : AskAttempt). HaveAskedSo askers c.args.tries v w v' w' r) c.in-Led.is c.ask_together-attempt.ensures.exchanged in
     let first = subst (λ (z : Sizes). Goes z one.number v v' (stage.Leading k i (Some (record { caller = two.number; generation = j }))) (event.Lead one.number k (record { caller = one.number; generation = i }) (Some (record { caller = two.number; generation = j })) ∷ []) 1) (sym same) asked.0.first in
     let second = subst (λ (z : Sizes). Goes z two.number w w' (stage.Holding k j (record { caller = one.number; generation = i })) [] 1) (sym second_same) asked.0.second in
     let few = subst (λ (z : Sizes). exchanges_of z one.number v'.known.turns ≤ exchanges_of z one.number v.known.turns + c.args.tries) (sym same) so.0 in
@@ -228,8 +228,8 @@ returns-in-Joined-clause-tried g c =
     let askers : Askers = record { sizes = c.self.inside.sizes; number = one.number; second = two.number; place = k; generation = i; second_generation = j } in
     let same : sizes_of v ≡ c.self.inside.sizes = ap (λ (x : CallerValue _). x.group.sizes) c.caller.view_is ∙ ap (λ (x : GroupValue). x.sizes) (c.requires.caller ∙ sym c.self.view_is) in
     let second_same : sizes_of w ≡ c.self.inside.sizes = ap (λ (x : CallerValue _). x.group.sizes) c.second.view_is ∙ ap (λ (x : GroupValue). x.sizes) (c.requires.second ∙ sym c.self.view_is) in
-    let asked = subst (λ (r : Attempt). HasAsked askers c.args.tries v w v' w' r) c.in-Joined.is c.ask_together-attempt.ensures.asked in
-    let so = subst (λ (r : Attempt). HaveAskedSo askers c.args.tries v w v' w' r) c.in-Joined.is c.ask_together-attempt.ensures.exchanged in
+    let asked = subst (λ (r : AskAttempt). HasAsked askers c.args.tries v w v' w' r) c.in-Joined.is c.ask_together-attempt.ensures.asked in
+    let so = subst (λ (r : AskAttempt). HaveAskedSo askers c.args.tries v w v' w' r) c.in-Joined.is c.ask_together-attempt.ensures.exchanged in
     let first = subst (λ (z : Sizes). Goes z one.number v v' stage.Free [] 0) (sym same) asked.first in
     let second = subst (λ (z : Sizes). Goes z two.number w w' (stage.Holding k j c.in-Joined.open) (event.Enter two.number k c.in-Joined.open (record { caller = two.number; generation = j }) ∷ []) 1) (sym second_same) asked.second in
     let few = subst (λ (z : Sizes). exchanges_of z one.number v'.known.turns ≤ exchanges_of z one.number v.known.turns + c.args.tries) (sym same) so.0 in
