@@ -29,12 +29,13 @@ impl Read for FailingReader {
     }
 }
 
-/// A writer that takes three bytes a call, and fails at its n-th write alone.
+/// A writer that takes three bytes a call, and fails at its n-th write alone, or where it is to hand on what it has.
 #[derive(Drop)]
 struct FailingWriter {
     written: Vec<u8>,
     writes: u32,
     fails_at: u32,
+    fails_to_flush: bool,
     flushed: bool,
 }
 
@@ -50,6 +51,9 @@ impl Write for FailingWriter {
     }
 
     fn flush(&mut self) -> IoResult<()> {
+        if self.fails_to_flush {
+            return Err(Error::from(ErrorKind::Other));
+        }
         self.flushed = true;
         Ok(())
     }
@@ -138,6 +142,7 @@ fn assert_parts(
             written: Vec::new(alloc),
             writes: 0,
             fails_at,
+            fails_to_flush: false,
             flushed: false,
         };
         let ended = engine.start(alloc, &mut &*text, &mut writer);
@@ -186,6 +191,24 @@ fn failing_writes_of_a_refusal(rt: HostRuntime) {
     ];
     for (engine, text, answer) in rows {
         assert_parts(&rt, rt.alloc(), engine, text, answer, Ending::Refused);
+    }
+}
+
+#[test]
+fn failing_flushes(rt: HostRuntime) {
+    for (engine, text, _, answer) in ROWS {
+        let mut writer = FailingWriter {
+            written: Vec::new(rt.alloc()),
+            writes: 0,
+            fails_at: 0,
+            fails_to_flush: true,
+            flushed: false,
+        };
+        let ended = engine.start(rt.alloc(), &mut &*text, &mut writer);
+        assert!(rt;
+            matches!(ended, Err(StreamFault::CannotWrite)) && writer.written.as_slice() == answer,
+            "an answer that cannot be handed on is said to be written"
+        );
     }
 }
 

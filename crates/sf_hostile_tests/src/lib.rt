@@ -11,6 +11,8 @@ mod copies;
 #[cfg(test)]
 mod fills;
 #[cfg(test)]
+mod kept;
+#[cfg(test)]
 mod making;
 #[cfg(test)]
 mod pair;

@@ -155,15 +155,17 @@ impl<'d, 'f, D: Naming, N: Naming> Tried<'d, 'f, D, N> {
         Tried { getter, refused }
     }
 
-    // What is owed is delivered, with memory, and stands in the log then. A get then answers the value.
-    fn end<R: Wait + Abort>(self, rt: &R, fill: &Fill<'d, D, N, AnyValue>) -> u32 {
+    // What is owed is delivered, with memory, and stands in the log then. A get then answers the value. How many were refused
+    // memory, and how many loads there were in all.
+    fn end<R: Wait + Abort>(self, rt: &R, fill: &Fill<'d, D, N, AnyValue>) -> (u32, u64) {
         let Tried { getter, refused } = self;
         let (mut getter, settled) = getter.settle_up(rt, fill);
         assert!(rt; settled.is_ok(), "it is refused memory again");
         assert!(rt; !getter.owes(), "it owes letters still");
         let loads = getter.loaders().picker.asked;
         check_log(rt, loads, getter.take_log().as_slice());
-        Tried { getter, refused }.get(rt, fill).refused
+        let tried = Tried { getter, refused }.get(rt, fill);
+        (tried.refused, tried.getter.loaders().picker.asked)
     }
 }
 
@@ -322,14 +324,16 @@ fn play_in_turn<'d, 'f, D: Naming, N: Naming, R: Wait + Abort>(
         }
         Scene::FailedPeer | Scene::Joined => (one, two.get(rt, fill)),
     };
-    one.end(rt, fill).wrapping_add(two.end(rt, fill))
+    let (refused, _) = one.end(rt, fill);
+    refused.wrapping_add(two.end(rt, fill).0)
 }
 
-/// How many gets and reloads were refused memory, and whether the load was met that was to be.
+/// How many gets and reloads were refused memory, and whether the load was met that was to be, and then how many loads there were.
 #[derive(Clone, Copy)]
-struct Played {
+pub(crate) struct Played {
     refused: u32,
-    met: bool,
+    pub(crate) met: bool,
+    pub(crate) loads: u64,
 }
 
 // The first getter gets beside the spare caller.
@@ -359,7 +363,7 @@ fn play_beside<
     };
     let (tried, waiting) = join(rt, || first.get(rt), || spare.ask(rt));
     let met = !flags.unmet.load(Ordering::SeqCst);
-    let refused = tried.end(rt, fill);
+    let (refused, loads) = tried.end(rt, fill);
     assert!(rt;
         waiting.is_some() || !met || refused == 1,
         "nobody joined a load that was met, and no memory was refused"
@@ -367,7 +371,11 @@ fn play_beside<
     if let Some(waiting) = waiting {
         take_letter(rt, fill, waiting, refused);
     }
-    Played { refused, met }
+    Played {
+        refused,
+        met,
+        loads,
+    }
 }
 
 // All is named here.
@@ -422,7 +430,11 @@ fn with_all<
         return Ok(play_beside(rt, &fill, one, caller, place, flags));
     }
     let refused = play_in_turn(rt, &fill, one, two, scene);
-    Ok(Played { refused, met: true })
+    Ok(Played {
+        refused,
+        met: true,
+        loads: 0,
+    })
 }
 
 fn loaders<'f>(
@@ -540,6 +552,14 @@ fn try_out<R: Wait + Threads + Abort + Sync>(
     )
 }
 
+/// A get whose load is joined, and another get of the key then.
+pub(crate) fn gets_beside_a_joiner<R: Wait + Threads + Abort + Sync>(
+    rt: &R,
+    alloc: Global,
+) -> Result<Played, Memory> {
+    try_out(rt, alloc, Scene::Joined)
+}
+
 // Where memory is refused before the fill stands, or for a thread, whose load nobody meets then, the scene is tried out once
 // more. It meets no refusal then, and its load is met.
 fn check<R: Wait + Threads + Abort + Sync>(
@@ -547,11 +567,18 @@ fn check<R: Wait + Threads + Abort + Sync>(
     alloc: Global,
     scene: Scene,
 ) -> Result<(), Fail> {
-    if let Ok(Played { refused, met: true }) = try_out(rt, alloc, scene) {
+    if let Ok(
+        Played {
+            refused,
+            met: true,
+            ..
+        },
+    ) = try_out(rt, alloc, scene)
+    {
         assert!(rt; refused <= 1, "{refused} are refused memory");
         return Ok(());
     }
-    let Played { refused, met } = try_out(rt, alloc, scene)?;
+    let Played { refused, met, .. } = try_out(rt, alloc, scene)?;
     assert!(rt; refused == 0, "it is refused memory again");
     assert!(rt; met, "the load is not met");
     Ok(())

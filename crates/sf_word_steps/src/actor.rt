@@ -1,4 +1,6 @@
 //! Who makes steps.
+ghost use Rattle.std.specs.Prelude.{◌≤◌};
+ghost use Rattle.sf_words.specs.declared.limits.TheConstants.{LARGEST_CALLER};
 
 use sf_calls::Sizes;
 
@@ -11,4 +13,7 @@ pub struct Actor {
     pub number: u32,
     /// The place's number, from 1.
     pub place: u32,
+    ghost few: { sizes.callers ≤ LARGEST_CALLER },
+    ghost caller: { (1 ≤ number) × (number ≤ sizes.callers) },
+    ghost placed: { (1 ≤ place) × (place ≤ sizes.places) },
 }

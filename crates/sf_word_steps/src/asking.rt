@@ -1,7 +1,6 @@
 //! One attempt of an asking: from its look to its exchange.
 ghost use Rattle.std.specs.Prelude.{◌≡◌, ◌≢◌, ℕ, ◌≤◌, None};
 ghost use Rattle.sf_words.specs.declared.call_word.CallState.TheVariants.{Open};
-ghost use Rattle.sf_schedules.specs.Schedules.{IsPlace};
 ghost use Rattle.sf_schedules.specs.Afters.{after_of};
 ghost use Rattle.sf_schedules.specs.World.{is_forgot_in, open_in, key_of};
 ghost use Rattle.sf_schedules.specs.declared.operation.Stage.TheVariants.{Asking, Free};
@@ -11,7 +10,6 @@ ghost use Rattle.sf_word_steps.specs.View.{setting_of, world_of};
 ghost use Rattle.sf_word_steps.specs.Stands.{IsSeatOf, Sits, next_in, MayLook};
 ghost use Rattle.sf_word_steps.specs.Attempts.{HasAttempted, HasLed, HasJoined, HasTried};
 ghost use Rattle.sf_word_steps.specs.Exchanges.{HasExchanged, HasTriedSo};
-ghost use Rattle.sf_words.specs.declared.limits.TheConstants.{LARGEST_CALLER};
 
 use crate::actor::Actor;
 use crate::joining::{enter, link, ready_join};
@@ -77,10 +75,8 @@ fn lead_on<V: Fit>(
 ) -> AskAttempt
     requires own { IsSeatOf seat.old.table_id words.now.table_id words.now.key }
     requires sizes { actor.sizes ≡ words.now.key }
-    requires place { IsPlace (setting_of actor.sizes) actor.place }
     requires generation { (1 ≤ generation)
         × (next_in actor.sizes seat.old.me.0 actor.number ≡ generation) }
-    requires by { actor.number ≤ LARGEST_CALLER }
     requires seen { IsKeyFor actor.sizes.callers seen }
     requires asks { Sits actor.sizes actor.number seat.old.me.0
         (Asking actor.place None (ask.ReadyLead seen forgot)) }
@@ -113,7 +109,6 @@ fn join_on<V: Fit>(
         × (called.caller ≢ actor.number) }
     requires generation { (1 ≤ generation)
         × (next_in actor.sizes seat.old.me.0 actor.number ≡ generation) }
-    requires by { actor.number ≤ LARGEST_CALLER }
     requires seen { IsCallFor actor.sizes.callers (Open seen) }
     requires asks { Sits actor.sizes actor.number seat.old.me.0
         (Asking actor.place None (ask.ReadyJoin called seen)) }
@@ -143,10 +138,8 @@ fn follow_on<V: Fit>(
 ) -> AskAttempt
     requires own { IsSeatOf seat.old.table_id words.now.table_id words.now.key }
     requires sizes { actor.sizes ≡ words.now.key }
-    requires place { IsPlace (setting_of actor.sizes) actor.place }
     requires generation { (1 ≤ generation)
         × (next_in actor.sizes seat.old.me.0 actor.number ≡ generation) }
-    requires by { actor.number ≤ LARGEST_CALLER }
     requires seen { IsKeyFor actor.sizes.callers seen × (seen ≡ key_of called) }
     requires shown { (world_of actor.sizes seat.old.me.0.known.turns).keys actor.place ≡ seen }
     requires asks { Sits actor.sizes actor.number seat.old.me.0
@@ -181,10 +174,8 @@ pub(crate) fn ask_once<V: Fit>(
 ) -> AskAttempt
     requires own { IsSeatOf seat.old.table_id words.now.table_id words.now.key }
     requires sizes { actor.sizes ≡ words.now.key }
-    requires place { IsPlace (setting_of actor.sizes) actor.place }
     requires generation { (1 ≤ generation)
         × (next_in actor.sizes seat.old.me.0 actor.number ≡ generation) }
-    requires by { actor.number ≤ LARGEST_CALLER }
     requires may { MayLook actor.sizes actor.number actor.place seat.old.me.0 }
     ensures own { (seat.new.table_id ≡ seat.old.table_id) × (seat.new.me.1 ≡ seat.old.me.1) }
     ensures attempted { HasAttempted actor.sizes actor.number generation actor.place last
@@ -221,10 +212,8 @@ pub fn ask_often<V: Fit>(
 ) -> AskAttempt
     requires own { IsSeatOf seat.old.table_id words.now.table_id words.now.key }
     requires sizes { actor.sizes ≡ words.now.key }
-    requires place { IsPlace (setting_of actor.sizes) actor.place }
     requires generation { (1 ≤ generation)
         × (next_in actor.sizes seat.old.me.0 actor.number ≡ generation) }
-    requires by { actor.number ≤ LARGEST_CALLER }
     requires free { Sits actor.sizes actor.number seat.old.me.0 Free }
     ensures own { (seat.new.table_id ≡ seat.old.table_id) × (seat.new.me.1 ≡ seat.old.me.1) }
     ensures tried { HasTried actor.sizes actor.number generation actor.place tries seat.old.me.0

@@ -8,7 +8,6 @@ ghost use Rattle.sf_schedules.specs.Events.{settled};
 ghost use Rattle.sf_word_steps.specs.View.{setting_of};
 ghost use Rattle.sf_word_steps.specs.Stands.{IsSeatOf, Sits, Goes};
 ghost use Rattle.sf_word_steps.specs.Settles.{call_of, IsJoined};
-ghost use Rattle.sf_words.specs.declared.limits.TheConstants.{LARGEST_CALLER};
 
 use crate::actor::Actor;
 use crate::numbering::next_index;
@@ -113,10 +112,7 @@ pub fn settle_and_count<V: Fit>(
 ) -> Tally
     requires own { IsSeatOf seat.old.table_id words.now.table_id words.now.key }
     requires sizes { actor.sizes ≡ words.now.key }
-    requires by { (1 ≤ actor.number) × (actor.number ≤ actor.sizes.callers) }
-    requires place { IsPlace (setting_of actor.sizes) actor.place }
     requires generation { 1 ≤ generation }
-    requires number { actor.sizes.callers ≤ LARGEST_CALLER }
     requires leads { Sits actor.sizes actor.number seat.old.me.0
         (Leading actor.place generation own) }
     ensures own { (seat.new.table_id ≡ seat.old.table_id) × (seat.new.me.1 ≡ seat.old.me.1) }

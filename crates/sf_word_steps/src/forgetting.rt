@@ -4,7 +4,6 @@ ghost use Rattle.sf_words.specs.KeyWord.{key_code};
 ghost use Rattle.sf_words.specs.CallWord.{call_code};
 ghost use Rattle.sf_words.specs.declared.call_word.LeaderState.{LeaderState};
 ghost use Rattle.sf_words.specs.declared.call_word.CallState.TheVariants.{Open};
-ghost use Rattle.sf_schedules.specs.Schedules.{IsPlace};
 ghost use Rattle.sf_schedules.specs.World.{open_in, is_forgot_in, key_of};
 ghost use Rattle.sf_schedules.specs.Turns as turns;
 ghost use Rattle.sf_schedules.specs.Turns.{forget_looked};
@@ -74,7 +73,6 @@ fn forget_look<V: Fit>(
 ) -> KeyState
     requires own { IsSeatOf seat.old.table_id words.now.table_id words.now.key }
     requires sizes { actor.sizes ≡ words.now.key }
-    requires place { IsPlace (setting_of actor.sizes) actor.place }
     requires may { MayForget actor.sizes actor.number actor.place target seat.old.me.0 }
     ensures own { (seat.new.table_id ≡ seat.old.table_id) × (seat.new.me.1 ≡ seat.old.me.1) }
     ensures told { Went actor.sizes actor.number seat.old.me.0 seat.new.me.0
@@ -191,7 +189,6 @@ fn first_clear<V: Fit>(
 ) -> bool
     requires own { IsSeatOf seat.old.table_id words.now.table_id words.now.key }
     requires sizes { actor.sizes ≡ words.now.key }
-    requires place { IsPlace (setting_of actor.sizes) actor.place }
     requires called { IsKeyFor actor.sizes.callers (key_of called) }
     requires asks { Sits actor.sizes actor.number seat.old.me.0
         (Forgetting actor.place target (forget.FirstClear called)) }
@@ -242,7 +239,6 @@ fn last_clear<V: Fit>(
 )
     requires own { IsSeatOf seat.old.table_id words.now.table_id words.now.key }
     requires sizes { actor.sizes ≡ words.now.key }
-    requires place { IsPlace (setting_of actor.sizes) actor.place }
     requires called { IsKeyFor actor.sizes.callers (key_of called) }
     requires asks { Sits actor.sizes actor.number seat.old.me.0
         (Forgetting actor.place target (forget.LastClear called)) }
@@ -286,7 +282,6 @@ fn clear_on<V: Fit>(
 ) -> ForgetAttempt
     requires own { IsSeatOf seat.old.table_id words.now.table_id words.now.key }
     requires sizes { actor.sizes ≡ words.now.key }
-    requires place { IsPlace (setting_of actor.sizes) actor.place }
     requires called { IsKeyFor actor.sizes.callers (key_of called) }
     requires asks { Sits actor.sizes actor.number seat.old.me.0
         (Forgetting actor.place target (forget.FirstClear called)) }
@@ -314,7 +309,6 @@ fn close_on<V: Fit>(
 ) -> ForgetAttempt
     requires own { IsSeatOf seat.old.table_id words.now.table_id words.now.key }
     requires sizes { actor.sizes ≡ words.now.key }
-    requires place { IsPlace (setting_of actor.sizes) actor.place }
     requires called { IsKeyFor actor.sizes.callers (key_of called) }
     requires seen { IsCallFor actor.sizes.callers (Open seen) }
     requires asks { Sits actor.sizes actor.number seat.old.me.0
@@ -344,7 +338,6 @@ fn forget_on<V: Fit>(
 ) -> ForgetAttempt
     requires own { IsSeatOf seat.old.table_id words.now.table_id words.now.key }
     requires sizes { actor.sizes ≡ words.now.key }
-    requires place { IsPlace (setting_of actor.sizes) actor.place }
     requires called { IsKeyFor actor.sizes.callers (key_of called) }
     requires meant { IsMeant target called }
     requires shown { (world_of actor.sizes seat.old.me.0.known.turns).keys actor.place
@@ -376,7 +369,6 @@ fn forget_once<V: Fit>(
 ) -> ForgetAttempt
     requires own { IsSeatOf seat.old.table_id words.now.table_id words.now.key }
     requires sizes { actor.sizes ≡ words.now.key }
-    requires place { IsPlace (setting_of actor.sizes) actor.place }
     requires may { MayForget actor.sizes actor.number actor.place target seat.old.me.0 }
     ensures own { (seat.new.table_id ≡ seat.old.table_id) × (seat.new.me.1 ≡ seat.old.me.1) }
     ensures forgot { HasForgot actor.sizes actor.number actor.place target last seat.old.me.0
@@ -401,7 +393,6 @@ pub fn forget_often<V: Fit>(
 ) -> ForgetAttempt
     requires own { IsSeatOf seat.old.table_id words.now.table_id words.now.key }
     requires sizes { actor.sizes ≡ words.now.key }
-    requires place { IsPlace (setting_of actor.sizes) actor.place }
     requires free { Sits actor.sizes actor.number seat.old.me.0 Free }
     ensures own { (seat.new.table_id ≡ seat.old.table_id) × (seat.new.me.1 ≡ seat.old.me.1) }
     ensures forgot { HasForgottenOften actor.sizes actor.number actor.place target tries

@@ -10,7 +10,6 @@ ghost use Rattle.sf_word_steps.specs.Stands.{IsSeatOf, Sits, next_in, Goes};
 ghost use Rattle.sf_word_steps.specs.Changes.{Stays, Loses};
 ghost use Rattle.sf_word_steps.specs.Exchanges.{HasExchanged};
 ghost use Rattle.sf_word_steps.specs.Attempts.{lost_stage};
-ghost use Rattle.sf_words.specs.declared.limits.TheConstants.{LARGEST_CALLER};
 
 use crate::actor::Actor;
 use crate::numbering::{call_index, next_index};
@@ -103,7 +102,6 @@ pub(crate) fn enter<V: Fit>(
     requires called { (1 ≤ called.caller) × (called.caller ≤ actor.sizes.callers) }
     requires generation { (1 ≤ generation)
         × (next_in actor.sizes seat.old.me.0 actor.number ≡ generation) }
-    requires by { actor.number ≤ LARGEST_CALLER }
     requires seen { IsCallFor actor.sizes.callers (Open seen) }
     requires asks { Sits actor.sizes actor.number seat.old.me.0
         (Asking actor.place None (ask.Enter called seen)) }

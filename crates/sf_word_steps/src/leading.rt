@@ -3,7 +3,6 @@ ghost use Rattle.std.specs.Prelude.{◌≡◌, ◌≢◌, ℕ, ◌≤◌, false,
 ghost use Rattle.sf_words.specs.declared.call_word.LeaderState.{LeaderState};
 ghost use Rattle.sf_words.specs.declared.key_word.KeyState.TheVariants.{Names};
 ghost use Rattle.sf_words.specs.KeyWord.{key_code};
-ghost use Rattle.sf_schedules.specs.Schedules.{IsPlace};
 ghost use Rattle.sf_schedules.specs.declared.operation.Stage.TheVariants.{Asking};
 ghost use Rattle.sf_schedules.specs.declared.operation.AskStep.TheVariants as ask;
 ghost use Rattle.sf_schedules.specs.Afters.{after_of};
@@ -15,7 +14,6 @@ ghost use Rattle.sf_word_steps.specs.Stands.{IsSeatOf, Sits, next_in, MayLook};
 ghost use Rattle.sf_word_steps.specs.Changes.{Stays, Loses};
 ghost use Rattle.sf_word_steps.specs.Exchanges.{HasExchanged};
 ghost use Rattle.sf_word_steps.specs.Attempts.{lost_stage, HasLedAfter};
-ghost use Rattle.sf_words.specs.declared.limits.TheConstants.{LARGEST_CALLER};
 
 use crate::actor::Actor;
 use crate::numbering::{call_index, key_index};
@@ -33,7 +31,6 @@ use std::marker::Brand;
 pub(crate) fn look<V: Fit>(words: &Words<V>, seat: &mut WordSeat<V>, actor: Actor) -> KeyState
     requires own { IsSeatOf seat.old.table_id words.now.table_id words.now.key }
     requires sizes { actor.sizes ≡ words.now.key }
-    requires place { IsPlace (setting_of actor.sizes) actor.place }
     requires may { MayLook actor.sizes actor.number actor.place seat.old.me.0 }
     ensures own { (seat.new.table_id ≡ seat.old.table_id) × (seat.new.me.1 ≡ seat.old.me.1) }
     ensures told { Stays actor.sizes actor.number seat.old.me.0 seat.new.me.0
@@ -141,10 +138,8 @@ pub(crate) fn lead<V: Fit>(
 ) -> bool
     requires own { IsSeatOf seat.old.table_id words.now.table_id words.now.key }
     requires sizes { actor.sizes ≡ words.now.key }
-    requires place { IsPlace (setting_of actor.sizes) actor.place }
     requires generation { (1 ≤ generation)
         × (next_in actor.sizes seat.old.me.0 actor.number ≡ generation) }
-    requires by { actor.number ≤ LARGEST_CALLER }
     requires seen { IsKeyFor actor.sizes.callers seen }
     requires asks { Sits actor.sizes actor.number seat.old.me.0
         (Asking actor.place None (ask.Lead seen forgot)) }

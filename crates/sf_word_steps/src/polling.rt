@@ -26,7 +26,6 @@ fn look_in<V: Fit>(
 ) -> bool
     requires own { IsSeatOf seat.old.table_id words.now.table_id words.now.key }
     requires sizes { actor.sizes ≡ words.now.key }
-    requires by { (1 ≤ actor.number) × (actor.number ≤ actor.sizes.callers) }
     requires holds { Sits actor.sizes actor.number seat.old.me.0
         (Holding actor.place generation called) }
     requires none { seat.old.me.1 ≡ [] }
@@ -61,7 +60,6 @@ fn look_in<V: Fit>(
 fn bring_home<V: Fit>(words: &Words<V>, seat: &mut WordSeat<V>, actor: Actor)
     requires own { IsSeatOf seat.old.table_id words.now.table_id words.now.key }
     requires sizes { actor.sizes ≡ words.now.key }
-    requires by { (1 ≤ actor.number) × (actor.number ≤ actor.sizes.callers) }
     requires free { SitsWith actor.sizes actor.number seat.old.me.0 Free (actor.number ∷ []) }
     requires empty { seat.old.me.1 ≡ (actor.number, None) ∷ [] }
     ensures own { (seat.new.table_id ≡ seat.old.table_id) × (seat.new.me.1 ≡ []) }
@@ -86,7 +84,6 @@ pub fn collect<V: Fit>(
 ) -> Option<Letter<V>>
     requires own { IsSeatOf seat.old.table_id words.now.table_id words.now.key }
     requires sizes { actor.sizes ≡ words.now.key }
-    requires by { (1 ≤ actor.number) × (actor.number ≤ actor.sizes.callers) }
     requires holds { Sits actor.sizes actor.number seat.old.me.0
         (Holding actor.place generation called) }
     requires none { seat.old.me.1 ≡ [] }

@@ -59,7 +59,6 @@ fn question_peek<V: Fit>(
 ) -> bool
     requires own { IsSeatOf seat.old.table_id words.now.table_id words.now.key }
     requires sizes { actor.sizes ≡ words.now.key }
-    requires place { IsPlace (setting_of actor.sizes) actor.place }
     requires called { IsCaller (setting_of actor.sizes) called.caller }
     requires led { was_led_on (history_of actor.sizes seat.old.me.0.known.turns) actor.place called
         ≡ true }
@@ -90,7 +89,6 @@ fn question_look<V: Fit>(
 ) -> bool
     requires own { IsSeatOf seat.old.table_id words.now.table_id words.now.key }
     requires sizes { actor.sizes ≡ words.now.key }
-    requires place { IsPlace (setting_of actor.sizes) actor.place }
     requires asks { Sits actor.sizes actor.number seat.old.me.0
         (Questioning actor.place called current.Look) }
     ensures own { (seat.new.table_id ≡ seat.old.table_id) × (seat.new.me.1 ≡ seat.old.me.1) }
@@ -120,7 +118,6 @@ pub fn ask_current<V: Fit>(
 ) -> bool
     requires own { IsSeatOf seat.old.table_id words.now.table_id words.now.key }
     requires sizes { actor.sizes ≡ words.now.key }
-    requires place { IsPlace (setting_of actor.sizes) actor.place }
     requires led { was_led_on (history_of actor.sizes seat.old.me.0.known.turns) actor.place called
         ≡ true }
     requires free { Sits actor.sizes actor.number seat.old.me.0 Free }
@@ -143,7 +140,6 @@ pub fn ask_current<V: Fit>(
 pub fn ask_named<V: Fit>(words: &Words<V>, seat: &mut WordSeat<V>, actor: Actor) -> Option<CallId>
     requires own { IsSeatOf seat.old.table_id words.now.table_id words.now.key }
     requires sizes { actor.sizes ≡ words.now.key }
-    requires place { IsPlace (setting_of actor.sizes) actor.place }
     requires free { Sits actor.sizes actor.number seat.old.me.0 Free }
     ensures own { (seat.new.table_id ≡ seat.old.table_id) × (seat.new.me.1 ≡ seat.old.me.1) }
     ensures free { Goes actor.sizes actor.number seat.old.me.0 seat.new.me.0 Free [] 0 }

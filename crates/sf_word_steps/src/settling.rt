@@ -2,7 +2,6 @@
 ghost use Rattle.std.specs.Prelude.{◌≡◌, ℕ, ◌≤◌, [], IsTrue, IsFalse, IfSome, IfNone};
 ghost use Rattle.sf_words.specs.declared.key_word.KeyState.TheVariants.{Names};
 ghost use Rattle.sf_words.specs.declared.call_word.CallState.TheVariants.{Open};
-ghost use Rattle.sf_schedules.specs.Schedules.{IsPlace};
 ghost use Rattle.sf_schedules.specs.Turns.{at_count};
 ghost use Rattle.sf_schedules.specs.declared.operation.Stage.TheVariants.{Leading, Settling};
 ghost use Rattle.sf_schedules.specs.declared.operation.SettleStep.TheVariants as settle;
@@ -10,7 +9,6 @@ ghost use Rattle.sf_word_steps.specs.Words.{IsKeyFor, IsCallFor};
 ghost use Rattle.sf_word_steps.specs.View.{setting_of};
 ghost use Rattle.sf_word_steps.specs.Stands.{IsSeatOf, Sits, Goes};
 ghost use Rattle.sf_word_steps.specs.Settles.{MaySettle, IsLeadersWord, Fails, HasPeeked, HasSettled};
-ghost use Rattle.sf_words.specs.declared.limits.TheConstants.{LARGEST_CALLER};
 
 use crate::actor::Actor;
 use crate::numbering::{call_index, key_index};
@@ -35,7 +33,6 @@ fn own_peek<V: Fit>(
 ) -> CallState
     requires own { IsSeatOf seat.old.table_id words.now.table_id words.now.key }
     requires sizes { actor.sizes ≡ words.now.key }
-    requires by { (1 ≤ actor.number) × (actor.number ≤ actor.sizes.callers) }
     requires may { MaySettle actor.sizes actor.number actor.place generation own value.now
         seat.old.me.0 }
     ensures own { (seat.new.table_id ≡ seat.old.table_id) × (seat.new.me.1 ≡ seat.old.me.1) }
@@ -72,7 +69,6 @@ fn close_own<V: Fit>(
 ) -> bool
     requires own { IsSeatOf seat.old.table_id words.now.table_id words.now.key }
     requires sizes { actor.sizes ≡ words.now.key }
-    requires by { (1 ≤ actor.number) × (actor.number ≤ actor.sizes.callers) }
     requires seen { IsCallFor actor.sizes.callers (Open seen) }
     requires asks { Sits actor.sizes actor.number seat.old.me.0
         (Settling actor.place generation own value.now (settle.Close seen)) }
@@ -118,10 +114,7 @@ fn clear_own<V: Fit>(
 )
     requires own { IsSeatOf seat.old.table_id words.now.table_id words.now.key }
     requires sizes { actor.sizes ≡ words.now.key }
-    requires by { (1 ≤ actor.number) × (actor.number ≤ actor.sizes.callers) }
-    requires place { IsPlace (setting_of actor.sizes) actor.place }
     requires generation { 1 ≤ generation }
-    requires number { actor.number ≤ LARGEST_CALLER }
     requires asks { Sits actor.sizes actor.number seat.old.me.0
         (Settling actor.place generation own value.now (settle.Clear top)) }
     ensures own { (seat.new.table_id ≡ seat.old.table_id) × (seat.new.me.1 ≡ seat.old.me.1) }
@@ -168,10 +161,7 @@ fn settle_once<V: Fit>(
 ) -> Option<Option<u32>>
     requires own { IsSeatOf seat.old.table_id words.now.table_id words.now.key }
     requires sizes { actor.sizes ≡ words.now.key }
-    requires by { (1 ≤ actor.number) × (actor.number ≤ actor.sizes.callers) }
-    requires place { IsPlace (setting_of actor.sizes) actor.place }
     requires generation { 1 ≤ generation }
-    requires number { actor.number ≤ LARGEST_CALLER }
     requires may { MaySettle actor.sizes actor.number actor.place generation own value.now
         seat.old.me.0 }
     ensures own { (seat.new.table_id ≡ seat.old.table_id) × (seat.new.me.1 ≡ seat.old.me.1) }
@@ -210,10 +200,7 @@ pub(crate) fn settle_often<V: Fit>(
 ) -> Option<u32>
     requires own { IsSeatOf seat.old.table_id words.now.table_id words.now.key }
     requires sizes { actor.sizes ≡ words.now.key }
-    requires by { (1 ≤ actor.number) × (actor.number ≤ actor.sizes.callers) }
-    requires place { IsPlace (setting_of actor.sizes) actor.place }
     requires generation { 1 ≤ generation }
-    requires number { actor.sizes.callers ≤ LARGEST_CALLER }
     requires leads { Sits actor.sizes actor.number seat.old.me.0
         (Leading actor.place generation own) }
     ensures own { (seat.new.table_id ≡ seat.old.table_id) × (seat.new.me.1 ≡ seat.old.me.1) }

@@ -1,4 +1,4 @@
-use Rattle.std.proofs.Common.{◌≡◌, ◌==◌, ◌∙◌, ap, sym, subst, eq-eqb, refl, None}
+use Rattle.std.proofs.Common.{◌≡◌, ◌==◌, ◌∙◌, ap, sym, subst, eq-eqb, refl, None, arith}
 use Rattle.std.proofs.lemmas.Bool.{eqb-true, true≢false}
 use prog.Atomic.{either}
 use Rattle.sf_words.specs.declared.call_word.CallState.TheVariants.{Open}
@@ -20,7 +20,7 @@ exchange_turns-found-requires-clause-moves g c =
     let v = c.args.seat.now.me.0 in
     let old_is : c.in-Some.old ≡ Open c.args.seen = c.in-Some.ensures.1 in
     let new_is : c.in-Some-new.new ≡ Open (with_top c.args.seen c.args.actor.number) = c.in-Some-new.ensures.1 in
-    let lawful : IsCallFor c.args.actor.sizes.callers (Open (with_top c.args.seen c.args.actor.number)) = ((c.requires.seen.0.0, (c.requires.asks.caller.0, c.requires.by)), c.requires.asks.caller.1) in
+    let lawful : IsCallFor c.args.actor.sizes.callers (Open (with_top c.args.seen c.args.actor.number)) = ((c.requires.seen.0.0, (c.requires.asks.caller.0, omega arith)), c.requires.asks.caller.1) in
     subst (λ (z : Sizes). Moves z v (call c.args.called.caller) (λ n. either (n == c.pack_call-old.result) c.pack_call.result n) (lead_turns c.pack_call-old.result c.args.actor.number c.args.last)) c.requires.sizes
     (enter_move c.args.actor.sizes c.args.actor.number c.args.actor.place c.pack_call-old.result c.pack_call.result c.args.called c.args.seen c.args.last v c.requires.asks c.requires.seen.0 lawful
     (c.pack_call-old.ensures.code ∙ ap call_code old_is) (c.pack_call.ensures.code ∙ ap call_code new_is))

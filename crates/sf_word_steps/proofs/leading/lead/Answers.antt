@@ -19,7 +19,7 @@ exchange_turns-found-requires-clause-moves g c =
     let v = c.args.seat.now.me.0 in
     let low = c.requires.generation.0 in
     let high : c.args.generation ≤ LARGEST_GENERATION = let fits = c.ranges.generation.fits in omega arith in
-    let named : IsKeyState (Names c.args.actor.number c.args.generation false) = ((c.requires.asks.caller.0, c.requires.by), (low, high)) in
+    let named : IsKeyState (Names c.args.actor.number c.args.generation false) = ((c.requires.asks.caller.0, omega arith), (low, high)) in
     let old_is : c.in-Some.old ≡ c.args.seen = c.in-Some.ensures.1 in
     let new_is : c.in-Some-new.new ≡ Names c.args.actor.number c.args.generation false = c.in-Some-new.ensures.1 in
     subst (λ (z : Sizes). Moves z v (key c.args.actor.place) (λ n. either (n == c.pack_key-old.result) c.pack_key.result n) (lead_turns c.pack_key-old.result c.args.actor.number c.args.last)) c.requires.sizes

@@ -16,9 +16,9 @@ exchange_turns-requires-clause-moves g c =
     let old_is : c.in-Some.old ≡ Names c.args.actor.number c.args.generation false = c.in-Some.ensures.1 in
     let new_is : c.in-Some-new.new ≡ Names c.args.actor.number c.args.generation true = c.in-Some-new.ensures.1 in
     let high : c.args.generation ≤ LARGEST_GENERATION = let fits = c.ranges.generation.fits in omega arith in
-    let named : IsKeyState (Names c.args.actor.number c.args.generation false) = ((c.requires.by.0, c.requires.number), (c.requires.generation, high)) in
+    let named : IsKeyState (Names c.args.actor.number c.args.generation false) = ((c.args.actor.caller.0, omega arith), (c.requires.generation, high)) in
     subst (λ (z : Sizes). Moves z v (key c.args.actor.place) (λ n. either (n == c.pack_key.result) c.pack_key-2.result n) (λ _. Step c.args.actor.number ∷ [])) c.requires.sizes
-    (settle_clear_move c.args.actor.sizes c.args.actor.number c.args.actor.place c.args.generation c.pack_key.result c.pack_key-2.result c.args.own c.args.value.now c.args.top v c.requires.asks (named, c.requires.by.1)
+    (settle_clear_move c.args.actor.sizes c.args.actor.number c.args.actor.place c.args.generation c.pack_key.result c.pack_key-2.result c.args.own c.args.value.now c.args.top v c.requires.asks (named, c.args.actor.caller.1)
     (c.pack_key.ensures.code ∙ ap key_code old_is) (c.pack_key-2.ensures.code ∙ ap key_code new_is))
 
 pub returns-clause-told : goal.returns-clause-told
