@@ -158,7 +158,7 @@ impl<'d, 'f, D: Naming, N: Naming> Tried<'d, 'f, D, N> {
     // What is owed is delivered, with memory, and stands in the log then. A get then answers the value.
     fn end<R: Wait + Abort>(self, rt: &R, fill: &Fill<'d, D, N, AnyValue>) -> u32 {
         let Tried { getter, refused } = self;
-        let (mut getter, settled) = getter.settle_up(rt, fill);
+        let (mut getter, settled) = getter.settle_up(fill);
         assert!(rt; settled.is_ok(), "it is refused memory again");
         assert!(rt; !getter.owes(), "it owes letters still");
         let loads = getter.loaders().picker.asked;
