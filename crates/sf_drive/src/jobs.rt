@@ -139,7 +139,7 @@ impl<'a, R: Wait + Clock + Eprint> Crew<'a, R> {
             getter = back;
             answers += is_right as u32;
         }
-        let (mut getter, settled) = settle_up_often(rt, fill, getter);
+        let (mut getter, settled) = settle_up_often(fill, getter);
         getter.enter(rt, fill);
         let log = getter.take_log();
         let ended = Ended {
@@ -153,7 +153,6 @@ impl<'a, R: Wait + Clock + Eprint> Crew<'a, R> {
 
 // Delivers what is owed, in 1,000 tries at most; whether it is done.
 fn settle_up_often<'d, D: Naming, N: Naming, O: Origin, L>(
-    rt: &impl Wait,
     fill: &Fill<'d, D, N, O>,
     getter: Getter<'d, D, N, O, L>,
 ) -> (Getter<'d, D, N, O, L>, bool)
@@ -161,7 +160,7 @@ fn settle_up_often<'d, D: Naming, N: Naming, O: Origin, L>(
 {
     let mut getter = getter;
     for _ in 0..1_000 {
-        let (back, settled) = getter.settle_up(rt, fill);
+        let (back, settled) = getter.settle_up(fill);
         getter = back;
         if settled.is_ok() {
             return (getter, true);

@@ -373,7 +373,7 @@ impl<'d, D: Naming, N: Naming, O: Origin> Fill<'d, D, N, O> {
             return (getter, Err(LoadFault::Refused(GetRefusal::Spent)));
         }
         if getter.owes() {
-            let (getter, _delivered) = getter.settle_up(rt, self);
+            let (getter, _delivered) = getter.settle_up(self);
             return self.get_once(rt, getter, key);
         }
         self.get_once(rt, getter, key)

@@ -17,7 +17,6 @@ use sf_calls::Fit;
 use sf_group::{Caller, Event, Finished, Memory, Note, Settled};
 use sf_loaders::Origin;
 use sf_spots::KeyDesk;
-use sf_wait::go_on_wait;
 use sf_words::PlaceNo;
 use std::marker::Model;
 use std::sync::Wait;
@@ -177,9 +176,8 @@ impl<'d, D: Naming, N: Naming, O: Origin, L> Getter<'d, D, N, O, L> {
 
 impl<'d, D: Naming, N: Naming, O: Origin> Fill<'d, D, N, O> {
     // Delivers the letters that are owed, if there are any; where memory for one is refused, they are owed still.
-    pub(crate) fn deliver<R: Wait>(
+    pub(crate) fn deliver(
         &self,
-        rt: &R,
         standing: Standing<FillValue<'d, D, O>>,
         log: &mut Log,
     ) -> (Standing<FillValue<'d, D, O>>, Result<(), Memory>)
@@ -191,7 +189,7 @@ impl<'d, D: Naming, N: Naming, O: Origin> Fill<'d, D, N, O> {
     {
         match standing {
             Standing::Free(caller) => (Standing::Free(caller), Ok(())),
-            Standing::Owing(settled) => match go_on_wait(rt, &self.group, settled) {
+            Standing::Owing(settled) => match self.group.go_on(settled) {
                 Finished::Done(caller, letter) => {
                     log.add(Event::Handed {
                         by: caller.number(),
@@ -208,9 +206,8 @@ impl<'d, D: Naming, N: Naming, O: Origin> Fill<'d, D, N, O> {
 impl<'d, D: Naming, N: Naming, O: Origin, L> Getter<'d, D, N, O, L> {
     /// Delivers the letters that are owed; where memory for one is refused, they are owed still.
     #[inline(never)]
-    pub fn settle_up<R: Wait>(
+    pub fn settle_up(
         self,
-        rt: &R,
         fill: &Fill<'d, D, N, O>,
     ) -> (Getter<'d, D, N, O, L>, Result<(), Memory>)
         ensures settled { HasSettledUp self.entry result.0 }
@@ -226,7 +223,7 @@ impl<'d, D: Naming, N: Naming, O: Origin, L> Getter<'d, D, N, O, L> {
             mut log,
             near,
         } = self;
-        let (standing, outcome) = fill.deliver(rt, standing, &mut log);
+        let (standing, outcome) = fill.deliver(standing, &mut log);
         let getter = Getter {
             desk,
             standing,

@@ -20,7 +20,6 @@ use sf_caches::Which;
 use sf_group::{Caller, Finished, Flight, Letter};
 use sf_loaders::{Counts, LoadPath, LocalFault, Origin, Source};
 use sf_spots::Spot;
-use sf_wait::finish_wait;
 use std::sync::Wait;
 
 /// What a leader settles its call with, into which cache that goes, and what the get counts.
@@ -184,7 +183,7 @@ impl<'d, D: Naming, N: Naming, O: Origin> Fill<'d, D, N, O> {
         requires fits { FitsFill flight.place flight.call value flight.seen }
         ensures { HasSettled flight.entry value.entry result }
     {
-        match finish_wait(rt, &self.group, flight, value) {
+        match self.group.finish(flight, value) {
             Finished::Done(mut caller, mut letter) => {
                 self.keep(rt, keep, key_len, &mut caller, &mut letter);
                 Finished::Done(caller, letter)

@@ -116,7 +116,7 @@ impl<'d, D: Naming, N: Naming, O: Origin> Fill<'d, D, N, O> {
         ensures reloaded { HasReloaded N.space key.now getter.entry result.0 result.1 }
         ensures adds { IsReloading N.space key.now getter.entry result.0 result.1 }
     {
-        let (getter, _delivered) = getter.settle_up(rt, self);
+        let (getter, _delivered) = getter.settle_up(self);
         let Getter {
             mut desk,
             standing,
@@ -147,7 +147,7 @@ impl<'d, D: Naming, N: Naming, O: Origin> Fill<'d, D, N, O> {
     ) -> (Getter<'d, D, N, O, L>, Result<(), Memory>)
         ensures { ForgetsAll N.group.sizes.places getter.entry result.0 result.1 }
     {
-        let (getter, _delivered) = getter.settle_up(rt, self);
+        let (getter, _delivered) = getter.settle_up(self);
         let Getter {
             desk,
             standing,

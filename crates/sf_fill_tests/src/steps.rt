@@ -301,7 +301,7 @@ pub fn run<'d, D: Naming, N: Naming, O: Origin, L: LoadPath<Origin = O>>(
             Step::Stats => say_stats(rt, &mut said, fill),
             Step::SettleUp => {
                 let owed = getter.owes();
-                let (back, outcome) = getter.settle_up(rt, fill);
+                let (back, outcome) = getter.settle_up(fill);
                 let settled = outcome.is_ok();
                 let _ = write!(&mut said, "owes={owed} settled={settled}\n");
                 getter = back;

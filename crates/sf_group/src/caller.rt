@@ -1,16 +1,14 @@
 //! Callers that are free to ask and to forget.
 ghost use Rattle.std.specs.Prelude.{◌≡◌};
 
-use sf_word_steps::WordSeat;
+use crate::seated::Seated;
 use std::marker::Model;
 
 /// One who asks for places, in one thread at a time. It leads no call, owes no letter and holds no ticket. What it has
 /// seen only grows.
 #[derive(Drop)]
 pub struct Caller<V> {
-    pub(crate) seat: WordSeat<V>,
-    pub(crate) number: u64,
-    pub(crate) next: u64,
+    pub(crate) seated: Seated<V>,
 }
 
 impl<V> Model for Caller<V> {
@@ -23,9 +21,11 @@ impl<V> Model for Caller<V> {
 
     ghost Value = { CallerValue V };
 
-    ghost view = { λ c. caller_of c.seat.table_id c.seat.me.0 c.number };
+    ghost view = { λ c. let s = c.seated in caller_of s.seat.table_id s.seat.me.0 s.number };
 
-    ghost invariant = { λ c. Sits (sizes_of c.seat.me.0) c.number c.seat.me.0 Free × (c.next ≡ next_in (sizes_of c.seat.me.0) c.seat.me.0 c.number) × (c.seat.me.1 ≡ []) × (c.number ≤ 4294967295) };
+    ghost invariant = { λ c. let s = c.seated in let v = s.seat.me.0 in
+        Sits (sizes_of v) s.number v Free × (s.next ≡ next_in (sizes_of v) v s.number)
+        × (s.seat.me.1 ≡ []) × (s.number ≤ 4294967295) };
 }
 
 impl<V> Caller<V> {
@@ -33,6 +33,6 @@ impl<V> Caller<V> {
     pub fn number(&self) -> u32
         ensures { result ≡ self.now.number }
     {
-        self.number as u32
+        self.seated.number as u32
     }
 }

@@ -8,7 +8,6 @@ use crate::caller::Caller;
 use crate::flight::Flight;
 use crate::group::{Group, MOST_TRIES};
 use crate::ticket::Ticket;
-use crate::wide::MaybeCall;
 use sf_calls::{ChanBegun, Fit, NotBegun};
 use sf_history::CallId;
 use sf_word_chans::{Askers, ask_together};
@@ -48,80 +47,45 @@ impl<V: Fit> Group<V> {
         ensures tried { IfOk result (λ begun. HaveTriedToBegin caller second tries begun) }
         ensures refused { IfErr result (λ refused. HasNotBegunChan caller second place tries refused) }
     {
-        let Some((generation, second_generation)) = generations(caller.next, second.next) else {
+        let (next, second_next) = (caller.seated.next, second.seated.next);
+        let Some((generation, second_generation)) = generations(next, second_next) else {
             return Err(NotBegun::Spent((caller, second)));
         };
-        let Caller { seat, number, next } = caller;
-        let Caller {
-            seat: second_seat,
-            number: second_number,
-            next: second_next,
-        } = second;
+        let Caller { seated: mut one } = caller;
+        let Caller { seated: mut two } = second;
         let askers = Askers {
             sizes: self.sizes,
-            number: number as u32,
-            second: second_number as u32,
+            number: one.number as u32,
+            second: two.number as u32,
             place,
             generation,
             second_generation,
         };
         let call = CallId {
-            caller: number as u32,
+            caller: one.number as u32,
             generation,
         };
         let member = CallId {
-            caller: second_number as u32,
+            caller: two.number as u32,
             generation: second_generation,
         };
-        let (attempt, seat, second_seat) = ask_together(
-            &self.table.shared,
-            seat,
-            second_seat,
-            askers,
-            tries,
-        );
+        let words = &self.table.shared;
+        let (attempt, seat, second_seat) = ask_together(words, one.seat, two.seat, askers, tries);
+        one.seat = seat;
+        two.seat = second_seat;
         match attempt {
-            AskAttempt::Led(after) => Ok(ChanBegun::Led(
-                Flight {
-                    seat,
-                    number,
-                    next: next + 1,
-                    place: place as u64,
-                    call,
-                    own: MaybeCall::of(Some(member)),
-                    after: MaybeCall::of(after),
-                },
-                Ticket {
-                    seat: second_seat,
-                    number: second_number,
-                    next: second_next + 1,
-                    place: place as u64,
-                    call,
-                    member,
-                },
+            Attempt::Led(after) => Ok(ChanBegun::Led(
+                Flight::of(one, place, call, Some(member), after),
+                Ticket::of(two, place, call, member),
             )),
-            AskAttempt::Joined(open) => Ok(ChanBegun::Joined(
-                Ticket {
-                    seat: second_seat,
-                    number: second_number,
-                    next: second_next + 1,
-                    place: place as u64,
-                    call: open,
-                    member,
-                },
-                Caller { seat, number, next },
+            Attempt::Joined(open) => Ok(ChanBegun::Joined(
+                Ticket::of(two, place, open, member),
+                Caller { seated: one },
             )),
-            AskAttempt::Lost => Err(NotBegun::Busy(
-                tries,
-                (
-                    Caller { seat, number, next },
-                    Caller {
-                        seat: second_seat,
-                        number: second_number,
-                        next: second_next,
-                    },
-                ),
-            )),
+            Attempt::Lost => {
+                let back = (Caller { seated: one }, Caller { seated: two });
+                Err(NotBegun::Busy(tries, back))
+            }
         }
     }
 }

@@ -11,6 +11,7 @@ use crate::flight::Flight;
 use crate::group::Group;
 use crate::letter::Letter;
 use crate::note::Note;
+use crate::seated::Leader;
 use crate::settled::Settled;
 use crate::ticket::Ticket;
 use crate::wide::MaybeNumber;
@@ -72,37 +73,33 @@ impl<V: Fit> Group<V> {
         ensures { HasPolled V.fits ticket result }
     {
         let Ticket {
-            mut seat,
-            number,
-            next,
+            mut seated,
             place,
             call,
             member,
         } = ticket;
         let actor = Actor {
             sizes: self.sizes,
-            number: number as u32,
+            number: seated.number as u32,
             place: place as u32,
         };
         let Some(cell) = collect(
             &self.table.shared,
-            &mut seat,
+            &mut seated.seat,
             actor,
             member.generation,
             call,
         ) else {
             return Polled::Pending(Ticket {
-                seat,
-                number,
-                next,
+                seated,
                 place,
                 call,
                 member,
             });
         };
         let joiners = cell.joiners as u64;
-        let letter = self.letter(&mut seat, place, call, cell.value, joiners);
-        Polled::Ready(Caller { seat, number, next }, letter)
+        let letter = self.letter(&mut seated.seat, place, call, cell.value, joiners);
+        Polled::Ready(Caller { seated }, letter)
     }
 
     /// Sleeps while the ticket's letter is not there, until its delivery. It may come back at any time, and promises
@@ -127,47 +124,41 @@ impl<V: Fit> Group<V> {
         ensures closed { HasClosed flight result }
     {
         let Flight {
-            mut seat,
-            number,
-            next,
-            place,
-            call,
-            own,
+            mut leader,
             after: _,
         } = flight;
         let actor = Actor {
             sizes: self.sizes,
-            number: number as u32,
-            place: place as u32,
+            number: leader.seated.number as u32,
+            place: leader.place as u32,
         };
-        let channel = own.get();
+        let channel = leader.own.get();
         let tally = settle_and_count(
             &self.table.shared,
-            &mut seat,
+            &mut leader.seated.seat,
             actor,
-            call.generation,
+            leader.call.generation,
             channel,
             &value,
         );
         let joiners = tally.joiners as u64;
         if tally.top.is_some() || channel.is_some() {
-            return self.hand_on(
-                resting,
-                Settled {
-                    seat,
-                    number,
-                    next,
-                    place,
-                    call,
-                    own,
-                    joiners,
-                    top: MaybeNumber::of(tally.top),
-                    value,
-                },
-            );
+            let settled = Settled {
+                leader,
+                joiners,
+                top: MaybeNumber::of(tally.top),
+                value,
+            };
+            return self.hand_on(resting, settled);
         }
-        let letter = self.letter(&mut seat, place, call, value, joiners);
-        Finished::Done(Caller { seat, number, next }, letter)
+        let Leader {
+            mut seated,
+            place,
+            call,
+            own: _,
+        } = leader;
+        let letter = self.letter(&mut seated.seat, place, call, value, joiners);
+        Finished::Done(Caller { seated }, letter)
     }
 
     // Hands out what is owed.
@@ -181,54 +172,44 @@ impl<V: Fit> Group<V> {
         ensures known { HasKnown settled result }
     {
         let Settled {
-            mut seat,
-            number,
-            next,
-            place,
-            call,
-            own,
+            mut leader,
             joiners,
             top,
             mut value,
         } = settled;
         let actor = Actor {
             sizes: self.sizes,
-            number: number as u32,
-            place: place as u32,
+            number: leader.seated.number as u32,
+            place: leader.place as u32,
         };
-        let channel = own.get();
+        let channel = leader.own.get();
         let list = top.get();
         let delivery = Delivery {
-            generation: call.generation,
+            generation: leader.call.generation,
             own: channel,
             joiners: joiners as u32,
         };
-        match hand_out(
-            &self.table.shared,
-            resting,
-            &mut seat,
-            actor,
-            delivery,
-            &mut value,
-            list,
-        ) {
+        let words = &self.table.shared;
+        let seat = &mut leader.seated.seat;
+        match hand_out(words, resting, seat, actor, delivery, &mut value, list) {
             Ok(()) => {}
             Err(left) => {
                 return Finished::Held(Settled {
-                    seat,
-                    number,
-                    next,
-                    place,
-                    call,
-                    own,
+                    leader,
                     joiners,
                     top: MaybeNumber::of(left),
                     value,
                 });
             }
         }
-        let letter = self.letter(&mut seat, place, call, value, joiners);
-        Finished::Done(Caller { seat, number, next }, letter)
+        let Leader {
+            mut seated,
+            place,
+            call,
+            own: _,
+        } = leader;
+        let letter = self.letter(&mut seated.seat, place, call, value, joiners);
+        Finished::Done(Caller { seated }, letter)
     }
 
     // A letter whose note shows what the seat has seen.

@@ -1,20 +1,19 @@
 //! Flights: callers that lead a call.
-ghost use Rattle.std.specs.Prelude.{◌≡◌};
+ghost use Rattle.std.specs.Prelude.{◌≡◌, ◌+◌, ◌≤◌, []};
+ghost use Rattle.sf_schedules.specs.declared.operation.Stage.TheVariants.{Leading};
 ghost use Rattle.sf_calls.specs.Afters.{FollowsCall};
+ghost use Rattle.sf_word_steps.specs.View.{sizes_of};
+ghost use Rattle.sf_word_steps.specs.Stands.{Sits, next_in};
+ghost use Rattle.sf_group.specs.Known.{flight_of, IsPlaceIn};
 
+use crate::seated::{Leader, Seated};
 use crate::wide::MaybeCall;
 use sf_history::CallId;
-use sf_word_steps::WordSeat;
 use std::marker::Model;
 
 /// A caller that leads a call, until it settles that. It has to be spent.
 pub struct Flight<V> {
-    pub(crate) seat: WordSeat<V>,
-    pub(crate) number: u64,
-    pub(crate) next: u64,
-    pub(crate) place: u64,
-    pub(crate) call: CallId,
-    pub(crate) own: MaybeCall,
+    pub(crate) leader: Leader<V>,
     pub(crate) after: MaybeCall,
 }
 
@@ -29,26 +28,64 @@ impl<V> Model for Flight<V> {
 
     ghost Value = { FlightValue V };
 
-    ghost view = { λ f. flight_of f.seat.table_id f.seat.me.0 f.number f.place f.call f.own };
+    ghost view = { λ f. let l = f.leader in let s = l.seated in
+        flight_of s.seat.table_id s.seat.me.0 s.number l.place l.call l.own };
 
-    ghost invariant = { λ f. Sits (sizes_of f.seat.me.0) f.number f.seat.me.0 (Leading f.place f.call.generation f.own) × (f.call.caller ≡ f.number)
-        × (f.next ≡ next_in (sizes_of f.seat.me.0) f.seat.me.0 f.number) × (f.seat.me.1 ≡ []) × IsPlaceIn (sizes_of f.seat.me.0) f.place × (1 ≤ f.call.generation)
-        × FollowsCall (flight_of f.seat.table_id f.seat.me.0 f.number f.place f.call f.own) f.after × (f.number ≤ 4294967295) × (f.place ≤ 4294967295) };
+    ghost invariant = { λ f. let l = f.leader in let s = l.seated in let v = s.seat.me.0 in
+        Sits (sizes_of v) s.number v (Leading l.place l.call.generation l.own)
+        × (l.call.caller ≡ s.number) × (s.next ≡ next_in (sizes_of v) v s.number) × (s.seat.me.1 ≡ [])
+        × IsPlaceIn (sizes_of v) l.place × (1 ≤ l.call.generation)
+        × FollowsCall (flight_of s.seat.table_id v s.number l.place l.call l.own) f.after
+        × (s.number ≤ 4294967295) × (l.place ≤ 4294967295) };
 }
 
 impl<V> Flight<V> {
+    // The flight of one who leads since its last asking, which used a generation.
+    pub(crate) fn of(
+        mut seated: Seated<V>,
+        place: u32,
+        call: CallId,
+        own: Option<CallId>,
+        after: Option<CallId>,
+    ) -> Flight<V>
+        requires sits { let v = seated.seat.me.0 in
+            Sits (sizes_of v) seated.number v (Leading place call.generation own) }
+        requires call { (call.caller ≡ seated.number) × (1 ≤ call.generation) }
+        requires next { let v = seated.seat.me.0 in
+            (seated.next ≤ 4294967295) × (seated.next + 1 ≡ next_in (sizes_of v) v seated.number) }
+        requires alone { seated.seat.me.1 ≡ [] }
+        requires place { IsPlaceIn (sizes_of seated.seat.me.0) place }
+        requires after { let s = seated in
+            FollowsCall (flight_of s.seat.table_id s.seat.me.0 s.number place call own) after }
+        requires number { seated.number ≤ 4294967295 }
+        ensures { let s = seated in
+            result ≡ flight_of s.seat.table_id s.seat.me.0 s.number place call own }
+    {
+        seated.next += 1;
+        let leader = Leader {
+            seated,
+            place: place as u64,
+            call,
+            own: MaybeCall::of(own),
+        };
+        Flight {
+            leader,
+            after: MaybeCall::of(after),
+        }
+    }
+
     /// The call that it leads.
     pub fn call(&self) -> CallId
         ensures { result ≡ self.now.call }
     {
-        self.call
+        self.leader.call
     }
 
     /// The number of its place.
     pub fn place(&self) -> u32
         ensures { result ≡ self.now.place }
     {
-        self.place as u32
+        self.leader.place as u32
     }
 
     /// The call that was current on its place before it, which no Forget had closed; it may have been settled.
@@ -61,12 +98,7 @@ impl<V> Flight<V> {
     /// Gives the flight up for good: nothing is added, its call is never settled, and its caller does not come back.
     pub fn abandon(self) {
         let Flight {
-            seat: _,
-            number: _,
-            next: _,
-            place: _,
-            call: _,
-            own: _,
+            leader: _,
             after: _,
         } = self;
     }

@@ -11,8 +11,8 @@ ghost use Rattle.sf_group.specs.Dealing.{IsDealing};
 
 use crate::caller::Caller;
 use crate::flight::Flight;
+use crate::seated::Seated;
 use crate::ticket::Ticket;
-use crate::wide::MaybeCall;
 use atomic_table::Table;
 use sf_calls::{Begun, Fit, MOST_CALLERS, MOST_PLACES, NotBegun, Sizes};
 use sf_history::{CallId, Forgotten, Hit};
@@ -61,11 +61,12 @@ fn deal<V: Fit>(words: &Words<V>, first: &mut WordSeat<V>, number: u32, next: u6
     ensures caller { result ≡ new_caller (record { table = words.now.table_id; sizes = words.now.key }) number }
 {
     let seat = words.split_seat::<Deals>(first);
-    Caller {
+    let seated = Seated {
         seat,
         number: number as u64,
         next,
-    }
+    };
+    Caller { seated }
 }
 
 impl<V: Fit> Group<V> {
@@ -145,43 +146,25 @@ impl<V: Fit> Group<V> {
         ensures tried { IfOk result (λ begun. HasTriedToBegin caller tries begun) }
         ensures refused { IfErr result (λ refused. HasNotBegun caller place tries refused) }
     {
-        let Caller {
-            mut seat,
-            number,
-            next,
-        } = caller;
-        let Ok(generation) = u32::try_from(next) else {
-            return Err(NotBegun::Spent(Caller { seat, number, next }));
+        let Caller { mut seated } = caller;
+        let Ok(generation) = u32::try_from(seated.next) else {
+            return Err(NotBegun::Spent(Caller { seated }));
         };
         let member = CallId {
-            caller: number as u32,
+            caller: seated.number as u32,
             generation,
         };
         let actor = Actor {
             sizes: self.sizes,
-            number: number as u32,
+            number: seated.number as u32,
             place,
         };
-        let attempt = ask_often(&self.table.shared, &mut seat, actor, generation, tries);
+        let words = &self.table.shared;
+        let attempt = try_often(words, &mut seated.seat, actor, generation, tries);
         match attempt {
-            AskAttempt::Led(after) => Ok(Begun::Lead(Flight {
-                seat,
-                number,
-                next: next + 1,
-                place: place as u64,
-                call: member,
-                own: MaybeCall::none(),
-                after: MaybeCall::of(after),
-            })),
-            AskAttempt::Joined(call) => Ok(Begun::Join(Ticket {
-                seat,
-                number,
-                next: next + 1,
-                place: place as u64,
-                call,
-                member,
-            })),
-            AskAttempt::Lost => Err(NotBegun::Busy(tries, Caller { seat, number, next })),
+            Attempt::Led(after) => Ok(Begun::Lead(Flight::of(seated, place, member, None, after))),
+            Attempt::Joined(call) => Ok(Begun::Join(Ticket::of(seated, place, call, member))),
+            Attempt::Lost => Err(NotBegun::Busy(tries, Caller { seated })),
         }
     }
 
@@ -197,10 +180,11 @@ impl<V: Fit> Group<V> {
     {
         let actor = Actor {
             sizes: self.sizes,
-            number: caller.number as u32,
+            number: caller.seated.number as u32,
             place,
         };
-        let attempt = forget_often(&self.table.shared, &mut caller.seat, actor, None, tries);
+        let words = &self.table.shared;
+        let attempt = forget_often(words, &mut caller.seated.seat, actor, None, tries);
         match attempt {
             ForgetAttempt::Closed(call) => return Ok(Forgotten::Closed(call)),
             ForgetAttempt::Cleared(_) => return Ok(Forgotten::Idle),
@@ -229,16 +213,11 @@ impl<V: Fit> Group<V> {
     {
         let actor = Actor {
             sizes: self.sizes,
-            number: caller.number as u32,
+            number: caller.seated.number as u32,
             place,
         };
-        let attempt = forget_often(
-            &self.table.shared,
-            &mut caller.seat,
-            actor,
-            Some(call),
-            tries,
-        );
+        let words = &self.table.shared;
+        let attempt = forget_often(words, &mut caller.seated.seat, actor, Some(call), tries);
         match attempt {
             ForgetAttempt::Closed(_) => return Ok(Hit::Closed),
             ForgetAttempt::Cleared(_) => return Ok(Hit::Cleared),

@@ -48,6 +48,7 @@ mod note;
 mod notes;
 mod outcomes;
 mod questions;
+mod seated;
 mod settled;
 mod ticket;
 mod wide;

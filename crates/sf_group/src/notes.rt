@@ -21,7 +21,10 @@ impl<V: Fit> Group<V> {
         requires { caller.old.group ≡ self.now }
         ensures { HasTold caller.old caller.new result }
     {
-        let seat = self.table.shared.split_seat::<Tells>(&mut caller.seat);
+        let seat = self
+            .table
+            .shared
+            .split_seat::<Tells>(&mut caller.seated.seat);
         Note { seat }
     }
 
@@ -34,10 +37,10 @@ impl<V: Fit> Group<V> {
     {
         hear_note(
             &self.table.shared,
-            &mut caller.seat,
+            &mut caller.seated.seat,
             &mut note.seat,
             self.sizes,
-            caller.number as u32,
+            caller.seated.number as u32,
         );
     }
 
@@ -92,10 +95,10 @@ impl<V: Fit> Flight<V> {
     {
         hear_note(
             &group.table.shared,
-            &mut self.seat,
+            &mut self.leader.seated.seat,
             &mut note.seat,
             group.sizes,
-            self.number as u32,
+            self.leader.seated.number as u32,
         );
     }
 }
@@ -107,7 +110,10 @@ impl<V: Fit> Settled<V> {
         ensures same { self.new ≡ self.old }
         ensures told { (result.group ≡ self.old.group) × (result.seen ≡ self.old.seen) }
     {
-        let seat = group.table.shared.split_seat::<Tells>(&mut self.seat);
+        let seat = group
+            .table
+            .shared
+            .split_seat::<Tells>(&mut self.leader.seated.seat);
         Note { seat }
     }
 
@@ -120,10 +126,10 @@ impl<V: Fit> Settled<V> {
     {
         hear_note(
             &group.table.shared,
-            &mut self.seat,
+            &mut self.leader.seated.seat,
             &mut note.seat,
             group.sizes,
-            self.number as u32,
+            self.leader.seated.number as u32,
         );
     }
 }

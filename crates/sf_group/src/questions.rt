@@ -27,10 +27,11 @@ impl<V: Fit> Group<V> {
         self.learn(caller, &mut letter.note);
         let actor = Actor {
             sizes: self.sizes,
-            number: caller.number as u32,
+            number: caller.seated.number as u32,
             place: letter.place as u32,
         };
-        ask_current(&self.table.shared, &mut caller.seat, actor, letter.call)
+        let words = &self.table.shared;
+        ask_current(words, &mut caller.seated.seat, actor, letter.call)
     }
 
     /// Which call the place names, for a Forget of that call alone: where it names one, that was led last on the place; where
@@ -42,10 +43,10 @@ impl<V: Fit> Group<V> {
     {
         let actor = Actor {
             sizes: self.sizes,
-            number: caller.number as u32,
+            number: caller.seated.number as u32,
             place,
         };
-        ask_named(&self.table.shared, &mut caller.seat, actor)
+        ask_named(&self.table.shared, &mut caller.seated.seat, actor)
     }
     /// Whether the call of these numbers, whichever they are, is the place's current one. A yes was right at a moment after all
     /// that the caller had seen, whether it knew of the call or not; a no is right at the end. It loads two words at most,
@@ -58,7 +59,7 @@ impl<V: Fit> Group<V> {
     {
         is_still_current(
             &self.table.shared,
-            &mut caller.seat,
+            &mut caller.seated.seat,
             self.sizes,
             place,
             call,
@@ -76,7 +77,7 @@ impl<V: Fit> Flight<V> {
     {
         is_still_current(
             &group.table.shared,
-            &mut self.seat,
+            &mut self.leader.seated.seat,
             group.sizes,
             place,
             call,
@@ -94,7 +95,7 @@ impl<V: Fit> Ticket<V> {
     {
         is_still_current(
             &group.table.shared,
-            &mut self.seat,
+            &mut self.seated.seat,
             group.sizes,
             place,
             call,
@@ -112,7 +113,7 @@ impl<V: Fit> Settled<V> {
     {
         is_still_current(
             &group.table.shared,
-            &mut self.seat,
+            &mut self.leader.seated.seat,
             group.sizes,
             place,
             call,

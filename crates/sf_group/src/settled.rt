@@ -1,20 +1,14 @@
 //! Unfinished deliveries: callers that have settled their call, and owe letters of it.
 ghost use Rattle.std.specs.Prelude.{◌≡◌};
 
-use crate::wide::{MaybeCall, MaybeNumber};
+use crate::seated::Leader;
+use crate::wide::MaybeNumber;
 use sf_calls::Fit;
-use sf_history::CallId;
-use sf_word_steps::WordSeat;
 use std::marker::Model;
 
 /// A caller that has settled its call for good, and owes letters of it still. It has to be spent.
 pub struct Settled<V: Fit> {
-    pub(crate) seat: WordSeat<V>,
-    pub(crate) number: u64,
-    pub(crate) next: u64,
-    pub(crate) place: u64,
-    pub(crate) call: CallId,
-    pub(crate) own: MaybeCall,
+    pub(crate) leader: Leader<V>,
     pub(crate) joiners: u64,
     // The member with whom the list of those begins that are still owed letters.
     pub(crate) top: MaybeNumber,
@@ -34,12 +28,17 @@ impl<V: Fit> Model for Settled<V> {
 
     ghost Value = { SettledValue V };
 
-    ghost view = { λ s. settled_of s.seat.table_id s.seat.me.0 s.number s.place s.call s.value s.joiners };
+    ghost view = { λ s. let l = s.leader in let a = l.seated in
+        settled_of a.seat.table_id a.seat.me.0 a.number l.place l.call s.value s.joiners };
 
-    ghost invariant = { λ s. Sits (sizes_of s.seat.me.0) s.number s.seat.me.0 (at_members s.place s.call.generation s.own s.value s.joiners s.top) × (s.call.caller ≡ s.number)
-        × (s.next ≡ next_in (sizes_of s.seat.me.0) s.seat.me.0 s.number) × (s.seat.me.1 ≡ []) × IsOwed s.top s.own
-        × V.fits s.place s.call s.value (history_of (sizes_of s.seat.me.0) s.seat.me.0.known.turns) × Stands (event.Settle s.call.caller s.call s.value s.joiners) (history_of (sizes_of s.seat.me.0) s.seat.me.0.known.turns)
-        × IsPlaceIn (sizes_of s.seat.me.0) s.place × (s.number ≤ 4294967295) × (s.place ≤ 4294967295) × (s.joiners ≤ 4294967295) };
+    ghost invariant = { λ s. let l = s.leader in let a = l.seated in let v = a.seat.me.0 in
+        let seen = history_of (sizes_of v) v.known.turns in
+        Sits (sizes_of v) a.number v
+        (at_members l.place l.call.generation l.own s.value s.joiners s.top)
+        × (l.call.caller ≡ a.number) × (a.next ≡ next_in (sizes_of v) v a.number)
+        × (a.seat.me.1 ≡ []) × IsOwed s.top l.own × V.fits l.place l.call s.value seen
+        × Stands (event.Settle l.call.caller l.call s.value s.joiners) seen
+        × IsPlaceIn (sizes_of v) l.place × (a.number ≤ 4294967295) × (l.place ≤ 4294967295) × (s.joiners ≤ 4294967295) };
 }
 
 impl<V: Fit> Settled<V> {
@@ -54,12 +53,7 @@ impl<V: Fit> Settled<V> {
     /// back.
     pub fn abandon(self) {
         let Settled {
-            seat: _,
-            number: _,
-            next: _,
-            place: _,
-            call: _,
-            own: _,
+            leader: _,
             value: _,
             joiners: _,
             top: _,

@@ -1,15 +1,17 @@
 //! Tickets: callers that wait for a letter.
-ghost use Rattle.std.specs.Prelude.{◌≡◌};
+ghost use Rattle.std.specs.Prelude.{◌≡◌, ◌+◌, ◌≤◌, []};
+ghost use Rattle.sf_schedules.specs.declared.operation.Stage.TheVariants.{Holding};
+ghost use Rattle.sf_word_steps.specs.View.{sizes_of};
+ghost use Rattle.sf_word_steps.specs.Stands.{Sits, next_in};
+ghost use Rattle.sf_group.specs.Known.{ticket_of, IsPlaceIn};
 
+use crate::seated::Seated;
 use sf_history::CallId;
-use sf_word_steps::WordSeat;
 use std::marker::Model;
 
 /// A caller that waits for the letter of a call, as a member of it. It has to be spent.
 pub struct Ticket<V> {
-    pub(crate) seat: WordSeat<V>,
-    pub(crate) number: u64,
-    pub(crate) next: u64,
+    pub(crate) seated: Seated<V>,
     pub(crate) place: u64,
     pub(crate) call: CallId,
     pub(crate) member: CallId,
@@ -25,13 +27,38 @@ impl<V> Model for Ticket<V> {
 
     ghost Value = { TicketValue V };
 
-    ghost view = { λ t. ticket_of t.seat.table_id t.seat.me.0 t.number t.place t.call t.member };
+    ghost view = { λ t. let s = t.seated in
+        ticket_of s.seat.table_id s.seat.me.0 s.number t.place t.call t.member };
 
-    ghost invariant = { λ t. Sits (sizes_of t.seat.me.0) t.number t.seat.me.0 (Holding t.place t.member.generation t.call) × (t.member.caller ≡ t.number)
-        × (t.next ≡ next_in (sizes_of t.seat.me.0) t.seat.me.0 t.number) × (t.seat.me.1 ≡ []) × IsPlaceIn (sizes_of t.seat.me.0) t.place × (t.number ≤ 4294967295) × (t.place ≤ 4294967295) };
+    ghost invariant = { λ t. let s = t.seated in let v = s.seat.me.0 in
+        Sits (sizes_of v) s.number v (Holding t.place t.member.generation t.call)
+        × (t.member.caller ≡ s.number) × (s.next ≡ next_in (sizes_of v) v s.number) × (s.seat.me.1 ≡ [])
+        × IsPlaceIn (sizes_of v) t.place × (s.number ≤ 4294967295) × (t.place ≤ 4294967295) };
 }
 
 impl<V> Ticket<V> {
+    // The ticket of one who waits since its last asking, which used a generation.
+    pub(crate) fn of(mut seated: Seated<V>, place: u32, call: CallId, member: CallId) -> Ticket<V>
+        requires sits { let v = seated.seat.me.0 in
+            Sits (sizes_of v) seated.number v (Holding place member.generation call) }
+        requires member { member.caller ≡ seated.number }
+        requires next { let v = seated.seat.me.0 in
+            (seated.next ≤ 4294967295) × (seated.next + 1 ≡ next_in (sizes_of v) v seated.number) }
+        requires alone { seated.seat.me.1 ≡ [] }
+        requires place { IsPlaceIn (sizes_of seated.seat.me.0) place }
+        requires number { seated.number ≤ 4294967295 }
+        ensures { let s = seated in
+            result ≡ ticket_of s.seat.table_id s.seat.me.0 s.number place call member }
+    {
+        seated.next += 1;
+        Ticket {
+            seated,
+            place: place as u64,
+            call,
+            member,
+        }
+    }
+
     /// The call whose letter it waits for.
     pub fn call(&self) -> CallId
         ensures { result ≡ self.now.call }
@@ -49,9 +76,7 @@ impl<V> Ticket<V> {
     /// Gives the ticket up for good: nothing is added, its letter is never taken, and its caller does not come back.
     pub fn abandon(self) {
         let Ticket {
-            seat: _,
-            number: _,
-            next: _,
+            seated: _,
             place: _,
             call: _,
             member: _,

@@ -159,7 +159,7 @@ impl<'d, 'f, D: Naming, N: Naming> Tried<'d, 'f, D, N> {
     // memory, and how many loads there were in all.
     fn end<R: Wait + Abort>(self, rt: &R, fill: &Fill<'d, D, N, AnyValue>) -> (u32, u64) {
         let Tried { getter, refused } = self;
-        let (mut getter, settled) = getter.settle_up(rt, fill);
+        let (mut getter, settled) = getter.settle_up(fill);
         assert!(rt; settled.is_ok(), "it is refused memory again");
         assert!(rt; !getter.owes(), "it owes letters still");
         let loads = getter.loaders().picker.asked;

@@ -5,7 +5,7 @@ ghost use Rattle.sf_calls.specs.Same.{IsPlaceOf};
 ghost use Rattle.sf_calls.specs.Begins.{HasLed};
 ghost use Rattle.sf_wait.specs.Doing.{HasAsked, HasDoneWith, HasFailed};
 
-use crate::waiting::{begin_wait, finish_wait, wait};
+use crate::waiting::{begin_wait, wait};
 use sf_calls::{Fit, Spent};
 use sf_group::{Begun, Caller, Finished, Group, Letter, Settled, Ticket};
 use std::sync::Wait;
@@ -69,7 +69,7 @@ fn ask_with<V: Fit, R: Wait, F: FnOnce() -> V>(
     ensures { HasAsked V.fits (F.post load) caller place load result }
 {
     match begin_wait(rt, group, caller, place) {
-        Ok(Begun::Lead(flight)) => Did::Led(finish_wait(rt, group, flight, load())),
+        Ok(Begun::Lead(flight)) => Did::Led(group.finish(flight, load())),
         Ok(Begun::Join(ticket)) => Did::Joined(ticket, load),
         Err(Spent { back }) => Did::Spent(back, load),
     }

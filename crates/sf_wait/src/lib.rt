@@ -1,7 +1,8 @@
-//! The group's calls as forms that wait, a do with a load, and workers that do jobs side by side: what x/sync's
-//! `singleflight` has as `Do` and `DoChan`.
+//! The group's calls that may have to wait for others as forms that do, a do with a load, and workers that do jobs side by
+//! side: what x/sync's `singleflight` has as `Do` and `DoChan`.
 //!
-//! The forms have the rows of the table of calls, if they return. Each takes a `Wait`, since it may wait for others.
+//! The forms have the rows of the table of calls, if they return. To settle a call and to hand its letters out waits for
+//! nobody: that is the group's own `finish` and `go_on`.
 //!
 //! | To do as | Call |
 //! | --- | --- |
@@ -20,7 +21,5 @@ mod workers;
 pub use doing::{DoFault, do_with};
 pub use job::{Job, Work};
 pub use serving::{MOST_JOBS, Unserved, serve};
-pub use waiting::{
-    begin_wait, do_chan, finish_wait, forget_call_wait, forget_wait, go_on_wait, wait,
-};
+pub use waiting::{begin_wait, do_chan, forget_call_wait, forget_wait, wait};
 pub use workers::{Gate, Served};

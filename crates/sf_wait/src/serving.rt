@@ -73,9 +73,8 @@ impl<'a, V: Fit, W: Work<V>> Waiting<'a, V, W> {
     }
 }
 
-fn start_all<'s, E, V: Fit + Send + 's, W: Work<V> + Send + 's, G: Gate + Sync, R: Wait + Sync>(
+fn start_all<'s, E, V: Fit + Send + 's, W: Work<V> + Send + 's, G: Gate + Sync>(
     scope: &Scope<'s, E>,
-    rt: &'s R,
     gate: &'s G,
     left: &'s AtomicU32,
     waiting: Waiting<'s, V, W>,
@@ -86,14 +85,14 @@ fn start_all<'s, E, V: Fit + Send + 's, W: Work<V> + Send + 's, G: Gate + Sync, 
     let mut number = 0;
     while let Some(job) = jobs.next() {
         number += 1;
-        started.push_reserved(start(scope, rt, gate, number, left, group, job));
+        started.push_reserved(start(scope, gate, number, left, group, job));
     }
     jobs.destroy_empty();
     started
 }
 
 // Starts the workers, and waits until all are done.
-fn serve_beside<'a, V: Fit + Send, W: Work<V> + Send, G: Gate + Sync, R: Threads + Wait + Sync>(
+fn serve_beside<'a, V: Fit + Send, W: Work<V> + Send, G: Gate + Sync, R: Threads + Wait>(
     rt: &R,
     gate: &G,
     waiting: Waiting<'a, V, W>,
@@ -107,7 +106,7 @@ fn serve_beside<'a, V: Fit + Send, W: Work<V> + Send, G: Gate + Sync, R: Threads
         rt,
         |scope| -> Vec<Started<V, W>>
             ensures { result.items ≡ waiting.entry }
-        { start_all(scope, rt, gate, refused, waiting) },
+        { start_all(scope, gate, refused, waiting) },
     )
 }
 
@@ -126,7 +125,7 @@ fn join_all<V: Fit, W: Work<V>, R: Threads>(
 }
 
 /// Does the jobs, 1 to 64, each by a worker of its own, and answers how each ended, in their order.
-pub fn serve<V: Fit + Send, W: Work<V> + Send, G: Gate + Sync, R: Threads + Wait + Sync>(
+pub fn serve<V: Fit + Send, W: Work<V> + Send, G: Gate + Sync, R: Threads + Wait>(
     rt: &R,
     alloc: Global,
     group: &Group<V>,

@@ -1,14 +1,13 @@
-//! The group's calls, each as a form that comes back when it is done.
+//! The group's calls that can be busy or pending, each as a form that comes back when it is done.
 ghost use Rattle.std.specs.Prelude.{◌≡◌, ◌≤◌, IfOk, IfErr};
 ghost use Rattle.sf_calls.specs.Same.{IsPlaceOf};
 ghost use Rattle.sf_calls.specs.Begins.{HasBegun, HasChanBegun, IsRefusedSpent, AreRefusedSpent};
 ghost use Rattle.sf_calls.specs.Forgets.{HasForgotten, HasForgotCall};
-ghost use Rattle.sf_calls.specs.Finishes.{HasFinished, HasGoneOn, IsReady};
+ghost use Rattle.sf_calls.specs.Finishes.{IsReady};
 
 use sf_calls::{Fit, NotBegun, Spent};
 use sf_group::{
-    Begun, CallId, Caller, ChanBegun, Finished, Flight, Forgotten, Group, Hit, Letter, MOST_TRIES,
-    Polled, Settled, Ticket,
+    Begun, CallId, Caller, ChanBegun, Forgotten, Group, Hit, Letter, MOST_TRIES, Polled, Ticket,
 };
 use std::sync::Wait;
 
@@ -104,30 +103,6 @@ fn begin_chan_by<V: Fit, R: Wait>(
         }
     }
     unreachable!()
-}
-
-/// The leader settles its call with the value, for good, and delivers the letters.
-pub fn finish_wait<V: Fit, R: Wait>(
-    rt: &R,
-    group: &Group<V>,
-    flight: Flight<V>,
-    value: V,
-) -> Finished<V>
-    requires own { flight.group ≡ group.now }
-    requires fits { V.fits flight.place flight.call value flight.seen }
-    ensures { HasFinished V.fits flight value result }
-{
-    let _ = rt;
-    group.finish(flight, value)
-}
-
-/// Goes on with a delivery for whose letters memory was refused.
-pub fn go_on_wait<V: Fit, R: Wait>(rt: &R, group: &Group<V>, settled: Settled<V>) -> Finished<V>
-    requires { settled.group ≡ group.now }
-    ensures { HasGoneOn V.fits settled result }
-{
-    let _ = rt;
-    group.go_on(settled)
 }
 
 /// The caller forgets the place, which closes its open call, if it has one.

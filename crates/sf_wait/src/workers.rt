@@ -3,12 +3,10 @@ ghost use Rattle.std.specs.Prelude.{◌≡◌};
 ghost use Rattle.sf_wait.specs.Served.{HasServed};
 
 use crate::job::{Job, Work};
-use crate::waiting::finish_wait;
 use sf_calls::Fit;
 use sf_group::{Caller, Finished, Group, Letter, Settled};
 use std::marker::Model;
 use std::snapshot::Snapshot;
-use std::sync::Wait;
 use std::sync::atomic::{AtomicU32, Ordering};
 use std::thread::{Promise, PromisedHandle, Scope, Threads};
 
@@ -31,8 +29,7 @@ pub enum Served<V: Fit, W: Work<V>> {
     Left(Job<V, W>),
 }
 
-fn do_job<V: Fit, W: Work<V>, G: Gate, R: Wait>(
-    rt: &R,
+fn do_job<V: Fit, W: Work<V>, G: Gate>(
     group: &Group<V>,
     gate: &G,
     number: u32,
@@ -43,7 +40,7 @@ fn do_job<V: Fit, W: Work<V>, G: Gate, R: Wait>(
 {
     gate.pass(number);
     let Job { flight, work } = job;
-    match finish_wait(rt, group, flight, work.run()) {
+    match group.finish(flight, work.run()) {
         Finished::Done(caller, letter) => Served::Done(caller, letter),
         Finished::Held(settled) => Served::Held(settled),
     }
@@ -145,8 +142,7 @@ impl<V: Fit, W: Work<V>> Model for Started<V, W> {
 }
 
 // The word names the job whose worker could not be made, which then comes back undone.
-fn end<'a, V: Fit, W: Work<V>, G: Gate, R: Wait>(
-    rt: &R,
+fn end<'a, V: Fit, W: Work<V>, G: Gate>(
     gate: &G,
     number: u32,
     left: &AtomicU32,
@@ -158,20 +154,12 @@ fn end<'a, V: Fit, W: Work<V>, G: Gate, R: Wait>(
     if left.load(Ordering::SeqCst) == number {
         return Ended(Served::Left(job));
     }
-    Ended(do_job(rt, group, gate, number, job))
+    Ended(do_job(group, gate, number, job))
 }
 
 /// Starts a worker for the job, which does it, or finds that none can be made.
-pub(crate) fn start<
-    's,
-    E,
-    V: Fit + Send + 's,
-    W: Work<V> + Send + 's,
-    G: Gate + Sync,
-    R: Wait + Sync,
->(
+pub(crate) fn start<'s, E, V: Fit + Send + 's, W: Work<V> + Send + 's, G: Gate + Sync>(
     scope: &Scope<'s, E>,
-    rt: &'s R,
     gate: &'s G,
     number: u32,
     left: &'s AtomicU32,
@@ -188,7 +176,7 @@ pub(crate) fn start<
         kept,
         move || -> Ended<V, W>
             ensures { HasServed V.fits W.answers given.entry result.0 }
-        { end(rt, gate, number, left, given) },
+        { end(gate, number, left, given) },
     );
     let hand = match worker {
         Ok(worker) => Hand::Works(worker),

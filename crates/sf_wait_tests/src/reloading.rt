@@ -5,7 +5,7 @@ ghost use Rattle.sf_calls.specs.Same.{IsPlaceOf};
 use crate::outcome::{Outcome, check_letter, id, next_caller};
 use crate::sharing::{do_once, is_seen};
 use sf_group::{Begun, CallId, Caller, Finished, Group, Hit, Letter, Spent};
-use sf_wait::{begin_wait, finish_wait, forget_call_wait, wait};
+use sf_wait::{begin_wait, forget_call_wait, wait};
 use std::marker::Model;
 use std::sync::Wait;
 use std::sync::atomic::{AtomicBool, AtomicU32, Ordering};
@@ -68,7 +68,7 @@ impl<'a> Reloader<'a> {
                 if !is_seen(&flags.joined) {
                     flags.failed.store(true, Ordering::SeqCst);
                 }
-                match finish_wait(rt, group, flight, Outcome(8)) {
+                match group.finish(flight, Outcome(8)) {
                     Finished::Done(_, letter) => Some(Reloaded { hit, letter }),
                     Finished::Held(settled) => {
                         settled.abandon();

@@ -5,7 +5,7 @@ ghost use Rattle.sf_calls.specs.Same.{IsPlaceOf};
 use crate::outcome::{Outcome, check_call, id, next_caller};
 use sf_dir::{Desk, Directory};
 use sf_group::{Begun, CallId, Caller, Group, Letter, Spent};
-use sf_wait::{DoFault, begin_wait, do_with, finish_wait, wait};
+use sf_wait::{DoFault, begin_wait, do_with, wait};
 use std::marker::Model;
 use std::process::Abort;
 use std::sync::Wait;

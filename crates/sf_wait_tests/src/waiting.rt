@@ -9,9 +9,7 @@ use sf_group::{
     Begun, CallId, Caller, ChanBegun, Finished, Flight, Forgotten, Group, Letter, Settled, Spent,
     Ticket,
 };
-use sf_wait::{
-    DoFault, Job, begin_wait, do_chan, do_with, finish_wait, forget_wait, go_on_wait, wait,
-};
+use sf_wait::{DoFault, Job, begin_wait, do_chan, do_with, forget_wait, wait};
 use std::process::Abort;
 use std::sync::Wait;
 use std::sync::atomic::{AtomicU32, Ordering};
@@ -41,7 +39,7 @@ fn lead(
 }
 
 fn finish(
-    rt: &(impl Abort + Wait),
+    rt: &impl Abort,
     group: &Group<Outcome>,
     flight: Flight<Outcome>,
     value: u32,
@@ -49,7 +47,7 @@ fn finish(
     requires { flight.group ≡ group.now }
     ensures { (result.0.group ≡ group.now) × (result.1.group ≡ group.now) }
 {
-    match finish_wait(rt, group, flight, Outcome(value)) {
+    match group.finish(flight, Outcome(value)) {
         Finished::Done(caller, letter) => (caller, letter),
         Finished::Held(settled) => {
             settled.abandon();
@@ -136,8 +134,8 @@ fn held_delivery_goes_on(rt: HostRuntime) -> Result<(), Fail> {
     let one = next_caller(&rt, &group, &mut callers);
     let flight = lead(&rt, &group, one, id(1, 1));
     join_once(&rt, &group, two);
-    let settled = held(&rt, finish_wait(&rt, &group, flight, Outcome(100)));
-    held(&rt, go_on_wait(&rt, &group, settled)).abandon();
+    let settled = held(&rt, group.finish(flight, Outcome(100)));
+    held(&rt, group.go_on(settled)).abandon();
     Ok(())
 }
 

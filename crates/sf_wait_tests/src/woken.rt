@@ -3,7 +3,7 @@ ghost use Rattle.std.specs.Prelude.{◌≡◌, All};
 ghost use Rattle.sf_calls.specs.Same.{IsPlaceOf};
 
 use sf_group::{Begun, Caller, ChanBegun, Finished, Fit, Flight, Group, Memory, Share, Ticket};
-use sf_wait::{begin_wait, do_chan, finish_wait, go_on_wait, wait};
+use sf_wait::{begin_wait, do_chan, wait};
 use std::alloc::AllocError;
 use std::marker::Model;
 use std::process::Abort;
@@ -75,7 +75,7 @@ fn pause() {
 
 impl<'a> Leader<'a> {
     // Settles after a while, and goes on after another while. Whether that ended as it was to.
-    fn finish(self, rt: &impl Wait) -> bool {
+    fn finish(self) -> bool {
         let Self {
             group,
             flight,
@@ -86,11 +86,11 @@ impl<'a> Leader<'a> {
             value: 7,
             refused: AtomicU32::new(refused),
         };
-        match finish_wait(rt, group, flight, value) {
+        match group.finish(flight, value) {
             Finished::Done(_, _) => refused == 0,
             Finished::Held(settled) => {
                 pause();
-                match go_on_wait(rt, group, settled) {
+                match group.go_on(settled) {
                     Finished::Done(_, _) => refused != 0,
                     Finished::Held(settled) => {
                         settled.abandon();
@@ -159,7 +159,7 @@ fn own_channel_that_rests_is_woken(rt: HostRuntime) -> Result<(), Fail> {
                 group: &group,
                 ticket,
             };
-            let (done, value) = join(&rt, || leader.finish(&rt), || rester.wait(&rt));
+            let (done, value) = join(&rt, || leader.finish(), || rester.wait(&rt));
             assert!(rt; done && value == 7, "its value is {value}");
         }
         Ok(ChanBegun::Joined(ticket, _)) => {
@@ -203,7 +203,7 @@ fn delivery_that_goes_on_wakes(rt: HostRuntime) -> Result<(), Fail> {
                 group: &group,
                 ticket,
             };
-            let (done, value) = join(&rt, || leader.finish(&rt), || rester.wait(&rt));
+            let (done, value) = join(&rt, || leader.finish(), || rester.wait(&rt));
             assert!(rt; done && value == 7, "its value is {value}");
         }
         Ok(Begun::Lead(other)) => {

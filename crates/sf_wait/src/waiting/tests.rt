@@ -2,7 +2,7 @@
 ghost use Rattle.std.specs.Prelude.{◌≡◌, All, IfSome};
 ghost use Rattle.sf_calls.specs.Same.{IsPlaceOf};
 
-use super::{begin_by, begin_chan_by, finish_wait, forget_by, forget_call_by, wait};
+use super::{begin_by, begin_chan_by, forget_by, forget_call_by, wait};
 use sf_group::{Begun, CallId, Caller, ChanBegun, Finished, Flight, Forgotten, Group};
 use std::process::Abort;
 use std::sync::Wait;
@@ -27,11 +27,11 @@ struct Asker<'a> {
 }
 
 // The leader forgets nothing, and is free again.
-fn settle<R: Wait>(rt: &R, group: &Group<()>, flight: Flight<()>) -> Option<Caller<()>>
+fn settle(group: &Group<()>, flight: Flight<()>) -> Option<Caller<()>>
     requires { flight.group ≡ group.now }
     ensures { IfSome result (λ c. c.group ≡ group.now) }
 {
-    match finish_wait(rt, group, flight, ()) {
+    match group.finish(flight, ()) {
         Finished::Done(caller, _) => Some(caller),
         Finished::Held(settled) => {
             settled.abandon();
@@ -55,7 +55,7 @@ impl<'a> Asker<'a> {
         match begin_by(rt, group, caller, 1, 1) {
             Ok(Begun::Lead(flight)) => {
                 led.fetch_add(1, Ordering::SeqCst);
-                settle(rt, group, flight)
+                settle(group, flight)
             }
             Ok(Begun::Join(ticket)) => Some(wait(rt, group, ticket).0),
             Err(_) => None,
@@ -78,7 +78,7 @@ impl<'a> Asker<'a> {
         match begin_chan_by(rt, group, caller, second, 1, 1) {
             Ok(ChanBegun::Led(flight, ticket)) => {
                 led.fetch_add(1, Ordering::SeqCst);
-                let settled = settle(rt, group, flight);
+                let settled = settle(group, flight);
                 let second = wait(rt, group, ticket).0;
                 Some((settled?, second))
             }

@@ -56,7 +56,7 @@ fn left_job_comes_back(rt: HostRuntime) -> Result<(), Fail> {
     let job = Job::new(lead(&rt, &group, caller), Nothing);
     let (passes, left) = (AtomicU32::new(0), AtomicU32::new(1));
     let given = Given { group: &group, job };
-    match end(&rt, &Counting(&passes), 1, &left, given).served() {
+    match end(&Counting(&passes), 1, &left, given).served() {
         Served::Left(job) => job.abandon(),
         Served::Held(settled) => {
             settled.abandon();

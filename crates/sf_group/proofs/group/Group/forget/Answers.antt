@@ -16,10 +16,10 @@ use Rattle.sf_group.proofs.group.Group.forget.Goals as goal
 
 pub returns-in-Closed-clause-forgotten : goal.returns-in-Closed-clause-forgotten
 returns-in-Closed-clause-forgotten g c =
-    let seat = c.caller.inside.seat in
+    let seat = c.caller.inside.seated.seat in
     let v = seat.me.0 in
     let w = c.forget_often-attempt.new.seat.me.0 in
-    let a = c.caller.inside.number in
+    let a = c.caller.inside.seated.number in
     let called = c.in-Closed.call in
     let same : sizes_of v ≡ c.self.inside.sizes = ap (λ (x : CallerValue _). x.group.sizes) c.caller.view_is ∙ (ap (λ (x : GroupValue). x.sizes) c.requires.own ∙ ap (λ (x : GroupValue). x.sizes) (sym c.self.view_is)) in
     let goes = subst (λ (z : Sizes). Goes z a v w stage.Free (event.Forget a c.args.place (Some called) ∷ []) 0) (sym same) c.in-Closed.ensures.forgot.1 in
@@ -28,10 +28,10 @@ returns-in-Closed-clause-forgotten g c =
 
 pub returns-in-Cleared-clause-forgotten : goal.returns-in-Cleared-clause-forgotten
 returns-in-Cleared-clause-forgotten g c =
-    let seat = c.caller.inside.seat in
+    let seat = c.caller.inside.seated.seat in
     let v = seat.me.0 in
     let w = c.forget_often-attempt.new.seat.me.0 in
-    let a = c.caller.inside.number in
+    let a = c.caller.inside.seated.number in
     let same : sizes_of v ≡ c.self.inside.sizes = ap (λ (x : CallerValue _). x.group.sizes) c.caller.view_is ∙ (ap (λ (x : GroupValue). x.sizes) c.requires.own ∙ ap (λ (x : GroupValue). x.sizes) (sym c.self.view_is)) in
     let goes = subst (λ (z : Sizes). Goes z a v w stage.Free (event.Forget a c.args.place None ∷ []) 0) (sym same) c.in-Cleared.ensures.forgot.1 in
     subst (λ (x : CallerValue _). HasForgotten x c.args.place (caller_of c.forget_often-attempt.new.seat.table_id w a) forgotten.Idle) c.caller.view_is
@@ -39,10 +39,10 @@ returns-in-Cleared-clause-forgotten g c =
 
 pub returns-in-Missed-clause-forgotten : goal.returns-in-Missed-clause-forgotten
 returns-in-Missed-clause-forgotten g c =
-    let seat = c.caller.inside.seat in
+    let seat = c.caller.inside.seated.seat in
     let v = seat.me.0 in
     let w = c.forget_often-attempt.new.seat.me.0 in
-    let a = c.caller.inside.number in
+    let a = c.caller.inside.seated.number in
     let same : sizes_of v ≡ c.self.inside.sizes = ap (λ (x : CallerValue _). x.group.sizes) c.caller.view_is ∙ (ap (λ (x : GroupValue). x.sizes) c.requires.own ∙ ap (λ (x : GroupValue). x.sizes) (sym c.self.view_is)) in
     let goes = subst (λ (z : Sizes). Goes z a v w stage.Free (event.Forget a c.args.place None ∷ []) 0) (sym same) c.in-Missed.ensures.forgot in
     subst (λ (x : CallerValue _). HasForgotten x c.args.place (caller_of c.forget_often-attempt.new.seat.table_id w a) forgotten.Idle) c.caller.view_is
@@ -50,10 +50,10 @@ returns-in-Missed-clause-forgotten g c =
 
 pub returns-clause-refused : goal.returns-clause-refused
 returns-clause-refused g c =
-    let seat = c.caller.inside.seat in
+    let seat = c.caller.inside.seated.seat in
     let v = seat.me.0 in
     let w = c.forget_often-attempt.new.seat.me.0 in
-    let a = c.caller.inside.number in
+    let a = c.caller.inside.seated.number in
     let same : sizes_of v ≡ c.self.inside.sizes = ap (λ (x : CallerValue _). x.group.sizes) c.caller.view_is ∙ (ap (λ (x : GroupValue). x.sizes) c.requires.own ∙ ap (λ (x : GroupValue). x.sizes) (sym c.self.view_is)) in
     let done = subst (λ (z : Sizes). Tries z a c.args.place c.args.tries v w stage.Free) (sym same) c.in-Lost.ensures.forgot in
     let all = subst (λ (z : Sizes). HasExchanged z a c.args.tries v w) (sym same) c.in-Lost.ensures.exchanged in
@@ -62,10 +62,10 @@ returns-clause-refused g c =
 
 pub returns-in-Closed-clause-tried : goal.returns-in-Closed-clause-tried
 returns-in-Closed-clause-tried g c =
-    let seat = c.caller.inside.seat in
+    let seat = c.caller.inside.seated.seat in
     let v = seat.me.0 in
     let w = c.forget_often-attempt.new.seat.me.0 in
-    let a = c.caller.inside.number in
+    let a = c.caller.inside.seated.number in
     let same : sizes_of v ≡ c.self.inside.sizes = ap (λ (x : CallerValue _). x.group.sizes) c.caller.view_is ∙ (ap (λ (x : GroupValue). x.sizes) c.requires.own ∙ ap (λ (x : GroupValue). x.sizes) (sym c.self.view_is)) in
     let goes = subst (λ (z : Sizes). Goes z a v w stage.Free (event.Forget a c.args.place (Some c.in-Closed.call) ∷ []) 0) (sym same) c.in-Closed.ensures.forgot.1 in
     let few = subst (λ (z : Sizes). exchanges_of z a w.known.turns ≤ exchanges_of z a v.known.turns + c.args.tries) (sym same) c.in-Closed.ensures.exchanged in
@@ -73,10 +73,10 @@ returns-in-Closed-clause-tried g c =
 
 pub returns-in-Cleared-clause-tried : goal.returns-in-Cleared-clause-tried
 returns-in-Cleared-clause-tried g c =
-    let seat = c.caller.inside.seat in
+    let seat = c.caller.inside.seated.seat in
     let v = seat.me.0 in
     let w = c.forget_often-attempt.new.seat.me.0 in
-    let a = c.caller.inside.number in
+    let a = c.caller.inside.seated.number in
     let same : sizes_of v ≡ c.self.inside.sizes = ap (λ (x : CallerValue _). x.group.sizes) c.caller.view_is ∙ (ap (λ (x : GroupValue). x.sizes) c.requires.own ∙ ap (λ (x : GroupValue). x.sizes) (sym c.self.view_is)) in
     let goes = subst (λ (z : Sizes). Goes z a v w stage.Free (event.Forget a c.args.place None ∷ []) 0) (sym same) c.in-Cleared.ensures.forgot.1 in
     let few = subst (λ (z : Sizes). exchanges_of z a w.known.turns ≤ exchanges_of z a v.known.turns + c.args.tries) (sym same) c.in-Cleared.ensures.exchanged in
@@ -84,10 +84,10 @@ returns-in-Cleared-clause-tried g c =
 
 pub returns-in-Missed-clause-tried : goal.returns-in-Missed-clause-tried
 returns-in-Missed-clause-tried g c =
-    let seat = c.caller.inside.seat in
+    let seat = c.caller.inside.seated.seat in
     let v = seat.me.0 in
     let w = c.forget_often-attempt.new.seat.me.0 in
-    let a = c.caller.inside.number in
+    let a = c.caller.inside.seated.number in
     let same : sizes_of v ≡ c.self.inside.sizes = ap (λ (x : CallerValue _). x.group.sizes) c.caller.view_is ∙ (ap (λ (x : GroupValue). x.sizes) c.requires.own ∙ ap (λ (x : GroupValue). x.sizes) (sym c.self.view_is)) in
     let goes = subst (λ (z : Sizes). Goes z a v w stage.Free (event.Forget a c.args.place None ∷ []) 0) (sym same) c.in-Missed.ensures.forgot in
     let few = subst (λ (z : Sizes). exchanges_of z a w.known.turns ≤ exchanges_of z a v.known.turns + c.args.tries) (sym same) c.in-Missed.ensures.exchanged in

@@ -16,10 +16,10 @@ use Rattle.sf_group.proofs.group.Group.is_current.Goals as goal
 pub returns : goal.returns
 returns g c =
     let l = c.letter.inside in
-    let seat = c.caller.inside.seat in
+    let seat = c.caller.inside.seated.seat in
     let v = seat.me.0 in
     let w = c.ask_current.new.seat.me.0 in
-    let a = c.caller.inside.number in
+    let a = c.caller.inside.seated.number in
     let t = c.ask_current.new.seat.table_id in
     let same : c.self.inside.sizes ≡ sizes_of v =
     ap (λ (x : GroupValue). x.sizes) (c.self.view_is ∙ sym c.requires.own) ∙ sym (ap (λ (x : CallerValue _). x.group.sizes) c.caller.view_is ∙ ap (λ (x : GroupValue). x.sizes) c.learn.ensures.learnt.0.group) in

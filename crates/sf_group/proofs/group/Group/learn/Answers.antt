@@ -14,20 +14,20 @@ use Rattle.sf_group.proofs.group.Group.learn.Goals as goal
 
 pub invariant_of-caller : goal.invariant_of-caller
 invariant_of-caller g c =
-    let v = c.caller.inside.seat.me.0 in
+    let v = c.caller.inside.seated.seat.me.0 in
     let w = c.hear_note.new.seat.me.0 in
-    let a = c.caller.inside.number in
+    let a = c.caller.inside.seated.number in
     let same : sizes_of v ≡ c.self.inside.sizes = ap (λ (x : CallerValue _). x.group.sizes) c.caller.view_is ∙ ap (λ (x : GroupValue). x.sizes) (c.requires.own ∙ sym c.self.view_is) in
     let heard = subst (λ (z : Sizes). HasHeard z v c.note.inside.seat.me.0.known.turns w) (sym same) c.hear_note.ensures.heard in
-    let free = free_again a c.caller.inside.next v w [] c.caller.invariant.1 (heard_goes (sizes_of v) a v w stage.Free c.caller.invariant.0 free_alone heard.made) in
+    let free = free_again a c.caller.inside.seated.next v w [] c.caller.invariant.1 (heard_goes (sizes_of v) a v w stage.Free c.caller.invariant.0 free_alone heard.made) in
     (free.0, free.1, c.hear_note.ensures.own.1 ∙ c.caller.invariant.2, c.caller.invariant.3)
 
 pub returns-clause-learnt : goal.returns-clause-learnt
 returns-clause-learnt g c =
-    let seat = c.caller.inside.seat in
+    let seat = c.caller.inside.seated.seat in
     let n = c.note.inside.seat.me.0 in
     let w = c.hear_note.new.seat.me.0 in
-    let a = c.caller.inside.number in
+    let a = c.caller.inside.seated.number in
     let same : sizes_of seat.me.0 ≡ c.self.inside.sizes = ap (λ (x : CallerValue _). x.group.sizes) c.caller.view_is ∙ ap (λ (x : GroupValue). x.sizes) (c.requires.own ∙ sym c.self.view_is) in
     let noted : sizes_of n ≡ c.self.inside.sizes = ap (λ (x : NoteValue _). x.group.sizes) c.note.view_is ∙ ap (λ (x : GroupValue). x.sizes) (c.requires.note ∙ sym c.self.view_is) in
     let heard = subst (λ (z : Sizes). HasHeard z seat.me.0 n.known.turns w) (sym same) c.hear_note.ensures.heard in

@@ -12,10 +12,10 @@ use Rattle.sf_group.proofs.group.Group.named.Goals as goal
 
 pub returns : goal.returns
 returns g c =
-    let seat = c.caller.inside.seat in
+    let seat = c.caller.inside.seated.seat in
     let v = seat.me.0 in
     let w = c.ask_named.new.seat.me.0 in
-    let a = c.caller.inside.number in
+    let a = c.caller.inside.seated.number in
     let same : sizes_of v ≡ c.self.inside.sizes = ap (λ (x : CallerValue _). x.group.sizes) c.caller.view_is ∙ (ap (λ (x : GroupValue). x.sizes) c.requires.own ∙ ap (λ (x : GroupValue). x.sizes) (sym c.self.view_is)) in
     let goes = subst (λ (z : Sizes). Goes z a v w stage.Free [] 0) (sym same) c.ask_named.ensures.free in
     let is = subst (λ (z : Sizes). IsNamed (history_of z w.known.turns) c.args.place c.ask_named.result) (sym same) c.ask_named.ensures.named in

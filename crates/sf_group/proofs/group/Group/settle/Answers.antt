@@ -20,33 +20,34 @@ use Rattle.sf_group.proofs.Deliveries.{held_stands, finished_after, closed_known
 use Rattle.sf_group.proofs.group.Group.settle.Goals as goal
 use Rattle.sf_group.proofs.group.Group.settle.Goals.{then-is_some-via-then-is_some, then-is_some-via-else-is_some+then-is_some-2}
 
-pub invariant_of-hand_on : goal.invariant_of-hand_on
-invariant_of-hand_on g c =
-    let f = c.flight.inside in
-    let v = f.seat.me.0 in
+pub invariant_of-settled : goal.invariant_of-settled
+invariant_of-settled g c =
+    let led = c.flight.inside.leader in
+    let who = led.seated in
+    let v = who.seat.me.0 in
     let w = c.settle_and_count-tally.new.seat.me.0 in
     let top = c.settle_and_count-tally.result.top in
     let n = c.settle_and_count-tally.result.joiners in
     let t = c.settle_and_count-tally.new.seat.table_id in
-    let p = at_members f.place f.call.generation f.own c.args.value n top in
-    let es = settled f.number (record { caller = f.number; generation = f.call.generation }) f.own c.args.value n top in
+    let p = at_members led.place led.call.generation led.own c.args.value n top in
+    let es = settled who.number (record { caller = who.number; generation = led.call.generation }) led.own c.args.value n top in
     let same : sizes_of v ≡ c.self.inside.sizes = ap (λ (x : FlightValue _). x.group.sizes) c.flight.view_is ∙ (ap (λ (x : GroupValue). x.sizes) c.requires.own ∙ ap (λ (x : GroupValue). x.sizes) (sym c.self.view_is)) in
-    let goes = subst (λ (o : Option CallId). Goes (sizes_of v) f.number v w (at_members f.place f.call.generation o c.args.value n top) (settled f.number (record { caller = f.number; generation = f.call.generation }) o c.args.value n top) 0) c.get-channel.ensures (subst (λ (z : Sizes). Goes z f.number v w (at_members f.place f.call.generation c.get-channel.result c.args.value n top) (settled f.number (record { caller = f.number; generation = f.call.generation }) c.get-channel.result c.args.value n top) 0) (sym same) c.settle_and_count-tally.ensures.settled) in
-    let owed : IsOwed top f.own = subst (λ (o : Option CallId). IsOwed top o) c.get-channel.ensures (elim c.then-is_some.branch [
+    let goes = subst (λ (o : Option CallId). Goes (sizes_of v) who.number v w (at_members led.place led.call.generation o c.args.value n top) (settled who.number (record { caller = who.number; generation = led.call.generation }) o c.args.value n top) 0) c.get-channel.ensures (subst (λ (z : Sizes). Goes z who.number v w (at_members led.place led.call.generation c.get-channel.result c.args.value n top) (settled who.number (record { caller = who.number; generation = led.call.generation }) c.get-channel.result c.args.value n top) 0) (sym same) c.settle_and_count-tally.ensures.settled) in
+    let owed : IsOwed top led.own = subst (λ (o : Option CallId). IsOwed top o) c.get-channel.ensures (elim c.then-is_some.branch [
       | then-is_some-via-then-is_some w ↦ inl (sym c.is_some.ensures ∙ w.if-is_some.true)
       | then-is_some-via-else-is_some+then-is_some-2 w ↦ inr (sym w.is_some-else-is_some.ensures ∙ w.if-is_some-2.true)
     ]) in
-    let flight = flight_of f.seat.table_id v f.number f.place f.call f.own in
-    let held = held_row f.seat.table_id t f.number f.place f.call f.own c.args.value n top v w c.settle_and_count-tally.ensures.own.0 c.flight.invariant.1 owed c.settle_and_count-tally.ensures.joined goes in
-    let fit = fits_later g.V.Fit.fits g.V.Fit.lasts f.seat.table_id f.number 0 f.place f.call c.args.value v w p es (subst (λ (x : FlightValue _). g.V.Fit.fits x.place x.call c.args.value x.seen) (sym c.flight.view_is) c.requires.fits) goes in (
-      subst (λ (q : Option ℕ). Sits (sizes_of w) f.number w (at_members f.place f.call.generation f.own c.args.value n q)) (sym c.of.ensures) (sits_now f.number 0 v w p es goes),
+    let flight = flight_of who.seat.table_id v who.number led.place led.call led.own in
+    let held = held_row who.seat.table_id t who.number led.place led.call led.own c.args.value n top v w c.settle_and_count-tally.ensures.own.0 c.flight.invariant.1 owed c.settle_and_count-tally.ensures.joined goes in
+    let fit = fits_later g.V.Fit.fits g.V.Fit.lasts who.seat.table_id who.number 0 led.place led.call c.args.value v w p es (subst (λ (x : FlightValue _). g.V.Fit.fits x.place x.call c.args.value x.seen) (sym c.flight.view_is) c.requires.fits) goes in (
+      subst (λ (q : Option ℕ). Sits (sizes_of w) who.number w (at_members led.place led.call.generation led.own c.args.value n q)) (sym c.of.ensures) (sits_now who.number 0 v w p es goes),
       c.flight.invariant.1,
-      next_now f.number f.next v w p es c.flight.invariant.2 goes,
+      next_now who.number who.next v w p es c.flight.invariant.2 goes,
       c.settle_and_count-tally.ensures.own.1 ∙ c.flight.invariant.3,
-      subst (λ (q : Option ℕ). IsOwed q f.own) (sym c.of.ensures) owed,
+      subst (λ (q : Option ℕ). IsOwed q led.own) (sym c.of.ensures) owed,
       fit,
-      held_stands flight c.args.value (settled_of t w f.number f.place f.call c.args.value n) c.flight.invariant.1 held,
-      placed_later f.number 0 f.place v w p es c.flight.invariant.4 goes,
+      held_stands flight c.args.value (settled_of t w who.number led.place led.call c.args.value n) c.flight.invariant.1 held,
+      placed_later who.number 0 led.place v w p es c.flight.invariant.4 goes,
       c.flight.invariant.7,
       c.flight.invariant.8,
       search rules,
@@ -54,103 +55,109 @@ invariant_of-hand_on g c =
 
 pub returns-then-is_some-clause-finished : goal.returns-then-is_some-clause-finished
 returns-then-is_some-clause-finished g c =
-    let f = c.flight.inside in
-    let v = f.seat.me.0 in
+    let led = c.flight.inside.leader in
+    let who = led.seated in
+    let v = who.seat.me.0 in
     let w = c.settle_and_count-tally.new.seat.me.0 in
     let top = c.settle_and_count-tally.result.top in
     let n = c.settle_and_count-tally.result.joiners in
     let t = c.settle_and_count-tally.new.seat.table_id in
-    let p = at_members f.place f.call.generation f.own c.args.value n top in
-    let es = settled f.number (record { caller = f.number; generation = f.call.generation }) f.own c.args.value n top in
+    let p = at_members led.place led.call.generation led.own c.args.value n top in
+    let es = settled who.number (record { caller = who.number; generation = led.call.generation }) led.own c.args.value n top in
     let same : sizes_of v ≡ c.self.inside.sizes = ap (λ (x : FlightValue _). x.group.sizes) c.flight.view_is ∙ (ap (λ (x : GroupValue). x.sizes) c.requires.own ∙ ap (λ (x : GroupValue). x.sizes) (sym c.self.view_is)) in
-    let goes = subst (λ (o : Option CallId). Goes (sizes_of v) f.number v w (at_members f.place f.call.generation o c.args.value n top) (settled f.number (record { caller = f.number; generation = f.call.generation }) o c.args.value n top) 0) c.get-channel.ensures (subst (λ (z : Sizes). Goes z f.number v w (at_members f.place f.call.generation c.get-channel.result c.args.value n top) (settled f.number (record { caller = f.number; generation = f.call.generation }) c.get-channel.result c.args.value n top) 0) (sym same) c.settle_and_count-tally.ensures.settled) in
-    let owed : IsOwed top f.own = subst (λ (o : Option CallId). IsOwed top o) c.get-channel.ensures (elim c.then-is_some.branch [
+    let goes = subst (λ (o : Option CallId). Goes (sizes_of v) who.number v w (at_members led.place led.call.generation o c.args.value n top) (settled who.number (record { caller = who.number; generation = led.call.generation }) o c.args.value n top) 0) c.get-channel.ensures (subst (λ (z : Sizes). Goes z who.number v w (at_members led.place led.call.generation c.get-channel.result c.args.value n top) (settled who.number (record { caller = who.number; generation = led.call.generation }) c.get-channel.result c.args.value n top) 0) (sym same) c.settle_and_count-tally.ensures.settled) in
+    let owed : IsOwed top led.own = subst (λ (o : Option CallId). IsOwed top o) c.get-channel.ensures (elim c.then-is_some.branch [
       | then-is_some-via-then-is_some w ↦ inl (sym c.is_some.ensures ∙ w.if-is_some.true)
       | then-is_some-via-else-is_some+then-is_some-2 w ↦ inr (sym w.is_some-else-is_some.ensures ∙ w.if-is_some-2.true)
     ]) in
-    let flight = flight_of f.seat.table_id v f.number f.place f.call f.own in
-    let held = held_row f.seat.table_id t f.number f.place f.call f.own c.args.value n top v w c.settle_and_count-tally.ensures.own.0 c.flight.invariant.1 owed c.settle_and_count-tally.ensures.joined goes in
-    let s = settled_of t w f.number f.place f.call c.args.value n in
+    let flight = flight_of who.seat.table_id v who.number led.place led.call led.own in
+    let held = held_row who.seat.table_id t who.number led.place led.call led.own c.args.value n top v w c.settle_and_count-tally.ensures.own.0 c.flight.invariant.1 owed c.settle_and_count-tally.ensures.joined goes in
+    let s = settled_of t w who.number led.place led.call c.args.value n in
     let gone = c.hand_on.ensures.gone in
     subst (λ (x : FlightValue _). HasFinished g.V.Fit.fits x c.args.value c.hand_on.result) c.flight.view_is (finished_after g.V.Fit.fits flight c.args.value s c.hand_on.result held gone)
 
 pub returns-then-is_some-clause-closed : goal.returns-then-is_some-clause-closed
 returns-then-is_some-clause-closed g c =
-    let f = c.flight.inside in
-    let v = f.seat.me.0 in
+    let led = c.flight.inside.leader in
+    let who = led.seated in
+    let v = who.seat.me.0 in
     let w = c.settle_and_count-tally.new.seat.me.0 in
     let top = c.settle_and_count-tally.result.top in
     let n = c.settle_and_count-tally.result.joiners in
     let t = c.settle_and_count-tally.new.seat.table_id in
-    let p = at_members f.place f.call.generation f.own c.args.value n top in
-    let es = settled f.number (record { caller = f.number; generation = f.call.generation }) f.own c.args.value n top in
+    let p = at_members led.place led.call.generation led.own c.args.value n top in
+    let es = settled who.number (record { caller = who.number; generation = led.call.generation }) led.own c.args.value n top in
     let same : sizes_of v ≡ c.self.inside.sizes = ap (λ (x : FlightValue _). x.group.sizes) c.flight.view_is ∙ (ap (λ (x : GroupValue). x.sizes) c.requires.own ∙ ap (λ (x : GroupValue). x.sizes) (sym c.self.view_is)) in
-    let goes = subst (λ (o : Option CallId). Goes (sizes_of v) f.number v w (at_members f.place f.call.generation o c.args.value n top) (settled f.number (record { caller = f.number; generation = f.call.generation }) o c.args.value n top) 0) c.get-channel.ensures (subst (λ (z : Sizes). Goes z f.number v w (at_members f.place f.call.generation c.get-channel.result c.args.value n top) (settled f.number (record { caller = f.number; generation = f.call.generation }) c.get-channel.result c.args.value n top) 0) (sym same) c.settle_and_count-tally.ensures.settled) in
-    let owed : IsOwed top f.own = subst (λ (o : Option CallId). IsOwed top o) c.get-channel.ensures (elim c.then-is_some.branch [
+    let goes = subst (λ (o : Option CallId). Goes (sizes_of v) who.number v w (at_members led.place led.call.generation o c.args.value n top) (settled who.number (record { caller = who.number; generation = led.call.generation }) o c.args.value n top) 0) c.get-channel.ensures (subst (λ (z : Sizes). Goes z who.number v w (at_members led.place led.call.generation c.get-channel.result c.args.value n top) (settled who.number (record { caller = who.number; generation = led.call.generation }) c.get-channel.result c.args.value n top) 0) (sym same) c.settle_and_count-tally.ensures.settled) in
+    let owed : IsOwed top led.own = subst (λ (o : Option CallId). IsOwed top o) c.get-channel.ensures (elim c.then-is_some.branch [
       | then-is_some-via-then-is_some w ↦ inl (sym c.is_some.ensures ∙ w.if-is_some.true)
       | then-is_some-via-else-is_some+then-is_some-2 w ↦ inr (sym w.is_some-else-is_some.ensures ∙ w.if-is_some-2.true)
     ]) in
-    let flight = flight_of f.seat.table_id v f.number f.place f.call f.own in
-    let held = held_row f.seat.table_id t f.number f.place f.call f.own c.args.value n top v w c.settle_and_count-tally.ensures.own.0 c.flight.invariant.1 owed c.settle_and_count-tally.ensures.joined goes in
-    let s = settled_of t w f.number f.place f.call c.args.value n in
+    let flight = flight_of who.seat.table_id v who.number led.place led.call led.own in
+    let held = held_row who.seat.table_id t who.number led.place led.call led.own c.args.value n top v w c.settle_and_count-tally.ensures.own.0 c.flight.invariant.1 owed c.settle_and_count-tally.ensures.joined goes in
+    let s = settled_of t w who.number led.place led.call c.args.value n in
     let known = c.hand_on.ensures.known in
     subst (λ (x : FlightValue _). HasClosed x c.hand_on.result) c.flight.view_is (closed_known flight s goes.turns c.hand_on.result held.group goes.knows known)
 
 pub letter-letter-requires-clause-led : goal.letter-letter-requires-clause-led
 letter-letter-requires-clause-led g c =
-    let f = c.flight.inside in
-    let v = f.seat.me.0 in
+    let led = c.flight.inside.leader in
+    let who = led.seated in
+    let v = who.seat.me.0 in
     let w = c.settle_and_count-tally.new.seat.me.0 in
     let top = c.settle_and_count-tally.result.top in
     let n = c.settle_and_count-tally.result.joiners in
-    let p = at_members f.place f.call.generation f.own c.args.value n top in
-    let es = settled f.number (record { caller = f.number; generation = f.call.generation }) f.own c.args.value n top in
+    let p = at_members led.place led.call.generation led.own c.args.value n top in
+    let es = settled who.number (record { caller = who.number; generation = led.call.generation }) led.own c.args.value n top in
     let same : sizes_of v ≡ c.self.inside.sizes = ap (λ (x : FlightValue _). x.group.sizes) c.flight.view_is ∙ (ap (λ (x : GroupValue). x.sizes) c.requires.own ∙ ap (λ (x : GroupValue). x.sizes) (sym c.self.view_is)) in
-    let goes = subst (λ (o : Option CallId). Goes (sizes_of v) f.number v w (at_members f.place f.call.generation o c.args.value n top) (settled f.number (record { caller = f.number; generation = f.call.generation }) o c.args.value n top) 0) c.get-channel.ensures (subst (λ (z : Sizes). Goes z f.number v w (at_members f.place f.call.generation c.get-channel.result c.args.value n top) (settled f.number (record { caller = f.number; generation = f.call.generation }) c.get-channel.result c.args.value n top) 0) (sym same) c.settle_and_count-tally.ensures.settled) in
-    led_later f.seat.table_id f.number 0 f.place f.call v w p es (leading_led (sizes_of v) f.number f.place f.call f.own v c.flight.invariant.1 c.flight.invariant.0) goes
+    let goes = subst (λ (o : Option CallId). Goes (sizes_of v) who.number v w (at_members led.place led.call.generation o c.args.value n top) (settled who.number (record { caller = who.number; generation = led.call.generation }) o c.args.value n top) 0) c.get-channel.ensures (subst (λ (z : Sizes). Goes z who.number v w (at_members led.place led.call.generation c.get-channel.result c.args.value n top) (settled who.number (record { caller = who.number; generation = led.call.generation }) c.get-channel.result c.args.value n top) 0) (sym same) c.settle_and_count-tally.ensures.settled) in
+    led_later who.seat.table_id who.number 0 led.place led.call v w p es (leading_led (sizes_of v) who.number led.place led.call led.own v c.flight.invariant.1 c.flight.invariant.0) goes
 
 pub letter-letter-requires-clause-fits : goal.letter-letter-requires-clause-fits
 letter-letter-requires-clause-fits g c =
-    let f = c.flight.inside in
-    let v = f.seat.me.0 in
+    let led = c.flight.inside.leader in
+    let who = led.seated in
+    let v = who.seat.me.0 in
     let w = c.settle_and_count-tally.new.seat.me.0 in
     let top = c.settle_and_count-tally.result.top in
     let n = c.settle_and_count-tally.result.joiners in
     let same : sizes_of v ≡ c.self.inside.sizes = ap (λ (x : FlightValue _). x.group.sizes) c.flight.view_is ∙ (ap (λ (x : GroupValue). x.sizes) c.requires.own ∙ ap (λ (x : GroupValue). x.sizes) (sym c.self.view_is)) in
-    let goes = subst (λ (o : Option CallId). Goes (sizes_of v) f.number v w (at_members f.place f.call.generation o c.args.value n top) (settled f.number (record { caller = f.number; generation = f.call.generation }) o c.args.value n top) 0) c.get-channel.ensures (subst (λ (z : Sizes). Goes z f.number v w (at_members f.place f.call.generation c.get-channel.result c.args.value n top) (settled f.number (record { caller = f.number; generation = f.call.generation }) c.get-channel.result c.args.value n top) 0) (sym same) c.settle_and_count-tally.ensures.settled) in
+    let goes = subst (λ (o : Option CallId). Goes (sizes_of v) who.number v w (at_members led.place led.call.generation o c.args.value n top) (settled who.number (record { caller = who.number; generation = led.call.generation }) o c.args.value n top) 0) c.get-channel.ensures (subst (λ (z : Sizes). Goes z who.number v w (at_members led.place led.call.generation c.get-channel.result c.args.value n top) (settled who.number (record { caller = who.number; generation = led.call.generation }) c.get-channel.result c.args.value n top) 0) (sym same) c.settle_and_count-tally.ensures.settled) in
     let fit = subst (λ (x : FlightValue _). g.V.Fit.fits x.place x.call c.args.value x.seen) (sym c.flight.view_is) c.requires.fits in
-    fits_later g.V.Fit.fits g.V.Fit.lasts f.seat.table_id f.number 0 f.place f.call c.args.value v w (at_members f.place f.call.generation f.own c.args.value n top) (settled f.number (record { caller = f.number; generation = f.call.generation }) f.own c.args.value n top) fit goes
+    fits_later g.V.Fit.fits g.V.Fit.lasts who.seat.table_id who.number 0 led.place led.call c.args.value v w (at_members led.place led.call.generation led.own c.args.value n top) (settled who.number (record { caller = who.number; generation = led.call.generation }) led.own c.args.value n top) fit goes
 
 pub returns-clause-finished : goal.returns-clause-finished
 returns-clause-finished g c =
-    let f = c.flight.inside in
-    let v = f.seat.me.0 in
+    let led = c.flight.inside.leader in
+    let who = led.seated in
+    let v = who.seat.me.0 in
     let w = c.settle_and_count-tally.new.seat.me.0 in
     let top = c.settle_and_count-tally.result.top in
     let n = c.settle_and_count-tally.result.joiners in
     let same : sizes_of v ≡ c.self.inside.sizes = ap (λ (x : FlightValue _). x.group.sizes) c.flight.view_is ∙ (ap (λ (x : GroupValue). x.sizes) c.requires.own ∙ ap (λ (x : GroupValue). x.sizes) (sym c.self.view_is)) in
-    let goes = subst (λ (o : Option CallId). Goes (sizes_of v) f.number v w (at_members f.place f.call.generation o c.args.value n top) (settled f.number (record { caller = f.number; generation = f.call.generation }) o c.args.value n top) 0) c.get-channel.ensures (subst (λ (z : Sizes). Goes z f.number v w (at_members f.place f.call.generation c.get-channel.result c.args.value n top) (settled f.number (record { caller = f.number; generation = f.call.generation }) c.get-channel.result c.args.value n top) 0) (sym same) c.settle_and_count-tally.ensures.settled) in
+    let goes = subst (λ (o : Option CallId). Goes (sizes_of v) who.number v w (at_members led.place led.call.generation o c.args.value n top) (settled who.number (record { caller = who.number; generation = led.call.generation }) o c.args.value n top) 0) c.get-channel.ensures (subst (λ (z : Sizes). Goes z who.number v w (at_members led.place led.call.generation c.get-channel.result c.args.value n top) (settled who.number (record { caller = who.number; generation = led.call.generation }) c.get-channel.result c.args.value n top) 0) (sym same) c.settle_and_count-tally.ensures.settled) in
     let bare : is_some top ≡ false = sym c.is_some.ensures ∙ c.if-is_some.false in
-    let alone : is_some f.own ≡ false = subst (λ (o : Option CallId). is_some o ≡ false) c.get-channel.ensures (sym c.is_some-else-is_some.ensures ∙ c.if-is_some-2.false) in
-    let back : caller_of c.letter-letter.new.seat.table_id c.letter-letter.new.seat.me.0 f.number ≡ caller_of c.settle_and_count-tally.new.seat.table_id w f.number =
-    ap (λ t. caller_of t c.letter-letter.new.seat.me.0 f.number) c.letter-letter.ensures.seat.0 ∙ ap (λ (m : Me (Option (Letter _)) (View _)). caller_of c.settle_and_count-tally.new.seat.table_id m.0 f.number) c.letter-letter.ensures.seat.1 in
-    let fit = fits_later g.V.Fit.fits g.V.Fit.lasts f.seat.table_id f.number 0 f.place f.call c.args.value v w (at_members f.place f.call.generation f.own c.args.value n top) (settled f.number (record { caller = f.number; generation = f.call.generation }) f.own c.args.value n top) (subst (λ (x : FlightValue _). g.V.Fit.fits x.place x.call c.args.value x.seen) (sym c.flight.view_is) c.requires.fits) goes in
-    subst (λ (x : FlightValue _). IsDone g.V.Fit.fits x c.args.value (caller_of c.letter-letter.new.seat.table_id c.letter-letter.new.seat.me.0 f.number) c.letter-letter.result) c.flight.view_is
-    (subst (λ (d : CallerValue _). IsDone g.V.Fit.fits (flight_of f.seat.table_id v f.number f.place f.call f.own) c.args.value d c.letter-letter.result) (sym back)
-    (subst (λ (l : LetterValue _). IsDone g.V.Fit.fits (flight_of f.seat.table_id v f.number f.place f.call f.own) c.args.value (caller_of c.settle_and_count-tally.new.seat.table_id w f.number) l) (sym c.letter-letter.ensures.letter)
-    (done_row g.V.Fit.fits f.seat.table_id c.settle_and_count-tally.new.seat.table_id f.number f.place f.call f.own c.args.value n top v w c.settle_and_count-tally.ensures.own.0 c.flight.invariant.1 bare alone goes fit)))
+    let alone : is_some led.own ≡ false = subst (λ (o : Option CallId). is_some o ≡ false) c.get-channel.ensures (sym c.is_some-else-is_some.ensures ∙ c.if-is_some-2.false) in
+    let back : caller_of c.letter-letter.new.seat.table_id c.letter-letter.new.seat.me.0 who.number ≡ caller_of c.settle_and_count-tally.new.seat.table_id w who.number =
+    ap (λ t. caller_of t c.letter-letter.new.seat.me.0 who.number) c.letter-letter.ensures.seat.0 ∙ ap (λ (m : Me (Option (Letter _)) (View _)). caller_of c.settle_and_count-tally.new.seat.table_id m.0 who.number) c.letter-letter.ensures.seat.1 in
+    let fit = fits_later g.V.Fit.fits g.V.Fit.lasts who.seat.table_id who.number 0 led.place led.call c.args.value v w (at_members led.place led.call.generation led.own c.args.value n top) (settled who.number (record { caller = who.number; generation = led.call.generation }) led.own c.args.value n top) (subst (λ (x : FlightValue _). g.V.Fit.fits x.place x.call c.args.value x.seen) (sym c.flight.view_is) c.requires.fits) goes in
+    subst (λ (x : FlightValue _). IsDone g.V.Fit.fits x c.args.value (caller_of c.letter-letter.new.seat.table_id c.letter-letter.new.seat.me.0 who.number) c.letter-letter.result) c.flight.view_is
+    (subst (λ (d : CallerValue _). IsDone g.V.Fit.fits (flight_of who.seat.table_id v who.number led.place led.call led.own) c.args.value d c.letter-letter.result) (sym back)
+    (subst (λ (l : LetterValue _). IsDone g.V.Fit.fits (flight_of who.seat.table_id v who.number led.place led.call led.own) c.args.value (caller_of c.settle_and_count-tally.new.seat.table_id w who.number) l) (sym c.letter-letter.ensures.letter)
+    (done_row g.V.Fit.fits who.seat.table_id c.settle_and_count-tally.new.seat.table_id who.number led.place led.call led.own c.args.value n top v w c.settle_and_count-tally.ensures.own.0 c.flight.invariant.1 bare alone goes fit)))
 
 pub returns-clause-closed : goal.returns-clause-closed
 returns-clause-closed g c =
-    let f = c.flight.inside in
-    let v = f.seat.me.0 in
+    let led = c.flight.inside.leader in
+    let who = led.seated in
+    let v = who.seat.me.0 in
     let w = c.settle_and_count-tally.new.seat.me.0 in
     let top = c.settle_and_count-tally.result.top in
     let n = c.settle_and_count-tally.result.joiners in
     let same : sizes_of v ≡ c.self.inside.sizes = ap (λ (x : FlightValue _). x.group.sizes) c.flight.view_is ∙ (ap (λ (x : GroupValue). x.sizes) c.requires.own ∙ ap (λ (x : GroupValue). x.sizes) (sym c.self.view_is)) in
-    let p = at_members f.place f.call.generation f.own c.args.value n top in
-    let es = settled f.number (record { caller = f.number; generation = f.call.generation }) f.own c.args.value n top in
-    let goes = subst (λ (o : Option CallId). Goes (sizes_of v) f.number v w (at_members f.place f.call.generation o c.args.value n top) (settled f.number (record { caller = f.number; generation = f.call.generation }) o c.args.value n top) 0) c.get-channel.ensures (subst (λ (z : Sizes). Goes z f.number v w (at_members f.place f.call.generation c.get-channel.result c.args.value n top) (settled f.number (record { caller = f.number; generation = f.call.generation }) c.get-channel.result c.args.value n top) 0) (sym same) c.settle_and_count-tally.ensures.settled) in
+    let p = at_members led.place led.call.generation led.own c.args.value n top in
+    let es = settled who.number (record { caller = who.number; generation = led.call.generation }) led.own c.args.value n top in
+    let goes = subst (λ (o : Option CallId). Goes (sizes_of v) who.number v w (at_members led.place led.call.generation o c.args.value n top) (settled who.number (record { caller = who.number; generation = led.call.generation }) o c.args.value n top) 0) c.get-channel.ensures (subst (λ (z : Sizes). Goes z who.number v w (at_members led.place led.call.generation c.get-channel.result c.args.value n top) (settled who.number (record { caller = who.number; generation = led.call.generation }) c.get-channel.result c.args.value n top) 0) (sym same) c.settle_and_count-tally.ensures.settled) in
     let turns_are = ap (λ (m : Me (Option (Letter _)) (View _)). m.0.known.turns) c.letter-letter.ensures.seat.1 in
     subst (λ ts. ClosesSeldom c.args.flight ts) (sym turns_are)
-    (subst (λ (x : FlightValue _). ClosesSeldom x w.known.turns) c.flight.view_is (closed_row f.seat.table_id f.number f.place 0 f.call f.own v w p es goes))
+    (subst (λ (x : FlightValue _). ClosesSeldom x w.known.turns) c.flight.view_is (closed_row who.seat.table_id who.number led.place 0 led.call led.own v w p es goes))

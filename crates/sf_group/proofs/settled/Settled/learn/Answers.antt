@@ -18,22 +18,24 @@ use Rattle.sf_group.proofs.settled.Settled.learn.Goals as goal
 pub invariant_of-self : goal.invariant_of-self
 invariant_of-self g c =
     let s = c.self.inside in
+    let led = s.leader in
+    let who = led.seated in
     let was = c.self.invariant in
-    let v = s.seat.me.0 in
+    let v = who.seat.me.0 in
     let w = c.hear_note.new.seat.me.0 in
     let shown = c.note.inside.seat.me.0.known.turns in
-    let p = at_members s.place s.call.generation s.own s.value s.joiners s.top in
+    let p = at_members led.place led.call.generation led.own s.value s.joiners s.top in
     let same : sizes_of v ≡ c.group.inside.sizes = ap (λ (x : SettledValue _). x.group.sizes) c.self.view_is ∙ ap (λ (x : GroupValue). x.sizes) (c.requires.own ∙ sym c.group.view_is) in
     let heard = subst (λ (z : Sizes). HasHeard z v shown w) (sym same) c.hear_note.ensures.heard in
-    let goes = owes_still s.number s.place s.call.generation s.own s.value s.joiners s.top shown v w was.0 heard in (
-      sits_now s.number 0 v w p [] goes,
+    let goes = owes_still who.number led.place led.call.generation led.own s.value s.joiners s.top shown v w was.0 heard in (
+      sits_now who.number 0 v w p [] goes,
       was.1,
-      next_now s.number s.next v w p [] was.2 goes,
+      next_now who.number who.next v w p [] was.2 goes,
       c.hear_note.ensures.own.1 ∙ was.3,
       was.4,
-      fits_later g.V.Fit.fits g.V.Fit.lasts s.seat.table_id s.number 0 s.place s.call s.value v w p [] was.5 goes,
-      stands_later s.seat.table_id s.number 0 (event.Settle s.call.caller s.call s.value s.joiners) v w p [] was.6 goes,
-      placed_later s.number 0 s.place v w p [] was.7 goes,
+      fits_later g.V.Fit.fits g.V.Fit.lasts who.seat.table_id who.number 0 led.place led.call s.value v w p [] was.5 goes,
+      stands_later who.seat.table_id who.number 0 (event.Settle led.call.caller led.call s.value s.joiners) v w p [] was.6 goes,
+      placed_later who.number 0 led.place v w p [] was.7 goes,
       was.8,
       was.9,
       was.10,
@@ -42,18 +44,20 @@ invariant_of-self g c =
 pub returns-clause-learnt : goal.returns-clause-learnt
 returns-clause-learnt g c =
     let s = c.self.inside in
+    let led = s.leader in
+    let who = led.seated in
     let was = c.self.invariant in
-    let v = s.seat.me.0 in
+    let v = who.seat.me.0 in
     let n = c.note.inside.seat.me.0 in
     let w = c.hear_note.new.seat.me.0 in
     let t = c.hear_note.new.seat.table_id in
-    let p = at_members s.place s.call.generation s.own s.value s.joiners s.top in
+    let p = at_members led.place led.call.generation led.own s.value s.joiners s.top in
     let same : sizes_of v ≡ c.group.inside.sizes = ap (λ (x : SettledValue _). x.group.sizes) c.self.view_is ∙ ap (λ (x : GroupValue). x.sizes) (c.requires.own ∙ sym c.group.view_is) in
     let noted : sizes_of n ≡ c.group.inside.sizes = ap (λ (x : NoteValue _). x.group.sizes) c.note.view_is ∙ ap (λ (x : GroupValue). x.sizes) (c.requires.note ∙ sym c.group.view_is) in
     let heard = subst (λ (z : Sizes). HasHeard z v n.known.turns w) (sym same) c.hear_note.ensures.heard in
-    let goes = owes_still s.number s.place s.call.generation s.own s.value s.joiners s.top n.known.turns v w was.0 heard in
-    subst (λ (x : NoteValue _). IsHeldStill c.args.self.now (settled_of t w s.number s.place s.call s.value s.joiners) × StartsWith (history_of (sizes_of w) w.known.turns) x.seen) c.note.view_is (
-      subst (λ (x : SettledValue _). IsHeldStill x (settled_of t w s.number s.place s.call s.value s.joiners)) c.self.view_is
-          (still_row s.seat.table_id t s.number s.place s.call s.value s.joiners v w p c.hear_note.ensures.own.0 goes),
-      heard_shown (sizes_of v) s.number v n w p (noted ∙ sym same) goes.sits heard,
+    let goes = owes_still who.number led.place led.call.generation led.own s.value s.joiners s.top n.known.turns v w was.0 heard in
+    subst (λ (x : NoteValue _). IsHeldStill c.args.self.now (settled_of t w who.number led.place led.call s.value s.joiners) × StartsWith (history_of (sizes_of w) w.known.turns) x.seen) c.note.view_is (
+      subst (λ (x : SettledValue _). IsHeldStill x (settled_of t w who.number led.place led.call s.value s.joiners)) c.self.view_is
+          (still_row who.seat.table_id t who.number led.place led.call s.value s.joiners v w p c.hear_note.ensures.own.0 goes),
+      heard_shown (sizes_of v) who.number v n w p (noted ∙ sym same) goes.sits heard,
     )
