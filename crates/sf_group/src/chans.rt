@@ -15,7 +15,8 @@ use sf_word_steps::AskAttempt;
 
 // The generations that two callers use next. None where either is spent.
 fn generations(next: u64, second_next: u64) -> Option<(u32, u32)>
-    ensures given { IfSome result (λ given. (given.0 ≡ next) × (given.1 ≡ second_next) × (next ≤ 4294967295) × (second_next ≤ 4294967295)) }
+    ensures given { IfSome result (λ given. (given.0 ≡ next) × (given.1 ≡ second_next)
+        × (next ≤ 4294967295) × (second_next ≤ 4294967295)) }
     ensures spent { IfNone result ((4294967295 < next) ⊎ (4294967295 < second_next)) }
 {
     let Ok(generation) = u32::try_from(next) else {
@@ -45,7 +46,8 @@ impl<V: Fit> Group<V> {
         requires tries { (1 ≤ tries) × (tries ≤ MOST_TRIES) }
         ensures begun { IfOk result (λ begun. HasChanBegun caller second place begun) }
         ensures tried { IfOk result (λ begun. HaveTriedToBegin caller second tries begun) }
-        ensures refused { IfErr result (λ refused. HasNotBegunChan caller second place tries refused) }
+        ensures refused { IfErr result (λ refused.
+            HasNotBegunChan caller second place tries refused) }
     {
         let (next, second_next) = (caller.seated.next, second.seated.next);
         let Some((generation, second_generation)) = generations(next, second_next) else {
@@ -74,15 +76,15 @@ impl<V: Fit> Group<V> {
         one.seat = seat;
         two.seat = second_seat;
         match attempt {
-            Attempt::Led(after) => Ok(ChanBegun::Led(
+            AskAttempt::Led(after) => Ok(ChanBegun::Led(
                 Flight::of(one, place, call, Some(member), after),
                 Ticket::of(two, place, call, member),
             )),
-            Attempt::Joined(open) => Ok(ChanBegun::Joined(
+            AskAttempt::Joined(open) => Ok(ChanBegun::Joined(
                 Ticket::of(two, place, open, member),
                 Caller { seated: one },
             )),
-            Attempt::Lost => {
+            AskAttempt::Lost => {
                 let back = (Caller { seated: one }, Caller { seated: two });
                 Err(NotBegun::Busy(tries, back))
             }

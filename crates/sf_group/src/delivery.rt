@@ -225,10 +225,13 @@ impl<V: Fit> Group<V> {
         requires own { seat.old.table_id ≡ self.now.table }
         requires seat { seat.old.me.0.sizes ≡ Some (sizes_of seat.old.me.0) }
         requires place { IsPlaceIn (sizes_of seat.old.me.0) place }
-        requires led { was_led_on (history_of (sizes_of seat.old.me.0) seat.old.me.0.known.turns) place call ≡ true }
-        requires fits { V.fits place call value (history_of (sizes_of seat.old.me.0) seat.old.me.0.known.turns) }
+        requires led { was_led_on (history_of (sizes_of seat.old.me.0) seat.old.me.0.known.turns)
+            place call ≡ true }
+        requires fits { V.fits place call value
+            (history_of (sizes_of seat.old.me.0) seat.old.me.0.known.turns) }
         ensures seat { (seat.new.table_id ≡ seat.old.table_id) × (seat.new.me ≡ seat.old.me) }
-        ensures letter { result ≡ letter_of seat.old.table_id seat.old.me.0 place call value joiners }
+        ensures letter { result ≡ letter_of seat.old.table_id seat.old.me.0 place call value
+            joiners }
     {
         let note = Note {
             seat: self.table.shared.split_seat::<Tells>(seat),

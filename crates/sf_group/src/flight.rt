@@ -33,7 +33,8 @@ impl<V> Model for Flight<V> {
 
     ghost invariant = { λ f. let l = f.leader in let s = l.seated in let v = s.seat.me.0 in
         Sits (sizes_of v) s.number v (Leading l.place l.call.generation l.own)
-        × (l.call.caller ≡ s.number) × (s.next ≡ next_in (sizes_of v) v s.number) × (s.seat.me.1 ≡ [])
+        × (l.call.caller ≡ s.number) × (s.next ≡ next_in (sizes_of v) v s.number)
+        × (s.seat.me.1 ≡ [])
         × IsPlaceIn (sizes_of v) l.place × (1 ≤ l.call.generation)
         × FollowsCall (flight_of s.seat.table_id v s.number l.place l.call l.own) f.after
         × (s.number ≤ 4294967295) × (l.place ≤ 4294967295) };

@@ -18,8 +18,8 @@ use sf_calls::{Begun, Fit, MOST_CALLERS, MOST_PLACES, NotBegun, Sizes};
 use sf_history::{CallId, Forgotten, Hit};
 use sf_schedules::Letter as Cell;
 use sf_word_steps::{
-    Actor, AskAttempt, Deals, ForgetAttempt, Law, Resting, View, WordSeat, Words, forget_often,
-    ask_often, word_count,
+    Actor, AskAttempt, Deals, ForgetAttempt, Law, Resting, View, WordSeat, Words, ask_often,
+    forget_often, word_count,
 };
 use std::alloc::{AllocError, Global};
 use std::marker::Model;
@@ -47,7 +47,9 @@ impl<V: Fit> Model for Group<V> {
 
     ghost view = { λ g. record { table = g.table.shared.table_id; sizes = g.sizes } };
 
-    ghost invariant = { λ g. (g.sizes ≡ g.table.shared.key) × (g.table.shared.table_id.words ≡ words_in g.table.shared.key) × (g.sizes.callers ≤ 65535) × (1 ≤ g.sizes.first) × (g.table.shared.table_id.slots ≡ g.table.shared.key.callers + 1) };
+    ghost invariant = { λ g. (g.sizes ≡ g.table.shared.key)
+        × (g.table.shared.table_id.words ≡ words_in g.table.shared.key) × (g.sizes.callers ≤ 65535)
+        × (1 ≤ g.sizes.first) × (g.table.shared.table_id.slots ≡ g.table.shared.key.callers + 1) };
 }
 
 // The next caller, from the seat that stands for those that are not dealt out yet.
@@ -58,7 +60,8 @@ fn deal<V: Fit>(words: &Words<V>, first: &mut WordSeat<V>, number: u32, next: u6
     requires next { next ≡ words.now.key.first }
     ensures own { first.new.table_id ≡ first.old.table_id }
     ensures first { IsDealing (number + 1) words.now.key first.new.me.0 × (first.new.me.1 ≡ []) }
-    ensures caller { result ≡ new_caller (record { table = words.now.table_id; sizes = words.now.key }) number }
+    ensures caller { result
+        ≡ new_caller (record { table = words.now.table_id; sizes = words.now.key }) number }
 {
     let seat = words.split_seat::<Deals>(first);
     let seated = Seated {
@@ -81,7 +84,12 @@ impl<V: Fit> Group<V> {
         requires places { (1 ≤ places) × (places ≤ MOST_PLACES) }
         requires callers { (1 ≤ callers) × (callers ≤ MOST_CALLERS) }
         requires first_generation { 1 ≤ first_generation }
-        ensures sizes { IfOk result (λ made. made.0.sizes ≡ record { places = places; callers = callers; first = first_generation }) }
+        ensures sizes { IfOk result (λ made.
+            made.0.sizes ≡ record {
+              places = places;
+              callers = callers;
+              first = first_generation;
+            }) }
         ensures callers { IfOk result (λ made. All (IsNewCaller made.0) made.1.items) }
         ensures numbers { IfOk result (λ made. numbers_of made.1.items ≡ range_with_len 1 callers) }
     {
@@ -160,11 +168,13 @@ impl<V: Fit> Group<V> {
             place,
         };
         let words = &self.table.shared;
-        let attempt = try_often(words, &mut seated.seat, actor, generation, tries);
+        let attempt = ask_often(words, &mut seated.seat, actor, generation, tries);
         match attempt {
-            Attempt::Led(after) => Ok(Begun::Lead(Flight::of(seated, place, member, None, after))),
-            Attempt::Joined(call) => Ok(Begun::Join(Ticket::of(seated, place, call, member))),
-            Attempt::Lost => Err(NotBegun::Busy(tries, Caller { seated })),
+            AskAttempt::Led(after) => Ok(Begun::Lead(Flight::of(
+                seated, place, member, None, after,
+            ))),
+            AskAttempt::Joined(call) => Ok(Begun::Join(Ticket::of(seated, place, call, member))),
+            AskAttempt::Lost => Err(NotBegun::Busy(tries, Caller { seated })),
         }
     }
 
@@ -174,9 +184,11 @@ impl<V: Fit> Group<V> {
         requires own { caller.old.group ≡ self.now }
         requires place { IsPlaceOf self.now place }
         requires tries { (1 ≤ tries) × (tries ≤ MOST_TRIES) }
-        ensures forgotten { IfOk result (λ forgotten. HasForgotten caller.old place caller.new forgotten) }
+        ensures forgotten { IfOk result (λ forgotten.
+            HasForgotten caller.old place caller.new forgotten) }
         ensures tried { IfOk result (λ _. HasTriedAtMost caller.old tries caller.new.turns) }
-        ensures refused { IfErr result (λ failed. HasNotForgotten caller.old place tries caller.new failed) }
+        ensures refused { IfErr result (λ failed.
+            HasNotForgotten caller.old place tries caller.new failed) }
     {
         let actor = Actor {
             sizes: self.sizes,
@@ -209,7 +221,8 @@ impl<V: Fit> Group<V> {
         requires tries { (1 ≤ tries) × (tries ≤ MOST_TRIES) }
         ensures forgot { IfOk result (λ hit. HasForgotCall caller.old place call hit caller.new) }
         ensures tried { IfOk result (λ _. HasTriedAtMost caller.old tries caller.new.turns) }
-        ensures refused { IfErr result (λ failed. HasNotForgotten caller.old place tries caller.new failed) }
+        ensures refused { IfErr result (λ failed.
+            HasNotForgotten caller.old place tries caller.new failed) }
     {
         let actor = Actor {
             sizes: self.sizes,

@@ -27,9 +27,19 @@ impl<V: Fit> Model for Letter<V> {
 
     ghost Value = { LetterValue V };
 
-    ghost view = { λ l. record { group = l.note.group; seen = l.note.seen; place = l.place; call = l.call; value = l.value; joiners = l.joiners } };
+    ghost view = { λ l.
+        record {
+          group = l.note.group;
+          seen = l.note.seen;
+          place = l.place;
+          call = l.call;
+          value = l.value;
+          joiners = l.joiners;
+        } };
 
-    ghost invariant = { λ l. V.fits l.place l.call l.value l.note.seen × IsPlaceOf l.note.group l.place × (was_led_on l.note.seen l.place l.call ≡ true) × (l.place ≤ 4294967295) × (l.joiners ≤ 4294967295) };
+    ghost invariant = { λ l. V.fits l.place l.call l.value l.note.seen
+        × IsPlaceOf l.note.group l.place × (was_led_on l.note.seen l.place l.call ≡ true)
+        × (l.place ≤ 4294967295) × (l.joiners ≤ 4294967295) };
 }
 
 impl<V: Fit> Letter<V> {

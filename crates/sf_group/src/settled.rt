@@ -38,7 +38,8 @@ impl<V: Fit> Model for Settled<V> {
         × (l.call.caller ≡ a.number) × (a.next ≡ next_in (sizes_of v) v a.number)
         × (a.seat.me.1 ≡ []) × IsOwed s.top l.own × V.fits l.place l.call s.value seen
         × Stands (event.Settle l.call.caller l.call s.value s.joiners) seen
-        × IsPlaceIn (sizes_of v) l.place × (a.number ≤ 4294967295) × (l.place ≤ 4294967295) × (s.joiners ≤ 4294967295) };
+        × IsPlaceIn (sizes_of v) l.place × (a.number ≤ 4294967295) × (l.place ≤ 4294967295)
+        × (s.joiners ≤ 4294967295) };
 }
 
 impl<V: Fit> Settled<V> {

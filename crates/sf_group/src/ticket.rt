@@ -32,7 +32,8 @@ impl<V> Model for Ticket<V> {
 
     ghost invariant = { λ t. let s = t.seated in let v = s.seat.me.0 in
         Sits (sizes_of v) s.number v (Holding t.place t.member.generation t.call)
-        × (t.member.caller ≡ s.number) × (s.next ≡ next_in (sizes_of v) v s.number) × (s.seat.me.1 ≡ [])
+        × (t.member.caller ≡ s.number) × (s.next ≡ next_in (sizes_of v) v s.number)
+        × (s.seat.me.1 ≡ [])
         × IsPlaceIn (sizes_of v) t.place × (s.number ≤ 4294967295) × (t.place ≤ 4294967295) };
 }
 

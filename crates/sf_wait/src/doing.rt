@@ -30,9 +30,11 @@ pub fn do_with<V: Fit, R: Wait, F: FnOnce() -> V>(
     requires own { caller.group ≡ group.now }
     requires place { IsPlaceOf group.now place }
     requires callable { (flight : FlightValue V) → HasLed caller place flight → F.pre load }
-    requires fits { (flight : FlightValue V) (value : V) → HasLed caller place flight → F.post load value
+    requires fits { (flight : FlightValue V) (value : V) → HasLed caller place flight
+        → F.post load value
         → V.fits flight.place flight.call value flight.seen }
-    ensures done { IfOk result (λ done. HasDoneWith V.fits (F.post load) caller place load done.0 done.1 done.2) }
+    ensures done { IfOk result (λ done.
+        HasDoneWith V.fits (F.post load) caller place load done.0 done.1 done.2) }
     ensures failed { IfErr result (λ fault. HasFailed (F.post load) caller place load fault) }
 {
     match ask_with(rt, group, caller, place, load) {
@@ -64,7 +66,8 @@ fn ask_with<V: Fit, R: Wait, F: FnOnce() -> V>(
     requires own { caller.group ≡ group.now }
     requires place { IsPlaceOf group.now place }
     requires callable { (flight : FlightValue V) → HasLed caller place flight → F.pre load }
-    requires fits { (flight : FlightValue V) (value : V) → HasLed caller place flight → F.post load value
+    requires fits { (flight : FlightValue V) (value : V) → HasLed caller place flight
+        → F.post load value
         → V.fits flight.place flight.call value flight.seen }
     ensures { HasAsked V.fits (F.post load) caller place load result }
 {

@@ -31,7 +31,8 @@ impl<V: Fit, W: Work<V>> Model for Job<V, W> {
 
     ghost view = { λ j. record { flight = j.flight; work = j.work } };
 
-    ghost invariant = { λ j. IsRunnable V.fits W.may_run W.answers (record { flight = j.flight; work = j.work }) };
+    ghost invariant = { λ j.
+        IsRunnable V.fits W.may_run W.answers (record { flight = j.flight; work = j.work }) };
 }
 
 impl<V: Fit, W: Work<V>> Job<V, W> {

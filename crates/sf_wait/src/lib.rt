@@ -2,7 +2,7 @@
 //! side: what x/sync's `singleflight` has as `Do` and `DoChan`.
 //!
 //! The forms have the rows of the table of calls, if they return. To settle a call and to hand its letters out waits for
-//! nobody: that is the group's own `finish` and `go_on`.
+//! nobody: `finish_wait` and `go_on_wait` are the group's own `finish` and `go_on`. `begin_chan_wait` is `do_chan`.
 //!
 //! | To do as | Call |
 //! | --- | --- |
@@ -21,5 +21,8 @@ mod workers;
 pub use doing::{DoFault, do_with};
 pub use job::{Job, Work};
 pub use serving::{MOST_JOBS, Unserved, serve};
-pub use waiting::{begin_wait, do_chan, forget_call_wait, forget_wait, wait};
+pub use waiting::{
+    begin_wait, do_chan, do_chan as begin_chan_wait, finish_wait, forget_call_wait, forget_wait,
+    go_on_wait, wait,
+};
 pub use workers::{Gate, Served};

@@ -41,7 +41,9 @@ impl<'a, V: Fit, W: Work<V>> Model for Waiting<'a, V, W> {
 
     ghost view = { λ w. into_iter_items w.jobs };
 
-    ghost invariant = { λ w. HasRoom w.group.now (into_iter_items w.jobs) (into_iter_len w.jobs) (vec_len w.started) (vec_capacity w.started) };
+    ghost invariant = { λ w.
+        HasRoom w.group.now (into_iter_items w.jobs) (into_iter_len w.jobs) (vec_len w.started)
+        (vec_capacity w.started) };
 }
 
 impl<'a, V: Fit, W: Work<V>> Drop for Waiting<'a, V, W> {
@@ -62,7 +64,8 @@ impl<'a, V: Fit, W: Work<V>> Drop for Waiting<'a, V, W> {
 impl<'a, V: Fit, W: Work<V>> Waiting<'a, V, W> {
     fn parts(self) -> (&'a Group<V>, IntoIter<Job<V, W>>, Vec<Started<V, W>>)
         ensures jobs { into_iter_items result.1 ≡ self.entry }
-        ensures room { HasRoom result.0.now (into_iter_items result.1) (into_iter_len result.1) (vec_len result.2) (vec_capacity result.2) }
+        ensures room { HasRoom result.0.now (into_iter_items result.1) (into_iter_len result.1)
+            (vec_len result.2) (vec_capacity result.2) }
     {
         let Self {
             group,
@@ -134,7 +137,8 @@ pub fn serve<V: Fit + Send, W: Work<V> + Send, G: Gate + Sync, R: Threads + Wait
 ) -> Result<Vec<Served<V, W>>, Unserved<V, W>>
     requires own { All (λ job. job.flight.group ≡ group.now) jobs.items }
     requires number { (1 ≤ vec_len jobs) × (vec_len jobs ≤ MOST_JOBS) }
-    ensures served { IfOk result (λ list. ArePaired (HasServed V.fits W.answers) jobs.items list.items) }
+    ensures served { IfOk result (λ list.
+        ArePaired (HasServed V.fits W.answers) jobs.items list.items) }
     ensures back { IfErr result (λ refused. refused.back ≡ jobs) }
 {
     let Ok(started) = Vec::with_capacity(alloc, jobs.len()) else {

@@ -3,11 +3,12 @@ ghost use Rattle.std.specs.Prelude.{◌≡◌, ◌≤◌, IfOk, IfErr};
 ghost use Rattle.sf_calls.specs.Same.{IsPlaceOf};
 ghost use Rattle.sf_calls.specs.Begins.{HasBegun, HasChanBegun, IsRefusedSpent, AreRefusedSpent};
 ghost use Rattle.sf_calls.specs.Forgets.{HasForgotten, HasForgotCall};
-ghost use Rattle.sf_calls.specs.Finishes.{IsReady};
+ghost use Rattle.sf_calls.specs.Finishes.{HasFinished, HasGoneOn, IsReady};
 
 use sf_calls::{Fit, NotBegun, Spent};
 use sf_group::{
-    Begun, CallId, Caller, ChanBegun, Forgotten, Group, Hit, Letter, MOST_TRIES, Polled, Ticket,
+    Begun, CallId, Caller, ChanBegun, Finished, Flight, Forgotten, Group, Hit, Letter, MOST_TRIES,
+    Polled, Settled, Ticket,
 };
 use std::sync::Wait;
 
@@ -69,7 +70,8 @@ pub fn do_chan<V: Fit, R: Wait>(
     requires second { second.group ≡ group.now }
     requires place { IsPlaceOf group.now place }
     ensures begun { IfOk result (λ begun. HasChanBegun caller second place begun) }
-    ensures spent { IfErr result (λ refused. AreRefusedSpent caller second refused.back.0 refused.back.1) }
+    ensures spent { IfErr result (λ refused.
+        AreRefusedSpent caller second refused.back.0 refused.back.1) }
 {
     begin_chan_by(rt, group, caller, second, place, MOST_TRIES)
 }
@@ -88,7 +90,8 @@ fn begin_chan_by<V: Fit, R: Wait>(
     requires place { IsPlaceOf group.now place }
     requires tries { (1 ≤ tries) × (tries ≤ MOST_TRIES) }
     ensures begun { IfOk result (λ begun. HasChanBegun caller second place begun) }
-    ensures spent { IfErr result (λ refused. AreRefusedSpent caller second refused.back.0 refused.back.1) }
+    ensures spent { IfErr result (λ refused.
+        AreRefusedSpent caller second refused.back.0 refused.back.1) }
 {
     let mut asking = caller;
     let mut other = second;
@@ -103,6 +106,24 @@ fn begin_chan_by<V: Fit, R: Wait>(
         }
     }
     unreachable!()
+}
+
+/// The leader settles its call with the value, for good, and delivers the letters: the group's own `finish`, for who looks for it
+/// among these forms. It waits for nobody.
+pub fn finish_wait<V: Fit>(group: &Group<V>, flight: Flight<V>, value: V) -> Finished<V>
+    requires own { flight.group ≡ group.now }
+    requires fits { V.fits flight.place flight.call value flight.seen }
+    ensures { HasFinished V.fits flight value result }
+{
+    group.finish(flight, value)
+}
+
+/// Goes on with a delivery for whose letters memory was refused: the group's own `go_on`, as `finish_wait` is its `finish`.
+pub fn go_on_wait<V: Fit>(group: &Group<V>, settled: Settled<V>) -> Finished<V>
+    requires { settled.group ≡ group.now }
+    ensures { HasGoneOn V.fits settled result }
+{
+    group.go_on(settled)
 }
 
 /// The caller forgets the place, which closes its open call, if it has one.

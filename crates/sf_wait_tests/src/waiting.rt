@@ -9,7 +9,9 @@ use sf_group::{
     Begun, CallId, Caller, ChanBegun, Finished, Flight, Forgotten, Group, Letter, Settled, Spent,
     Ticket,
 };
-use sf_wait::{DoFault, Job, begin_wait, do_chan, do_with, forget_wait, wait};
+use sf_wait::{
+    DoFault, Job, begin_chan_wait, begin_wait, do_with, finish_wait, forget_wait, go_on_wait, wait,
+};
 use std::process::Abort;
 use std::sync::Wait;
 use std::sync::atomic::{AtomicU32, Ordering};
@@ -47,7 +49,7 @@ fn finish(
     requires { flight.group ≡ group.now }
     ensures { (result.0.group ≡ group.now) × (result.1.group ≡ group.now) }
 {
-    match group.finish(flight, Outcome(value)) {
+    match finish_wait(group, flight, Outcome(value)) {
         Finished::Done(caller, letter) => (caller, letter),
         Finished::Held(settled) => {
             settled.abandon();
@@ -79,7 +81,7 @@ fn lead_chan(
     requires place { IsPlaceOf group.now 1 }
     ensures { (result.0.group ≡ group.now) × (result.1.group ≡ group.now) }
 {
-    match do_chan(rt, group, caller, second, 1) {
+    match begin_chan_wait(rt, group, caller, second, 1) {
         Ok(ChanBegun::Led(flight, ticket)) => (flight, ticket),
         Ok(ChanBegun::Joined(ticket, _)) => {
             ticket.abandon();
@@ -134,8 +136,8 @@ fn held_delivery_goes_on(rt: HostRuntime) -> Result<(), Fail> {
     let one = next_caller(&rt, &group, &mut callers);
     let flight = lead(&rt, &group, one, id(1, 1));
     join_once(&rt, &group, two);
-    let settled = held(&rt, group.finish(flight, Outcome(100)));
-    held(&rt, group.go_on(settled)).abandon();
+    let settled = held(&rt, finish_wait(&group, flight, Outcome(100)));
+    held(&rt, go_on_wait(&group, settled)).abandon();
     Ok(())
 }
 

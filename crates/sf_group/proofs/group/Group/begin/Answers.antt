@@ -23,8 +23,8 @@ returns-in_default-clause-refused g c =
     let above : 4294967295 < next_in (sizes_of seat.me.0) seat.me.0 c.caller.inside.seated.number = let no = c.in_default.ensures in let is = c.caller.invariant.1 in omega (arith, no) in
     subst (λ (x : CallerValue _). IsRefusedSpent x (caller_of seat.table_id seat.me.0 c.caller.inside.seated.number)) c.caller.view_is (spent_row seat.table_id c.caller.inside.seated.number seat.me.0 c.caller.invariant.0 above)
 
-pub try_often-attempt-requires-clause-generation : goal.try_often-attempt-requires-clause-generation
-try_often-attempt-requires-clause-generation g c =
+pub ask_often-attempt-requires-clause-generation : goal.ask_often-attempt-requires-clause-generation
+ask_often-attempt-requires-clause-generation g c =
     let seat = c.caller.inside.seated.seat in
     let z : Sizes = sizes_of seat.me.0 in
     let same : z ≡ c.self.inside.sizes = ap (λ (x : CallerValue _). x.group.sizes) c.caller.view_is ∙ (ap (λ (x : GroupValue). x.sizes) c.requires.own ∙ ap (λ (x : GroupValue). x.sizes) (sym c.self.view_is)) in
@@ -39,21 +39,21 @@ pub returns-in-Led-clause-begun : goal.returns-in-Led-clause-begun
 returns-in-Led-clause-begun g c =
     let seat = c.caller.inside.seated.seat in
     let v = seat.me.0 in
-    let w = c.try_often-attempt.new.seat.me.0 in
+    let w = c.ask_often-attempt.new.seat.me.0 in
     let a = c.caller.inside.seated.number in
     let i = c.in-Ok.generation in
     let same : sizes_of v ≡ c.self.inside.sizes = ap (λ (x : CallerValue _). x.group.sizes) c.caller.view_is ∙ (ap (λ (x : GroupValue). x.sizes) c.requires.own ∙ ap (λ (x : GroupValue). x.sizes) (sym c.self.view_is)) in
     let goes = subst (λ (z : Sizes). Goes z a v w (stage.Leading c.args.place i None) (event.Lead a c.args.place (record { caller = a; generation = i }) None ∷ []) 1) (sym same) c.in-Led.ensures.tried.0 in
     let left : i ≤ 4294967295 = let low = c.in-Ok.ensures.0 in let is = c.in-Ok.ensures.1 in omega (arith, low, is) in
     subst (λ (x : FlightValue _). HasBegun c.args.caller c.args.place (begun.Lead x)) (sym c.of.ensures)
-    (subst (λ (x : CallerValue _). HasBegun x c.args.place (begun.Lead (flight_of c.try_often-attempt.new.seat.table_id w a c.args.place (record { caller = a; generation = i }) None))) c.caller.view_is
-    (lead_row seat.table_id c.try_often-attempt.new.seat.table_id a i c.args.place v w c.try_often-attempt.ensures.own.0 c.caller.invariant.0 (sym (c.in-Ok.ensures.1 ∙ c.caller.invariant.1)) left goes))
+    (subst (λ (x : CallerValue _). HasBegun x c.args.place (begun.Lead (flight_of c.ask_often-attempt.new.seat.table_id w a c.args.place (record { caller = a; generation = i }) None))) c.caller.view_is
+    (lead_row seat.table_id c.ask_often-attempt.new.seat.table_id a i c.args.place v w c.ask_often-attempt.ensures.own.0 c.caller.invariant.0 (sym (c.in-Ok.ensures.1 ∙ c.caller.invariant.1)) left goes))
 
 pub returns-in-Joined-clause-begun : goal.returns-in-Joined-clause-begun
 returns-in-Joined-clause-begun g c =
     let seat = c.caller.inside.seated.seat in
     let v = seat.me.0 in
-    let w = c.try_often-attempt.new.seat.me.0 in
+    let w = c.ask_often-attempt.new.seat.me.0 in
     let a = c.caller.inside.seated.number in
     let i = c.in-Ok.generation in
     let called = c.in-Joined.call in
@@ -61,14 +61,14 @@ returns-in-Joined-clause-begun g c =
     let goes = subst (λ (z : Sizes). Goes z a v w (stage.Holding c.args.place i called) (event.Enter a c.args.place called (record { caller = a; generation = i }) ∷ []) 1) (sym same) c.in-Joined.ensures.tried in
     let left : i ≤ 4294967295 = let low = c.in-Ok.ensures.0 in let is = c.in-Ok.ensures.1 in omega (arith, low, is) in
     subst (λ (x : TicketValue _). HasBegun c.args.caller c.args.place (begun.Join x)) (sym c.of-in-Joined.ensures)
-    (subst (λ (x : CallerValue _). HasBegun x c.args.place (begun.Join (ticket_of c.try_often-attempt.new.seat.table_id w a c.args.place called (record { caller = a; generation = i })))) c.caller.view_is
-    (join_row seat.table_id c.try_often-attempt.new.seat.table_id a i c.args.place called v w c.try_often-attempt.ensures.own.0 c.caller.invariant.0 (sym (c.in-Ok.ensures.1 ∙ c.caller.invariant.1)) left goes))
+    (subst (λ (x : CallerValue _). HasBegun x c.args.place (begun.Join (ticket_of c.ask_often-attempt.new.seat.table_id w a c.args.place called (record { caller = a; generation = i })))) c.caller.view_is
+    (join_row seat.table_id c.ask_often-attempt.new.seat.table_id a i c.args.place called v w c.ask_often-attempt.ensures.own.0 c.caller.invariant.0 (sym (c.in-Ok.ensures.1 ∙ c.caller.invariant.1)) left goes))
 
 pub returns-in-Lost-clause-refused : goal.returns-in-Lost-clause-refused
 returns-in-Lost-clause-refused g c =
     let seat = c.caller.inside.seated.seat in
     let v = seat.me.0 in
-    let w = c.try_often-attempt.new.seat.me.0 in
+    let w = c.ask_often-attempt.new.seat.me.0 in
     let a = c.caller.inside.seated.number in
     let same : sizes_of v ≡ c.self.inside.sizes = ap (λ (x : CallerValue _). x.group.sizes) c.caller.view_is ∙ (ap (λ (x : GroupValue). x.sizes) c.requires.own ∙ ap (λ (x : GroupValue). x.sizes) (sym c.self.view_is)) in
     let i = c.in-Ok.generation in
@@ -90,16 +90,16 @@ of-requires-clause-call g c =
 
 pub of-requires-clause-after : goal.of-requires-clause-after
 of-requires-clause-after g c =
-    let w = c.try_often-attempt.new.seat.me.0 in
+    let w = c.ask_often-attempt.new.seat.me.0 in
     let a = c.caller.inside.seated.number in
     let i = c.in-Ok.generation in
-    follows_now c.self.inside.sizes c.try_often-attempt.new.seat.table_id a c.args.place (record { caller = a; generation = i }) None c.in-Led.after w (sizes_are c.self.inside.sizes a w (stage.Leading c.args.place i None) c.in-Led.ensures.tried.0.sits) c.in-Led.ensures.tried.1
+    follows_now c.self.inside.sizes c.ask_often-attempt.new.seat.table_id a c.args.place (record { caller = a; generation = i }) None c.in-Led.after w (sizes_are c.self.inside.sizes a w (stage.Leading c.args.place i None) c.in-Led.ensures.tried.0.sits) c.in-Led.ensures.tried.1
 
 pub returns-in-Led-clause-tried : goal.returns-in-Led-clause-tried
 returns-in-Led-clause-tried g c =
     let seat = c.caller.inside.seated.seat in
     let v = seat.me.0 in
-    let w = c.try_often-attempt.new.seat.me.0 in
+    let w = c.ask_often-attempt.new.seat.me.0 in
     let a = c.caller.inside.seated.number in
     let i = c.in-Ok.generation in
     let same : sizes_of v ≡ c.self.inside.sizes = ap (λ (x : CallerValue _). x.group.sizes) c.caller.view_is ∙ (ap (λ (x : GroupValue). x.sizes) c.requires.own ∙ ap (λ (x : GroupValue). x.sizes) (sym c.self.view_is)) in
@@ -112,7 +112,7 @@ pub returns-in-Joined-clause-tried : goal.returns-in-Joined-clause-tried
 returns-in-Joined-clause-tried g c =
     let seat = c.caller.inside.seated.seat in
     let v = seat.me.0 in
-    let w = c.try_often-attempt.new.seat.me.0 in
+    let w = c.ask_often-attempt.new.seat.me.0 in
     let a = c.caller.inside.seated.number in
     let i = c.in-Ok.generation in
     let same : sizes_of v ≡ c.self.inside.sizes = ap (λ (x : CallerValue _). x.group.sizes) c.caller.view_is ∙ (ap (λ (x : GroupValue). x.sizes) c.requires.own ∙ ap (λ (x : GroupValue). x.sizes) (sym c.self.view_is)) in

@@ -76,7 +76,7 @@ of-requires-clause-after g c =
     let j = c.in-Some.second_generation in
     let k = c.args.place in
     let askers : Askers = record { sizes = c.self.inside.sizes; number = one.number; second = two.number; place = k; generation = i; second_generation = j } in
-    let asked = subst (λ (r : Attempt). HasAsked askers c.args.tries v w v' w' r) c.in-Led.is c.ask_together-attempt.ensures.asked in
+    let asked = subst (λ (r : AskAttempt). HasAsked askers c.args.tries v w v' w' r) c.in-Led.is c.ask_together-attempt.ensures.asked in
     follows_now c.self.inside.sizes c.ask_together-attempt.result.1.table_id one.number k (record { caller = one.number; generation = i }) (Some (record { caller = two.number; generation = j })) c.in-Led.after v' (sizes_are c.self.inside.sizes one.number v' (stage.Leading k i (Some (record { caller = two.number; generation = j }))) asked.0.first.sits) asked.1
 
 pub returns-in-Led-clause-begun : goal.returns-in-Led-clause-begun
