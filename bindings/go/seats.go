@@ -254,7 +254,7 @@ type asking struct {
 }
 
 // Asks for the key by a free seat; or beside the library, where there is none, or so many calls of other keys were met.
-func (p *pool) ask(key string, others int) asking {
+func (p *pool) ask(a *asking, key string, others int) {
 	shard := p.shardOf(key)
 	for others < rounds && !p.closed.Load() {
 		s := p.take(shard)
@@ -266,10 +266,12 @@ func (p *pool) ask(key string, others int) asking {
 		switch uint8(asked) {
 		case C.SF_LEADS:
 			s.leads.Add(1)
-			return asking{shard: shard, seat: s, call: call, leads: true}
+			*a = asking{shard: shard, seat: s, call: call, leads: true}
+			return
 		case C.SF_JOINED:
 			s.joins.Add(1)
-			return asking{shard: shard, seat: s, call: call, leader: p.numbered(call.caller)}
+			*a = asking{shard: shard, seat: s, call: call, leader: p.numbered(call.caller)}
+			return
 		case C.SF_SPENT:
 			p.retire(s)
 			continue
@@ -277,7 +279,7 @@ func (p *pool) ask(key string, others int) asking {
 		p.put(shard, s)
 		break
 	}
-	return p.beside.ask(key)
+	*a = p.beside.ask(key)
 }
 
 // Whether that closed a call.
@@ -305,7 +307,7 @@ func (p *pool) forgetCall(key string, call Call) Hit {
 }
 
 // Forgets the call of an asking, and no newer one.
-func (p *pool) forgetAsked(a asking, key string) {
+func (p *pool) forgetAsked(a *asking, key string) {
 	if a.beside != nil {
 		p.beside.forgetCall(a.beside)
 	} else {
@@ -314,7 +316,7 @@ func (p *pool) forgetAsked(a asking, key string) {
 }
 
 // Settles the call that the seat leads with what the result has, tells the result of the call, and wakes who waits for it.
-func (p *pool) settle(a asking, r *Result, watched *wait) {
+func (p *pool) settle(a *asking, r *Result, watched *wait) {
 	r.Call = a.call
 	if a.beside != nil {
 		r.Shared = p.beside.settle(a.beside, r.Val, r.Err) > 0
@@ -384,9 +386,10 @@ const (
 )
 
 // Waits until the call is settled that it joined, or until stop is closed.
-func (p *pool) join(a asking, stop <-chan struct{}) (r Result, how outcome) {
+func (p *pool) join(r *Result, a *asking, stop <-chan struct{}) (how outcome) {
 	if a.beside != nil {
-		return a.beside.join(stop)
+		*r, how = a.beside.join(stop)
+		return how
 	}
 	s, led := a.seat, a.leader
 	letter := poll(s.at)
@@ -403,7 +406,7 @@ func (p *pool) join(a asking, stop <-chan struct{}) (r Result, how outcome) {
 		case <-w.done:
 		case <-stop:
 			if how := w.leave(false, s); how != settled {
-				return r, how
+				return how
 			}
 			<-w.done
 		}
@@ -419,10 +422,10 @@ func (p *pool) join(a asking, stop <-chan struct{}) (r Result, how outcome) {
 	case led.ended && led.err != nil:
 		how = ended
 	default:
-		r = Result{led.val, led.err, true, a.call, letter.stamp}
+		*r = Result{led.val, led.err, true, a.call, letter.stamp}
 	}
 	p.release(a.shard, led, -1)
-	return r, how
+	return how
 }
 
 // Whether the call of the stamp is current: asked by a free seat, or where there is none, by that which nobody has.
@@ -442,7 +445,7 @@ func (p *pool) isStill(stamp Stamp) bool {
 }
 
 // The wait of a call that it leads, whose load has a goroutine of its own.
-func (p *pool) watch(a asking, cancel context.CancelFunc) *wait {
+func (p *pool) watch(a *asking, cancel context.CancelFunc) *wait {
 	lock := &p.beside.mu
 	if a.seat != nil {
 		lock = &a.seat.mu

@@ -191,19 +191,22 @@ func (g *Group) Stats() Stats {
 // Do returns what fn returns: of the key's open call, or where there is none, of a new one, for which it calls fn. Where that
 // panics or ends its goroutine, so do all who joined.
 func (g *Group) Do(key string, fn func() (interface{}, error)) (v interface{}, err error, shared bool) {
-	r := g.pool().do(key, fn)
+	var r Result
+	g.pool().do(&r, key, fn)
 	return r.Val, r.Err, r.Shared
 }
 
 // DoCall is Do, and tells from which call the result came.
 func (g *Group) DoCall(key string, fn func() (interface{}, error)) (v interface{}, err error, shared bool, call Call) {
-	r := g.pool().do(key, fn)
+	var r Result
+	g.pool().do(&r, key, fn)
 	return r.Val, r.Err, r.Shared, r.Call
 }
 
 // DoStamped is Do, and returns the stamp of the result.
 func (g *Group) DoStamped(key string, fn func() (interface{}, error)) (v interface{}, err error, shared bool, stamp Stamp) {
-	r := g.pool().do(key, fn)
+	var r Result
+	g.pool().do(&r, key, fn)
 	return r.Val, r.Err, r.Shared, r.Stamp
 }
 
@@ -214,23 +217,25 @@ func (g *Group) IsStill(stamp Stamp) bool {
 	return p != nil && p.isStill(stamp)
 }
 
-func (p *pool) do(key string, fn func() (interface{}, error)) Result {
-	return p.goOn(p.ask(key, 0), key, fn)
+// Results and askings are passed by their address: their copies took a tenth of a Do.
+func (p *pool) do(r *Result, key string, fn func() (interface{}, error)) {
+	var a asking
+	p.ask(&a, key, 0)
+	p.goOn(r, &a, key, fn)
 }
 
 // Goes on with an asking until there is a result.
-func (p *pool) goOn(a asking, key string, fn func() (interface{}, error)) Result {
-	for others := 0; !a.leads; a = p.ask(key, others) {
-		r, how := p.join(a, nil)
-		switch how {
+func (p *pool) goOn(r *Result, a *asking, key string, fn func() (interface{}, error)) {
+	for others := 0; !a.leads; p.ask(a, key, others) {
+		switch p.join(r, a, nil) {
 		case settled:
 			r.end()
-			return r
+			return
 		case other:
 			others++
 		}
 	}
-	return p.lead(a, fn, nil)
+	p.lead(r, a, fn, nil)
 }
 
 // Ends the goroutine where the function has ended its own.
@@ -246,8 +251,13 @@ func (r *Result) end() {
 func (g *Group) DoChan(key string, fn func() (interface{}, error)) <-chan Result {
 	ch := make(chan Result, 1)
 	p := g.pool()
-	a := p.ask(key, 0)
-	go func() { ch <- p.goOn(a, key, fn) }()
+	var a asking
+	p.ask(&a, key, 0)
+	go func() {
+		var r Result
+		p.goOn(&r, &a, key, fn)
+		ch <- r
+	}()
 	return ch
 }
 
@@ -282,16 +292,16 @@ func (g *Group) ForgetCall(key string, call Call) Hit {
 
 // Calls fn, and settles the call that was led, also where fn panics or ends its goroutine. A watched call has a goroutine of
 // its own, and its panic goes on in the leader's, unless that has left.
-func (p *pool) lead(a asking, fn func() (interface{}, error), watched *wait) (r Result) {
+func (p *pool) lead(r *Result, a *asking, fn func() (interface{}, error), watched *wait) {
 	returned, recovered := false, false
 	// By two deferred functions a panic is told from Goexit, which recover does not stop.
 	defer func() {
 		if !returned && !recovered {
 			r.Err = errGoexit
 		}
-		p.settle(a, &r, watched)
+		p.settle(a, r, watched)
 		if watched != nil && !watched.alone {
-			watched.result <- r
+			watched.result <- *r
 		} else if e, ok := r.Err.(*panicError); ok {
 			panic(e)
 		}
@@ -308,5 +318,4 @@ func (p *pool) lead(a asking, fn func() (interface{}, error), watched *wait) (r 
 		returned = true
 	}()
 	recovered = !returned
-	return r
 }
