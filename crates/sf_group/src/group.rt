@@ -39,6 +39,7 @@ pub struct Group<V: Fit> {
 }
 
 impl<V: Fit> Model for Group<V> {
+    ghost use Rattle.sf_calls.specs.declared.limits.TheConstants.{MOST_CALLERS};
     ghost use Rattle.std.specs.Prelude.{◌≡◌, ◌+◌, ◌≤◌};
     ghost use Rattle.sf_word_steps.specs.Words.{words_in};
     ghost use Rattle.sf_calls.specs.Tokens.{GroupValue};
@@ -48,7 +49,7 @@ impl<V: Fit> Model for Group<V> {
     ghost view = { λ g. record { table = g.table.shared.table_id; sizes = g.sizes } };
 
     ghost invariant = { λ g. (g.sizes ≡ g.table.shared.key)
-        × (g.table.shared.table_id.words ≡ words_in g.table.shared.key) × (g.sizes.callers ≤ 65535)
+        × (g.table.shared.table_id.words ≡ words_in g.table.shared.key) × (g.sizes.callers ≤ MOST_CALLERS)
         × (1 ≤ g.sizes.first) × (g.table.shared.table_id.slots ≡ g.table.shared.key.callers + 1) };
 }
 
