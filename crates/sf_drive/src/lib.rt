@@ -12,7 +12,8 @@ mod report;
 
 pub use driving::drive;
 pub use line::{
-    DRIVE_ABOUT, DRIVE_HELP, DriveLine, NoDrive, drive_line, switch, with_drive_options,
+    DRIVE_ABOUT, DRIVE_HELP, DriveLine, MOST_GETS, MOST_KEYS, MOST_THREADS, NoDrive, drive_line,
+    switch, with_drive_options,
 };
 pub use progress::ProgressLine;
 pub use report::{DriveEnding, Report, status};

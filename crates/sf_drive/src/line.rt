@@ -1,9 +1,19 @@
 //! The words of a drive.
 ghost use Rattle.std.specs.Prelude.{◌≡◌, ◌≤◌, IfOk};
+ghost use Rattle.sf_drive.specs.declared.line.TheConstants.{MOST_THREADS, MOST_KEYS, MOST_GETS};
 
 use clap::{Arg, ArgAction, Command, Error};
 use std::alloc::{AllocError, Global};
 use std::fmt;
+
+/// The most threads of a drive.
+pub const MOST_THREADS: u32 = 64;
+
+/// The most keys of a drive.
+pub const MOST_KEYS: u32 = 1_000;
+
+/// The most gets of each of its threads.
+pub const MOST_GETS: u32 = 100_000;
 
 /// How much a drive does.
 #[derive(Clone, Copy)]
@@ -20,9 +30,9 @@ pub struct DriveLine {
     pub history: bool,
     /// Whether the first thread says on standard error how far it is; no words ask for it.
     pub progress: bool,
-    ghost threads_in_range: { (1 ≤ threads) × (threads ≤ 64) },
-    ghost keys_in_range: { (1 ≤ keys) × (keys ≤ 1000) },
-    ghost gets_in_range: { (1 ≤ gets) × (gets ≤ 100000) },
+    ghost threads_in_range: { (1 ≤ threads) × (threads ≤ MOST_THREADS) },
+    ghost keys_in_range: { (1 ≤ keys) × (keys ≤ MOST_KEYS) },
+    ghost gets_in_range: { (1 ≤ gets) × (gets ≤ MOST_GETS) },
 }
 
 /// Why the words ask for no drive.
@@ -92,9 +102,9 @@ pub fn with_drive_options<'a>(
     let open = "Places by a hash, 16 a key, in place of a directory";
     let history = "Prints the records of what happened, in place of the four lines";
     command
-        .arg(count(alloc, "threads", threads, 64))?
-        .arg(count(alloc, "keys", keys, 1_000))?
-        .arg(count(alloc, "gets", gets, 100_000))?
+        .arg(count(alloc, "threads", threads, MOST_THREADS))?
+        .arg(count(alloc, "keys", keys, MOST_KEYS))?
+        .arg(count(alloc, "gets", gets, MOST_GETS))?
         .arg(switch(alloc, "open", open))?
         .arg(switch(alloc, "history", history))
 }
@@ -111,18 +121,18 @@ fn command<'a>(alloc: Global) -> Result<Command<'a>, Error> {
 /// Reads the words of a drive, the subcommand's name first: `--threads` (4 where it is absent), `--keys` (8), `--gets`
 /// (100), `--open` and `--history`. Whatever is no parse is usage.
 pub fn drive_line<'a>(alloc: Global, words: &'a [String]) -> Result<DriveLine, NoDrive>
-    ensures threads { IfOk result (λ line. (1 ≤ line.threads) × (line.threads ≤ 64)) }
-    ensures keys { IfOk result (λ line. (1 ≤ line.keys) × (line.keys ≤ 1000)) }
-    ensures gets { IfOk result (λ line. (1 ≤ line.gets) × (line.gets ≤ 100000)) }
+    ensures threads { IfOk result (λ line. (1 ≤ line.threads) × (line.threads ≤ MOST_THREADS)) }
+    ensures keys { IfOk result (λ line. (1 ≤ line.keys) × (line.keys ≤ MOST_KEYS)) }
+    ensures gets { IfOk result (λ line. (1 ≤ line.gets) × (line.gets ≤ MOST_GETS)) }
 {
     let command: Command<'a> = command(alloc)?;
     let matches = command.try_get_matches_from(words)?;
     let threads = matches.get_one::<u32>("threads").unwrap_or(4);
     let keys = matches.get_one::<u32>("keys").unwrap_or(8);
     let gets = matches.get_one::<u32>("gets").unwrap_or(100);
-    let has_threads = 1 <= threads && threads <= 64;
-    let has_keys = 1 <= keys && keys <= 1_000;
-    let has_gets = 1 <= gets && gets <= 100_000;
+    let has_threads = 1 <= threads && threads <= MOST_THREADS;
+    let has_keys = 1 <= keys && keys <= MOST_KEYS;
+    let has_gets = 1 <= gets && gets <= MOST_GETS;
     if !(has_threads && has_keys && has_gets) {
         return Err(NoDrive::OutOfRange);
     }
