@@ -6,8 +6,8 @@ use Rattle.sf_calls.specs.Tokens.{GroupValue, CallerValue, FlightValue, LetterVa
 use Rattle.sf_calls.specs.Seen.{IsLawful, Adds}
 use Rattle.sf_calls.specs.Same.{HasNothing, IsStill, IsSameFlight, call_of}
 use Rattle.sf_calls.specs.Begins.{HasLed}
-use Rattle.sf_calls.specs.Notes.{HasLent, HasCopied, HasLearntLeading}
-use Rattle.sf_calls.specs.Currents.{WasCurrent, HasQuestioned}
+use Rattle.sf_calls.specs.Notes.{HasLearnt, HasLent, HasCopied, HasLearntLeading}
+use Rattle.sf_calls.specs.Currents.{WasCurrent, HasQuestioned, IsStillSaid}
 use Rattle.sf_calls.proofs.AddsAgain.{starts_again, grows_none, adds_again, still}
 use Rattle.sf_fill.specs.FillValue.{Filled, FitsFill, fill_lasts}
 use Rattle.sf_fill.specs.Rooted.{IsRooted}
@@ -54,7 +54,27 @@ current_letter g c d place l m told group at kept asked is = record {
   current = subst (λ (k : ℕ). WasCurrent k l.call c.seen l.seen d.seen) at (asked.right is);
 }
 
+-- the same question in two steps: the caller learns what the note shows, and asks then
+pub questioned : (c u d : CallerValue Filled) (l m : LetterValue Filled) (told : Bool) → HasLearnt c l.seen u → HasNothing u d → IsStillSaid l.place l.call told u.seen d.seen → HasLent l m → HasQuestioned c l told d m
+questioned c u d l m told learnt nothing said lent = record {
+  learnt = (nothing_again c u d learnt.0 nothing, starts_again l.seen u.seen d.seen learnt.1 nothing.adds.grows.begins);
+  lent = lent;
+  right = λ yes.
+      let was = said.right yes in
+      record { moment = was.moment; begins = starts_again c.seen u.seen was.moment learnt.0.adds.grows.begins was.begins; shows = starts_again l.seen u.seen was.moment learnt.1 was.begins; within = was.within; current = was.current };
+  outdated = said.outdated;
+}
+
+-- so of a letter that is another's view
+pub questioned_view : (v l : LetterValue Filled) → v ≡ l → (c u d : CallerValue Filled) (m : LetterValue Filled) (told : Bool) → HasLearnt c v.seen u → HasNothing u d → IsStillSaid v.place v.call told u.seen d.seen → HasLent v m → HasQuestioned c l told d m
+questioned_view v l is c u d m told learnt nothing said lent = subst (λ (x : LetterValue Filled). HasQuestioned c x told d m) is (questioned c u d v m told learnt nothing said lent)
+
 module _ (E : Type 0) where
+  -- a letter that was current and lent, and a copy of it
+  pub looked_lent_on : (c d : CallerValue Filled) (place : ℕ) (l m : LetterValue Filled) (copy : Result (LetterValue Filled) E) → IsCurrentLetter c place l d → HasLent l m → IfOk copy (HasLent m) → HasLooked c place (Some copy) d
+  looked_lent_on c d place l m (Ok n) current lent copied = (l, current, lent_again l m n lent copied)
+  looked_lent_on c d place l m (Err e) current lent copied = (l, current)
+
   pub looked : (c d : CallerValue Filled) (place : ℕ) (l m o : LetterValue Filled) (copy : Result (LetterValue Filled) E) → IsCurrentLetter c place l d → HasLent l m → IfOk copy (λ n. HasCopied FitsFill m o n) → HasLooked c place (Some copy) d
   looked c d place l m o (Ok n) current lent copied = (l, current, lent_again l m n lent copied.1)
   looked c d place l m o (Err e) current lent copied = (l, current)

@@ -28,7 +28,7 @@ use Rattle.sf_fill.specs.Totals.{with_counts}
 use Rattle.sf_fill.proofs.Fresh.{fresh, group_found}
 use Rattle.sf_fill.proofs.Logging.{logs_none}
 use Rattle.sf_fill.proofs.LogSteps.{logs_looked, logs_once}
-use Rattle.sf_fill.proofs.Looks.{looked_again, looked_twice, still_looked}
+use Rattle.sf_fill.proofs.Looks.{looked_again, looked_on, looked_twice, still_looked}
 
 module _ {E : Type 0} where
   only_looked : (c d : CallerValue Filled) (place : ℕ) (found : Option (Result (LetterValue Filled) E)) → HasLookedOn c place found d → HasOnlyLooked c d
@@ -42,11 +42,35 @@ module _ {E : Type 0} where
   looks_group g (Free c) (Owing s) place found of h = elim h [ ]
   looks_group g (Owing s) t place found of h = subst (IsOfGroup g) (sym h.1) of
 
+  -- two looks, of which the first found none
+  looks_on : (s t u : Standing Filled) (place : ℕ) (found : Option (Result (LetterValue Filled) E)) → LooksFrom {E = E} s place None t → LooksFrom t place found u → LooksFrom s place found u
+  looks_on (Free c) (Free d) (Free e) place found first second = looked_on E c d e place found (looked_twice c d first) second
+  looks_on (Free c) (Free d) (Owing o) place found first second = elim second [ ]
+  looks_on (Free c) (Owing o) u place found first second = elim first [ ]
+  looks_on (Owing o) t u place found first second = subst (λ (x : Standing Filled). LooksFrom x place found u) first.1 second
+
   -- and logs nothing
   pub looks_logged : (s t : Standing Filled) (place : ℕ) (found : Option (Result (LetterValue Filled) E)) (log : LogValue) → LooksFrom s place found t → HasLogged (number_of s) (seen_of s) (seen_of t) log log
   looks_logged (Free c) (Free d) place found log h = logs_looked c d log (only_looked c d place found h)
   looks_logged (Free c) (Owing s) place found log h = elim h [ ]
   looks_logged (Owing s) t place found log h = subst (λ (n : Standing Filled). HasLogged s.number s.seen (seen_of n) log log) (sym h.1) (logs_none s.number s.seen log)
+
+module _ {L : Type 0} (place : ℕ) (a b c : GetterValue L) (first : IsNoneAtHand place a b) where
+  -- a letter is at hand at the second of two looks
+  pub at_hand_on : (answer : GetAnswer) → IsAtHand place b c answer → IsAtHand place a c answer
+  at_hand_on answer second = record {
+    found = second.found;
+    looked = looks_on a.standing b.standing c.standing place (Some second.found) first.looked second.looked;
+    answer_is = second.answer_is;
+    rest = second.rest ∙ ap (λ (g : GetterValue L). record g { standing = c.standing; counted = with_counts g.counted hit_counts }) first.rest;
+  }
+
+  -- and none at either
+  pub none_on : IsNoneAtHand place b c → IsNoneAtHand place a c
+  none_on second = record {
+    looked = looks_on a.standing b.standing c.standing place None first.looked second.looked;
+    rest = second.rest ∙ ap (λ (g : GetterValue L). record g { standing = c.standing }) first.rest;
+  }
 
 module _ {L : Type 0} (path : CallId → L → LoadAnswer → L → Type 0) (draws : L → L → Type 0) (space : SpaceId) (key : List ℕ) where
   -- letters are owed still
@@ -183,6 +207,22 @@ looks_none (Owing s) place = (refl, refl)
 pub some_then : {A : Type 0} (P Q : A → Type 0) (r : Option A) → ((a : A) → P a → Q a) → IfSome r P → IfSome r Q
 some_then P Q None then h = h
 some_then P Q (Some a) then h = then a h
+
+-- what a look of a getter's caller comes to, over the getter
+module _ {L : Type 0} (place p : ℕ) (old : GetterValue L) (desk : KeyDesk) (s : Standing Filled) (loaders : L) (tallies : Totals) (log : LogValue) (c d : CallerValue Filled)
+    (is : record { desk = desk; standing = s; loaders = loaders; counted = tallies; log = log } ≡ old) (free : s ≡ Free c) (at : p ≡ place) where
+  looks_free : (found : Option (Result (LetterValue Filled) AllocError)) → HasLookedOn c p found d → LooksFrom s place found (Free d)
+  looks_free found looked = subst (λ (k : ℕ). LooksFrom s k found (Free d)) at (subst (λ (x : Standing Filled). LooksFrom x p found (Free d)) (sym free) looked)
+
+  pub found_at_hand : (counted : Totals) (found : Result (LetterValue Filled) AllocError) (answer : GetAnswer) → HasLookedOn c p (Some found) d → answer ≡ hit_answer found → counted ≡ with_counts tallies hit_counts
+      → IsAtHand place old (record { desk = desk; standing = Free d; loaders = loaders; counted = counted; log = log }) answer
+  found_at_hand counted found answer looked says counts =
+      subst (λ (o : GetterValue L). IsAtHand place o (record { desk = desk; standing = Free d; loaders = loaders; counted = counted; log = log }) answer) is (record {
+        found = found;
+        looked = looks_free (Some found) looked;
+        answer_is = says;
+        rest = ap (λ (t : Totals). record { desk = desk; standing = Free d; loaders = loaders; counted = t; log = log }) counts;
+      })
 
 -- what a look at a place comes to, over the getter whose key was found at it
 module _ {L : Type 0} where

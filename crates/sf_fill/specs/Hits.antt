@@ -1,12 +1,11 @@
 -- gets that a letter at hand answers, and looks that find none
-use Rattle.std.specs.Prelude.{◌≡◌, ℕ, List, None, Result, Ok, Err, Option, Some}
+use Rattle.std.specs.Prelude.{◌≡◌, ℕ, List, None, Result, Ok, Err, Some}
 use Rattle.std.specs.declared.alloc.AllocError.{AllocError}
 use Rattle.sf_calls.specs.Tokens.{LetterValue}
 use Rattle.sf_spots.specs.declared.spot.Spot.{Spot}
 use Rattle.sf_spots.specs.Spaces.{SpaceId}
 use Rattle.sf_spots.specs.Spots.{IsSeeingSpace, IsSpotOfKey, spot_place}
 use Rattle.sf_fill.specs.declared.fault.LoadFault.TheVariants as fault
-use Rattle.sf_fill.specs.declared.getter.Standing.{Standing}
 use Rattle.sf_fill.specs.FillValue.{Filled}
 use Rattle.sf_fill.specs.Found.{hit_counts}
 use Rattle.sf_fill.specs.Gets.{GetAnswer, LooksFrom, answer_in}

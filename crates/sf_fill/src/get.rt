@@ -98,31 +98,6 @@ fn reply<'d, D: Naming, O: Origin>(
 }
 
 impl<'d, D: Naming, N: Naming, O: Origin> Fill<'d, D, N, O> {
-    // Looks for a letter of the key at the place, in what the getter keeps near and then in the caches, if it owes nothing.
-    fn look_for<R: Wait, L>(
-        &self,
-        rt: &R,
-        getter: &mut Getter<'d, D, N, O, L>,
-        place: u32,
-        key: &[u8],
-    ) -> Option<Result<Letter<FillValue<'d, D, O>>, Memory>>
-        ensures looked { LooksFrom getter.old.standing place result getter.new.standing }
-        ensures of_key { IfSome result (λ found. IfOk found (λ letter. MayBe letter.value.spot key.now)) }
-        ensures rest { getter.new ≡ record getter.old { standing = getter.new.standing } }
-    {
-        match &mut getter.standing {
-            Standing::Free(caller) => self.look_near(
-                rt,
-                &mut getter.near,
-                &mut getter.tallies,
-                place,
-                key,
-                caller,
-            ),
-            Standing::Owing(_) => None,
-        }
-    }
-
     // Asks the group: loads the key where the caller leads, and else waits for the letter. Where that is of another key, it asks
     // again.
     fn ask<R: Wait, L>(
@@ -264,8 +239,40 @@ impl<'d, D: Naming, N: Naming, O: Origin> Fill<'d, D, N, O> {
         (getter, answer)
     }
 
-    // Answers the key from a letter at hand, if there is one, and counts a hit then.
-    fn look_once<R: Wait, L>(
+    // Answers the key from a letter that the getter keeps near, if there is one, and counts a hit then.
+    #[inline(always)]
+    fn look_near<R: Wait, L>(
+        &self,
+        rt: &R,
+        getter: &mut Getter<'d, D, N, O, L>,
+        at: &mut KeyPlace<'d>,
+        key: &[u8],
+    ) -> Option<Result<View<'d, D, O>, LoadFault>>
+        requires room { getter.old.counted.gets < 2 ^ 64 - 1 }
+        requires space { IsInSpace D.space (spot_at key.now at.old) }
+        requires keyed { spot_key (spot_at key.now at.old) ≡ key.now }
+        requires place { IsPlaceOf N.group (place_at at.old) }
+        ensures at_hand { IfSome result (IsAtHand (place_at at.old) getter.old getter.new) }
+        ensures none { result ≡ None → IsNoneAtHand (place_at at.old) getter.old getter.new }
+        ensures keyed { IfSome result (λ answer. IfOk answer (λ view. spot_key view.value.spot ≡ key.now)) }
+        ensures loaded { IfSome result (λ answer. IfOk answer (IsLoadedFor O.loaded key.now)) }
+        ensures same { at.new ≡ at.old }
+    {
+        let Standing::Free(caller) = &mut getter.standing else {
+            return None;
+        };
+        let found = getter.near.look(&self.group, at, key, caller)?;
+        self.count(rt, &mut getter.tallies, HIT);
+        match found {
+            Ok(view) => Some(Ok(view)),
+            Err(_) => Some(Err(LoadFault::Memory)),
+        }
+    }
+
+    // Answers the key from a letter that a cache has, if there is one, and counts a hit then; the getter keeps it near. What it
+    // counted before is entered where the lock is taken.
+    #[inline(never)]
+    fn look_far<R: Wait, L>(
         &self,
         rt: &R,
         getter: &mut Getter<'d, D, N, O, L>,
@@ -281,14 +288,44 @@ impl<'d, D: Naming, N: Naming, O: Origin> Fill<'d, D, N, O> {
         ensures loaded { IfSome result (λ answer. IfOk answer (IsLoadedFor O.loaded key.now)) }
         ensures same { at.new ≡ at.old }
     {
-        let place = at.number().number();
-        let Some(found) = self.look_for(rt, getter, place, key) else {
+        let Standing::Free(caller) = &mut getter.standing else {
             return None;
         };
+        let place = at.number().number();
+        let found = self.look(rt, &mut getter.tallies, place, key, caller)?;
         self.count(rt, &mut getter.tallies, HIT);
         match found {
-            Ok(letter) => Some(show(letter, at, key)),
+            Ok(letter) => {
+                let mut letter = letter;
+                getter.near.keep(&self.group, key.len(), &mut letter);
+                Some(show(letter, at, key))
+            }
             Err(_) => Some(Err(LoadFault::Memory)),
+        }
+    }
+
+    // Answers the key from a letter at hand, if there is one, and counts a hit then.
+    #[inline(always)]
+    fn look_once<R: Wait, L>(
+        &self,
+        rt: &R,
+        getter: &mut Getter<'d, D, N, O, L>,
+        at: &mut KeyPlace<'d>,
+        key: &[u8],
+    ) -> Option<Result<View<'d, D, O>, LoadFault>>
+        requires room { getter.old.counted.gets < 2 ^ 64 - 1 }
+        requires space { IsInSpace D.space (spot_at key.now at.old) }
+        requires keyed { spot_key (spot_at key.now at.old) ≡ key.now }
+        requires place { IsPlaceOf N.group (place_at at.old) }
+        ensures at_hand { IfSome result (IsAtHand (place_at at.old) getter.old getter.new) }
+        ensures none { result ≡ None → IsNoneAtHand (place_at at.old) getter.old getter.new }
+        ensures keyed { IfSome result (λ answer. IfOk answer (λ view. spot_key view.value.spot ≡ key.now)) }
+        ensures loaded { IfSome result (λ answer. IfOk answer (IsLoadedFor O.loaded key.now)) }
+        ensures same { at.new ≡ at.old }
+    {
+        match self.look_near(rt, getter, at, key) {
+            Some(answer) => Some(answer),
+            None => self.look_far(rt, getter, at, key),
         }
     }
 

@@ -1,27 +1,120 @@
 //! Letters that a getter keeps near: it looks at them before it takes the lock.
-ghost use Rattle.std.specs.Prelude.{◌≡◌, ◌≤◌, ◌<◌, IfOk, IfSome};
-ghost use Rattle.sf_spots.specs.Spots.{MayBe};
+ghost use Rattle.std.specs.Prelude.{◌≡◌, ◌↔◌, ◌≤◌, ◌<◌, IfOk, IfSome, IsTrue, Ok};
+ghost use Rattle.sf_spots.specs.Spots.{IsInSpace, MayBe, place_at, spot_at, spot_key};
+ghost use Rattle.sf_calls.specs.Currents.{HasQuestioned};
 ghost use Rattle.sf_calls.specs.Notes.{HasLent};
-ghost use Rattle.sf_fill.specs.Settled.{IsSettled, HasLooked, HasLookedOn};
+ghost use Rattle.sf_calls.specs.Same.{IsPlaceOf};
+ghost use Rattle.sf_fill.specs.Gets.{IsLoadedFor, answer_in};
+ghost use Rattle.sf_fill.specs.Settled.{IsKeptLetter, IsSettled, HasLooked};
 
-use crate::counters::Tallies;
-use crate::fill::Fill;
-use crate::kept::Cached;
 use crate::naming::Naming;
 use crate::value::FillValue;
+use crate::view::View;
 use sf_group::{Caller, Group, Letter, Memory};
+use sf_history::CallId;
 use sf_loaders::Origin;
+use sf_spots::KeyPlace;
 use std::alloc::Global;
+use std::marker::{Model, PhantomData};
 use std::mem;
-use std::sync::Wait;
 
 /// How many near hits of a letter there are from one look in the caches to the next, so that their order knows of it.
 const HITS_ALONE: u32 = 63;
 
-/// A letter whose bytes nobody shares but who was answered it.
+/// A letter of the fill's group, whose call was settled so, as a view: its bytes nobody shares but who was answered it.
+#[derive(Drop)]
+struct NearView<'d, D: Naming, N: Naming, O: Origin> {
+    own: View<'d, D, O>,
+    of: PhantomData<N>,
+}
+
+impl<'d, D: Naming, N: Naming, O: Origin> Model for NearView<'d, D, N, O> {
+    ghost use Rattle.sf_calls.specs.Tokens.{LetterValue};
+    ghost use Rattle.sf_fill.specs.FillValue.{Filled};
+    ghost use Rattle.sf_fill.specs.Settled.{IsKeptLetter};
+
+    ghost Value = { LetterValue Filled };
+
+    ghost view = { λ n. n.own };
+
+    ghost invariant = { λ n. IsKeptLetter N.group n.own.place n.own };
+}
+
+impl<'d, D: Naming, N: Naming, O: Origin> NearView<'d, D, N, O> {
+    // A view to be kept.
+    fn new(own: View<'d, D, O>) -> Self
+        requires { IsKeptLetter N.group own.place own }
+        ensures { result ≡ own.entry }
+    {
+        NearView {
+            own,
+            of: PhantomData,
+        }
+    }
+
+    // The number of its place.
+    fn place(&self) -> u32
+        ensures { result ≡ self.now.place }
+    {
+        self.own.place()
+    }
+
+    // Its call.
+    fn call(&self) -> CallId
+        ensures { result ≡ self.now.call }
+    {
+        self.own.call()
+    }
+
+    // Whether it may be of the key, whose place is its own.
+    fn is_of(&self, key: &[u8]) -> bool
+        ensures { IsTrue result ↔ MayBe self.now.value.spot key.now }
+    {
+        self.own.is_of(key)
+    }
+
+    // Whether its call is its place's current one. The caller learns what its note shows first.
+    fn is_current(
+        &mut self,
+        group: &Group<FillValue<'d, D, O>>,
+        caller: &mut Caller<FillValue<'d, D, O>>,
+    ) -> bool
+        requires group { group.now ≡ N.group }
+        requires caller { caller.old.group ≡ N.group }
+        requires place { IsPlaceOf N.group self.old.place }
+        ensures kept { IsKeptLetter N.group self.old.place self.old }
+        ensures asked { HasQuestioned caller.old self.old result caller.new self.new }
+    {
+        self.own.is_current(group, caller)
+    }
+
+    // Another view of the same, for the key of the place, which it may be of.
+    #[inline(always)]
+    fn show(
+        &mut self,
+        group: &Group<FillValue<'d, D, O>>,
+        at: &mut KeyPlace<'d>,
+        key: &[u8],
+    ) -> Result<View<'d, D, O>, Memory>
+        requires group { group.now ≡ N.group }
+        requires space { IsInSpace D.space (spot_at key.now at.old) }
+        requires number { place_at at.old ≡ self.old.place }
+        requires may_be { MayBe self.old.value.spot key.now }
+        ensures again { IfOk result (λ view. HasLent self.old view) }
+        ensures answer { IfOk result (λ view. answer_in view ≡ Ok view) }
+        ensures keyed { IfOk result (λ view. spot_key view.value.spot ≡ spot_key (spot_at key.now at.old)) }
+        ensures loaded { IfOk result (IsLoadedFor O.loaded (spot_key (spot_at key.now at.old))) }
+        ensures same { at.new ≡ at.old }
+    {
+        self.own.agree(at, key);
+        self.own.again(group)
+    }
+}
+
+/// A slot's view.
 #[derive(Drop)]
 struct NearLetter<'d, D: Naming, N: Naming, O: Origin> {
-    cached: Cached<'d, D, N, O>,
+    near: NearView<'d, D, N, O>,
     /// How many bytes its key and its value have.
     bytes: usize,
     /// How often it was answered since the getter last looked in the caches for it.
@@ -117,31 +210,37 @@ impl<'d, D: Naming, N: Naming, O: Origin> Near<'d, D, N, O> {
         }
     }
 
-    // A copy of the getter's own letter of the key at the place, if its call is current; else its slot is emptied. Each 64th time
-    // there is none, so that the getter looks in the caches.
+    // What the getter's own letter of the key at the place answers, if its call is current; else its slot is emptied. Each 64th
+    // time there is none, so that the getter looks in the caches.
+    #[inline(always)]
     pub(crate) fn look(
         &mut self,
         group: &Group<FillValue<'d, D, O>>,
-        place: u32,
+        at: &mut KeyPlace<'d>,
         key: &[u8],
         caller: &mut Caller<FillValue<'d, D, O>>,
-    ) -> Option<Result<Letter<FillValue<'d, D, O>>, Memory>>
+    ) -> Option<Result<View<'d, D, O>, Memory>>
         requires group { group.now ≡ N.group }
         requires caller { caller.old.group ≡ N.group }
-        ensures looked { HasLooked caller.old place result caller.new }
-        ensures of_key { IfSome result (λ found. IfOk found (λ letter. MayBe letter.value.spot key.now)) }
+        requires place { IsPlaceOf N.group (place_at at.old) }
+        requires space { IsInSpace D.space (spot_at key.now at.old) }
+        ensures looked { HasLooked caller.old (place_at at.old) result caller.new }
+        ensures answer { IfSome result (λ found. IfOk found (λ view. answer_in view ≡ Ok view)) }
+        ensures keyed { IfSome result (λ found. IfOk found (λ view. spot_key view.value.spot ≡ spot_key (spot_at key.now at.old))) }
+        ensures loaded { IfSome result (λ found. IfOk found (IsLoadedFor O.loaded (spot_key (spot_at key.now at.old)))) }
+        ensures same { at.new ≡ at.old }
     {
+        let place = at.number().number();
         let index = self.slot(place)?;
         let letter = self.slots.get_mut(index)?.as_mut()?;
-        let cached = &mut letter.cached;
-        if cached.place() != place || !cached.is_of(key) || letter.hits >= HITS_ALONE {
+        let near = &mut letter.near;
+        if near.place() != place || !near.is_of(key) || letter.hits >= HITS_ALONE {
             return None;
         }
-        cached.known();
-        let current = cached.is_current(group, caller);
+        let current = near.is_current(group, caller);
         if current {
             letter.hits += 1;
-            return Some(cached.copy(group));
+            return Some(near.show(group, at, key));
         }
         self.clear(index);
         None
@@ -156,7 +255,7 @@ impl<'d, D: Naming, N: Naming, O: Origin> Near<'d, D, N, O> {
             return false;
         };
         near.hits = 0;
-        near.cached.place() == letter.place() && near.cached.call() == letter.call()
+        near.near.place() == letter.place() && near.near.call() == letter.call()
     }
 
     // Puts a copy of the letter into its slot, in the place of what that has, if it brings bytes and there is room; nothing is put
@@ -199,7 +298,10 @@ impl<'d, D: Naming, N: Naming, O: Origin> Near<'d, D, N, O> {
         let Ok(copy) = own_copy(self.alloc, group, letter) else {
             return;
         };
-        self.put(index, copy, bytes);
+        copy.known();
+        if let Ok(view) = View::of(copy) {
+            self.put(index, view, bytes);
+        }
     }
 
     // Empties one slot, if there is no room for so many bytes: the next one each time.
@@ -211,70 +313,19 @@ impl<'d, D: Naming, N: Naming, O: Origin> Near<'d, D, N, O> {
         }
     }
 
-    // Puts the letter into the slot, which is empty.
-    fn put(&mut self, index: usize, letter: Letter<FillValue<'d, D, O>>, bytes: usize)
+    // Puts the view into the slot, which is empty.
+    fn put(&mut self, index: usize, view: View<'d, D, O>, bytes: usize)
         requires room { bytes ≤ self.old.room }
-        requires group { letter.group ≡ N.group }
-        requires settled { IsSettled letter }
+        requires kept { IsKeptLetter N.group view.place view }
     {
         let Some(slot) = self.slots.get_mut(index) else {
             return;
         };
         self.room -= bytes;
         *slot = Some(NearLetter {
-            cached: Cached::new(letter),
+            near: NearView::new(view),
             bytes,
             hits: 0,
         });
-    }
-}
-
-impl<'d, D: Naming, N: Naming, O: Origin> Fill<'d, D, N, O> {
-    // The same as a look in the caches, after one at the getter's own letters.
-    pub(crate) fn look_near<R: Wait>(
-        &self,
-        rt: &R,
-        near: &mut Near<'d, D, N, O>,
-        tallies: &mut Tallies<N>,
-        place: u32,
-        key: &[u8],
-        caller: &mut Caller<FillValue<'d, D, O>>,
-    ) -> Option<Result<Letter<FillValue<'d, D, O>>, Memory>>
-        requires { caller.old.group ≡ N.group }
-        ensures looked { HasLookedOn caller.old place result caller.new }
-        ensures of_key { IfSome result (λ found. IfOk found (λ letter. MayBe letter.value.spot key.now)) }
-        ensures tallies { tallies.new ≡ tallies.old }
-    {
-        if let Some(copy) = near.look(&self.group, place, key, caller) {
-            return Some(copy);
-        }
-        self.look_far(rt, near, tallies, place, key, caller)
-    }
-
-    // A look in the caches, of which the getter then keeps near what it found. What it counted is entered where the lock is taken.
-    #[inline(never)]
-    fn look_far<R: Wait>(
-        &self,
-        rt: &R,
-        near: &mut Near<'d, D, N, O>,
-        tallies: &mut Tallies<N>,
-        place: u32,
-        key: &[u8],
-        caller: &mut Caller<FillValue<'d, D, O>>,
-    ) -> Option<Result<Letter<FillValue<'d, D, O>>, Memory>>
-        requires { caller.old.group ≡ N.group }
-        ensures looked { HasLookedOn caller.old place result caller.new }
-        ensures of_key { IfSome result (λ found. IfOk found (λ letter. MayBe letter.value.spot key.now)) }
-        ensures tallies { tallies.new ≡ tallies.old }
-    {
-        match self.look(rt, tallies, place, key, caller) {
-            Some(Ok(letter)) => {
-                let mut letter = letter;
-                near.keep(&self.group, key.len(), &mut letter);
-                Some(Ok(letter))
-            }
-            Some(Err(refusal)) => Some(Err(refusal)),
-            None => None,
-        }
     }
 }

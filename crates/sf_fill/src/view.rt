@@ -1,6 +1,9 @@
 //! What a get answers.
-ghost use Rattle.std.specs.Prelude.{◌≡◌, Ok, IfOk, nat_lt};
+ghost use Rattle.std.specs.Prelude.{◌≡◌, ◌↔◌, Ok, IfOk, IsTrue, nat_lt};
 ghost use Rattle.std.specs.Option.{option_copied};
+ghost use Rattle.sf_calls.specs.Currents.{HasQuestioned};
+ghost use Rattle.sf_calls.specs.Notes.{HasLent};
+ghost use Rattle.sf_calls.specs.Same.{IsPlaceOf};
 ghost use Rattle.sf_spots.specs.Spots.{IsInSpace, MayBe, place_at, spot_at, spot_key};
 ghost use Rattle.sf_fill.specs.FillValue.{own_key};
 ghost use Rattle.sf_fill.specs.Gets.{IsLoadedFor, answer_in};
@@ -9,7 +12,7 @@ use crate::fault::LoadFault;
 use crate::naming::Naming;
 use crate::value::FillValue;
 use bytes::Bytes;
-use sf_group::{Letter, Note};
+use sf_group::{Caller, Group, Letter, Memory, Note};
 use sf_history::CallId;
 use sf_loaders::{LocalFault, Origin};
 use sf_spots::{KeyPlace, Spot};
@@ -29,14 +32,14 @@ pub struct View<'d, D: Naming, O: Origin> {
 impl<'d, D: Naming, O: Origin> Model for View<'d, D, O> {
     ghost use Rattle.std.specs.Prelude.{Ok};
     ghost use Rattle.sf_calls.specs.Tokens.{LetterValue};
-    ghost use Rattle.sf_spots.specs.Spots.{spot_key, spot_place};
+    ghost use Rattle.sf_spots.specs.Spots.{IsInSpace, spot_key, spot_place};
     ghost use Rattle.sf_fill.specs.FillValue.{Filled};
 
     ghost Value = { LetterValue Filled };
 
     ghost view = { λ v. record { group = v.note.group; seen = v.note.seen; place = spot_place v.spot; call = v.call; value = record { spot = v.spot; root = v.root; result = Ok v.bytes }; joiners = v.joiners } };
 
-    ghost invariant = { λ v. O.loaded (spot_key v.spot) v.root v.bytes };
+    ghost invariant = { λ v. IsInSpace D.space v.spot × O.loaded (spot_key v.spot) v.root v.bytes };
 }
 
 impl<'d, D: Naming, O: Origin> View<'d, D, O> {
@@ -124,6 +127,85 @@ impl<'d, D: Naming, O: Origin> View<'d, D, O> {
     }
 }
 
+impl<'d, D: Naming, O: Origin> View<'d, D, O> {
+    // What a letter answers: its bytes, or why there are none.
+    pub(crate) fn of(letter: Letter<FillValue<'d, D, O>>) -> Result<Self, LoadFault>
+        ensures answer { result ≡ answer_in letter.entry }
+        ensures same { IfOk result (λ view. view ≡ letter.entry) }
+    {
+        let call = letter.call();
+        let joiners = letter.joiners();
+        let (value, note) = letter.into_parts();
+        let (spot, root, result) = value.into_parts();
+        match result {
+            Ok(bytes) => Ok(View {
+                spot,
+                root,
+                bytes,
+                call,
+                joiners,
+                note,
+            }),
+            Err(LocalFault::Failed(text)) => Err(LoadFault::Local(text)),
+            Err(LocalFault::Memory) => Err(LoadFault::LeaderMemory),
+        }
+    }
+
+    // Whether it may be of the key, whose place is its own.
+    pub(crate) fn is_of(&self, key: &[u8]) -> bool
+        ensures { IsTrue result ↔ MayBe self.now.value.spot key.now }
+    {
+        self.spot.is_of(key)
+    }
+
+    // Shows that it is of the key that was asked for, where both are of one place and it may be.
+    pub(crate) fn agree(&mut self, at: &mut KeyPlace<'d>, key: &[u8])
+        requires space { IsInSpace D.space (spot_at key.now at.old) }
+        requires number { place_at at.old ≡ self.old.place }
+        requires may_be { MayBe self.old.value.spot key.now }
+        ensures keyed { spot_key self.old.value.spot ≡ spot_key (spot_at key.now at.old) }
+        ensures loaded { IsLoadedFor O.loaded (spot_key (spot_at key.now at.old)) self.old }
+        ensures kept { (self.new ≡ self.old) × (at.new ≡ at.old) }
+    {
+        self.spot.agree(at, key);
+    }
+
+    // Whether its call is its place's current one. The caller learns what its note shows first.
+    pub(crate) fn is_current(
+        &mut self,
+        group: &Group<FillValue<'d, D, O>>,
+        caller: &mut Caller<FillValue<'d, D, O>>,
+    ) -> bool
+        requires caller { caller.old.group ≡ group.now }
+        requires own { self.old.group ≡ group.now }
+        requires place { IsPlaceOf group.now self.old.place }
+        ensures { HasQuestioned caller.old self.old result caller.new self.new }
+    {
+        group.learn(caller, &mut self.note);
+        group.is_still_current(caller, self.spot.number().number(), self.call)
+    }
+
+    // Another one of the same, which shares its bytes; refused where their count, or that of the key's, is at its greatest.
+    #[inline(always)]
+    pub(crate) fn again(&mut self, group: &Group<FillValue<'d, D, O>>) -> Result<Self, Memory>
+        requires { self.old.group ≡ group.now }
+        ensures lent { HasLent self.old self.new }
+        ensures again { IfOk result (λ other. HasLent self.old other) }
+        ensures answer { IfOk result (λ other. answer_in other ≡ Ok other) }
+    {
+        let bytes = self.bytes.clone()?;
+        let spot = self.spot.again()?;
+        Ok(View {
+            spot,
+            root: self.root,
+            bytes,
+            call: self.call,
+            joiners: self.joiners,
+            note: group.again(&mut self.note),
+        })
+    }
+}
+
 // What a letter of the place answers: its bytes, or why there are none. The letter's value may be of the key, and is then.
 pub(crate) fn show<'d, D: Naming, O: Origin>(
     letter: Letter<FillValue<'d, D, O>>,
@@ -138,21 +220,12 @@ pub(crate) fn show<'d, D: Naming, O: Origin>(
     ensures loaded { IfOk result (IsLoadedFor O.loaded (spot_key (spot_at key.now at.old))) }
     ensures same { at.new ≡ at.old }
 {
-    let call = letter.call();
-    let joiners = letter.joiners();
-    let (mut value, note) = letter.into_parts();
-    value.agree(at, key);
-    let (spot, root, result) = value.into_parts();
-    match result {
-        Ok(bytes) => Ok(View {
-            spot,
-            root,
-            bytes,
-            call,
-            joiners,
-            note,
-        }),
-        Err(LocalFault::Failed(text)) => Err(LoadFault::Local(text)),
-        Err(LocalFault::Memory) => Err(LoadFault::LeaderMemory),
+    match View::of(letter) {
+        Ok(view) => {
+            let mut view = view;
+            view.agree(at, key);
+            Ok(view)
+        }
+        Err(fault) => Err(fault),
     }
 }

@@ -38,6 +38,7 @@ impl<'d> Spot<'d> {
     }
 
     /// Another one of the same key and place; refused where the count of the key's bytes is at its greatest.
+    #[inline(always)]
     pub fn again(&mut self) -> Result<Spot<'d>, Memory>
         ensures same { IfOk result (λ other. other ≡ self.old) }
         ensures kept { self.new ≡ self.old }

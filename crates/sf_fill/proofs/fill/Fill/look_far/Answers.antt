@@ -1,7 +1,9 @@
-use Rattle.std.proofs.Common.{inl, refl}
+use Rattle.std.proofs.Common.{rules, inl, refl, Ok}
 use Rattle.sf_fill.proofs.Looks.{looked_on_lent}
+use Rattle.sf_fill.proofs.Once.{found_at_hand}
 use Rattle.sf_fill.proofs.fill.Fill.look_far.Goals as goal
 
-pub returns-in-Some-Ok-clause-looked : goal.returns-in-Some-Ok-clause-looked
-returns-in-Some-Ok-clause-looked g c =
-    looked_on_lent _ c.args.caller.now c.args.caller.now c.look.new.caller c.args.place c.in-Some-Ok.field-0 c.in-Some-Ok.letter c.keep.new.letter c.in-Some-Ok.field-0-is (inl refl) c.in-Some-Ok.ensures.looked c.keep.ensures
+pub returns-in-Ok-clause-at_hand : goal.returns-in-Ok-clause-at_hand
+returns-in-Ok-clause-at_hand g c =
+    found_at_hand _ _ _ _ _ _ _ _ c.in-Free.caller c.look.new.caller c.getter.view_is (search rules) (search rules) c.count.new.tallies (Ok c.keep.new.letter) c.show.result
+    (looked_on_lent _ c.in-Free.caller c.in-Free.caller c.look.new.caller _ c.in_ok-found.found c.in-Ok.letter c.keep.new.letter (search rules) (inl refl) c.in_ok-found.ensures.looked c.keep.ensures) c.show.ensures.answer (search rules)
