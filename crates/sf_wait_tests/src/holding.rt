@@ -3,20 +3,20 @@ ghost use Rattle.std.specs.Prelude.{◌≡◌, ◌≤◌, All, vec_len};
 
 use crate::outcome::Outcome;
 use crate::serving::Number;
-use sf_group::{Group, Polled, Ticket};
-use sf_wait::{Gate, Job, Served, Unserved, serve};
+use sf_group::{Fit, Group, Letter, Polled, Ticket};
+use sf_wait::{Gate, Job, Served, Unserved, serve, wait};
 use std::alloc::Global;
 use std::marker::Model;
 use std::sync::Wait;
 use std::thread::{Threads, yield_now};
 
 /// A ticket of the group.
-pub struct Kept<'a> {
-    group: &'a Group<Outcome>,
-    ticket: Ticket<Outcome>,
+pub struct Kept<'a, V: Fit> {
+    group: &'a Group<V>,
+    ticket: Ticket<V>,
 }
 
-impl<'a> Model for Kept<'a> {
+impl<'a, V: Fit> Model for Kept<'a, V> {
     ghost use Rattle.std.specs.Prelude.{◌≡◌};
 
     ghost Value = { Unit {0} };
@@ -26,20 +26,28 @@ impl<'a> Model for Kept<'a> {
     ghost invariant = { λ k. k.ticket.group ≡ k.group.now };
 }
 
-impl<'a> Drop for Kept<'a> {
+impl<'a, V: Fit> Drop for Kept<'a, V> {
     fn drop(self) {
         let Kept { group: _, ticket } = self;
         ticket.abandon();
     }
 }
 
-impl<'a> Kept<'a> {
-    pub fn new(group: &'a Group<Outcome>, ticket: Ticket<Outcome>) -> Kept<'a>
+impl<'a, V: Fit> Kept<'a, V> {
+    pub fn new(group: &'a Group<V>, ticket: Ticket<V>) -> Kept<'a, V>
         requires { ticket.group ≡ group.now }
     {
         Kept { group, ticket }
     }
 
+    /// Waits for the ticket's letter.
+    pub fn wait(self, rt: &impl Wait) -> Letter<V> {
+        let Self { group, ticket } = self;
+        wait(rt, group, ticket).1
+    }
+}
+
+impl<'a> Kept<'a, Outcome> {
     /// The value of the ticket's letter, if that comes within 1,000,000 looks.
     pub fn poll_often(self, rt: &impl Wait) -> Option<u32> {
         let Self { group, ticket } = self;

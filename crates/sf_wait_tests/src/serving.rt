@@ -1,13 +1,11 @@
 //! Jobs that workers do side by side, while another thread waits for one of their letters.
 ghost use Rattle.std.specs.Prelude.{◌≡◌};
-ghost use Rattle.sf_calls.specs.Same.{IsPlaceOf};
 
 use crate::holding::{Batch, Kept};
-use crate::outcome::{Outcome, check_call, id, next_caller};
-use sf_group::{Caller, ChanBegun, Flight, Group, Letter, Ticket};
-use sf_wait::{Gate, Job, Served, Work, do_chan, wait};
+use crate::outcome::{Outcome, check_call, id, lead_chan, next_caller};
+use sf_group::{Group, Letter};
+use sf_wait::{Gate, Job, Served, Work, wait};
 use std::process::Abort;
-use std::sync::Wait;
 use std::sync::atomic::{AtomicBool, AtomicU32, Ordering};
 use std::test::Fail;
 use std::thread::{join, yield_now};
@@ -48,28 +46,6 @@ impl Gate for SecondFirst {
             yield_now();
         }
         self.failed.store(true, Ordering::SeqCst);
-    }
-}
-
-fn lead_chan(
-    rt: &(impl Abort + Wait),
-    group: &Group<Outcome>,
-    caller: Caller<Outcome>,
-    second: Caller<Outcome>,
-    place: u32,
-) -> (Flight<Outcome>, Ticket<Outcome>)
-    requires caller { caller.group ≡ group.now }
-    requires second { second.group ≡ group.now }
-    requires place { IsPlaceOf group.now place }
-    ensures { (result.0.group ≡ group.now) × (result.1.group ≡ group.now) }
-{
-    match do_chan(rt, group, caller, second, place) {
-        Ok(ChanBegun::Led(flight, ticket)) => (flight, ticket),
-        Ok(ChanBegun::Joined(ticket, _)) => {
-            ticket.abandon();
-            panic!(rt; "it joins")
-        }
-        Err(_) => panic!(rt; "one is spent"),
     }
 }
 

@@ -3,42 +3,14 @@ ghost use Rattle.std.specs.Prelude.{◌≡◌};
 ghost use Rattle.sf_calls.specs.Same.{IsPlaceOf};
 ghost use Rattle.sf_calls.specs.declared.outcomes.Finished.TheVariants.{Held};
 
-use crate::outcome::{Outcome, check_call, check_letter, id, next_caller};
+use crate::outcome::{Outcome, check_call, check_letter, id, lead, lead_chan, next_caller};
 use crate::serving::Number;
-use sf_group::{
-    Begun, CallId, Caller, ChanBegun, Finished, Flight, Forgotten, Group, Letter, Settled, Spent,
-    Ticket,
-};
-use sf_wait::{
-    DoFault, Job, begin_chan_wait, begin_wait, do_with, finish_wait, forget_wait, go_on_wait, wait,
-};
+use sf_group::{Begun, Caller, Finished, Flight, Forgotten, Group, Letter, Settled, Spent};
+use sf_wait::{DoFault, Job, begin_wait, do_with, finish_wait, forget_wait, go_on_wait, wait};
 use std::process::Abort;
 use std::sync::Wait;
 use std::sync::atomic::{AtomicU32, Ordering};
 use std::test::Fail;
-
-fn lead(
-    rt: &(impl Abort + Wait),
-    group: &Group<Outcome>,
-    caller: Caller<Outcome>,
-    call: CallId,
-) -> Flight<Outcome>
-    requires own { caller.group ≡ group.now }
-    requires place { IsPlaceOf group.now 1 }
-    ensures { result.group ≡ group.now }
-{
-    match begin_wait(rt, group, caller, 1) {
-        Ok(Begun::Lead(flight)) => {
-            check_call(rt, flight.call(), call);
-            flight
-        }
-        Ok(Begun::Join(ticket)) => {
-            ticket.abandon();
-            panic!(rt; "it joins")
-        }
-        Err(Spent { back }) => panic!(rt; "caller {} is spent", back.number()),
-    }
-}
 
 fn finish(
     rt: &impl Abort,
@@ -62,7 +34,8 @@ fn finish(
 fn forms_of_one_caller(rt: HostRuntime) -> Result<(), Fail> {
     let (group, mut callers) = Group::<Outcome>::new(rt.alloc(), 1, 1, 1)?;
     let one = next_caller(&rt, &group, &mut callers);
-    let flight = lead(&rt, &group, one, id(1, 1));
+    let flight = lead(&rt, &group, one);
+    check_call(&rt, flight.call(), id(1, 1));
     let (mut one, letter) = finish(&rt, &group, flight, 7);
     check_letter(&rt, &letter, id(1, 1), 7, 0);
     let forgotten = forget_wait(&rt, &group, &mut one, 1);
@@ -70,33 +43,12 @@ fn forms_of_one_caller(rt: HostRuntime) -> Result<(), Fail> {
     Ok(())
 }
 
-fn lead_chan(
-    rt: &(impl Abort + Wait),
-    group: &Group<Outcome>,
-    caller: Caller<Outcome>,
-    second: Caller<Outcome>,
-) -> (Flight<Outcome>, Ticket<Outcome>)
-    requires caller { caller.group ≡ group.now }
-    requires second { second.group ≡ group.now }
-    requires place { IsPlaceOf group.now 1 }
-    ensures { (result.0.group ≡ group.now) × (result.1.group ≡ group.now) }
-{
-    match begin_chan_wait(rt, group, caller, second, 1) {
-        Ok(ChanBegun::Led(flight, ticket)) => (flight, ticket),
-        Ok(ChanBegun::Joined(ticket, _)) => {
-            ticket.abandon();
-            panic!(rt; "it joins")
-        }
-        Err(_) => panic!(rt; "one is spent"),
-    }
-}
-
 #[test]
 fn forms_of_a_channel(rt: HostRuntime) -> Result<(), Fail> {
     let (group, mut callers) = Group::<Outcome>::new(rt.alloc(), 1, 2, 1)?;
     let two = next_caller(&rt, &group, &mut callers);
     let one = next_caller(&rt, &group, &mut callers);
-    let (flight, ticket) = lead_chan(&rt, &group, one, two);
+    let (flight, ticket) = lead_chan(&rt, &group, one, two, 1);
     let (_, letter) = finish(&rt, &group, flight, 7);
     check_letter(&rt, &letter, id(1, 1), 7, 0);
     let (two, letter) = wait(&rt, &group, ticket);
@@ -134,7 +86,7 @@ fn held_delivery_goes_on(rt: HostRuntime) -> Result<(), Fail> {
     let (group, mut callers) = Group::<Outcome>::new(rt.alloc(), 1, 2, 1)?;
     let two = next_caller(&rt, &group, &mut callers);
     let one = next_caller(&rt, &group, &mut callers);
-    let flight = lead(&rt, &group, one, id(1, 1));
+    let flight = lead(&rt, &group, one);
     join_once(&rt, &group, two);
     let settled = held(&rt, finish_wait(&group, flight, Outcome(100)));
     held(&rt, go_on_wait(&group, settled)).abandon();
@@ -210,7 +162,7 @@ fn do_is_held_where_a_copy_is_refused(rt: HostRuntime) -> Result<(), Fail> {
 fn job_gives_its_parts(rt: HostRuntime) -> Result<(), Fail> {
     let (group, mut callers) = Group::<Outcome>::new(rt.alloc(), 1, 1, 1)?;
     let one = next_caller(&rt, &group, &mut callers);
-    let job = Job::new(lead(&rt, &group, one, id(1, 1)), Number(7));
+    let job = Job::new(lead(&rt, &group, one), Number(7));
     let (flight, Number(value)) = job.into_parts();
     assert!(rt; value == 7, "its work is {value}");
     Job::new(flight, Number(8)).abandon();

@@ -1,16 +1,17 @@
 //! Who rests is woken: by the delivery to its own channel, and by one that goes on after memory was refused.
-ghost use Rattle.std.specs.Prelude.{◌≡◌, All};
-ghost use Rattle.sf_calls.specs.Same.{IsPlaceOf};
+ghost use Rattle.std.specs.Prelude.{◌≡◌};
 
-use sf_group::{Begun, Caller, ChanBegun, Finished, Fit, Flight, Group, Memory, Share, Ticket};
-use sf_wait::{begin_wait, do_chan, wait};
+use crate::holding::Kept;
+use crate::outcome::{lead, lead_chan, next_caller};
+use sf_group::{Begun, Finished, Fit, Flight, Group, Memory, Share};
+use sf_wait::begin_wait;
 use std::alloc::AllocError;
 use std::marker::Model;
 use std::process::Abort;
 use std::sync::Wait;
 use std::sync::atomic::{AtomicU32, Ordering};
 use std::test::Fail;
-use std::thread::{join, yield_now};
+use std::thread::{Threads, join, yield_now};
 
 // A number whose first copies are refused.
 #[derive(Drop)]
@@ -102,95 +103,37 @@ impl<'a> Leader<'a> {
     }
 }
 
-// One that waits for its letter.
-struct Rester<'a> {
-    group: &'a Group<Scarce>,
-    ticket: Ticket<Scarce>,
-}
-
-impl<'a> Model for Rester<'a> {
-    ghost use Rattle.std.specs.Prelude.{◌≡◌};
-
-    ghost Value = { Unit {0} };
-
-    ghost view = { λ _. tt };
-
-    ghost invariant = { λ r. r.ticket.group ≡ r.group.now };
-}
-
-impl<'a> Drop for Rester<'a> {
-    fn drop(self) {
-        let Rester { group: _, ticket } = self;
-        ticket.abandon();
-    }
-}
-
-impl<'a> Rester<'a> {
-    fn wait(self, rt: &impl Wait) -> u32 {
-        let Self { group, ticket } = self;
-        wait(rt, group, ticket).1.value().value
-    }
-}
-
-fn next(rt: &impl Abort, group: &Group<Scarce>, list: &mut Vec<Caller<Scarce>>) -> Caller<Scarce>
-    requires { All (λ c. c.group ≡ group.now) list.old.items }
-    ensures caller { result.group ≡ group.now }
-    ensures rest { All (λ c. c.group ≡ group.now) list.new.items }
-{
-    let Some(caller) = list.pop() else {
-        panic!(rt; "no more callers")
-    };
-    caller
+// The other rests while the leader settles, and has its letter then.
+fn check_woken(
+    rt: &(impl Abort + Threads + Wait + Sync),
+    leader: Leader<'_>,
+    other: Kept<'_, Scarce>,
+) {
+    let (done, letter) = join(rt, || leader.finish(), || other.wait(rt));
+    let value = letter.value().value;
+    assert!(rt; done && value == 7, "its value is {value}");
 }
 
 #[test]
 fn own_channel_that_rests_is_woken(rt: HostRuntime) -> Result<(), Fail> {
     let (group, mut callers) = Group::<Scarce>::new(rt.alloc(), 1, 2, 1)?;
-    let two = next(&rt, &group, &mut callers);
-    let one = next(&rt, &group, &mut callers);
-    match do_chan(&rt, &group, one, two, 1) {
-        Ok(ChanBegun::Led(flight, ticket)) => {
-            let leader = Leader {
-                group: &group,
-                flight,
-                refused: 0,
-            };
-            let rester = Rester {
-                group: &group,
-                ticket,
-            };
-            let (done, value) = join(&rt, || leader.finish(), || rester.wait(&rt));
-            assert!(rt; done && value == 7, "its value is {value}");
-        }
-        Ok(ChanBegun::Joined(ticket, _)) => {
-            ticket.abandon();
-            panic!(rt; "it joins")
-        }
-        Err(_) => panic!(rt; "one is spent"),
-    }
+    let two = next_caller(&rt, &group, &mut callers);
+    let one = next_caller(&rt, &group, &mut callers);
+    let (flight, ticket) = lead_chan(&rt, &group, one, two, 1);
+    let leader = Leader {
+        group: &group,
+        flight,
+        refused: 0,
+    };
+    check_woken(&rt, leader, Kept::new(&group, ticket));
     Ok(())
-}
-
-fn lead(rt: &(impl Abort + Wait), group: &Group<Scarce>, caller: Caller<Scarce>) -> Flight<Scarce>
-    requires own { caller.group ≡ group.now }
-    requires place { IsPlaceOf group.now 1 }
-    ensures { result.group ≡ group.now }
-{
-    match begin_wait(rt, group, caller, 1) {
-        Ok(Begun::Lead(flight)) => flight,
-        Ok(Begun::Join(ticket)) => {
-            ticket.abandon();
-            panic!(rt; "it joins")
-        }
-        Err(_) => panic!(rt; "it is spent"),
-    }
 }
 
 #[test]
 fn delivery_that_goes_on_wakes(rt: HostRuntime) -> Result<(), Fail> {
     let (group, mut callers) = Group::<Scarce>::new(rt.alloc(), 1, 2, 1)?;
-    let two = next(&rt, &group, &mut callers);
-    let one = next(&rt, &group, &mut callers);
+    let two = next_caller(&rt, &group, &mut callers);
+    let one = next_caller(&rt, &group, &mut callers);
     let flight = lead(&rt, &group, one);
     match begin_wait(&rt, &group, two, 1) {
         Ok(Begun::Join(ticket)) => {
@@ -199,12 +142,7 @@ fn delivery_that_goes_on_wakes(rt: HostRuntime) -> Result<(), Fail> {
                 flight,
                 refused: 1,
             };
-            let rester = Rester {
-                group: &group,
-                ticket,
-            };
-            let (done, value) = join(&rt, || leader.finish(), || rester.wait(&rt));
-            assert!(rt; done && value == 7, "its value is {value}");
+            check_woken(&rt, leader, Kept::new(&group, ticket));
         }
         Ok(Begun::Lead(other)) => {
             other.abandon();
