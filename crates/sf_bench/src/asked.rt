@@ -35,7 +35,8 @@ pub fn parse<'a>(
     words: &'a [String],
 ) -> Result<Result<Asked, Unknown<'a>>, AllocError>
     ensures asked { IfOk result (λ r. IfOk r (AsksFor (map string_bytes words.now))) }
-    ensures unknown { IfOk result (λ r. IfErr r (λ u. IsUnknown (map string_bytes words.now) u.word.now)) }
+    ensures unknown { IfOk result (λ r.
+        IfErr r (λ u. IsUnknown (map string_bytes words.now) u.word.now)) }
 {
     if let [word] = words {
         if word.as_str() == "--list" {

@@ -87,7 +87,8 @@ impl Benchmark {
 
 /// Writes the names of all, one a line.
 pub fn write_names<W: Write>(writer: &mut W) -> Result<(), StreamFault>
-    ensures { OnOk result (Appends (W.contents writer.old) (W.contents writer.new) (names_text all)) }
+    ensures { OnOk result
+        (Appends (W.contents writer.old) (W.contents writer.new) (names_text all)) }
 {
     write_all(
         writer,

@@ -54,11 +54,13 @@ pub extern "C" fn sf_open(
     seed0: u64,
     seed1: u64,
 ) -> u32
-    ensures opened { result ≡ DONE → (slot.old.live ≡ false) × (slot.new.live ≡ true) × HasOpened places callers seed0 seed1 slot.new.handle.state }
+    ensures opened { result ≡ DONE → (slot.old.live ≡ false) × (slot.new.live ≡ true)
+        × HasOpened places callers seed0 seed1 slot.new.handle.state }
     ensures refused { result ≢ DONE → slot.new ≡ slot.old }
     ensures sizes { result ≢ BAD_NUMBER ↔ AreSizes places callers }
     ensures twice { AreSizes places callers → (result ≡ WRONG_STATE ↔ slot.old.live ≡ true) }
-    ensures codes { (result ≡ DONE) ⊎ (result ≡ BAD_NUMBER) ⊎ (result ≡ WRONG_STATE) ⊎ (result ≡ NOTHING_LEFT) }
+    ensures codes { (result ≡ DONE) ⊎ (result ≡ BAD_NUMBER) ⊎ (result ≡ WRONG_STATE)
+        ⊎ (result ≡ NOTHING_LEFT) }
 {
     if !are_sizes(places, callers) {
         return BAD_NUMBER;
@@ -81,8 +83,10 @@ pub extern "C" fn sf_open(
 pub extern "C" fn sf_split(slot: &mut Slot, alloc: Global, other: &mut Slot) -> u32
     ensures kept { slot.new.live ≡ slot.old.live }
     ensures closed { result ≡ NOT_OPEN ↔ slot.old.live ≡ false }
-    ensures made { result ≡ DONE → (other.old.live ≡ false) × (other.new.live ≡ true) × HasSplit slot.old.handle.state slot.new.handle.state other.new.handle.state }
-    ensures refused { result ≢ DONE → (other.new ≡ other.old) × (slot.old.live ≡ true → slot.new.handle.state ≡ slot.old.handle.state) }
+    ensures made { result ≡ DONE → (other.old.live ≡ false) × (other.new.live ≡ true)
+        × HasSplit slot.old.handle.state slot.new.handle.state other.new.handle.state }
+    ensures refused { result ≢ DONE → (other.new ≡ other.old)
+        × (slot.old.live ≡ true → slot.new.handle.state ≡ slot.old.handle.state) }
     ensures twice { slot.old.live ≡ true → (result ≡ WRONG_STATE ↔ other.old.live ≡ true) }
 {
     let Some(mut state) = slot.take(alloc) else {
@@ -104,13 +108,17 @@ pub extern "C" fn sf_split(slot: &mut Slot, alloc: Global, other: &mut Slot) -> 
 /// Closes the other slot, and keeps its caller, which is free, for a further one. The slots have to be of one group.
 #[unsafe(no_mangle)]
 pub extern "C" fn sf_take_back(slot: &mut Slot, alloc: Global, other: &mut Slot) -> u32
-    requires group { slot.old.live ≡ true → other.old.live ≡ true → slot.old.handle.state.group ≡ other.old.handle.state.group }
+    requires group { slot.old.live ≡ true → other.old.live ≡ true
+        → slot.old.handle.state.group ≡ other.old.handle.state.group }
     ensures kept { slot.new.live ≡ slot.old.live }
     ensures closed { result ≡ NOT_OPEN ↔ ((slot.old.live ≡ false) ⊎ (other.old.live ≡ false)) }
     ensures taken { result ≡ DONE → other.new.live ≡ false }
-    ensures refused { result ≢ DONE → (other.new.live ≡ other.old.live) × (other.old.live ≡ true → other.new.handle.state ≡ other.old.handle.state) }
-    ensures unchanged { result ≡ NOT_OPEN → slot.old.live ≡ true → slot.new.handle.state ≡ slot.old.handle.state }
-    ensures row { slot.old.live ≡ true → other.old.live ≡ true → HasTakenBack slot.old.handle.state other.old.handle.state slot.new.handle.state result }
+    ensures refused { result ≢ DONE → (other.new.live ≡ other.old.live)
+        × (other.old.live ≡ true → other.new.handle.state ≡ other.old.handle.state) }
+    ensures unchanged { result ≡ NOT_OPEN → slot.old.live ≡ true
+        → slot.new.handle.state ≡ slot.old.handle.state }
+    ensures row { slot.old.live ≡ true → other.old.live ≡ true
+        → HasTakenBack slot.old.handle.state other.old.handle.state slot.new.handle.state result }
 {
     let Some(mut state) = slot.take(alloc) else {
         return NOT_OPEN;
@@ -135,8 +143,10 @@ pub extern "C" fn sf_ask(slot: &mut Slot, alloc: Global, key: &[u8], tries: u32)
     ensures kept { slot.new.live ≡ slot.old.live }
     ensures closed { result ≡ NOT_OPEN ↔ slot.old.live ≡ false }
     ensures state { slot.old.live ≡ true → KeepsLetter slot.old.handle.state slot.new.handle.state }
-    ensures own { slot.old.live ≡ true → MarksOwn result false slot.old.handle.state.own slot.new.handle.state.own }
-    ensures row { slot.old.live ≡ true → HasAskedKey slot.old.handle.state key.now tries slot.new.handle.state result }
+    ensures own { slot.old.live ≡ true
+        → MarksOwn result false slot.old.handle.state.own slot.new.handle.state.own }
+    ensures row { slot.old.live ≡ true
+        → HasAskedKey slot.old.handle.state key.now tries slot.new.handle.state result }
 {
     let Some(mut state) = slot.take(alloc) else {
         return NOT_OPEN;
@@ -156,14 +166,22 @@ pub extern "C" fn sf_ask_chan(
     key: &[u8],
     tries: u32,
 ) -> u32
-    requires group { slot.old.live ≡ true → other.old.live ≡ true → slot.old.handle.state.group ≡ other.old.handle.state.group }
+    requires group { slot.old.live ≡ true → other.old.live ≡ true
+        → slot.old.handle.state.group ≡ other.old.handle.state.group }
     ensures kept { (slot.new.live ≡ slot.old.live) × (other.new.live ≡ other.old.live) }
     ensures closed { result ≡ NOT_OPEN ↔ ((slot.old.live ≡ false) ⊎ (other.old.live ≡ false)) }
-    ensures unchanged { result ≡ NOT_OPEN → (slot.old.live ≡ true → slot.new.handle.state ≡ slot.old.handle.state) × (other.old.live ≡ true → other.new.handle.state ≡ other.old.handle.state) }
+    ensures unchanged { result ≡ NOT_OPEN
+        → (slot.old.live ≡ true → slot.new.handle.state ≡ slot.old.handle.state)
+        × (other.old.live ≡ true → other.new.handle.state ≡ other.old.handle.state) }
     ensures state { slot.old.live ≡ true → KeepsLetter slot.old.handle.state slot.new.handle.state }
-    ensures own { slot.old.live ≡ true → other.old.live ≡ true → MarksOwn result true slot.old.handle.state.own slot.new.handle.state.own }
-    ensures other { other.old.live ≡ true → KeepsLetter other.old.handle.state other.new.handle.state × (other.new.handle.state.own ≡ other.old.handle.state.own) }
-    ensures row { slot.old.live ≡ true → other.old.live ≡ true → HasAskedChanKey slot.old.handle.state other.old.handle.state key.now tries slot.new.handle.state other.new.handle.state result }
+    ensures own { slot.old.live ≡ true → other.old.live ≡ true
+        → MarksOwn result true slot.old.handle.state.own slot.new.handle.state.own }
+    ensures other { other.old.live ≡ true
+        → KeepsLetter other.old.handle.state other.new.handle.state
+        × (other.new.handle.state.own ≡ other.old.handle.state.own) }
+    ensures row { slot.old.live ≡ true → other.old.live ≡ true
+        → HasAskedChanKey slot.old.handle.state other.old.handle.state key.now tries
+        slot.new.handle.state other.new.handle.state result }
 {
     let Some(mut state) = slot.take(alloc) else {
         return NOT_OPEN;
@@ -183,8 +201,11 @@ pub extern "C" fn sf_ask_chan(
 pub extern "C" fn sf_forget(slot: &mut Slot, alloc: Global, key: &[u8], tries: u32) -> u32
     ensures kept { slot.new.live ≡ slot.old.live }
     ensures closed { result ≡ NOT_OPEN ↔ slot.old.live ≡ false }
-    ensures state { slot.old.live ≡ true → KeepsKey slot.old.handle.state slot.new.handle.state × KeepsLetter slot.old.handle.state slot.new.handle.state × (slot.new.handle.state.own ≡ slot.old.handle.state.own) }
-    ensures row { slot.old.live ≡ true → HasForgotKey slot.old.handle.state key.now tries slot.new.handle.state result }
+    ensures state { slot.old.live ≡ true → KeepsKey slot.old.handle.state slot.new.handle.state
+        × KeepsLetter slot.old.handle.state slot.new.handle.state
+        × (slot.new.handle.state.own ≡ slot.old.handle.state.own) }
+    ensures row { slot.old.live ≡ true
+        → HasForgotKey slot.old.handle.state key.now tries slot.new.handle.state result }
 {
     let Some(mut state) = slot.take(alloc) else {
         return NOT_OPEN;
@@ -200,9 +221,14 @@ pub extern "C" fn sf_finish(slot: &mut Slot, alloc: Global, value: u64, joiners:
     ensures kept { slot.new.live ≡ slot.old.live }
     ensures closed { result ≡ NOT_OPEN ↔ slot.old.live ≡ false }
     ensures unwritten { result ≡ NOT_OPEN → joiners.new ≡ joiners.old }
-    ensures state { slot.old.live ≡ true → KeepsGroup slot.old.handle.state slot.new.handle.state × (slot.new.handle.state.own ≡ slot.old.handle.state.own) }
-    ensures asked { slot.old.live ≡ true → HasGivenKey result slot.old.handle.state.asked slot.new.handle.state.asked }
-    ensures row { slot.old.live ≡ true → HasFinishedPart slot.old.handle.state.part value slot.old.handle.state.asked slot.new.handle.state.part result joiners.old joiners.new slot.old.handle.state.last slot.new.handle.state.last }
+    ensures state { slot.old.live ≡ true → KeepsGroup slot.old.handle.state slot.new.handle.state
+        × (slot.new.handle.state.own ≡ slot.old.handle.state.own) }
+    ensures asked { slot.old.live ≡ true
+        → HasGivenKey result slot.old.handle.state.asked slot.new.handle.state.asked }
+    ensures row { slot.old.live ≡ true
+        → HasFinishedPart slot.old.handle.state.part value slot.old.handle.state.asked
+        slot.new.handle.state.part result joiners.old joiners.new slot.old.handle.state.last
+        slot.new.handle.state.last }
 {
     let Some(mut state) = slot.take(alloc) else {
         return NOT_OPEN;
@@ -218,8 +244,11 @@ pub extern "C" fn sf_go_on(slot: &mut Slot, alloc: Global, joiners: &mut u32) ->
     ensures kept { slot.new.live ≡ slot.old.live }
     ensures closed { result ≡ NOT_OPEN ↔ slot.old.live ≡ false }
     ensures unwritten { result ≡ NOT_OPEN → joiners.new ≡ joiners.old }
-    ensures state { slot.old.live ≡ true → KeepsKey slot.old.handle.state slot.new.handle.state × (slot.new.handle.state.own ≡ slot.old.handle.state.own) }
-    ensures row { slot.old.live ≡ true → HasGoneOnPart slot.old.handle.state.part slot.new.handle.state.part result joiners.old joiners.new slot.old.handle.state.last slot.new.handle.state.last }
+    ensures state { slot.old.live ≡ true → KeepsKey slot.old.handle.state slot.new.handle.state
+        × (slot.new.handle.state.own ≡ slot.old.handle.state.own) }
+    ensures row { slot.old.live ≡ true
+        → HasGoneOnPart slot.old.handle.state.part slot.new.handle.state.part result joiners.old
+        joiners.new slot.old.handle.state.last slot.new.handle.state.last }
 {
     let Some(mut state) = slot.take(alloc) else {
         return NOT_OPEN;
@@ -236,8 +265,12 @@ pub extern "C" fn sf_poll(slot: &mut Slot, alloc: Global, value: &mut u64, joine
     ensures closed { result ≡ NOT_OPEN ↔ slot.old.live ≡ false }
     ensures unwritten { result ≡ NOT_OPEN → (value.new ≡ value.old) × (joiners.new ≡ joiners.old) }
     ensures state { slot.old.live ≡ true → KeepsKey slot.old.handle.state slot.new.handle.state }
-    ensures own { slot.old.live ≡ true → MarksOwn result false slot.old.handle.state.own slot.new.handle.state.own }
-    ensures row { slot.old.live ≡ true → HasPolledPart slot.old.handle.state.part slot.old.handle.state.asked slot.new.handle.state.part result value.old value.new joiners.old joiners.new slot.old.handle.state.last slot.new.handle.state.last }
+    ensures own { slot.old.live ≡ true
+        → MarksOwn result false slot.old.handle.state.own slot.new.handle.state.own }
+    ensures row { slot.old.live ≡ true
+        → HasPolledPart slot.old.handle.state.part slot.old.handle.state.asked
+        slot.new.handle.state.part result value.old value.new joiners.old joiners.new
+        slot.old.handle.state.last slot.new.handle.state.last }
 {
     let Some(mut state) = slot.take(alloc) else {
         return NOT_OPEN;
@@ -253,8 +286,11 @@ pub extern "C" fn sf_poll(slot: &mut Slot, alloc: Global, value: &mut u64, joine
 pub extern "C" fn sf_is_current(slot: &mut Slot, alloc: Global) -> u32
     ensures kept { slot.new.live ≡ slot.old.live }
     ensures closed { result ≡ NOT_OPEN ↔ slot.old.live ≡ false }
-    ensures state { slot.old.live ≡ true → KeepsKey slot.old.handle.state slot.new.handle.state × (slot.new.handle.state.own ≡ slot.old.handle.state.own) }
-    ensures row { slot.old.live ≡ true → HasQuestionedPart slot.old.handle.state.part slot.old.handle.state.last slot.new.handle.state.part slot.new.handle.state.last result }
+    ensures state { slot.old.live ≡ true → KeepsKey slot.old.handle.state slot.new.handle.state
+        × (slot.new.handle.state.own ≡ slot.old.handle.state.own) }
+    ensures row { slot.old.live ≡ true
+        → HasQuestionedPart slot.old.handle.state.part slot.old.handle.state.last
+        slot.new.handle.state.part slot.new.handle.state.last result }
 {
     let Some(mut state) = slot.take(alloc) else {
         return NOT_OPEN;
@@ -272,7 +308,9 @@ pub extern "C" fn sf_joined(slot: &mut Slot, alloc: Global, count: &mut u64) -> 
     ensures closed { result ≡ NOT_OPEN ↔ slot.old.live ≡ false }
     ensures state { slot.old.live ≡ true → slot.new.handle.state ≡ slot.old.handle.state }
     ensures unwritten { result ≡ NOT_OPEN → count.new ≡ count.old }
-    ensures row { slot.old.live ≡ true → HasCounted slot.old.handle.state.last slot.old.handle.state.own result count.old count.new }
+    ensures row { slot.old.live ≡ true
+        → HasCounted slot.old.handle.state.last slot.old.handle.state.own result count.old
+        count.new }
 {
     let Some(state) = slot.take(alloc) else {
         return NOT_OPEN;
@@ -294,8 +332,11 @@ pub extern "C" fn sf_call(
     ensures kept { slot.new.live ≡ slot.old.live }
     ensures closed { result ≡ NOT_OPEN ↔ slot.old.live ≡ false }
     ensures state { slot.old.live ≡ true → slot.new.handle.state ≡ slot.old.handle.state }
-    ensures unwritten { result ≡ NOT_OPEN → (caller.new ≡ caller.old) × (generation.new ≡ generation.old) }
-    ensures row { slot.old.live ≡ true → HasCalled (call_in slot.old.handle.state.part slot.old.handle.state.last) result caller.old caller.new generation.old generation.new }
+    ensures unwritten { result ≡ NOT_OPEN → (caller.new ≡ caller.old)
+        × (generation.new ≡ generation.old) }
+    ensures row { slot.old.live ≡ true
+        → HasCalled (call_in slot.old.handle.state.part slot.old.handle.state.last) result
+        caller.old caller.new generation.old generation.new }
 {
     let Some(state) = slot.take(alloc) else {
         return NOT_OPEN;
@@ -312,7 +353,8 @@ pub extern "C" fn sf_number(slot: &mut Slot, alloc: Global, number: &mut u32) ->
     ensures closed { result ≡ NOT_OPEN ↔ slot.old.live ≡ false }
     ensures state { slot.old.live ≡ true → slot.new.handle.state ≡ slot.old.handle.state }
     ensures unwritten { result ≡ NOT_OPEN → number.new ≡ number.old }
-    ensures row { slot.old.live ≡ true → HasNumbered slot.old.handle.state.part result number.old number.new }
+    ensures row { slot.old.live ≡ true
+        → HasNumbered slot.old.handle.state.part result number.old number.new }
 {
     let Some(state) = slot.take(alloc) else {
         return NOT_OPEN;
@@ -328,7 +370,8 @@ pub extern "C" fn sf_tell(slot: &mut Slot, alloc: Global, note: &mut NoteSlot) -
     ensures kept { slot.new.live ≡ slot.old.live }
     ensures closed { result ≡ NOT_OPEN ↔ slot.old.live ≡ false }
     ensures state { slot.old.live ≡ true → slot.new.handle.state ≡ slot.old.handle.state }
-    ensures told { result ≡ DONE → (note.new.live ≡ true) × HasToldPart slot.old.handle.state.group slot.old.handle.state.part note.new.handle.note }
+    ensures told { result ≡ DONE → (note.new.live ≡ true)
+        × HasToldPart slot.old.handle.state.group slot.old.handle.state.part note.new.handle.note }
     ensures refused { result ≢ DONE → note.new ≡ note.old }
     ensures code { slot.old.live ≡ true → result ≢ DONE → HasNotTold slot.old.handle.state result }
 {
@@ -353,13 +396,19 @@ pub extern "C" fn sf_tell(slot: &mut Slot, alloc: Global, note: &mut NoteSlot) -
 /// note tells is an answer to what it asks later. The slot and the note have to be of one group.
 #[unsafe(no_mangle)]
 pub extern "C" fn sf_learn(slot: &mut Slot, alloc: Global, note: &mut NoteSlot) -> u32
-    requires group { slot.old.live ≡ true → note.old.live ≡ true → slot.old.handle.state.group ≡ note.old.handle.note.group }
+    requires group { slot.old.live ≡ true → note.old.live ≡ true
+        → slot.old.handle.state.group ≡ note.old.handle.note.group }
     ensures kept { (slot.new.live ≡ slot.old.live) × (note.new.live ≡ note.old.live) }
     ensures closed { result ≡ NOT_OPEN ↔ ((slot.old.live ≡ false) ⊎ (note.old.live ≡ false)) }
-    ensures state { slot.old.live ≡ true → KeepsKey slot.old.handle.state slot.new.handle.state × KeepsLetter slot.old.handle.state slot.new.handle.state × (slot.new.handle.state.own ≡ slot.old.handle.state.own) }
-    ensures unchanged { result ≡ NOT_OPEN → slot.old.live ≡ true → slot.new.handle.state ≡ slot.old.handle.state }
+    ensures state { slot.old.live ≡ true → KeepsKey slot.old.handle.state slot.new.handle.state
+        × KeepsLetter slot.old.handle.state slot.new.handle.state
+        × (slot.new.handle.state.own ≡ slot.old.handle.state.own) }
+    ensures unchanged { result ≡ NOT_OPEN → slot.old.live ≡ true
+        → slot.new.handle.state ≡ slot.old.handle.state }
     ensures note { note.old.live ≡ true → HasGrown note.old.handle.note note.new.handle.note }
-    ensures row { slot.old.live ≡ true → note.old.live ≡ true → HasLearntPart slot.old.handle.state.part note.old.handle.note slot.new.handle.state.part result }
+    ensures row { slot.old.live ≡ true → note.old.live ≡ true
+        → HasLearntPart slot.old.handle.state.part note.old.handle.note slot.new.handle.state.part
+        result }
 {
     let Some(mut state) = slot.take(alloc) else {
         return NOT_OPEN;
@@ -388,8 +437,11 @@ pub extern "C" fn sf_drop_note(note: &mut NoteSlot, alloc: Global)
 pub extern "C" fn sf_give_up(slot: &mut Slot, alloc: Global) -> u32
     ensures kept { slot.new.live ≡ slot.old.live }
     ensures closed { result ≡ NOT_OPEN ↔ slot.old.live ≡ false }
-    ensures state { slot.old.live ≡ true → KeepsKey slot.old.handle.state slot.new.handle.state × KeepsLetter slot.old.handle.state slot.new.handle.state × (slot.new.handle.state.own ≡ slot.old.handle.state.own) }
-    ensures row { slot.old.live ≡ true → HasGivenUp slot.old.handle.state.part slot.new.handle.state.part result }
+    ensures state { slot.old.live ≡ true → KeepsKey slot.old.handle.state slot.new.handle.state
+        × KeepsLetter slot.old.handle.state slot.new.handle.state
+        × (slot.new.handle.state.own ≡ slot.old.handle.state.own) }
+    ensures row { slot.old.live ≡ true
+        → HasGivenUp slot.old.handle.state.part slot.new.handle.state.part result }
 {
     let Some(mut state) = slot.take(alloc) else {
         return NOT_OPEN;

@@ -17,7 +17,8 @@ pub struct NoteSlot {
 impl NoteSlot {
     // The note, where there is one. There is none then.
     pub(crate) fn take(&mut self, alloc: Global) -> Option<Box<NoteState, Global>>
-        ensures note { IfSome result (λ note. (self.old.live ≡ true) × (note.value ≡ self.old.handle.note)) }
+        ensures note { IfSome result (λ note.
+            (self.old.live ≡ true) × (note.value ≡ self.old.handle.note)) }
         ensures none { IfNone result (self.new ≡ self.old) }
         ensures closed { self.new.live ≡ false }
     {

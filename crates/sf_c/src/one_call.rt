@@ -60,7 +60,8 @@ impl Part {
 impl State {
     // Forgets this call of the key.
     fn forget_call(&mut self, key: &[u8], call: CallId, tries: u32) -> u32
-        ensures kept { KeepsKey self.old self.new × KeepsLetter self.old self.new × (self.new.own ≡ self.old.own) }
+        ensures kept { KeepsKey self.old self.new × KeepsLetter self.old self.new
+            × (self.new.own ≡ self.old.own) }
         ensures row { HasForgotCallKey self.old key.now call tries self.new result }
         ensures open { result ≢ NOT_OPEN }
     {
@@ -76,7 +77,8 @@ impl State {
 
     // Which call the key names.
     fn named(&mut self, key: &[u8], call: &mut CallId) -> u32
-        ensures kept { KeepsKey self.old self.new × KeepsLetter self.old self.new × (self.new.own ≡ self.old.own) }
+        ensures kept { KeepsKey self.old self.new × KeepsLetter self.old self.new
+            × (self.new.own ≡ self.old.own) }
         ensures row { HasNamedKey self.old key.now self.new call.old call.new result }
         ensures open { result ≢ NOT_OPEN }
     {
@@ -100,8 +102,13 @@ pub extern "C" fn sf_forget_call(
 ) -> u32
     ensures kept { slot.new.live ≡ slot.old.live }
     ensures closed { result ≡ NOT_OPEN ↔ slot.old.live ≡ false }
-    ensures state { slot.old.live ≡ true → KeepsKey slot.old.handle.state slot.new.handle.state × KeepsLetter slot.old.handle.state slot.new.handle.state × (slot.new.handle.state.own ≡ slot.old.handle.state.own) }
-    ensures row { slot.old.live ≡ true → HasForgotCallKey slot.old.handle.state key.now (record { caller = caller; generation = generation }) tries slot.new.handle.state result }
+    ensures state { slot.old.live ≡ true → KeepsKey slot.old.handle.state slot.new.handle.state
+        × KeepsLetter slot.old.handle.state slot.new.handle.state
+        × (slot.new.handle.state.own ≡ slot.old.handle.state.own) }
+    ensures row { slot.old.live ≡ true
+        → HasForgotCallKey slot.old.handle.state key.now
+        (record { caller = caller; generation = generation }) tries slot.new.handle.state
+        result }
 {
     let Some(mut state) = slot.take(alloc) else {
         return NOT_OPEN;
@@ -122,9 +129,15 @@ pub extern "C" fn sf_named(
 ) -> u32
     ensures kept { slot.new.live ≡ slot.old.live }
     ensures closed { result ≡ NOT_OPEN ↔ slot.old.live ≡ false }
-    ensures unwritten { result ≡ NOT_OPEN → (caller.new ≡ caller.old) × (generation.new ≡ generation.old) }
-    ensures state { slot.old.live ≡ true → KeepsKey slot.old.handle.state slot.new.handle.state × KeepsLetter slot.old.handle.state slot.new.handle.state × (slot.new.handle.state.own ≡ slot.old.handle.state.own) }
-    ensures row { slot.old.live ≡ true → HasNamedKey slot.old.handle.state key.now slot.new.handle.state (record { caller = caller.old; generation = generation.old }) (record { caller = caller.new; generation = generation.new }) result }
+    ensures unwritten { result ≡ NOT_OPEN → (caller.new ≡ caller.old)
+        × (generation.new ≡ generation.old) }
+    ensures state { slot.old.live ≡ true → KeepsKey slot.old.handle.state slot.new.handle.state
+        × KeepsLetter slot.old.handle.state slot.new.handle.state
+        × (slot.new.handle.state.own ≡ slot.old.handle.state.own) }
+    ensures row { slot.old.live ≡ true
+        → HasNamedKey slot.old.handle.state key.now slot.new.handle.state
+        (record { caller = caller.old; generation = generation.old })
+        (record { caller = caller.new; generation = generation.new }) result }
 {
     let Some(mut state) = slot.take(alloc) else {
         return NOT_OPEN;

@@ -202,7 +202,8 @@ impl Part {
         ensures own { IsOf group.now self.new }
         ensures last { IsLetterOf group.now last.new }
         ensures key { HasGivenKey result key.old key.new }
-        ensures row { HasFinishedPart self.old value key.old self.new result joiners.old joiners.new last.old last.new }
+        ensures row { HasFinishedPart self.old value key.old self.new result joiners.old joiners.new
+            last.old last.new }
         ensures open { result ≢ NOT_OPEN }
     {
         if !self.leads() {
@@ -237,7 +238,8 @@ impl Part {
         requires last { IsLetterOf group.now last.old }
         ensures own { IsOf group.now result.0 }
         ensures last { IsLetterOf group.now last.new }
-        ensures row { HasGoneOnPart self result.0 result.1 joiners.old joiners.new last.old last.new }
+        ensures row { HasGoneOnPart self result.0 result.1 joiners.old joiners.new last.old
+            last.new }
         ensures open { result.1 ≢ NOT_OPEN }
     {
         match self {
@@ -270,7 +272,8 @@ impl Part {
         requires last { IsLetterOf group.now last.old }
         ensures own { IsOf group.now self.new }
         ensures last { IsLetterOf group.now last.new }
-        ensures row { HasPolledPart self.old key.now self.new result value.old value.new joiners.old joiners.new last.old last.new }
+        ensures row { HasPolledPart self.old key.now self.new result value.old value.new joiners.old
+            joiners.new last.old last.new }
         ensures open { result ≢ NOT_OPEN }
     {
         if !self.waits() {

@@ -90,7 +90,8 @@ impl State {
 
     // Whether the stamp's call is its place's current one.
     fn is_still(&mut self, stamp: &Stamp) -> u32
-        ensures kept { KeepsKey self.old self.new × KeepsLetter self.old self.new × (self.new.own ≡ self.old.own) }
+        ensures kept { KeepsKey self.old self.new × KeepsLetter self.old self.new
+            × (self.new.own ≡ self.old.own) }
         ensures row { HasAskedStill self.old.group self.old.part stamp.now self.new.part result }
         ensures open { result ≢ NOT_OPEN }
     {
@@ -105,7 +106,9 @@ pub extern "C" fn sf_stamp(slot: &mut Slot, alloc: Global, stamp: &mut Stamp) ->
     ensures closed { result ≡ NOT_OPEN ↔ slot.old.live ≡ false }
     ensures unwritten { result ≡ NOT_OPEN → stamp.new ≡ stamp.old }
     ensures state { slot.old.live ≡ true → slot.new.handle.state ≡ slot.old.handle.state }
-    ensures row { slot.old.live ≡ true → HasStamped slot.old.handle.state.part slot.old.handle.state.last result stamp.old stamp.new }
+    ensures row { slot.old.live ≡ true
+        → HasStamped slot.old.handle.state.part slot.old.handle.state.last result stamp.old
+        stamp.new }
 {
     let Some(state) = slot.take(alloc) else {
         return NOT_OPEN;
@@ -121,8 +124,12 @@ pub extern "C" fn sf_stamp(slot: &mut Slot, alloc: Global, stamp: &mut Stamp) ->
 pub extern "C" fn sf_is_still(slot: &mut Slot, alloc: Global, stamp: &Stamp) -> u32
     ensures kept { slot.new.live ≡ slot.old.live }
     ensures closed { result ≡ NOT_OPEN ↔ slot.old.live ≡ false }
-    ensures state { slot.old.live ≡ true → KeepsKey slot.old.handle.state slot.new.handle.state × KeepsLetter slot.old.handle.state slot.new.handle.state × (slot.new.handle.state.own ≡ slot.old.handle.state.own) }
-    ensures row { slot.old.live ≡ true → HasAskedStill slot.old.handle.state.group slot.old.handle.state.part stamp.now slot.new.handle.state.part result }
+    ensures state { slot.old.live ≡ true → KeepsKey slot.old.handle.state slot.new.handle.state
+        × KeepsLetter slot.old.handle.state slot.new.handle.state
+        × (slot.new.handle.state.own ≡ slot.old.handle.state.own) }
+    ensures row { slot.old.live ≡ true
+        → HasAskedStill slot.old.handle.state.group slot.old.handle.state.part stamp.now
+        slot.new.handle.state.part result }
 {
     let Some(mut state) = slot.take(alloc) else {
         return NOT_OPEN;

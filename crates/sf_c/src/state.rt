@@ -36,10 +36,20 @@ impl Model for State {
 
     ghost Value = { Seat };
 
-    ghost view = { λ s. record { group = s.group.value; places = s.places; part = s.part; asked = s.asked; last = s.last; own = s.own; callers = s.callers.items } };
+    ghost view = { λ s.
+        record {
+          group = s.group.value;
+          places = s.places;
+          part = s.part;
+          asked = s.asked;
+          last = s.last;
+          own = s.own;
+          callers = s.callers.items;
+        } };
 
     ghost invariant = { λ s. IsOf s.group.value s.part × IsLetterOf s.group.value s.last
-        × (s.group.value.sizes.places ≡ s.places.count) × All (λ c. c.group ≡ s.group.value) s.callers.items };
+        × (s.group.value.sizes.places ≡ s.places.count)
+        × All (λ c. c.group ≡ s.group.value) s.callers.items };
 }
 
 // A check of the tests makes the proof that a state may go to another thread only where something asks for it.
@@ -57,7 +67,8 @@ fn first_caller(
 ) -> Result<(Group<Word>, Caller<Word>, Vec<Caller<Word>>), Memory>
     requires places { (1 ≤ places) × (places ≤ MOST_PLACES) }
     requires callers { (1 ≤ callers) × (callers ≤ MOST_CALLERS) }
-    ensures sizes { IfOk result (λ made. (made.0.sizes.places ≡ places) × (made.0.sizes.callers ≡ callers)) }
+    ensures sizes { IfOk result (λ made. (made.0.sizes.places ≡ places)
+        × (made.0.sizes.callers ≡ callers)) }
     ensures first { IfOk result (λ made. IsNewCaller made.0 made.1) }
     ensures others { IfOk result (λ made. All (IsNewCaller made.0) made.2.items) }
     ensures own { IfOk result (λ made. All (λ c. c.group ≡ made.0) made.2.items) }
@@ -225,7 +236,8 @@ impl State {
 
     /// Forgets the key: done where that closed a call, otherwise none was open.
     pub(crate) fn forget(&mut self, key: &[u8], tries: u32) -> u32
-        ensures kept { KeepsKey self.old self.new × KeepsLetter self.old self.new × (self.new.own ≡ self.old.own) }
+        ensures kept { KeepsKey self.old self.new × KeepsLetter self.old self.new
+            × (self.new.own ≡ self.old.own) }
         ensures row { HasForgotKey self.old key.now tries self.new result }
         ensures open { result ≢ NOT_OPEN }
     {
@@ -243,7 +255,8 @@ impl State {
     pub(crate) fn finish(&mut self, value: u64, joiners: &mut u32) -> u32
         ensures kept { KeepsGroup self.old self.new × (self.new.own ≡ self.old.own) }
         ensures asked { HasGivenKey result self.old.asked self.new.asked }
-        ensures row { HasFinishedPart self.old.part value self.old.asked self.new.part result joiners.old joiners.new self.old.last self.new.last }
+        ensures row { HasFinishedPart self.old.part value self.old.asked self.new.part result
+            joiners.old joiners.new self.old.last self.new.last }
         ensures open { result ≢ NOT_OPEN }
     {
         self.part.finishes(&self.group, value, &mut self.asked, joiners, &mut self.last)
@@ -252,7 +265,8 @@ impl State {
     /// Goes on with the delivery of a settled call.
     pub(crate) fn go_on(&mut self, joiners: &mut u32) -> u32
         ensures kept { KeepsKey self.old self.new × (self.new.own ≡ self.old.own) }
-        ensures row { HasGoneOnPart self.old.part self.new.part result joiners.old joiners.new self.old.last self.new.last }
+        ensures row { HasGoneOnPart self.old.part self.new.part result joiners.old joiners.new
+            self.old.last self.new.last }
         ensures open { result ≢ NOT_OPEN }
     {
         let part = replace(&mut self.part, Part::Gone);
@@ -265,7 +279,8 @@ impl State {
     pub(crate) fn poll(&mut self, value: &mut u64, joiners: &mut u32) -> u32
         ensures kept { KeepsKey self.old self.new }
         ensures own { MarksOwn result false self.old.own self.new.own }
-        ensures row { HasPolledPart self.old.part self.old.asked self.new.part result value.old value.new joiners.old joiners.new self.old.last self.new.last }
+        ensures row { HasPolledPart self.old.part self.old.asked self.new.part result value.old
+            value.new joiners.old joiners.new self.old.last self.new.last }
         ensures open { result ≢ NOT_OPEN }
     {
         let code = self
@@ -280,7 +295,8 @@ impl State {
     /// Whether the call of the letter it had last is its key's current one.
     pub(crate) fn is_current(&mut self) -> u32
         ensures kept { KeepsKey self.old self.new × (self.new.own ≡ self.old.own) }
-        ensures row { HasQuestionedPart self.old.part self.old.last self.new.part self.new.last result }
+        ensures row { HasQuestionedPart self.old.part self.old.last self.new.part self.new.last
+            result }
         ensures open { result ≢ NOT_OPEN }
     {
         self.part.questions(&self.group, &mut self.last)
@@ -288,7 +304,8 @@ impl State {
 
     /// Gives up what its caller has open.
     pub(crate) fn give_up(&mut self) -> u32
-        ensures kept { KeepsKey self.old self.new × KeepsLetter self.old self.new × (self.new.own ≡ self.old.own) }
+        ensures kept { KeepsKey self.old self.new × KeepsLetter self.old self.new
+            × (self.new.own ≡ self.old.own) }
         ensures row { HasGivenUp self.old.part self.new.part result }
         ensures open { result ≢ NOT_OPEN }
     {
@@ -312,7 +329,8 @@ impl State {
 
     /// Which call its caller leads or waits for; or where that is free, the call of the letter it had last.
     pub(crate) fn call(&self, caller: &mut u32, generation: &mut u32) -> u32
-        ensures row { HasCalled (call_in self.now.part self.now.last) result caller.old caller.new generation.old generation.new }
+        ensures row { HasCalled (call_in self.now.part self.now.last) result caller.old caller.new
+            generation.old generation.new }
         ensures open { result ≢ NOT_OPEN }
     {
         let Some(call) = self.part.call(&self.last) else {
@@ -349,7 +367,8 @@ impl State {
     /// Its caller has then seen what the note shows.
     pub(crate) fn learn(&mut self, told: &mut NoteState) -> u32
         requires { self.old.group ≡ told.old.group }
-        ensures kept { KeepsKey self.old self.new × KeepsLetter self.old self.new × (self.new.own ≡ self.old.own) }
+        ensures kept { KeepsKey self.old self.new × KeepsLetter self.old self.new
+            × (self.new.own ≡ self.old.own) }
         ensures note { HasGrown told.old told.new }
         ensures row { HasLearntPart self.old.part told.old self.new.part result }
         ensures open { result ≢ NOT_OPEN }

@@ -36,9 +36,16 @@ impl<T> Model for Caches<T> {
 
     ghost Value = { CachesValue T };
 
-    ghost view = { λ c. record { limit = c.limit; places = c.main.cap; main = c.main.entries; hot = c.hot.entries } };
+    ghost view = { λ c.
+        record {
+          limit = c.limit;
+          places = c.main.cap;
+          main = c.main.entries;
+          hot = c.hot.entries;
+        } };
 
-    ghost invariant = { λ c. (weight_of c.main.entries + weight_of c.hot.entries ≤ c.limit) × (c.hot.cap ≡ c.main.cap) };
+    ghost invariant = { λ c. (weight_of c.main.entries + weight_of c.hot.entries ≤ c.limit)
+        × (c.hot.cap ≡ c.main.cap) };
 }
 
 impl<T: Drop> Caches<T> {
@@ -112,7 +119,9 @@ impl<T: Drop> Caches<T> {
         item: T,
     ) -> Result<(), AllocError>
         requires { (1 ≤ place) × (place ≤ self.old.places) }
-        ensures put { OnOk result (self.new ≡ after_put which place (record { key_len = key_len; value_len = value_len; item = item }) self.old) }
+        ensures put { OnOk result
+            (self.new ≡ after_put which place
+            (record { key_len = key_len; value_len = value_len; item = item }) self.old) }
         ensures refused { OnErr result (self.new ≡ self.old) }
     {
         if self.limit == 0 {
@@ -136,7 +145,8 @@ impl<T: Drop> Caches<T> {
 // Drops the oldest entries while the limit is exceeded: of hot where it weighs more than an eighth of main, else of main.
 fn trim<T: Drop>(main: &mut Shelf<T>, hot: &mut Shelf<T>, limit: u64)
     requires { weight_of main.old.entries + weight_of hot.old.entries < 2 ^ 127 }
-    ensures trimmed { (main.new.entries, hot.new.entries) ≡ trimmed limit (main.old.entries, hot.old.entries) }
+    ensures trimmed { (main.new.entries, hot.new.entries)
+        ≡ trimmed limit (main.old.entries, hot.old.entries) }
     ensures within { weight_of main.new.entries + weight_of hot.new.entries ≤ limit }
     ensures caps { (main.new.cap ≡ main.old.cap) × (hot.new.cap ≡ hot.old.cap) }
 {

@@ -66,7 +66,8 @@ impl<T> Model for Shelf<T> {
 
     ghost view = { λ s. s.entries };
 
-    ghost invariant = { λ s. (s.bytes ≡ weight_of s.entries.entries) × FitsIn s.entries.cap s.entries.entries };
+    ghost invariant = { λ s. (s.bytes ≡ weight_of s.entries.entries)
+        × FitsIn s.entries.cap s.entries.entries };
 }
 
 impl<T: Drop> Shelf<T> {
@@ -136,7 +137,9 @@ impl<T: Drop> Shelf<T> {
     pub(crate) fn put(&mut self, place: u32, kept: Kept<T>) -> Result<(), AllocError>
         requires place { (1 ≤ place) × (place ≤ self.old.cap) }
         requires room { weight_of self.old.entries < 2 ^ 64 }
-        ensures put { OnOk result (self.new ≡ lru_cache ((place, kept) ∷ remove_entry (nat_eq place) self.old.entries) self.old.cap) }
+        ensures put { OnOk result
+            (self.new ≡ lru_cache ((place, kept) ∷ remove_entry (nat_eq place) self.old.entries)
+            self.old.cap) }
         ensures refused { OnErr result (self.new ≡ self.old) }
     {
         let added = kept.key_len as u128 + kept.value_len as u128;

@@ -45,7 +45,8 @@ fn answer<I: Read, O: Write>(
     writer: &mut O,
 ) -> u8
     ensures { (ended : Result Ending StreamFault)
-        × HasEnded engine (I.remaining reader.old) (O.contents writer.old) (O.contents writer.new) ended
+        × HasEnded engine (I.remaining reader.old) (O.contents writer.old)
+        (O.contents writer.new) ended
         × (result ≡ exit_status_of (outcome_of ended)) }
 {
     let mut hinted = None;
@@ -67,8 +68,10 @@ fn obey<R, I: Read, O: Write>(
 ) -> u8
 where
     R: AllocGlobal + Eprint + Wait + Threads + Clock + Sync,
-    ensures { (asked : Result asking.Subcommand refusing.Usage) × IsAskedBy (map string_bytes words.now) asked
-        × IsStatusOf asked (I.remaining reader.old) (O.contents writer.old) (O.contents writer.new) result }
+    ensures { (asked : Result asking.Subcommand refusing.Usage)
+        × IsAskedBy (map string_bytes words.now) asked
+        × IsStatusOf asked (I.remaining reader.old) (O.contents writer.old)
+        (O.contents writer.new) result }
 {
     match parse(rt.alloc(), words) {
         Ok(Subcommand::Engine(engine)) => answer(rt, engine, reader, writer),
@@ -86,7 +89,8 @@ fn serve<R, I: Read, O: Write>(rt: &R, reader: &mut I, writer: &mut O, on_termin
 where
     R: Env + AllocGlobal + Eprint + Wait + Threads + Clock + Sync,
     ensures { (asked : Result asking.Subcommand refusing.Usage)
-        × IsStatusOf asked (I.remaining reader.old) (O.contents writer.old) (O.contents writer.new) result }
+        × IsStatusOf asked (I.remaining reader.old) (O.contents writer.old)
+        (O.contents writer.new) result }
 {
     match words(rt) {
         Ok(words) => obey(rt, words.as_slice(), reader, writer, on_terminal),

@@ -170,7 +170,8 @@ is no proved program.";
 /// The first of these rows that has the name.
 fn row_of(rows: &[Row], name: &str) -> Option<Row>
     ensures known { IfSome result (λ row. Contains rows.now row × (row.name.now ≡ name.now)) }
-    ensures unknown { IfNone result (All (λ text. text ≢ name.now) (map (λ row. row.name.now) rows.now)) }
+    ensures unknown { IfNone result
+        (All (λ text. text ≢ name.now) (map (λ row. row.name.now) rows.now)) }
 {
     rows.iter().find(|row| row.name == name).copied()
 }
@@ -201,7 +202,8 @@ fn flagged(option: &str) -> Option<Shown>
 /// What an engine is asked to show by the words after its name: lines, or what the one option says.
 pub fn shown(options: &[String]) -> Option<Shown>
     ensures known { IfSome result (λ shown. map string_bytes options.now ≡ options_of shown) }
-    ensures unknown { IfNone result ((shown : Shown) → map string_bytes options.now ≢ options_of shown) }
+    ensures unknown { IfNone result ((shown : Shown)
+        → map string_bytes options.now ≢ options_of shown) }
 {
     match options {
         [] => Some(Shown::Lines),

@@ -238,10 +238,11 @@ fn hand_out<'a, 'd, D: Naming, N: Naming, O: Origin, L: Drop, T: Team>(
     team: &'a T,
     getters: Vec<Getter<'d, D, N, O, L>>,
 ) -> Result<HandedOut<'a, 'd, D, N, O, L, T>, Memory>
-    requires getters { vec_len getters ≤ 65535 }
+    requires getters { vec_len getters ≤ LARGEST_CALLER }
     requires wants { T.wants team.now N.getters O.loaded }
     ensures jobs { IfOk result (λ out. vec_len out.0 ≡ vec_len getters.entry) }
-    ensures getters { IfOk result (λ out. (vec_len out.1 ≡ 0) × (vec_len getters.entry ≤ vec_capacity out.1)) }
+    ensures getters { IfOk result (λ out.
+        (vec_len out.1 ≡ 0) × (vec_len getters.entry ≤ vec_capacity out.1)) }
 {
     let mut getters = getters;
     let Ok(mut jobs) = Vec::with_capacity(alloc, getters.len()) else {
@@ -296,7 +297,7 @@ fn work_and_finish<
     getters: Vec<Getter<'d, D, N, O, L>>,
     team: &T,
 ) -> Result<T::Answer, Memory>
-    requires getters { (vec_len getters ≡ N.getters) × (N.getters ≤ 65535) }
+    requires getters { (vec_len getters ≡ N.getters) × (N.getters ≤ LARGEST_CALLER) }
     requires wants { T.wants team.now N.getters O.loaded }
     ensures { IfOk result (λ answer. T.ends team.now answer) }
 {

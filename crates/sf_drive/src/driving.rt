@@ -63,9 +63,12 @@ impl<'a, R: Wait + Clock + Eprint> Team for Crew<'a, R> {
     ghost use Rattle.sf_drive.specs.Jobs.{AreEntries};
     ghost use Rattle.sf_drive.specs.Values.{StatesValues};
 
-    ghost wants = { λ crew getters loaded. (getters ≡ crew.line.threads) × AreEntries crew.line.keys crew.entries.now × StatesValues loaded };
+    ghost wants = { λ crew getters loaded. (getters ≡ crew.line.threads)
+        × AreEntries crew.line.keys crew.entries.now × StatesValues loaded };
 
-    ghost ends = { λ crew answer. IfOk answer (λ found. IsFound crew.line.threads crew.line.gets found.report found.history) };
+    ghost ends = { λ crew answer.
+        IfOk answer (λ found. IsFound crew.line.threads crew.line.gets found.report
+        found.history) };
 
     fn work<'d, D: Naming, N: Naming, O: Origin, L: LoadPath<Origin = O> + Drop>(
         &self,
@@ -73,7 +76,8 @@ impl<'a, R: Wait + Clock + Eprint> Team for Crew<'a, R> {
         getter: Getter<'d, D, N, O, L>,
         index: u32,
     ) -> (Getter<'d, D, N, O, L>, Ended)
-        requires wants { (N.getters ≡ self.now.line.threads) × AreEntries self.now.line.keys self.now.entries.now × StatesValues O.loaded }
+        requires wants { (N.getters ≡ self.now.line.threads)
+            × AreEntries self.now.line.keys self.now.entries.now × StatesValues O.loaded }
     {
         self.get_all(fill, getter, index)
     }
@@ -84,10 +88,12 @@ impl<'a, R: Wait + Clock + Eprint> Team for Crew<'a, R> {
         getters: Vec<Getter<'d, D, N, O, L>>,
         parts: Vec<Ended>,
     ) -> Result<Found, Memory>
-        requires wants { (N.getters ≡ self.now.line.threads) × AreEntries self.now.line.keys self.now.entries.now × StatesValues O.loaded }
+        requires wants { (N.getters ≡ self.now.line.threads)
+            × AreEntries self.now.line.keys self.now.entries.now × StatesValues O.loaded }
         requires getters { vec_len getters ≡ N.getters }
         requires parts { vec_len parts ≡ N.getters }
-        ensures { IfOk result (λ found. IsFound self.now.line.threads self.now.line.gets found.report found.history) }
+        ensures { IfOk result (λ found.
+            IsFound self.now.line.threads self.now.line.gets found.report found.history) }
     {
         let book = fill.book(self.rt);
         let gathered = fill.gather(self.rt, getters);
@@ -103,7 +109,8 @@ fn found(
     line: DriveLine,
 ) -> Result<Found, Memory>
     requires { vec_len parts ≡ line.threads }
-    ensures { IfOk result (λ found. IsFoundBy line.threads line.gets parts.items found.report found.history) }
+    ensures { IfOk result (λ found.
+        IsFoundBy line.threads line.gets parts.items found.report found.history) }
 {
     let mut logs = Vec::with_capacity(alloc, parts.len())?;
     let mut answers: u64 = 0;
@@ -204,10 +211,13 @@ pub fn drive<R: Wait + Threads + Clock + Eprint + Sync, W: Write>(
     line: DriveLine,
 ) -> Result<DriveEnding, StreamFault>
     // What is written is the report's text, or the records of the history on which its verdict is.
-    ensures reported { IfOk result (λ ending. ending ≢ DriveEnding.OutOfMemory → (report : Report) × (history : List DriveEvent)
+    ensures reported { IfOk result (λ ending. ending ≢ DriveEnding.OutOfMemory → (report : Report)
+        × (history : List DriveEvent)
         × IsFound line.threads line.gets report history × (ending ≡ ending_of report)
-        × Appends (W.contents writer.old) (W.contents writer.new) (said_text line.history report history)) }
-    ensures refused { IfOk result (λ ending. ending ≡ DriveEnding.OutOfMemory → Appends (W.contents writer.old) (W.contents writer.new) (codes "out of memory\n")) }
+        × Appends (W.contents writer.old) (W.contents writer.new)
+        (said_text line.history report history)) }
+    ensures refused { IfOk result (λ ending. ending ≡ DriveEnding.OutOfMemory
+        → Appends (W.contents writer.old) (W.contents writer.new) (codes "out of memory\n")) }
 {
     match answer(rt, alloc, line) {
         Ok((ending, text)) => {
@@ -227,8 +237,10 @@ fn answer<R: Wait + Threads + Clock + Eprint + Sync>(
     alloc: Global,
     line: DriveLine,
 ) -> Result<(DriveEnding, String), Memory>
-    ensures { IfOk result (λ answered. (report : Report) × (history : List DriveEvent) × IsFound line.threads line.gets report history
-        × (answered.0 ≡ ending_of report) × (string_bytes answered.1 ≡ said_text line.history report history)) }
+    ensures { IfOk result (λ answered. (report : Report) × (history : List DriveEvent)
+        × IsFound line.threads line.gets report history
+        × (answered.0 ≡ ending_of report)
+        × (string_bytes answered.1 ≡ said_text line.history report history)) }
 {
     let found = report(rt, alloc, line)?;
     let ending = found.report.ending();

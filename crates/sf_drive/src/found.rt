@@ -66,7 +66,8 @@ fn records(alloc: Global, history: History<PlaceNo, ()>) -> Result<String, Memor
 
 /// What a drive says that found this: the records of its history, or its report.
 pub(crate) fn said(alloc: Global, shows_history: bool, found: Found) -> Result<String, Memory>
-    ensures { IfOk result (λ text. string_bytes text ≡ said_text shows_history found.report found.history) }
+    ensures { IfOk result (λ text.
+        string_bytes text ≡ said_text shows_history found.report found.history) }
 {
     let Found { report, history } = found;
     if shows_history {

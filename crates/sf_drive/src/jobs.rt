@@ -96,7 +96,8 @@ impl<'a, R: Wait + Clock + Eprint> Crew<'a, R> {
         requires entries { AreEntries self.now.line.keys self.now.entries.now }
         requires values { StatesValues O.loaded }
         ensures { getter.entry.counted.gets < 2 ^ 64 - 1
-            → IsTurn N.space (turn_key self.now.line thread turn) (reloads_at turn) getter.entry result.0 result.1 }
+            → IsTurn N.space (turn_key self.now.line thread turn) (reloads_at turn) getter.entry
+            result.0 result.1 }
     {
         let number = turn_number(self.line, thread, turn);
         let entry = &self.entries[number];
@@ -118,9 +119,12 @@ impl<'a, R: Wait + Clock + Eprint> Crew<'a, R> {
     ) -> (Getter<'d, D, N, O, L>, Ended)
         requires entries { AreEntries self.now.line.keys self.now.entries.now }
         requires values { StatesValues O.loaded }
-        ensures job { getter.entry.counted.gets + self.now.line.gets < 2 ^ 64 → IsJob N.space self.now.line thread getter.entry result.0 result.1 }
-        ensures counted { getter.entry.counted.gets + self.now.line.gets < 2 ^ 64 → result.0.counted.gets ≡ getter.entry.counted.gets + self.now.line.gets }
-        ensures logged { getter.entry.counted.gets + self.now.line.gets < 2 ^ 64 → IsLogOf getter.entry result.0 result.1.log.items }
+        ensures job { getter.entry.counted.gets + self.now.line.gets < 2 ^ 64
+            → IsJob N.space self.now.line thread getter.entry result.0 result.1 }
+        ensures counted { getter.entry.counted.gets + self.now.line.gets < 2 ^ 64
+            → result.0.counted.gets ≡ getter.entry.counted.gets + self.now.line.gets }
+        ensures logged { getter.entry.counted.gets + self.now.line.gets < 2 ^ 64
+            → IsLogOf getter.entry result.0 result.1.log.items }
         ensures answers { result.1.answers ≤ self.now.line.gets }
     {
         let (rt, line) = (self.rt, self.line);

@@ -56,7 +56,8 @@ impl Peer for ThirdFails {
 
     ghost use Rattle.sf_drive.specs.Values.{IsFetchOf};
 
-    ghost fetch_gives = { λ old peer key call answer new. IsFetchOf old.fetched key answer new.fetched };
+    ghost fetch_gives = { λ old peer key call answer new.
+        IsFetchOf old.fetched key answer new.fetched };
 
     fn fetch(&mut self, _peer: u32, key: &[u8], _call: CallId) -> Result<Bytes, PeerFault> {
         self.fetched = self.fetched.wrapping_add(1);

@@ -1,6 +1,6 @@
 -- how a fill is made
 use Rattle.std.specs.Prelude.{◌≡◌, ℕ, ◌≤◌, List, [], ◌∷◌, All, vec_len}
-use Rattle.sf_words.specs.declared.limits.TheConstants.{LARGEST_PLACE}
+use Rattle.sf_words.specs.declared.limits.TheConstants.{LARGEST_PLACE, LARGEST_CALLER}
 use Rattle.sf_calls.specs.Tokens.{GroupValue, CallerValue}
 use Rattle.sf_spots.specs.declared.key_space.KeyDesk.{KeyDesk}
 use Rattle.sf_spots.specs.Spaces.{SpaceId, AreDesksOf, places_in}
@@ -24,7 +24,7 @@ AreOfGroup g callers = All (λ (c : CallerValue Filled). c.group ≡ g) callers
 
 -- the parts of a fill over this key space, with this group, so many getters, and ledgers of these names
 pub record AreParts {D O L : Type 0} (s : SpaceId) (g : GroupValue) (n : ℕ) (names : LedgerNames) (p : FillParts D O L) : Type 0 where
-  pub few : (1 ≤ n) × (n ≤ 65535)
+  pub few : (1 ≤ n) × (n ≤ LARGEST_CALLER)
   pub places : places_in s ≤ LARGEST_PLACE
   pub group : (p.group ≡ g) × (g.sizes.places ≡ places_in s)
   pub desks : (vec_len p.desks ≡ n) × AreDesksOf s p.desks.items

@@ -37,7 +37,9 @@ impl<'d, D: Naming, N: Naming, O: Origin> Model for Fill<'d, D, N, O> {
     ghost view = { λ f. f.group };
 
     // Its group has the places of its key space.
-    ghost invariant = { λ f. (f.group ≡ N.group) × (space_of f.space ≡ N.space) × (D.space ≡ N.space) × (N.group.sizes.places ≡ places_in N.space) × (places_in N.space ≤ LARGEST_PLACE) × (f.limit ≡ N.limit) };
+    ghost invariant = { λ f. (f.group ≡ N.group) × (space_of f.space ≡ N.space)
+        × (D.space ≡ N.space) × (N.group.sizes.places ≡ places_in N.space)
+        × (places_in N.space ≤ LARGEST_PLACE) × (f.limit ≡ N.limit) };
 }
 
 impl<'d, D: Naming, N: Naming, O: Origin> Fill<'d, D, N, O> {
@@ -73,7 +75,10 @@ fn sum_up<'d, D: Naming, N: Naming, O: Origin, L: Drop>(
     getters: Vec<Getter<'d, D, N, O, L>>,
 ) -> AllParts<N>
     requires { 0 < vec_len getters }
-    ensures { result ≡ record { parts = vec_len getters.entry; counted = sums_of (map (λ (g : GetterValue L). g.counted) getters.entry.items) } }
+    ensures { result ≡ record {
+      parts = vec_len getters.entry;
+      counted = sums_of (map (λ (g : GetterValue L). g.counted) getters.entry.items);
+    } }
 {
     let mut getters = getters;
     let Some(last) = getters.pop() else {

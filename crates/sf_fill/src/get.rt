@@ -77,7 +77,8 @@ fn reply<'d, D: Naming, O: Origin>(
     requires of_place { IsOfPlace (place_at at.old) (found_by asked) }
     requires of_key { IsOfKey key.now (found_by asked) }
     ensures reply { result ≡ reply_of (found_by asked.entry) }
-    ensures keyed { IfOk result.2 (λ view. spot_key view.value.spot ≡ spot_key (spot_at key.now at.old)) }
+    ensures keyed { IfOk result.2 (λ view.
+        spot_key view.value.spot ≡ spot_key (spot_at key.now at.old)) }
     ensures loaded { IfOk result.2 (IsLoadedFor O.loaded (spot_key (spot_at key.now at.old))) }
 {
     match asked {
@@ -112,9 +113,13 @@ impl<'d, D: Naming, N: Naming, O: Origin> Fill<'d, D, N, O> {
     where
         L: LoadPath<Origin = O>,
         requires caller { caller.group ≡ N.group }
-        requires spot { IsInSpace D.space spot × (spot_key spot ≡ key.now) × IsPlaceOf N.group (spot_place spot) }
-        ensures found { HasFoundFrom N.space key.now (L.run_gives key.now) (DrawsWithin N.limit L.draw_gives) spot.entry caller.entry loaders.old loaders.new (found_by result) }
-        ensures logged { HasLogged caller.entry.number caller.entry.seen (seen_of (reply_of (found_by result)).0) log.old log.new }
+        requires spot { IsInSpace D.space spot × (spot_key spot ≡ key.now)
+            × IsPlaceOf N.group (spot_place spot) }
+        ensures found { HasFoundFrom N.space key.now (L.run_gives key.now)
+            (DrawsWithin N.limit L.draw_gives) spot.entry caller.entry loaders.old loaders.new
+            (found_by result) }
+        ensures logged { HasLogged caller.entry.number caller.entry.seen
+            (seen_of (reply_of (found_by result)).0) log.old log.new }
         ensures of_place { IsOfPlace (spot_place spot.entry) (found_by result) }
         ensures of_key { IsOfKey key.now (found_by result) }
         ensures one { IsOfOneGet (counts_of (found_by result)) }
@@ -164,12 +169,16 @@ impl<'d, D: Naming, N: Naming, O: Origin> Fill<'d, D, N, O> {
     ) -> (Finished<FillValue<'d, D, O>>, GetCounts)
     where
         L: LoadPath<Origin = O>,
-        requires flight { (flight.group ≡ N.group) × IsLawful N.group.sizes flight.seen × IsPlaceOf N.group flight.place }
+        requires flight { (flight.group ≡ N.group) × IsLawful N.group.sizes flight.seen
+            × IsPlaceOf N.group flight.place }
         requires own { flight.call.caller ≡ flight.number }
         requires led { IsRooted flight.place flight.call flight.call flight.seen }
-        requires spot { IsInSpace D.space spot × (spot_key spot ≡ key.now) × (spot_place spot ≡ flight.place) }
-        ensures run { HasRunFrom (L.run_gives key.now) (DrawsWithin N.limit L.draw_gives) spot.entry flight.entry loaders.old loaders.new result.0 result.1 }
-        ensures logged { HasLogged flight.entry.number flight.entry.seen (seen_of (reply_of (Led result.0 result.1)).0) log.old log.new }
+        requires spot { IsInSpace D.space spot × (spot_key spot ≡ key.now)
+            × (spot_place spot ≡ flight.place) }
+        ensures run { HasRunFrom (L.run_gives key.now) (DrawsWithin N.limit L.draw_gives) spot.entry
+            flight.entry loaders.old loaders.new result.0 result.1 }
+        ensures logged { HasLogged flight.entry.number flight.entry.seen
+            (seen_of (reply_of (Led result.0 result.1)).0) log.old log.new }
         ensures of_place { IfDone (λ letter. letter.place ≡ flight.entry.place) result.0 }
         ensures of_key { IfDone (λ letter. MayBe letter.value.spot key.now) result.0 }
         ensures one { IsOfOneGet result.1 }
@@ -202,8 +211,10 @@ impl<'d, D: Naming, N: Naming, O: Origin> Fill<'d, D, N, O> {
         requires space { IsInSpace D.space (spot_at key.now at.old) }
         requires keyed { spot_key (spot_at key.now at.old) ≡ key.now }
         requires place { IsPlaceOf N.group (place_at at.old) }
-        ensures asked { HasAsked (L.run_gives key.now) (DrawsWithin N.limit L.draw_gives) N.space key.now (spot_at key.now at.old) getter.entry result.0 result.1 }
-        ensures logged { HasLogged (number_of getter.entry.standing) (seen_of getter.entry.standing) (seen_of result.0.standing) getter.entry.log result.0.log }
+        ensures asked { HasAsked (L.run_gives key.now) (DrawsWithin N.limit L.draw_gives) N.space
+            key.now (spot_at key.now at.old) getter.entry result.0 result.1 }
+        ensures logged { HasLogged (number_of getter.entry.standing) (seen_of getter.entry.standing)
+            (seen_of result.0.standing) getter.entry.log result.0.log }
         ensures keyed { IfOk result.1 (λ view. spot_key view.value.spot ≡ key.now) }
         ensures loaded { IfOk result.1 (IsLoadedFor O.loaded key.now) }
     {
@@ -254,7 +265,8 @@ impl<'d, D: Naming, N: Naming, O: Origin> Fill<'d, D, N, O> {
         requires place { IsPlaceOf N.group (place_at at.old) }
         ensures at_hand { IfSome result (IsAtHand (place_at at.old) getter.old getter.new) }
         ensures none { result ≡ None → IsNoneAtHand (place_at at.old) getter.old getter.new }
-        ensures keyed { IfSome result (λ answer. IfOk answer (λ view. spot_key view.value.spot ≡ key.now)) }
+        ensures keyed { IfSome result (λ answer.
+            IfOk answer (λ view. spot_key view.value.spot ≡ key.now)) }
         ensures loaded { IfSome result (λ answer. IfOk answer (IsLoadedFor O.loaded key.now)) }
         ensures same { at.new ≡ at.old }
     {
@@ -284,7 +296,8 @@ impl<'d, D: Naming, N: Naming, O: Origin> Fill<'d, D, N, O> {
         requires keyed { spot_key (spot_at key.now at.old) ≡ key.now }
         ensures at_hand { IfSome result (IsAtHand (place_at at.old) getter.old getter.new) }
         ensures none { result ≡ None → IsNoneAtHand (place_at at.old) getter.old getter.new }
-        ensures keyed { IfSome result (λ answer. IfOk answer (λ view. spot_key view.value.spot ≡ key.now)) }
+        ensures keyed { IfSome result (λ answer.
+            IfOk answer (λ view. spot_key view.value.spot ≡ key.now)) }
         ensures loaded { IfSome result (λ answer. IfOk answer (IsLoadedFor O.loaded key.now)) }
         ensures same { at.new ≡ at.old }
     {
@@ -319,7 +332,8 @@ impl<'d, D: Naming, N: Naming, O: Origin> Fill<'d, D, N, O> {
         requires place { IsPlaceOf N.group (place_at at.old) }
         ensures at_hand { IfSome result (IsAtHand (place_at at.old) getter.old getter.new) }
         ensures none { result ≡ None → IsNoneAtHand (place_at at.old) getter.old getter.new }
-        ensures keyed { IfSome result (λ answer. IfOk answer (λ view. spot_key view.value.spot ≡ key.now)) }
+        ensures keyed { IfSome result (λ answer.
+            IfOk answer (λ view. spot_key view.value.spot ≡ key.now)) }
         ensures loaded { IfSome result (λ answer. IfOk answer (IsLoadedFor O.loaded key.now)) }
         ensures same { at.new ≡ at.old }
     {
@@ -339,8 +353,10 @@ impl<'d, D: Naming, N: Naming, O: Origin> Fill<'d, D, N, O> {
     where
         L: LoadPath<Origin = O>,
         requires room { getter.counted.gets < 2 ^ 64 - 1 }
-        ensures got { GetsOnce (L.run_gives key.now) (DrawsWithin N.limit L.draw_gives) N.space key.now getter.entry result.0 result.1 }
-        ensures logged { HasLogged (number_of getter.entry.standing) (seen_of getter.entry.standing) (seen_of result.0.standing) getter.entry.log result.0.log }
+        ensures got { GetsOnce (L.run_gives key.now) (DrawsWithin N.limit L.draw_gives) N.space
+            key.now getter.entry result.0 result.1 }
+        ensures logged { HasLogged (number_of getter.entry.standing) (seen_of getter.entry.standing)
+            (seen_of result.0.standing) getter.entry.log result.0.log }
         ensures keyed { IfOk result.1 (λ view. spot_key view.value.spot ≡ key.now) }
         ensures loaded { IfOk result.1 (IsLoadedFor O.loaded key.now) }
     {
@@ -373,10 +389,14 @@ impl<'d, D: Naming, N: Naming, O: Origin> Fill<'d, D, N, O> {
     ) -> Option<Result<View<'d, D, O>, LoadFault>>
         ensures present { IfSome result (IsPresent N.space key.now getter.old getter.new) }
         ensures fresh { IfSome result (IsFreshGet N.space key.now getter.old getter.new) }
-        ensures absent { result ≡ None → (getter.new ≡ getter.old) ⊎ IsAbsent N.space getter.old getter.new }
-        ensures owing { is_owing getter.old.standing ≡ true → (result ≡ None) × (getter.new ≡ getter.old) }
-        ensures full { getter.old.counted.gets ≡ 2 ^ 64 - 1 → (result ≡ None) × (getter.new ≡ getter.old) }
-        ensures keyed { IfSome result (λ answer. IfOk answer (λ view. spot_key view.value.spot ≡ key.now)) }
+        ensures absent { result ≡ None → (getter.new ≡ getter.old)
+            ⊎ IsAbsent N.space getter.old getter.new }
+        ensures owing { is_owing getter.old.standing ≡ true → (result ≡ None)
+            × (getter.new ≡ getter.old) }
+        ensures full { getter.old.counted.gets ≡ 2 ^ 64 - 1 → (result ≡ None)
+            × (getter.new ≡ getter.old) }
+        ensures keyed { IfSome result (λ answer.
+            IfOk answer (λ view. spot_key view.value.spot ≡ key.now)) }
         ensures loaded { IfSome result (λ answer. IfOk answer (IsLoadedFor O.loaded key.now)) }
     {
         if getter.is_full() || getter.owes() {
@@ -399,12 +419,17 @@ impl<'d, D: Naming, N: Naming, O: Origin> Fill<'d, D, N, O> {
     ) -> (Getter<'d, D, N, O, L>, Result<View<'d, D, O>, LoadFault>)
     where
         L: LoadPath<Origin = O>,
-        ensures got { getter.entry.counted.gets < 2 ^ 64 - 1 → HasGot (L.run_gives key.now) (DrawsWithin N.limit L.draw_gives) N.space key.now getter.entry result.0 result.1 }
-        ensures counted { getter.entry.counted.gets < 2 ^ 64 - 1 → IsCounted getter.entry result.0 result.1 }
-        ensures fresh { getter.entry.counted.gets < 2 ^ 64 - 1 → IsFreshGet N.space key.now getter.entry result.0 result.1 }
+        ensures got { getter.entry.counted.gets < 2 ^ 64 - 1
+            → HasGot (L.run_gives key.now) (DrawsWithin N.limit L.draw_gives) N.space key.now
+            getter.entry result.0 result.1 }
+        ensures counted { getter.entry.counted.gets < 2 ^ 64 - 1
+            → IsCounted getter.entry result.0 result.1 }
+        ensures fresh { getter.entry.counted.gets < 2 ^ 64 - 1
+            → IsFreshGet N.space key.now getter.entry result.0 result.1 }
         ensures keyed { IfOk result.1 (λ view. spot_key view.value.spot ≡ key.now) }
         ensures loaded { IfOk result.1 (IsLoadedFor O.loaded key.now) }
-        ensures full { getter.entry.counted.gets ≡ 2 ^ 64 - 1 → (result.0 ≡ getter.entry) × (result.1 ≡ Err (LoadFault.Refused GetRefusal.Spent)) }
+        ensures full { getter.entry.counted.gets ≡ 2 ^ 64 - 1 → (result.0 ≡ getter.entry)
+            × (result.1 ≡ Err (LoadFault.Refused GetRefusal.Spent)) }
     {
         if getter.is_full() {
             return (getter, Err(LoadFault::Refused(GetRefusal::Spent)));

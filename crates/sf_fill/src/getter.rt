@@ -63,7 +63,14 @@ impl<'d, D: Naming, N: Naming, O: Origin, L> Model for Getter<'d, D, N, O, L> {
 
     ghost Value = { GetterValue L };
 
-    ghost view = { λ g. record { desk = g.desk; standing = g.standing; loaders = g.loaders; counted = g.tallies; log = g.log } };
+    ghost view = { λ g.
+        record {
+          desk = g.desk;
+          standing = g.standing;
+          loaders = g.loaders;
+          counted = g.tallies;
+          log = g.log;
+        } };
 
     ghost invariant = { λ g. IsDeskOf N.space g.desk × IsOfGroup N.group g.standing };
 }
@@ -206,13 +213,12 @@ impl<'d, D: Naming, N: Naming, O: Origin> Fill<'d, D, N, O> {
 impl<'d, D: Naming, N: Naming, O: Origin, L> Getter<'d, D, N, O, L> {
     /// Delivers the letters that are owed; where memory for one is refused, they are owed still.
     #[inline(never)]
-    pub fn settle_up(
-        self,
-        fill: &Fill<'d, D, N, O>,
-    ) -> (Getter<'d, D, N, O, L>, Result<(), Memory>)
+    pub fn settle_up(self, fill: &Fill<'d, D, N, O>) -> (Getter<'d, D, N, O, L>, Result<(), Memory>)
         ensures settled { HasSettledUp self.entry result.0 }
-        ensures adds { HasAdded self.entry.standing result.0.standing (delivered_by self.entry.standing result.0.standing) }
-        ensures logged { result.0.log ≡ logged_by self.entry.log (delivered_by self.entry.standing result.0.standing) }
+        ensures adds { HasAdded self.entry.standing result.0.standing
+            (delivered_by self.entry.standing result.0.standing) }
+        ensures logged { result.0.log ≡ logged_by self.entry.log
+            (delivered_by self.entry.standing result.0.standing) }
         ensures done { is_ok result.1 ≡ not (is_owing result.0.standing) }
     {
         let Getter {

@@ -137,7 +137,8 @@ impl<'d, D: Naming, N: Naming, O: Origin> Model for Kept<'d, D, N, O> {
     ghost view = { λ k. k.caches };
 
     // The caches have the group's places, and the limit.
-    ghost invariant = { λ k. (k.caches.places ≡ N.group.sizes.places) × (k.caches.limit ≡ room_of N.limit) };
+    ghost invariant = { λ k. (k.caches.places ≡ N.group.sizes.places)
+        × (k.caches.limit ≡ room_of N.limit) };
 }
 
 impl<'d, D: Naming, N: Naming, O: Origin> Kept<'d, D, N, O> {
@@ -154,8 +155,10 @@ impl<'d, D: Naming, N: Naming, O: Origin> Kept<'d, D, N, O> {
         requires group { group.now ≡ N.group }
         requires caller { caller.old.group ≡ N.group }
         ensures looked { HasLooked caller.old place result caller.new }
-        ensures caches { ServesCurrent (λ l. (l.place ≡ place) × MayBe l.value.spot key.now) place which caller.old caller.new self.old result self.new }
-        ensures of_key { IfSome result (λ found. IfOk found (λ letter. MayBe letter.value.spot key.now)) }
+        ensures caches { ServesCurrent (λ l. (l.place ≡ place) × MayBe l.value.spot key.now) place
+            which caller.old caller.new self.old result self.new }
+        ensures of_key { IfSome result (λ found.
+            IfOk found (λ letter. MayBe letter.value.spot key.now)) }
     {
         let cached = self.caches.look(which, place)?;
         if cached.place() != place || !cached.is_of(key) {
@@ -180,8 +183,10 @@ impl<'d, D: Naming, N: Naming, O: Origin> Kept<'d, D, N, O> {
         requires group { group.now ≡ N.group }
         requires caller { caller.old.group ≡ N.group }
         ensures looked { HasLookedOn caller.old place result caller.new }
-        ensures caches { ServesEither (λ l. (l.place ≡ place) × MayBe l.value.spot key.now) place caller.old caller.new self.old result self.new }
-        ensures of_key { IfSome result (λ found. IfOk found (λ letter. MayBe letter.value.spot key.now)) }
+        ensures caches { ServesEither (λ l. (l.place ≡ place) × MayBe l.value.spot key.now) place
+            caller.old caller.new self.old result self.new }
+        ensures of_key { IfSome result (λ found.
+            IfOk found (λ letter. MayBe letter.value.spot key.now)) }
     {
         if let Some(copy) = self.copy_current(group, Which::Main, place, key, caller) {
             return Some(copy);
@@ -200,8 +205,10 @@ impl<'d, D: Naming, N: Naming, O: Origin> Kept<'d, D, N, O> {
     ) -> Option<Result<Letter<FillValue<'d, D, O>>, Memory>>
         requires { group.now ≡ N.group }
         ensures copy { IfSome result (IsCopyOf N.group place call) }
-        ensures caches { Serves (λ l. (l.place ≡ place) × (l.call ≡ call) × MayBe l.value.spot key.now) place which self.old result self.new }
-        ensures of_key { IfSome result (λ found. IfOk found (λ letter. MayBe letter.value.spot key.now)) }
+        ensures caches { Serves (λ l. (l.place ≡ place) × (l.call ≡ call)
+            × MayBe l.value.spot key.now) place which self.old result self.new }
+        ensures of_key { IfSome result (λ found.
+            IfOk found (λ letter. MayBe letter.value.spot key.now)) }
     {
         let cached = self.caches.look(which, place)?;
         if cached.place() != place || cached.call() != call || !cached.is_of(key) {
@@ -223,7 +230,10 @@ impl<'d, D: Naming, N: Naming, O: Origin> Kept<'d, D, N, O> {
         requires place { IsPlaceOf N.group place }
         requires group { letter.group ≡ N.group }
         requires settled { IsSettled letter }
-        ensures put { OnOk result (self.new ≡ after_put which place (record { key_len = key_len; value_len = value_len; item = letter.entry }) self.old) }
+        ensures put { OnOk result
+            (self.new ≡ after_put which place
+            (record { key_len = key_len; value_len = value_len; item = letter.entry })
+            self.old) }
         ensures refused { OnErr result (self.new ≡ self.old) }
     {
         self.caches
@@ -287,7 +297,8 @@ impl<'d, D: Naming, N: Naming, O: Origin> Fill<'d, D, N, O> {
     ) -> Option<Result<Letter<FillValue<'d, D, O>>, Memory>>
         requires { caller.old.group ≡ N.group }
         ensures looked { HasLookedOn caller.old place result caller.new }
-        ensures of_key { IfSome result (λ found. IfOk found (λ letter. MayBe letter.value.spot key.now)) }
+        ensures of_key { IfSome result (λ found.
+            IfOk found (λ letter. MayBe letter.value.spot key.now)) }
         ensures tallies { tallies.new ≡ tallies.old }
     {
         if self.limit <= 0 {
@@ -308,7 +319,8 @@ impl<'d, D: Naming, N: Naming, O: Origin> Fill<'d, D, N, O> {
     ) -> Option<Result<Letter<FillValue<'d, D, O>>, Memory>>
         requires { flight.now.group ≡ N.group }
         ensures follows { IfSome result (λ found. CopiesFollowed flight.now found) }
-        ensures of_key { IfSome result (λ found. IfOk found (λ letter. MayBe letter.value.spot key.now)) }
+        ensures of_key { IfSome result (λ found.
+            IfOk found (λ letter. MayBe letter.value.spot key.now)) }
     {
         match self.second_look(rt, flight, key) {
             Ok(InCache { copy, which: _ }) => Some(copy),
@@ -325,7 +337,8 @@ impl<'d, D: Naming, N: Naming, O: Origin> Fill<'d, D, N, O> {
     ) -> Result<InCache<FillValue<'d, D, O>>, Missed>
         requires { flight.now.group ≡ N.group }
         ensures follows { IfOk result (λ found. CopiesFollowed flight.now found.copy) }
-        ensures of_key { IfOk result (λ found. IfOk found.copy (λ letter. MayBe letter.value.spot key.now)) }
+        ensures of_key { IfOk result (λ found.
+            IfOk found.copy (λ letter. MayBe letter.value.spot key.now)) }
         ensures call { IfErr result (λ missed. missed.call ≡ flight.now.call) }
     {
         let call = Kept::<'d, D, N, O>::to_find(self.limit, flight)?;
@@ -369,8 +382,11 @@ impl<'d, D: Naming, N: Naming, O: Origin> Fill<'d, D, N, O> {
         getter: &mut Getter<'d, D, N, O, L>,
         key: &[u8],
     ) -> Result<(), LoadFault>
-        ensures found { IfOk result (λ _. (spot : Spot) × IsSpotOfKey N.space key.now getter.old.desk getter.new.desk spot) }
-        ensures refused { IfErr result (λ fault. (refusal : Refusal) × IsRefusedSpot N.space key.now getter.old.desk getter.new.desk refusal × (fault ≡ refusal_of refusal)) }
+        ensures found { IfOk result (λ _.
+            (spot : Spot) × IsSpotOfKey N.space key.now getter.old.desk getter.new.desk spot) }
+        ensures refused { IfErr result (λ fault.
+            (refusal : Refusal) × IsRefusedSpot N.space key.now getter.old.desk getter.new.desk
+            refusal × (fault ≡ refusal_of refusal)) }
         ensures rest { getter.new ≡ record getter.old { desk = getter.new.desk } }
     {
         match self.space.find(&mut getter.desk, key) {

@@ -59,9 +59,12 @@ impl<'d, D: Naming, N: Naming, O: Origin> Fill<'d, D, N, O> {
         L: LoadPath<Origin = O>,
         requires flight { (flight.old.group ≡ N.group) × IsLawful N.group.sizes flight.old.seen }
         requires led { IsRooted flight.old.place flight.old.call flight.old.call flight.old.seen }
-        requires spot { IsInSpace D.space spot × (spot_key spot ≡ key.now) × (spot_place spot ≡ flight.old.place) }
-        ensures source { IsSource (L.run_gives key.now) (DrawsWithin N.limit L.draw_gives) spot.entry flight.old loaders.old loaders.new result.value result.counts }
-        ensures into { SourceGoesInto L.draw_gives (L.run_gives key.now) N.limit spot.entry flight.old loaders.old loaders.new result.value result.keep }
+        requires spot { IsInSpace D.space spot × (spot_key spot ≡ key.now)
+            × (spot_place spot ≡ flight.old.place) }
+        ensures source { IsSource (L.run_gives key.now) (DrawsWithin N.limit L.draw_gives)
+            spot.entry flight.old loaders.old loaders.new result.value result.counts }
+        ensures into { SourceGoesInto L.draw_gives (L.run_gives key.now) N.limit spot.entry
+            flight.old loaders.old loaders.new result.value result.keep }
         ensures of_key { MayBe result.value.spot key.now }
         ensures learnt { IsSameFlight flight.old flight.new }
         ensures fits { FitsFill flight.new.place flight.new.call result.value flight.new.seen }
@@ -139,8 +142,10 @@ impl<'d, D: Naming, N: Naming, O: Origin> Fill<'d, D, N, O> {
     where
         L: LoadPath<Origin = O>,
         requires spot { IsInSpace D.space spot × (spot_key spot ≡ key.now) }
-        ensures source { IsLoaded (L.run_gives key.now) (DrawsWithin N.limit L.draw_gives) spot.entry missed.call loaders.old loaders.new result.value result.counts }
-        ensures into { LoadsInto L.draw_gives (L.run_gives key.now) N.limit missed.call loaders.old loaders.new result.keep }
+        ensures source { IsLoaded (L.run_gives key.now) (DrawsWithin N.limit L.draw_gives)
+            spot.entry missed.call loaders.old loaders.new result.value result.counts }
+        ensures into { LoadsInto L.draw_gives (L.run_gives key.now) N.limit missed.call loaders.old
+            loaders.new result.keep }
         ensures of_key { MayBe result.value.spot key.now }
         ensures one { IsOfOneGet result.counts }
     {

@@ -102,7 +102,8 @@ impl<'d, D: Naming, N: Naming, O: Origin> NearView<'d, D, N, O> {
         requires may_be { MayBe self.old.value.spot key.now }
         ensures again { IfOk result (λ view. HasLent self.old view) }
         ensures answer { IfOk result (λ view. answer_in view ≡ Ok view) }
-        ensures keyed { IfOk result (λ view. spot_key view.value.spot ≡ spot_key (spot_at key.now at.old)) }
+        ensures keyed { IfOk result (λ view.
+            spot_key view.value.spot ≡ spot_key (spot_at key.now at.old)) }
         ensures loaded { IfOk result (IsLoadedFor O.loaded (spot_key (spot_at key.now at.old))) }
         ensures same { at.new ≡ at.old }
     {
@@ -226,8 +227,10 @@ impl<'d, D: Naming, N: Naming, O: Origin> Near<'d, D, N, O> {
         requires space { IsInSpace D.space (spot_at key.now at.old) }
         ensures looked { HasLooked caller.old (place_at at.old) result caller.new }
         ensures answer { IfSome result (λ found. IfOk found (λ view. answer_in view ≡ Ok view)) }
-        ensures keyed { IfSome result (λ found. IfOk found (λ view. spot_key view.value.spot ≡ spot_key (spot_at key.now at.old))) }
-        ensures loaded { IfSome result (λ found. IfOk found (IsLoadedFor O.loaded (spot_key (spot_at key.now at.old)))) }
+        ensures keyed { IfSome result (λ found.
+            IfOk found (λ view. spot_key view.value.spot ≡ spot_key (spot_at key.now at.old))) }
+        ensures loaded { IfSome result (λ found.
+            IfOk found (IsLoadedFor O.loaded (spot_key (spot_at key.now at.old)))) }
         ensures same { at.new ≡ at.old }
     {
         let place = at.number().number();

@@ -2,7 +2,7 @@
 ghost use Rattle.std.specs.Prelude.{◌≡◌, ◌≤◌, [], All, IfOk, IfErr, vec_len, vec_capacity};
 ghost use Rattle.sf_calls.specs.Making.{IsNewCaller};
 ghost use Rattle.sf_caches.specs.Trimming.{no_entries, room_of};
-ghost use Rattle.sf_words.specs.declared.limits.TheConstants.{LARGEST_PLACE};
+ghost use Rattle.sf_words.specs.declared.limits.TheConstants.{LARGEST_PLACE, LARGEST_CALLER};
 ghost use Rattle.sf_spots.specs.Spaces.{AreDesksOf, places_in, space_of};
 ghost use Rattle.sf_fill.specs.Logs.{empty_log};
 ghost use Rattle.sf_fill.specs.Made.{AreParts, new_getters};
@@ -68,9 +68,11 @@ fn reserve<'d, D: Naming, N: Naming, O: Origin, L>(
     log: usize,
 ) -> Result<Rooms<'d, D, N, O, L>, Memory>
     requires { 1 ≤ places }
-    ensures getters { IfOk result (λ r. (r.getters.items ≡ []) × (getters ≤ vec_capacity r.getters)) }
+    ensures getters { IfOk result (λ r.
+        (r.getters.items ≡ []) × (getters ≤ vec_capacity r.getters)) }
     ensures caches { IfOk result (λ r. r.caches ≡ no_entries (room_of limit) places) }
-    ensures logs { IfOk result (λ r. (vec_len r.logs ≡ getters) × All (λ empty. empty ≡ empty_log log) r.logs.items) }
+    ensures logs { IfOk result (λ r. (vec_len r.logs ≡ getters)
+        × All (λ empty. empty ≡ empty_log log) r.logs.items) }
 {
     let caches = Caches::new(alloc, limit, places)?;
     let logs = logs_with_room(alloc, getters, log)?;
@@ -96,10 +98,11 @@ impl<'d, D: Naming, O: Origin, L: Drop> FillParts<'d, D, O, L> {
     ) -> Result<Self, Memory>
         requires space { space_of space ≡ D.space }
         requires places { places_in D.space ≤ LARGEST_PLACE }
-        requires getters { (1 ≤ vec_len loaders) × (vec_len loaders ≤ 65535) }
+        requires getters { (1 ≤ vec_len loaders) × (vec_len loaders ≤ LARGEST_CALLER) }
         requires desks { (vec_len desks ≡ vec_len loaders) × AreDesksOf D.space desks.items }
         requires first_generation { 1 ≤ first_generation }
-        ensures parts { IfOk result (λ parts. AreParts D.space parts.group (vec_len loaders) (names_of parts.ledgers) parts) }
+        ensures parts { IfOk result (λ parts.
+            AreParts D.space parts.group (vec_len loaders) (names_of parts.ledgers) parts) }
         ensures callers { IfOk result (λ parts. All (IsNewCaller parts.group) parts.callers.items) }
         ensures given { IfOk result (λ parts. (parts.desks ≡ desks) × (parts.loaders ≡ loaders)) }
     {
@@ -134,7 +137,10 @@ impl<'d, D: Naming, N: Naming, O: Origin> Fill<'d, D, N, O> {
         requires space { (space_of space ≡ N.space) × (D.space ≡ N.space) }
         requires parts { AreParts N.space N.group N.getters N.ledgers parts }
         requires limit { sizes.limit ≡ N.limit }
-        ensures made { IfOk result (λ made. (made.0 ≡ N.group) × (made.1.items ≡ new_getters sizes.log parts.entry.desks.items parts.entry.callers.items parts.entry.loaders.items)) }
+        ensures made { IfOk result (λ made.
+            (made.0 ≡ N.group) × (made.1.items
+            ≡ new_getters sizes.log parts.entry.desks.items parts.entry.callers.items
+            parts.entry.loaders.items)) }
         ensures count { IfOk result (λ made. vec_len made.1 ≡ N.getters) }
         ensures refused { IfErr result (λ back. back ≡ parts.entry) }
     {

@@ -81,8 +81,10 @@ impl<'d, D: Naming, N: Naming, O: Origin> Fill<'d, D, N, O> {
     ) -> (Standing<FillValue<'d, D, O>>, Result<Forgot, LoadFault>)
         requires group { IsOfGroup N.group standing }
         requires desk { IsDeskOf N.space desk.old }
-        ensures reloaded { ReloadsFrom N.space key.now standing.entry desk.old desk.new result.0 result.1 }
-        ensures logged { HasLogged (number_of standing.entry) (seen_of standing.entry) (seen_of result.0) log.old log.new }
+        ensures reloaded { ReloadsFrom N.space key.now standing.entry desk.old desk.new result.0
+            result.1 }
+        ensures logged { HasLogged (number_of standing.entry) (seen_of standing.entry)
+            (seen_of result.0) log.old log.new }
         ensures group { IsOfGroup N.group result.0 }
         ensures desk { IsDeskOf N.space desk.new }
     {

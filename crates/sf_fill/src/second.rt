@@ -43,7 +43,8 @@ impl<'d, D: Naming, N: Naming, O: Origin> Kept<'d, D, N, O> {
         flight: &Flight<FillValue<'d, D, O>>,
     ) -> Result<CallId, Missed>
         requires limit { limit ≡ N.limit }
-        ensures found { IfOk result (λ call. FollowsCall flight.now (Some call) × (pos 0 <ℤ N.limit)) }
+        ensures found { IfOk result (λ call. FollowsCall flight.now (Some call)
+            × (pos 0 <ℤ N.limit)) }
         ensures missed { IfErr result (λ missed. FollowsCall flight.now None ⊎ (N.limit ≤ℤ pos 0)) }
         ensures call { IfErr result (λ missed. missed.call ≡ flight.now.call) }
     {
@@ -66,9 +67,11 @@ impl<'d, D: Naming, N: Naming, O: Origin> Kept<'d, D, N, O> {
         requires group { group.now ≡ N.group }
         requires flight { flight.now.group ≡ N.group }
         requires call { FollowsCall flight.now (Some call) }
-        ensures caches { LooksAgain (λ l. (l.place ≡ flight.now.place) × (l.call ≡ call) × MayBe l.value.spot key.now) flight.now.place self.old result self.new }
+        ensures caches { LooksAgain (λ l. (l.place ≡ flight.now.place) × (l.call ≡ call)
+            × MayBe l.value.spot key.now) flight.now.place self.old result self.new }
         ensures follows { IfOk result (λ found. CopiesFollowed flight.now found.copy) }
-        ensures of_key { IfOk result (λ found. IfOk found.copy (λ letter. MayBe letter.value.spot key.now)) }
+        ensures of_key { IfOk result (λ found.
+            IfOk found.copy (λ letter. MayBe letter.value.spot key.now)) }
         ensures call { IfErr result (λ missed. missed.call ≡ flight.now.call) }
     {
         let place = flight.place();

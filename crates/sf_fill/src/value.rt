@@ -31,7 +31,9 @@ impl<'d, D: Naming, O: Origin> Model for FillValue<'d, D, O> {
 
     ghost view = { λ v. record { spot = v.spot; root = v.root; result = v.result } };
 
-    ghost invariant = { λ v. IsInSpace D.space v.spot × IfOk v.result (λ bytes. O.loaded (spot_key v.spot) v.root bytes) };
+    ghost invariant = { λ v.
+        IsInSpace D.space v.spot × IfOk v.result (λ bytes.
+        O.loaded (spot_key v.spot) v.root bytes) };
 }
 
 impl<'d, D: Naming, O: Origin> FillValue<'d, D, O> {
@@ -55,7 +57,8 @@ impl<'d, D: Naming, O: Origin> FillValue<'d, D, O> {
         ensures spot { (result.0 ≡ self.entry.spot) × IsInSpace D.space self.entry.spot }
         ensures root { result.1 ≡ self.entry.root }
         ensures result { result.2 ≡ self.entry.result }
-        ensures loaded { IfOk self.entry.result (λ bytes. O.loaded (spot_key self.entry.spot) self.entry.root bytes) }
+        ensures loaded { IfOk self.entry.result (λ bytes.
+            O.loaded (spot_key self.entry.spot) self.entry.root bytes) }
     {
         let FillValue {
             spot,
@@ -123,7 +126,8 @@ impl<'d, D: Naming, O: Origin> FillValue<'d, D, O> {
         requires number { place_at at.old ≡ spot_place self.old.spot }
         requires may_be { MayBe self.old.spot key.now }
         ensures same { spot_key self.old.spot ≡ spot_key (spot_at key.now at.old) }
-        ensures loaded { IfOk self.old.result (λ bytes. O.loaded (spot_key (spot_at key.now at.old)) self.old.root bytes) }
+        ensures loaded { IfOk self.old.result (λ bytes.
+            O.loaded (spot_key (spot_at key.now at.old)) self.old.root bytes) }
         ensures kept { (self.new ≡ self.old) × (at.new ≡ at.old) }
     {
         self.spot.agree(at, key);

@@ -37,7 +37,15 @@ impl<'d, D: Naming, O: Origin> Model for View<'d, D, O> {
 
     ghost Value = { LetterValue Filled };
 
-    ghost view = { λ v. record { group = v.note.group; seen = v.note.seen; place = spot_place v.spot; call = v.call; value = record { spot = v.spot; root = v.root; result = Ok v.bytes }; joiners = v.joiners } };
+    ghost view = { λ v.
+        record {
+          group = v.note.group;
+          seen = v.note.seen;
+          place = spot_place v.spot;
+          call = v.call;
+          value = record { spot = v.spot; root = v.root; result = Ok v.bytes };
+          joiners = v.joiners;
+        } };
 
     ghost invariant = { λ v. IsInSpace D.space v.spot × O.loaded (spot_key v.spot) v.root v.bytes };
 }
@@ -216,7 +224,8 @@ pub(crate) fn show<'d, D: Naming, O: Origin>(
     requires number { place_at at.old ≡ letter.place }
     requires may_be { MayBe letter.value.spot key.now }
     ensures answer { result ≡ answer_in letter.entry }
-    ensures keyed { IfOk result (λ view. spot_key view.value.spot ≡ spot_key (spot_at key.now at.old)) }
+    ensures keyed { IfOk result (λ view.
+        spot_key view.value.spot ≡ spot_key (spot_at key.now at.old)) }
     ensures loaded { IfOk result (IsLoadedFor O.loaded (spot_key (spot_at key.now at.old))) }
     ensures same { at.new ≡ at.old }
 {

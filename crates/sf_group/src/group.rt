@@ -49,7 +49,8 @@ impl<V: Fit> Model for Group<V> {
     ghost view = { λ g. record { table = g.table.shared.table_id; sizes = g.sizes } };
 
     ghost invariant = { λ g. (g.sizes ≡ g.table.shared.key)
-        × (g.table.shared.table_id.words ≡ words_in g.table.shared.key) × (g.sizes.callers ≤ MOST_CALLERS)
+        × (g.table.shared.table_id.words ≡ words_in g.table.shared.key)
+        × (g.sizes.callers ≤ MOST_CALLERS)
         × (1 ≤ g.sizes.first) × (g.table.shared.table_id.slots ≡ g.table.shared.key.callers + 1) };
 }
 

@@ -467,7 +467,8 @@ fn take_spare<'d, D: Naming>(
     ),
 >
     requires { AreOfGroup group.now callers.items }
-    ensures two { IfSome result (λ taken. (vec_len taken.0 ≡ 2) × AreOfGroup group.now taken.0.items) }
+    ensures two { IfSome result (λ taken.
+        (vec_len taken.0 ≡ 2) × AreOfGroup group.now taken.0.items) }
     ensures spare { IfSome result (λ taken. taken.1.group ≡ group.now) }
 {
     let _ = group;

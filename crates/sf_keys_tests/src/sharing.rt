@@ -32,7 +32,8 @@ impl<'a> Model for Worker<'a> {
 
     ghost view = { λ _. tt };
 
-    ghost invariant = { λ w. (w.caller.group ≡ w.group.now) × (w.places.count ≡ w.group.now.sizes.places) };
+    ghost invariant = { λ w. (w.caller.group ≡ w.group.now)
+        × (w.places.count ≡ w.group.now.sizes.places) };
 }
 
 // What one worker's dos came to.

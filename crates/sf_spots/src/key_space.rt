@@ -43,11 +43,14 @@ impl<'d> KeySpace<'d> {
     pub fn find(&self, desk: &mut KeyDesk, key: &[u8]) -> Result<KeyPlace<'d>, Refusal>
         requires desk { IsDeskOf (space_of self.now) desk.old }
         requires few { places_in (space_of self.now) ≤ LARGEST_PLACE }
-        ensures found { IfOk result (λ at. IsSpotOfKey (space_of self.now) key.now desk.old desk.new (spot_at key.now at)) }
+        ensures found { IfOk result (λ at.
+            IsSpotOfKey (space_of self.now) key.now desk.old desk.new (spot_at key.now at)) }
         ensures space { IfOk result (λ at. IsInSpace (space_of self.now) (spot_at key.now at)) }
         ensures keyed { IfOk result (λ at. spot_key (spot_at key.now at) ≡ key.now) }
-        ensures place { IfOk result (λ at. (0 < place_at at) × (place_at at ≤ places_in (space_of self.now))) }
-        ensures refused { IfErr result (λ refusal. IsRefusedSpot (space_of self.now) key.now desk.old desk.new refusal) }
+        ensures place { IfOk result (λ at.
+            (0 < place_at at) × (place_at at ≤ places_in (space_of self.now))) }
+        ensures refused { IfErr result (λ refusal.
+            IsRefusedSpot (space_of self.now) key.now desk.old desk.new refusal) }
         ensures seeing { IsSeeingSpace (space_of self.now) desk.old desk.new }
         ensures desk { IsDeskOf (space_of self.now) desk.new }
     {

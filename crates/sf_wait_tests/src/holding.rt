@@ -83,7 +83,8 @@ impl<'a> Model for Batch<'a> {
 
     ghost view = { λ _. tt };
 
-    ghost invariant = { λ b. All (λ job. job.flight.group ≡ b.group.now) b.jobs.items × (1 ≤ vec_len b.jobs) × (vec_len b.jobs ≤ 64) };
+    ghost invariant = { λ b. All (λ job. job.flight.group ≡ b.group.now) b.jobs.items
+        × (1 ≤ vec_len b.jobs) × (vec_len b.jobs ≤ 64) };
 }
 
 fn abandon_all(mut jobs: Vec<Job<Outcome, Number>>) {

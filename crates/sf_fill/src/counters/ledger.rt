@@ -1,6 +1,7 @@
 //! One counter that several threads add to: parts with the getters, and an account of all of them under the lock.
 ghost use Rattle.std.specs.Prelude.{◌≡◌, ◌+◌, ◌-◌, ◌*◌, ◌<◌, ◌≤◌, ◌^◌, ℕ};
 ghost use Rattle.sf_fill.specs.Names.{LedgerNames};
+ghost use Rattle.sf_words.specs.declared.limits.TheConstants.{LARGEST_CALLER};
 
 use crate::naming::Naming;
 use std::marker::{Model, PhantomData};
@@ -32,13 +33,15 @@ pub struct Account<L: Ledger> {
 }
 
 impl<L: Ledger> Model for Account<L> {
+    ghost use Rattle.sf_words.specs.declared.limits.TheConstants.{LARGEST_CALLER};
     ghost use Rattle.std.specs.Prelude.{◌≡◌, ◌+◌, ◌-◌, ◌*◌, ◌^◌, ◌≤◌, ℕ};
 
     ghost Value = { ℕ };
 
     ghost view = { λ a. a.count };
 
-    ghost invariant = { λ a. (a.count + a.left.total ≡ L.parts * (2 ^ 64 - 1)) × (L.parts ≤ 65535) };
+    ghost invariant = { λ a. (a.count + a.left.total ≡ L.parts * (2 ^ 64 - 1))
+        × (L.parts ≤ LARGEST_CALLER) };
 }
 
 /// Parts of a ledger: of getters that are still to come, that count, or that have ended.
@@ -53,7 +56,8 @@ impl<L: Ledger> Model for Parts<L> {
 
     ghost Value = { Held };
 
-    ghost view = { λ p. record { parts = p.left.parts; counted = p.left.parts * (2 ^ 64 - 1) - p.left.amount } };
+    ghost view = { λ p.
+        record { parts = p.left.parts; counted = p.left.parts * (2 ^ 64 - 1) - p.left.amount } };
 
     ghost invariant = { λ p. p.left.amount ≤ p.left.parts * (2 ^ 64 - 1) };
 }
@@ -62,7 +66,7 @@ impl<L: Ledger> Model for Parts<L> {
 pub fn open<L: Ledger>(blank: Blank, getters: u64) -> (Account<L>, Parts<L>)
     requires name { blank.name ≡ L.name }
     requires parts { blank.parts ≡ L.parts }
-    requires getters { (getters ≡ L.parts) × (getters ≤ 65535) }
+    requires getters { (getters ≡ L.parts) × (getters ≤ LARGEST_CALLER) }
     ensures account { result.0 ≡ 0 }
     ensures parts { result.1 ≡ record { parts = getters; counted = 0 } }
 {
@@ -123,7 +127,10 @@ impl<L: Ledger> Parts<L> {
 
     /// Other parts too.
     pub fn take(&mut self, other: Parts<L>)
-        ensures { self.new ≡ record { parts = self.old.parts + other.parts; counted = self.old.counted + other.counted } }
+        ensures { self.new ≡ record {
+          parts = self.old.parts + other.parts;
+          counted = self.old.counted + other.counted;
+        } }
     {
         let Parts { left } = other;
         self.left.merge(left);

@@ -2,6 +2,7 @@
 ghost use Rattle.std.specs.Prelude.{◌≡◌, ◌+◌, ◌-◌, ◌<◌, ◌≤◌, ◌^◌, ◌↔◌, IsTrue, false};
 ghost use Rattle.sf_fill.specs.Ledgers.{nothing_counted};
 ghost use Rattle.sf_fill.specs.Totals.{plus, with_counts, counts_in, names_of, AreNamed, IsOfOneGet, IsWithinGets};
+ghost use Rattle.sf_words.specs.declared.limits.TheConstants.{LARGEST_CALLER};
 
 use crate::counters::ledger::{Account, Counter, Of, Parts, open};
 use crate::load::NO_RUN;
@@ -212,9 +213,25 @@ impl<N: Naming> Model for AllParts<N> {
 
     ghost Value = { AllHeld };
 
-    ghost view = { λ p. record { parts = p.gets.parts; counted = record { gets = p.gets.counted; cache_hits = p.cache_hits.counted; loads = p.loads.counted; loads_deduped = p.loads_deduped.counted; peer_loads = p.peer_loads.counted; peer_errors = p.peer_errors.counted; local_loads = p.local_loads.counted; local_load_errors = p.local_load_errors.counted } } };
+    ghost view = { λ p.
+        record {
+          parts = p.gets.parts;
+          counted = record {
+            gets = p.gets.counted;
+            cache_hits = p.cache_hits.counted;
+            loads = p.loads.counted;
+            loads_deduped = p.loads_deduped.counted;
+            peer_loads = p.peer_loads.counted;
+            peer_errors = p.peer_errors.counted;
+            local_loads = p.local_loads.counted;
+            local_load_errors = p.local_load_errors.counted;
+          };
+        } };
 
-    ghost invariant = { λ p. (p.cache_hits.parts ≡ p.gets.parts) × (p.loads.parts ≡ p.gets.parts) × (p.loads_deduped.parts ≡ p.gets.parts) × (p.peer_loads.parts ≡ p.gets.parts) × (p.peer_errors.parts ≡ p.gets.parts) × (p.local_loads.parts ≡ p.gets.parts) × (p.local_load_errors.parts ≡ p.gets.parts) };
+    ghost invariant = { λ p. (p.cache_hits.parts ≡ p.gets.parts) × (p.loads.parts ≡ p.gets.parts)
+        × (p.loads_deduped.parts ≡ p.gets.parts) × (p.peer_loads.parts ≡ p.gets.parts)
+        × (p.peer_errors.parts ≡ p.gets.parts) × (p.local_loads.parts ≡ p.gets.parts)
+        × (p.local_load_errors.parts ≡ p.gets.parts) };
 }
 
 /// What one getter has counted: what it has entered, as its part of the ledgers says, and what it has not entered yet. No
@@ -235,7 +252,8 @@ impl<N: Naming> Model for Tallies<N> {
 
     ghost view = { λ t. with_counts t.part.counted t.pending };
 
-    ghost invariant = { λ t. (t.part.parts ≡ 1) × (t.gets ≡ t.part.counted.gets + t.pending.gets) × IsWithinGets (with_counts t.part.counted t.pending) };
+    ghost invariant = { λ t. (t.part.parts ≡ 1) × (t.gets ≡ t.part.counted.gets + t.pending.gets)
+        × IsWithinGets (with_counts t.part.counted t.pending) };
 }
 
 impl<N: Naming> Tallies<N> {
@@ -274,7 +292,7 @@ impl<N: Naming> Accounts<N> {
     /// Accounts in which nothing is entered yet, and the parts of all getters, 1 to 65,535.
     pub fn open(ledgers: Ledgers, getters: u64) -> (Accounts<N>, AllParts<N>)
         requires named { AreNamed N.ledgers N.getters ledgers }
-        requires getters { (getters ≡ N.getters) × (getters ≤ 65535) }
+        requires getters { (getters ≡ N.getters) × (getters ≤ LARGEST_CALLER) }
         ensures { result.1 ≡ record { parts = getters; counted = nothing_counted } }
     {
         let (gets, gets_parts) = open(ledgers.gets, getters);
@@ -311,7 +329,8 @@ impl<N: Naming> Accounts<N> {
     // Enters in each account what a getter has counted and not entered yet.
     fn enter_each(&mut self, part: &mut AllParts<N>, pending: GetCounts)
         requires part { part.old.parts ≡ 1 }
-        requires counted { IsWithinGets (with_counts part.old.counted pending) × (part.old.counted.gets + pending.gets ≤ 2 ^ 64 - 1) }
+        requires counted { IsWithinGets (with_counts part.old.counted pending)
+            × (part.old.counted.gets + pending.gets ≤ 2 ^ 64 - 1) }
         ensures { part.new ≡ record { parts = 1; counted = with_counts part.old.counted pending } }
     {
         let more = pending.totals();
@@ -373,7 +392,8 @@ impl<N: Naming> AllParts<N> {
     pub fn deal(&mut self) -> Tallies<N>
         requires { (0 < self.old.parts) × (self.old.counted ≡ nothing_counted) }
         ensures tallies { result ≡ nothing_counted }
-        ensures parts { (self.new.parts + 1 ≡ self.old.parts) × (self.new.counted ≡ nothing_counted) }
+        ensures parts { (self.new.parts + 1 ≡ self.old.parts)
+            × (self.new.counted ≡ nothing_counted) }
     {
         macro_rules! deal {
             ($counter:ident) => {
@@ -389,7 +409,10 @@ impl<N: Naming> AllParts<N> {
 
     /// Other parts too.
     pub fn take(&mut self, other: AllParts<N>)
-        ensures { self.new ≡ record { parts = self.old.parts + other.parts; counted = plus self.old.counted other.counted } }
+        ensures { self.new ≡ record {
+          parts = self.old.parts + other.parts;
+          counted = plus self.old.counted other.counted;
+        } }
     {
         macro_rules! take {
             ($counter:ident) => {
