@@ -80,13 +80,16 @@ fn say_view<'d, D: Naming, O: Origin>(
     };
 }
 
-// The key of what a get answers, where its place is hashed.
-fn say_key<'d, D: Naming, O: Origin>(
-    said: &mut String,
+// Gets the key, and says the key of what is answered, where its place is hashed.
+fn get_key<'d, D: Naming, N: Naming, O: Origin, L: LoadPath<Origin = O>>(
+    rt: &impl Wait,
+    fill: &Fill<'d, D, N, O>,
+    getter: Getter<'d, D, N, O, L>,
     key: &str,
-    answer: &Result<View<'d, D, O>, LoadFault>,
-) {
-    let _ = match answer {
+    said: &mut String,
+) -> Getter<'d, D, N, O, L> {
+    let (getter, answer) = fill.get(rt, getter, key.as_bytes());
+    let _ = match &answer {
         Ok(view) => match view.key() {
             Some(own) => {
                 let is_own = own.as_slice() == key.as_bytes();
@@ -96,14 +99,21 @@ fn say_key<'d, D: Naming, O: Origin>(
         },
         Err(fault) => write!(said, "{key} {fault}\n"),
     };
+    getter
 }
 
-// What a put came to, and the bytes of its view.
-fn say_put<'d, D: Naming, O: Origin>(
-    said: &mut String,
+// Puts the value, and says what that came to, with the bytes of its view.
+fn put<'d, D: Naming, N: Naming, O: Origin, L: LoadPath<Origin = O>>(
+    rt: &impl Wait,
+    fill: &Fill<'d, D, N, O>,
+    getter: Getter<'d, D, N, O, L>,
     key: &str,
-    answer: Result<Put<View<'d, D, O>>, LoadFault>,
-) {
+    value: &'static str,
+    said: &mut String,
+) -> Getter<'d, D, N, O, L>
+    requires { IsOpenOrigin O.loaded }
+{
+    let (getter, answer) = fill.put(rt, getter, key.as_bytes(), Bytes::from(value));
     let _ = match answer {
         Ok(Put::Settled(view)) => {
             let call = view.call();
@@ -119,6 +129,7 @@ fn say_put<'d, D: Naming, O: Origin>(
         }
         Err(fault) => write!(said, "put {key} {fault}\n"),
     };
+    getter
 }
 
 // What both caches hold.
@@ -137,14 +148,49 @@ fn say_stats<'d, D: Naming, N: Naming, O: Origin>(
     }
 }
 
-fn say_forgot(said: &mut String, key: &str, answer: &Result<Forgot, LoadFault>) {
-    let _ = match answer {
+// Reloads the key, and says what that forgot.
+fn reload<'d, D: Naming, N: Naming, O: Origin, L>(
+    rt: &impl Wait,
+    fill: &Fill<'d, D, N, O>,
+    getter: Getter<'d, D, N, O, L>,
+    key: &str,
+    said: &mut String,
+) -> Getter<'d, D, N, O, L> {
+    let (getter, answer) = fill.reload(rt, getter, key.as_bytes());
+    let _ = match &answer {
         Ok(Forgot::Closed(call)) => write!(said, "reload {key} closed {call}\n"),
         Ok(Forgot::Cleared(call)) => write!(said, "reload {key} cleared {call}\n"),
         Ok(Forgot::Missed(call)) => write!(said, "reload {key} missed {call}\n"),
         Ok(Forgot::Idle) => write!(said, "reload {key} idle\n"),
         Err(fault) => write!(said, "reload {key} {fault}\n"),
     };
+    getter
+}
+
+// Forgets all places, and says whether that was done.
+fn forget_all<'d, D: Naming, N: Naming, O: Origin, L>(
+    rt: &impl Wait,
+    fill: &Fill<'d, D, N, O>,
+    getter: Getter<'d, D, N, O, L>,
+    said: &mut String,
+) -> Getter<'d, D, N, O, L> {
+    let (getter, outcome) = fill.forget_all(rt, getter);
+    let forgotten = outcome.is_ok();
+    let _ = write!(said, "forget all {forgotten}\n");
+    getter
+}
+
+// Settles up, and says whether letters were owed, and whether they are delivered.
+fn settle_up<'d, D: Naming, N: Naming, O: Origin, L>(
+    fill: &Fill<'d, D, N, O>,
+    getter: Getter<'d, D, N, O, L>,
+    said: &mut String,
+) -> Getter<'d, D, N, O, L> {
+    let owed = getter.owes();
+    let (getter, outcome) = getter.settle_up(fill);
+    let settled = outcome.is_ok();
+    let _ = write!(said, "owes={owed} settled={settled}\n");
+    getter
 }
 
 fn say_events(said: &mut String, log: &[Event<PlaceNo, ()>]) {
@@ -266,32 +312,14 @@ pub fn run<'d, D: Naming, N: Naming, O: Origin, L: LoadPath<Origin = O>>(
                     let _ = write!(&mut said, "{key} none\n");
                 }
             },
-            Step::GetKey(key) => {
-                let (back, answer) = fill.get(rt, getter, key.as_bytes());
-                say_key(&mut said, key, &answer);
-                getter = back;
-            }
-            Step::Reload(key) => {
-                let (back, answer) = fill.reload(rt, getter, key.as_bytes());
-                say_forgot(&mut said, key, &answer);
-                getter = back;
-            }
-            Step::Put(key, value) => {
-                let bytes = Bytes::from(value);
-                let (back, answer) = fill.put(rt, getter, key.as_bytes(), bytes);
-                say_put(&mut said, key, answer);
-                getter = back;
-            }
+            Step::GetKey(key) => getter = get_key(rt, fill, getter, key, &mut said),
+            Step::Reload(key) => getter = reload(rt, fill, getter, key, &mut said),
+            Step::Put(key, value) => getter = put(rt, fill, getter, key, value, &mut said),
             Step::Remove(key) => {
                 let removed = fill.remove(rt, &mut getter, key.as_bytes()).is_ok();
                 let _ = write!(&mut said, "remove {key} {removed}\n");
             }
-            Step::ForgetAll => {
-                let (back, outcome) = fill.forget_all(rt, getter);
-                let forgotten = outcome.is_ok();
-                let _ = write!(&mut said, "forget all {forgotten}\n");
-                getter = back;
-            }
+            Step::ForgetAll => getter = forget_all(rt, fill, getter, &mut said),
             Step::Repeat(key, gets) => {
                 for _ in 0..gets {
                     let (back, _answer) = fill.get(rt, getter, key.as_bytes());
@@ -299,13 +327,7 @@ pub fn run<'d, D: Naming, N: Naming, O: Origin, L: LoadPath<Origin = O>>(
                 }
             }
             Step::Stats => say_stats(rt, &mut said, fill),
-            Step::SettleUp => {
-                let owed = getter.owes();
-                let (back, outcome) = getter.settle_up(fill);
-                let settled = outcome.is_ok();
-                let _ = write!(&mut said, "owes={owed} settled={settled}\n");
-                getter = back;
-            }
+            Step::SettleUp => getter = settle_up(fill, getter, &mut said),
             Step::TakeLog => say_events(&mut said, getter.take_log().as_slice()),
             Step::AwaitLoad => flags.wait_for(&flags.loading),
             Step::TellAnswered => flags.answered.store(true, Ordering::SeqCst),
