@@ -1,26 +1,17 @@
-//! The group: its callers' askings, Forgets and settles.
+//! The group: how it is made, and how large it is.
 ghost use Rattle.std.specs.Prelude.{◌≡◌, ◌+◌, ◌≤◌, ◌↔◌, [], IfOk, IfErr, IsTrue};
 ghost use Rattle.std.specs.List.{All, range_with_len};
 ghost use Rattle.sf_calls.specs.Same.{IsPlaceOf};
-ghost use Rattle.sf_calls.specs.Begins.{HasBegun};
-ghost use Rattle.sf_calls.specs.Forgets.{HasForgotten, HasForgotCall};
 ghost use Rattle.sf_calls.specs.Making.{IsNewCaller, new_caller, numbers_of};
 ghost use Rattle.sf_word_steps.specs.Stands.{IsSeatOf};
-ghost use Rattle.sf_group.specs.Calls.{HasTriedAtMost, HasTriedToBegin, HasNotBegun, HasNotForgotten};
 ghost use Rattle.sf_group.specs.Dealing.{IsDealing};
 
 use crate::caller::Caller;
-use crate::flight::Flight;
 use crate::seated::Seated;
-use crate::ticket::Ticket;
 use atomic_table::Table;
-use sf_calls::{Begun, Fit, MOST_CALLERS, MOST_PLACES, NotBegun, Sizes};
-use sf_history::{CallId, Forgotten, Hit};
+use sf_calls::{Fit, MOST_CALLERS, MOST_PLACES, Sizes};
 use sf_schedules::Letter as Cell;
-use sf_word_steps::{
-    Actor, AskAttempt, Deals, ForgetAttempt, Law, Resting, View, WordSeat, Words, ask_often,
-    forget_often, word_count,
-};
+use sf_word_steps::{Deals, Law, Resting, View, WordSeat, Words, word_count};
 use std::alloc::{AllocError, Global};
 use std::marker::Model;
 
@@ -138,107 +129,5 @@ impl<V: Fit> Group<V> {
         ensures { result ≡ self.now.sizes.places }
     {
         self.sizes.places
-    }
-
-    /// The caller asks for the place: it leads a new call where the place has no open one, and else joins that. Refused
-    /// as spent is a caller that has no generation left, which is looked at first; as busy one whose tries (1 to 65,536)
-    /// all failed, each since another had changed a word between its reading and its exchange.
-    pub fn begin(
-        &self,
-        caller: Caller<V>,
-        place: u32,
-        tries: u32,
-    ) -> Result<Begun<Flight<V>, Ticket<V>>, NotBegun<Caller<V>>>
-        requires own { caller.group ≡ self.now }
-        requires place { IsPlaceOf self.now place }
-        requires tries { (1 ≤ tries) × (tries ≤ MOST_TRIES) }
-        ensures begun { IfOk result (λ begun. HasBegun caller place begun) }
-        ensures tried { IfOk result (λ begun. HasTriedToBegin caller tries begun) }
-        ensures refused { IfErr result (λ refused. HasNotBegun caller place tries refused) }
-    {
-        let Caller { mut seated } = caller;
-        let Ok(generation) = u32::try_from(seated.next) else {
-            return Err(NotBegun::Spent(Caller { seated }));
-        };
-        let member = CallId {
-            caller: seated.number as u32,
-            generation,
-        };
-        let actor = Actor {
-            sizes: self.sizes,
-            number: seated.number as u32,
-            place,
-        };
-        let words = &self.table.shared;
-        let attempt = ask_often(words, &mut seated.seat, actor, generation, tries);
-        match attempt {
-            AskAttempt::Led(after) => Ok(Begun::Lead(Flight::of(
-                seated, place, member, None, after,
-            ))),
-            AskAttempt::Joined(call) => Ok(Begun::Join(Ticket::of(seated, place, call, member))),
-            AskAttempt::Lost => Err(NotBegun::Busy(tries, Caller { seated })),
-        }
-    }
-
-    /// The caller forgets the place: it closes the place's open call, or finds none. Refused as busy is one whose
-    /// exchanges failed so often.
-    pub fn forget(&self, caller: &mut Caller<V>, place: u32, tries: u32) -> Result<Forgotten, u32>
-        requires own { caller.old.group ≡ self.now }
-        requires place { IsPlaceOf self.now place }
-        requires tries { (1 ≤ tries) × (tries ≤ MOST_TRIES) }
-        ensures forgotten { IfOk result (λ forgotten.
-            HasForgotten caller.old place caller.new forgotten) }
-        ensures tried { IfOk result (λ _. HasTriedAtMost caller.old tries caller.new.turns) }
-        ensures refused { IfErr result (λ failed.
-            HasNotForgotten caller.old place tries caller.new failed) }
-    {
-        let actor = Actor {
-            sizes: self.sizes,
-            number: caller.seated.number as u32,
-            place,
-        };
-        let words = &self.table.shared;
-        let attempt = forget_often(words, &mut caller.seated.seat, actor, None, tries);
-        match attempt {
-            ForgetAttempt::Closed(call) => return Ok(Forgotten::Closed(call)),
-            ForgetAttempt::Cleared(_) => return Ok(Forgotten::Idle),
-            ForgetAttempt::Missed => return Ok(Forgotten::Idle),
-            ForgetAttempt::Lost => {}
-        }
-        Err(tries)
-    }
-
-    /// The caller forgets this call of the place, whichever call it is, and leaves a newer one as it is: it closes the call
-    /// where that is the open one, clears it where it is the current one and not open, and else misses it. Refused as busy
-    /// is one whose exchanges failed so often.
-    pub fn forget_call(
-        &self,
-        caller: &mut Caller<V>,
-        place: u32,
-        call: CallId,
-        tries: u32,
-    ) -> Result<Hit, u32>
-        requires own { caller.old.group ≡ self.now }
-        requires place { IsPlaceOf self.now place }
-        requires tries { (1 ≤ tries) × (tries ≤ MOST_TRIES) }
-        ensures forgot { IfOk result (λ hit. HasForgotCall caller.old place call hit caller.new) }
-        ensures tried { IfOk result (λ _. HasTriedAtMost caller.old tries caller.new.turns) }
-        ensures refused { IfErr result (λ failed.
-            HasNotForgotten caller.old place tries caller.new failed) }
-    {
-        let actor = Actor {
-            sizes: self.sizes,
-            number: caller.seated.number as u32,
-            place,
-        };
-        let words = &self.table.shared;
-        let attempt = forget_often(words, &mut caller.seated.seat, actor, Some(call), tries);
-        match attempt {
-            ForgetAttempt::Closed(_) => return Ok(Hit::Closed),
-            ForgetAttempt::Cleared(_) => return Ok(Hit::Cleared),
-            ForgetAttempt::Missed => return Ok(Hit::Missed),
-            ForgetAttempt::Lost => {}
-        }
-        Err(tries)
     }
 }

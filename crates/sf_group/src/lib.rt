@@ -38,18 +38,20 @@
 //! makes another of it, and each letter has one. A value may carry a fact (`Fit`), which each letter brings.
 #![tactic(auto)]
 
+mod asking;
 mod caller;
-mod chans;
-mod delivery;
 mod flight;
+mod forgetting;
 mod group;
 mod letter;
 mod note;
 mod notes;
 mod outcomes;
+mod polling;
 mod questions;
 mod seated;
 mod settled;
+mod settling;
 mod ticket;
 mod wide;
 

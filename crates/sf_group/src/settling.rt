@@ -1,7 +1,7 @@
-//! Calls that settle, and by which letters come: finish, go_on and poll.
+//! Calls that settle and hand letters out: finish and go_on.
 ghost use Rattle.std.specs.Prelude.{◌≡◌, ◌≤◌, true, Some};
 ghost use Rattle.sf_schedules.specs.Schedules.{was_led_on};
-ghost use Rattle.sf_calls.specs.Finishes.{HasFinished, HasGoneOn, HasPolled};
+ghost use Rattle.sf_calls.specs.Finishes.{HasFinished, HasGoneOn};
 ghost use Rattle.sf_word_steps.specs.View.{sizes_of, history_of};
 ghost use Rattle.sf_group.specs.Calls.{HasClosed, HasKnown};
 ghost use Rattle.sf_group.specs.Known.{IsPlaceIn, letter_of};
@@ -13,14 +13,12 @@ use crate::letter::Letter;
 use crate::note::Note;
 use crate::seated::Leader;
 use crate::settled::Settled;
-use crate::ticket::Ticket;
 use crate::wide::MaybeNumber;
-use sf_calls::{Finished, Fit, Polled};
+use sf_calls::{Finished, Fit};
 use sf_history::CallId;
 use sf_word_steps::{
-    Actor, Delivery, Tells, Unrested, Wakes, WordSeat, collect, hand_out, settle_and_count,
+    Actor, Delivery, Tells, Unrested, Wakes, WordSeat, hand_out, settle_and_count,
 };
-use std::sync::Wait;
 
 impl<V: Fit> Group<V> {
     /// The leader settles its call with the value, for good, and hands a letter to each that joined and to the own channel:
@@ -65,50 +63,6 @@ impl<V: Fit> Group<V> {
         ensures { HasGoneOn V.fits settled result }
     {
         self.hand_on(&Unrested, settled)
-    }
-
-    /// Looks for the letter of the ticket's call, once. Where it is there, the caller has it and is free again.
-    pub fn poll(&self, ticket: Ticket<V>) -> Polled<Caller<V>, Letter<V>, Ticket<V>>
-        requires own { ticket.group ≡ self.now }
-        ensures { HasPolled V.fits ticket result }
-    {
-        let Ticket {
-            mut seated,
-            place,
-            call,
-            member,
-        } = ticket;
-        let actor = Actor {
-            sizes: self.sizes,
-            number: seated.number as u32,
-            place: place as u32,
-        };
-        let Some(cell) = collect(
-            &self.table.shared,
-            &mut seated.seat,
-            actor,
-            member.generation,
-            call,
-        ) else {
-            return Polled::Pending(Ticket {
-                seated,
-                place,
-                call,
-                member,
-            });
-        };
-        let joiners = cell.joiners as u64;
-        let letter = self.letter(&mut seated.seat, place, call, cell.value, joiners);
-        Polled::Ready(Caller { seated }, letter)
-    }
-
-    /// Sleeps while the ticket's letter is not there, until its delivery. It may come back at any time, and promises
-    /// nothing: who rests polls again.
-    pub fn rest<R: Wait>(&self, rt: &R, ticket: &Ticket<V>)
-        requires own { ticket.now.group ≡ self.now }
-    {
-        self.resting
-            .rest(rt, &self.table.shared, self.sizes, ticket.member);
     }
 
     // Settles the call, and hands its letters out.
@@ -213,7 +167,7 @@ impl<V: Fit> Group<V> {
     }
 
     // A letter whose note shows what the seat has seen.
-    fn letter(
+    pub(crate) fn letter(
         &self,
         seat: &mut WordSeat<V>,
         place: u64,

@@ -1,17 +1,17 @@
-//! Askings with a second caller.
+//! Askings: begin, and begin_chan with a second caller.
 ghost use Rattle.std.specs.Prelude.{◌≡◌, ◌<◌, ◌≤◌, ◌⊎◌, IfOk, IfErr, IfSome, IfNone};
 ghost use Rattle.sf_calls.specs.Same.{IsPlaceOf};
-ghost use Rattle.sf_calls.specs.Begins.{HasChanBegun};
-ghost use Rattle.sf_group.specs.Calls.{HaveTriedToBegin, HasNotBegunChan};
+ghost use Rattle.sf_calls.specs.Begins.{HasBegun, HasChanBegun};
+ghost use Rattle.sf_group.specs.Calls.{HasTriedToBegin, HasNotBegun, HaveTriedToBegin, HasNotBegunChan};
 
 use crate::caller::Caller;
 use crate::flight::Flight;
 use crate::group::{Group, MOST_TRIES};
 use crate::ticket::Ticket;
-use sf_calls::{ChanBegun, Fit, NotBegun};
+use sf_calls::{Begun, ChanBegun, Fit, NotBegun};
 use sf_history::CallId;
 use sf_word_chans::{Askers, ask_together};
-use sf_word_steps::AskAttempt;
+use sf_word_steps::{Actor, AskAttempt, ask_often};
 
 // The generations that two callers use next. None where either is spent.
 fn generations(next: u64, second_next: u64) -> Option<(u32, u32)>
@@ -29,6 +29,46 @@ fn generations(next: u64, second_next: u64) -> Option<(u32, u32)>
 }
 
 impl<V: Fit> Group<V> {
+    /// The caller asks for the place: it leads a new call where the place has no open one, and else joins that. Refused
+    /// as spent is a caller that has no generation left, which is looked at first; as busy one whose tries (1 to 65,536)
+    /// all failed, each since another had changed a word between its reading and its exchange.
+    pub fn begin(
+        &self,
+        caller: Caller<V>,
+        place: u32,
+        tries: u32,
+    ) -> Result<Begun<Flight<V>, Ticket<V>>, NotBegun<Caller<V>>>
+        requires own { caller.group ≡ self.now }
+        requires place { IsPlaceOf self.now place }
+        requires tries { (1 ≤ tries) × (tries ≤ MOST_TRIES) }
+        ensures begun { IfOk result (λ begun. HasBegun caller place begun) }
+        ensures tried { IfOk result (λ begun. HasTriedToBegin caller tries begun) }
+        ensures refused { IfErr result (λ refused. HasNotBegun caller place tries refused) }
+    {
+        let Caller { mut seated } = caller;
+        let Ok(generation) = u32::try_from(seated.next) else {
+            return Err(NotBegun::Spent(Caller { seated }));
+        };
+        let member = CallId {
+            caller: seated.number as u32,
+            generation,
+        };
+        let actor = Actor {
+            sizes: self.sizes,
+            number: seated.number as u32,
+            place,
+        };
+        let words = &self.table.shared;
+        let attempt = ask_often(words, &mut seated.seat, actor, generation, tries);
+        match attempt {
+            AskAttempt::Led(after) => Ok(Begun::Lead(Flight::of(
+                seated, place, member, None, after,
+            ))),
+            AskAttempt::Joined(call) => Ok(Begun::Join(Ticket::of(seated, place, call, member))),
+            AskAttempt::Lost => Err(NotBegun::Busy(tries, Caller { seated })),
+        }
+    }
+
     /// The caller asks for the place with a second caller. Where the place has no open call, the caller leads a new one,
     /// and the second holds its own channel; else the second joins the open one, and the caller stays free. Both have then
     /// seen what either had. Refused as spent where either has no generation left, which is looked at first; as busy where
