@@ -133,6 +133,10 @@ impl<'a, R: Wait + Clock> Team for Gets<'a, R> {
 
     ghost wants = { λ gets getters loaded. ⊤ };
 
+    ghost room = { λ gets. 0 };
+
+    ghost gives = { λ gets space group index getter part. ⊤ };
+
     ghost ends = { λ gets took. ⊤ };
 
     fn work<'d, D: Naming, N: Naming, O: Origin, L: LoadPath<Origin = O> + Drop>(
@@ -189,6 +193,7 @@ where
     R: AllocGlobal + Wait + Threads + Clock + Sync,
     requires threads { (1 ≤ threads) × (threads ≤ 64) }
     requires places { places_for sizes.keys ≤ LARGEST_PLACE }
+    requires log { sizes.keeps.log ≡ 0 }
 {
     let alloc = rt.alloc();
     let loaders = loaders(alloc, threads)?;

@@ -32,7 +32,7 @@ HasEnded e remaining old new ended =
 abbrev pub HasDriven : DriveLine → Option (List ℕ) → Option (List ℕ) → Result DriveEnding StreamFault → Type 0
 HasDriven line old new driven =
     IfOk driven (λ ending. ending ≢ OutOfMemory → (report : Report) × (history : List DriveEvent)
-    × IsFound line.threads line.gets report history × (ending ≡ ending_of report)
+    × IsFound line report history × (ending ≡ ending_of report)
     × Appends old new (said_text line.history report history))
     × IfOk driven (λ ending. ending ≡ OutOfMemory → Appends old new (codes "out of memory\n"))
 

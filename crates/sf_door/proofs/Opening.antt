@@ -10,15 +10,16 @@ use Rattle.sf_fill.specs.Made.{new_getters}
 use Rattle.sf_door.specs.Opened.{IsNewGetter}
 
 module _ {L : Type 0} where
-  new_are : (room : ℕ) (g : GroupValue) (desks : List KeyDesk) (callers : List (CallerValue Filled)) (loaders : List L) → All (IsNewCaller g) callers → All (IsNewGetter g) (new_getters room desks callers loaders)
-  new_are room g [] callers loaders all = All-nil (IsNewGetter g)
-  new_are room g (d ∷ desks) [] loaders all = All-nil (IsNewGetter g)
-  new_are room g (d ∷ desks) (c ∷ callers) [] all = All-nil (IsNewGetter g)
+  new_are : (room : ℕ) (g : GroupValue) (desks : List KeyDesk) (callers : List (CallerValue Filled)) (loaders : List L) → All (IsNewCaller g) callers → All (IsNewGetter g room) (new_getters room desks callers loaders)
+  new_are room g [] callers loaders all = All-nil (IsNewGetter g room)
+  new_are room g (d ∷ desks) [] loaders all = All-nil (IsNewGetter g room)
+  new_are room g (d ∷ desks) (c ∷ callers) [] all = All-nil (IsNewGetter g room)
   new_are room g (d ∷ desks) (c ∷ callers) (l ∷ loaders) all =
-      All-cons (IsNewGetter g) (new_getter room d c l) (new_getters room desks callers loaders)
-      (record { caller = c; fresh = All-head (IsNewCaller g) c callers all; free = refl; counted = refl; room = room; unlogged = refl })
+      All-cons (IsNewGetter g room) (new_getter room d c l) (new_getters room desks callers loaders)
+      (record { caller = c; fresh = All-head (IsNewCaller g) c callers all; free = refl; counted = refl; unlogged = refl })
       (new_are room g desks callers loaders (All-tail (IsNewCaller g) c callers all))
 
-  pub opened : (room : ℕ) (g : GroupValue) (desks : List KeyDesk) (callers : List (CallerValue Filled)) (loaders : List L) (made : List (GetterValue L)) → made ≡ new_getters room desks callers loaders
-      → All (IsNewCaller g) callers → All (IsNewGetter g) made
-  opened room g desks callers loaders made is all = subst (λ (xs : List (GetterValue L)). All (IsNewGetter g) xs) (sym is) (new_are room g desks callers loaders all)
+  pub opened : (room log : ℕ) (g : GroupValue) (desks : List KeyDesk) (callers : List (CallerValue Filled)) (loaders : List L) (made : List (GetterValue L)) → made ≡ new_getters log desks callers loaders → log ≡ room
+      → All (IsNewCaller g) callers → All (IsNewGetter g room) made
+  opened room log g desks callers loaders made is states all =
+      subst (λ (xs : List (GetterValue L)). All (IsNewGetter g room) xs) (sym is) (subst (λ (n : ℕ). All (IsNewGetter g n) (new_getters log desks callers loaders)) states (new_are log g desks callers loaders all))

@@ -1,10 +1,11 @@
 -- what one who opens a fill asks for, and finds
-use Rattle.std.specs.Prelude.{◌≡◌, ℕ}
+use Rattle.std.specs.Prelude.{◌≡◌, ℕ, List, All}
+use Rattle.std.specs.List.{enumerate_from, zip}
 use Rattle.sf_calls.specs.Tokens.{GroupValue, CallerValue}
 use Rattle.sf_calls.specs.Making.{IsNewCaller}
 use Rattle.sf_fill.specs.declared.getter.Standing.TheVariants.{Free}
 use Rattle.sf_fill.specs.FillValue.{Filled}
-use Rattle.sf_fill.specs.GetterValue.{GetterValue}
+use Rattle.sf_fill.specs.GetterValue.{GetterValue, with_loaders}
 use Rattle.sf_fill.specs.Ledgers.{nothing_counted}
 use Rattle.sf_fill.specs.Logs.{empty_log}
 use Rattle.sf_door.specs.declared.sizes.Keys.{Keys}
@@ -16,11 +17,18 @@ places_for (Directory of) = of.keys
 places_for (Hashed places) = places.count
 
 module _ {L : Type 0} where
-  -- a getter of the group that owes nothing, has seen nothing, has counted nothing and has logged nothing
-  pub record IsNewGetter (g : GroupValue) (x : GetterValue L) : Type 0 where
+  -- a getter of the group that owes nothing, has seen nothing, has counted nothing, and has logged none of the events that it has room for
+  pub record IsNewGetter (g : GroupValue) (room : ℕ) (x : GetterValue L) : Type 0 where
     pub caller : CallerValue Filled
     pub fresh : IsNewCaller g caller
     pub free : x.standing ≡ Free caller
     pub counted : x.counted ≡ nothing_counted
-    pub room : ℕ
     pub unlogged : x.log ≡ empty_log room
+
+  -- the getter, as far as its loaders do not show
+  abbrev pub without_loaders : GetterValue L → GetterValue (Unit {0})
+  without_loaders x = with_loaders x tt
+
+  -- a fact of each index, and of the getter and the part that stand there
+  abbrev pub EachThread : {P : Type 0} → (ℕ → GetterValue (Unit {0}) → P → Type 0) → List (GetterValue L) → List P → Type 0
+  EachThread gives getters parts = All (λ at. gives at.0 (without_loaders at.1.0) at.1.1) (enumerate_from 0 (zip getters parts))

@@ -14,6 +14,9 @@ pub trait Body {
     /// What it needs of the number of getters, and of what the origin states of a key, a run and the bytes that this loaded.
     ghost wants: { Self → ℕ → (List ℕ → CallId → List ℕ → Type 0) → Type 0 };
 
+    /// How many events each getter has room to log.
+    ghost room: { Self → ℕ };
+
     /// What it says of its answer.
     ghost ends: { Self → Self.Answer → Type 0 };
 
@@ -27,6 +30,6 @@ pub trait Body {
     >(self, fill: &Fill<'d, D, N, O>, getters: Vec<Getter<'d, D, N, O, L>>) -> Self::Answer
         requires wants { wants self N.getters O.loaded }
         requires getters { vec_len getters ≡ N.getters }
-        requires new { All (IsNewGetter N.group) getters.items }
+        requires new { All (IsNewGetter N.group (room self)) getters.items }
         ensures { ends self result };
 }

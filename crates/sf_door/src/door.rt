@@ -26,6 +26,7 @@ pub fn with_fill<O: Origin + Send + Sync, L: LoadPath<Origin = O> + Send + Drop,
     requires places { places_for sizes.keys ≤ LARGEST_PLACE }
     requires getters { (1 ≤ vec_len loaders) × (vec_len loaders ≤ LARGEST_CALLER) }
     requires wants { B.wants body (vec_len loaders) O.loaded }
+    requires room { sizes.keeps.log ≡ B.room body }
     ensures { IfOk result (λ answer. B.ends body answer) }
 {
     let getters = loaders.len() as u32;
@@ -69,6 +70,7 @@ fn with_space<
     requires getters { (1 ≤ vec_len loaders) × (vec_len loaders ≤ LARGEST_CALLER) }
     requires desks { (vec_len desks ≡ vec_len loaders) × AreDesksOf D.space desks.items }
     requires wants { B.wants body (vec_len loaders) O.loaded }
+    requires room { sizes.keeps.log ≡ B.room body }
     ensures { IfOk result (λ answer. B.ends body answer) }
 {
     let parts = FillParts::new(alloc, space, desks, loaders, sizes.first_generation)?;
@@ -95,6 +97,7 @@ fn with_all<
     requires limit { sizes.keeps.limit ≡ N.limit }
     requires callers { All (IsNewCaller N.group) parts.callers.items }
     requires wants { B.wants body N.getters O.loaded }
+    requires room { sizes.keeps.log ≡ B.room body }
     ensures { IfOk result (λ answer. B.ends body answer) }
 {
     let made = Fill::<'d, D, N, O>::new(alloc, space, parts, sizes.keeps);

@@ -45,11 +45,17 @@ pub struct FillSizes {
 impl FillSizes {
     /// A fill of these keys, whose caches keep so many bytes of keys and values; getters log nothing, and keep no letter near.
     pub fn new(keys: Keys, limit: i64) -> FillSizes
-        ensures { result.keys ≡ keys }
+        ensures keys { result.keys ≡ keys }
+        ensures log { result.keeps.log ≡ 0 }
     {
         FillSizes {
             keys,
-            keeps: Sizes::new(limit, 0),
+            keeps: Sizes {
+                limit,
+                log: 0,
+                near: 0,
+                near_limit: 0,
+            },
             first_generation: 1,
         }
     }

@@ -1,10 +1,15 @@
 //! What the threads of a fill do, each with a getter of its own.
-ghost use Rattle.std.specs.Prelude.{◌≡◌, ◌≤◌, ℕ, List, IfOk, vec_len, vec_capacity};
+ghost use Rattle.std.specs.Prelude.{◌≡◌, ◌<◌, ◌≤◌, ℕ, List, All, IfOk, map, reverse};
+ghost use Rattle.std.specs.Prelude.{vec_len, vec_capacity};
+ghost use Rattle.std.specs.List.{enumerate_from};
 ghost use Rattle.sf_history.specs.declared.call.CallId.{CallId};
 ghost use Rattle.sf_words.specs.declared.limits.TheConstants.{LARGEST_PLACE, LARGEST_CALLER};
-ghost use Rattle.sf_spots.specs.Spaces.{AreDesksOf, places_in, space_of};
+ghost use Rattle.sf_calls.specs.Making.{IsNewCaller};
+ghost use Rattle.sf_calls.specs.Tokens.{GroupValue};
+ghost use Rattle.sf_spots.specs.Spaces.{SpaceId, AreDesksOf, places_in, space_of};
+ghost use Rattle.sf_fill.specs.GetterValue.{GetterValue};
 ghost use Rattle.sf_fill.specs.Made.{AreParts};
-ghost use Rattle.sf_door.specs.Opened.{places_for};
+ghost use Rattle.sf_door.specs.Opened.{EachThread, IsNewGetter, places_for, without_loaders};
 
 use crate::sizes::{FillSizes, Keys};
 use sf_fill::{Fill, FillParts, Getter, Naming, Sizes};
@@ -12,7 +17,7 @@ use sf_group::Memory;
 use sf_loaders::{LoadPath, Origin};
 use sf_spots::{KeyDesk, KeySpace, hash_desks, open_directory};
 use std::alloc::Global;
-use std::marker::{Brand, Model};
+use std::marker::Brand;
 use std::sync::Wait;
 use std::thread::{Threads, map_vec};
 
@@ -28,6 +33,13 @@ pub trait Team {
     /// What it needs of the number of getters, and of what the origin states of a key, a run and the bytes that this loaded.
     ghost wants: { Self → ℕ → (List ℕ → CallId → List ℕ → Type 0) → Type 0 };
 
+    /// How many events each getter has room to log.
+    ghost room: { Self → ℕ };
+
+    /// What it says of the getter that the thread of this index gives back, and of its part; the getter is of this group over this
+    /// key space.
+    ghost gives: { Self → SpaceId → GroupValue → ℕ → GetterValue (Unit {0}) → Self.Part → Type 0 };
+
     /// What it says of its answer.
     ghost ends: { Self → Self.Answer → Type 0 };
 
@@ -38,7 +50,10 @@ pub trait Team {
         getter: Getter<'d, D, N, O, L>,
         index: u32,
     ) -> (Getter<'d, D, N, O, L>, Self::Part)
-        requires wants { wants self.now N.getters O.loaded };
+        requires wants { wants self.now N.getters O.loaded }
+        requires new { IsNewGetter N.group (room self.now) getter }
+        requires index { index < N.getters }
+        ensures { gives self.now N.space N.group index (without_loaders result.0) result.1 };
 
     /// What comes of the threads, once all have ended. The getters and the parts stand in the order of the loaders.
     fn finish<'d, D: Naming, N: Naming, O: Origin, L: LoadPath<Origin = O> + Drop>(
@@ -50,6 +65,7 @@ pub trait Team {
         requires wants { wants self.now N.getters O.loaded }
         requires getters { vec_len getters ≡ N.getters }
         requires parts { vec_len parts ≡ N.getters }
+        requires given { EachThread (gives self.now N.space N.group) getters.items parts.items }
         ensures { ends self.now result };
 }
 
@@ -64,6 +80,7 @@ pub fn with_team<
     requires places { places_for sizes.keys ≤ LARGEST_PLACE }
     requires getters { (1 ≤ vec_len loaders) × (vec_len loaders ≤ LARGEST_CALLER) }
     requires wants { T.wants team.now (vec_len loaders) O.loaded }
+    requires room { sizes.keeps.log ≡ T.room team.now }
     ensures { IfOk result (λ answer. T.ends team.now answer) }
 {
     let getters = loaders.len() as u32;
@@ -109,6 +126,7 @@ fn with_space<
     requires getters { (1 ≤ vec_len loaders) × (vec_len loaders ≤ LARGEST_CALLER) }
     requires desks { (vec_len desks ≡ vec_len loaders) × AreDesksOf D.space desks.items }
     requires wants { T.wants team.now (vec_len loaders) O.loaded }
+    requires room { sizes.keeps.log ≡ T.room team.now }
     ensures { IfOk result (λ answer. T.ends team.now answer) }
 {
     let parts = FillParts::new(alloc, space, desks, loaders, sizes.first_generation)?;
@@ -135,7 +153,9 @@ fn with_all<
     requires space { (space_of space ≡ N.space) × (D.space ≡ N.space) }
     requires parts { AreParts N.space N.group N.getters N.ledgers parts }
     requires limit { keeps.limit ≡ N.limit }
+    requires callers { All (IsNewCaller N.group) parts.callers.items }
     requires wants { T.wants team.now N.getters O.loaded }
+    requires room { keeps.log ≡ T.room team.now }
     ensures { IfOk result (λ answer. T.ends team.now answer) }
 {
     let Ok((fill, getters)) = Fill::<'d, D, N, O>::new(alloc, space, parts, keeps) else {
@@ -149,16 +169,8 @@ struct Job<'a, 'd, D: Naming, N: Naming, O: Origin, L, T: Team> {
     fill: &'a Fill<'d, D, N, O>,
     team: &'a T,
     getter: Getter<'d, D, N, O, L>,
+    /// Which thread it is, from 0.
     index: u32,
-}
-
-impl<'a, 'd, D: Naming, N: Naming, O: Origin, L, T: Team> Model for Job<'a, 'd, D, N, O, L, T> {
-    ghost Value = { Unit {0} };
-
-    ghost view = { λ _. tt };
-
-    // The team has what it needs.
-    ghost invariant = { λ job. T.wants job.team.now N.getters O.loaded };
 }
 
 impl<'a, 'd, D: Naming, N: Naming, O: Origin, L: Drop, T: Team> Drop
@@ -188,7 +200,9 @@ impl<'d, D: Naming, N: Naming, O: Origin, L: Drop, P: Drop> Drop for Ended<'d, D
 }
 
 impl<'d, D: Naming, N: Naming, O: Origin, L, P> Ended<'d, D, N, O, L, P> {
-    fn into_parts(self) -> (Getter<'d, D, N, O, L>, P) {
+    fn into_parts(self) -> (Getter<'d, D, N, O, L>, P)
+        ensures { (result.0 ≡ self.entry.getter) × (result.1 ≡ self.entry.part) }
+    {
         let Ended { getter, part } = self;
         (getter, part)
     }
@@ -204,7 +218,13 @@ impl<'a, 'd, D: Naming, N: Naming, O: Origin, L: LoadPath<Origin = O> + Drop, T:
     T,
 > {
     // Works, in its thread.
-    fn run(self) -> Ended<'d, D, N, O, L, T::Part> {
+    fn run(self) -> Ended<'d, D, N, O, L, T::Part>
+        requires wants { T.wants self.team.now N.getters O.loaded }
+        requires new { IsNewGetter N.group (T.room self.team.now) self.getter }
+        requires index { self.index < N.getters }
+        ensures { T.gives self.entry.team.now N.space N.group self.entry.index
+            (without_loaders result.getter) result.part }
+    {
         let Job {
             fill,
             team,
@@ -238,9 +258,10 @@ fn hand_out<'a, 'd, D: Naming, N: Naming, O: Origin, L: Drop, T: Team>(
     team: &'a T,
     getters: Vec<Getter<'d, D, N, O, L>>,
 ) -> Result<HandedOut<'a, 'd, D, N, O, L, T>, Memory>
-    requires getters { vec_len getters ≤ LARGEST_CALLER }
-    requires wants { T.wants team.now N.getters O.loaded }
-    ensures jobs { IfOk result (λ out. vec_len out.0 ≡ vec_len getters.entry) }
+    requires { vec_len getters ≤ LARGEST_CALLER }
+    ensures jobs { IfOk result (λ out. map (λ job. (job.index, job.getter)) out.0.items
+        ≡ reverse (enumerate_from 0 getters.entry.items)) }
+    ensures team { IfOk result (λ out. All (λ job. job.team.now ≡ team.now) out.0.items) }
     ensures getters { IfOk result (λ out.
         (vec_len out.1 ≡ 0) × (vec_len getters.entry ≤ vec_capacity out.1)) }
 {
@@ -268,7 +289,8 @@ fn take_back<'d, D: Naming, N: Naming, O: Origin, L: Drop, P: Drop>(
 ) -> (Vec<Getter<'d, D, N, O, L>>, Vec<P>)
     requires getters { (vec_len getters ≡ 0) × (vec_len ended ≤ vec_capacity getters) }
     requires parts { (vec_len parts ≡ 0) × (vec_len ended ≤ vec_capacity parts) }
-    ensures { (vec_len result.0 ≡ vec_len ended.entry) × (vec_len result.1 ≡ vec_len ended.entry) }
+    ensures getters { result.0.items ≡ reverse (map (λ end. end.getter) ended.entry.items) }
+    ensures parts { result.1.items ≡ reverse (map (λ end. end.part) ended.entry.items) }
 {
     let mut ended = ended;
     let mut getters = getters;
@@ -298,6 +320,7 @@ fn work_and_finish<
     team: &T,
 ) -> Result<T::Answer, Memory>
     requires getters { (vec_len getters ≡ N.getters) × (N.getters ≤ LARGEST_CALLER) }
+    requires new { All (IsNewGetter N.group (T.room team.now)) getters.items }
     requires wants { T.wants team.now N.getters O.loaded }
     ensures { IfOk result (λ answer. T.ends team.now answer) }
 {
@@ -306,7 +329,16 @@ fn work_and_finish<
         return Err(Memory);
     };
     let (jobs, getters) = hand_out(alloc, fill, team, getters)?;
-    let Ok(ended) = map_vec(rt, jobs, &|job: Job<D, N, O, L, T>| job.run()) else {
+    let Ok(ended) = map_vec(
+        rt,
+        jobs,
+        &|job: Job<D, N, O, L, T>|
+            requires { T.wants job.team.now N.getters O.loaded
+                × IsNewGetter N.group (T.room job.team.now) job.getter × (job.index < N.getters) }
+            ensures { T.gives job.entry.team.now N.space N.group job.entry.index
+                (without_loaders result.getter) result.part }
+        { job.run() },
+    ) else {
         getters.destroy_empty();
         return Err(Memory);
     };

@@ -25,7 +25,6 @@ use Rattle.sf_fill.specs.Owing.{HasSettledUp}
 use Rattle.sf_fill.specs.Reloads.{HasReloaded}
 use Rattle.sf_fill.proofs.Logging.{logged_append}
 use Rattle.sf_drive.specs.declared.jobs.Ended.{Ended}
-use Rattle.sf_drive.specs.declared.line.DriveLine.{DriveLine}
 use Rattle.sf_drive.specs.Jobs.{IsJob, IsLogOf, HasLoggedAll, HasReloadedWhere, IsGetOf, IsTurn, HasTakenTurns, key_name, turn_key, reloads_at}
 
 abbrev Seen : Type 0
@@ -121,28 +120,28 @@ module _ {L : Type 0} where
     pub turn_counts : (key : List ℕ) (reloads : Bool) (a b : GetterValue L) (right : Bool) → IsTurn space key reloads a b right → b.counted.gets ≡ a.counted.gets + 1
     turn_counts key reloads a b right turn = ap (λ c. c.gets) (reload_counts key turn.middle b reloads turn.reloaded) ∙ turn.got.counted.gets
 
-    pub turns_log : (line : DriveLine) (thread turns : ℕ) (a b : GetterValue L) (answers : ℕ) → HasTakenTurns space line thread turns a b answers → HasLoggedAll a b
-    turns_log line thread zero a b answers (is, none) = subst (λ (c : GetterValue L). HasLoggedAll a c) (sym is) (logs_nothing a)
-    turns_log line thread (suc turn) a b answers (middle, before, right, was, last, count) =
-        logs_again a middle b (turns_log line thread turn a middle before was) (turn_logs (turn_key line thread turn) (reloads_at turn) middle b right last)
+    pub turns_log : (keys thread turns : ℕ) (a b : GetterValue L) (answers : ℕ) → HasTakenTurns space keys thread turns a b answers → HasLoggedAll a b
+    turns_log keys thread zero a b answers (is, none) = subst (λ (c : GetterValue L). HasLoggedAll a c) (sym is) (logs_nothing a)
+    turns_log keys thread (suc turn) a b answers (middle, before, right, was, last, count) =
+        logs_again a middle b (turns_log keys thread turn a middle before was) (turn_logs (turn_key keys thread turn) (reloads_at turn) middle b right last)
 
-    pub turns_count : (line : DriveLine) (thread turns : ℕ) (a b : GetterValue L) (answers : ℕ) → HasTakenTurns space line thread turns a b answers → b.counted.gets ≡ a.counted.gets + turns
-    turns_count line thread zero a b answers (is, none) = ap (λ (c : GetterValue L). c.counted.gets) is ∙ omega arith
-    turns_count line thread (suc turn) a b answers (middle, before, right, was, last, count) =
-        turn_counts (turn_key line thread turn) (reloads_at turn) middle b right last ∙ (ap (λ n. n + 1) (turns_count line thread turn a middle before was) ∙ omega arith)
+    pub turns_count : (keys thread turns : ℕ) (a b : GetterValue L) (answers : ℕ) → HasTakenTurns space keys thread turns a b answers → b.counted.gets ≡ a.counted.gets + turns
+    turns_count keys thread zero a b answers (is, none) = ap (λ (c : GetterValue L). c.counted.gets) is ∙ omega arith
+    turns_count keys thread (suc turn) a b answers (middle, before, right, was, last, count) =
+        turn_counts (turn_key keys thread turn) (reloads_at turn) middle b right last ∙ (ap (λ n. n + 1) (turns_count keys thread turn a middle before was) ∙ omega arith)
 
-    pub turns_on : (line : DriveLine) (thread turn next : ℕ) (a b c : GetterValue L) (before now : ℕ) (right : Bool) → next ≡ suc turn → HasTakenTurns space line thread turn a b before
-        → IsTurn space (turn_key line thread turn) (reloads_at turn) b c right → now ≡ before + cond right 1 0 → HasTakenTurns space line thread next a c now
-    turns_on line thread turn next a b c before now right is was last count =
-        subst (λ (n : ℕ). HasTakenTurns space line thread n a c now) (sym is) (b, before, right, was, last, count)
+    pub turns_on : (keys thread turn next : ℕ) (a b c : GetterValue L) (before now : ℕ) (right : Bool) → next ≡ suc turn → HasTakenTurns space keys thread turn a b before
+        → IsTurn space (turn_key keys thread turn) (reloads_at turn) b c right → now ≡ before + cond right 1 0 → HasTakenTurns space keys thread next a c now
+    turns_on keys thread turn next a b c before now right is was last count =
+        subst (λ (n : ℕ). HasTakenTurns space keys thread n a c now) (sym is) (b, before, right, was, last, count)
 
-    pub job_counts : (line : DriveLine) (thread : ℕ) (a b : GetterValue L) (part : Ended) → IsJob space line thread a b part → b.counted.gets ≡ a.counted.gets + line.gets
-    job_counts line thread a b part job =
-        ap (λ (x : GetterValue L). x.counted.gets) job.emptied ∙ (ap (λ (x : GetterValue L). x.counted.gets) job.settled.rest ∙ turns_count line thread line.gets a job.turned part.answers job.turns)
+    pub job_counts : (keys gets thread : ℕ) (a b : GetterValue L) (part : Ended) → IsJob space keys gets thread a b part → b.counted.gets ≡ a.counted.gets + gets
+    job_counts keys gets thread a b part job =
+        ap (λ (x : GetterValue L). x.counted.gets) job.emptied ∙ (ap (λ (x : GetterValue L). x.counted.gets) job.settled.rest ∙ turns_count keys thread gets a job.turned part.answers job.turns)
 
-    pub job_logs : (line : DriveLine) (thread : ℕ) (a b : GetterValue L) (part : Ended) → IsJob space line thread a b part → IsLogOf a b part.log.items
-    job_logs line thread a b part job =
-        let all = logs_again a job.turned job.done (turns_log line thread line.gets a job.turned part.answers job.turns) job.settled.logs in
+    pub job_logs : (keys gets thread : ℕ) (a b : GetterValue L) (part : Ended) → IsJob space keys gets thread a b part → IsLogOf a b part.log.items
+    job_logs keys gets thread a b part job =
+        let all = logs_again a job.turned job.done (turns_log keys thread gets a job.turned part.answers job.turns) job.settled.logs in
         record {
           added = all.added;
           adds = subst (λ (s : Standing Filled). HasAdded a.standing s all.added) (sym (ap (λ (x : GetterValue L). x.standing) job.emptied)) all.adds;

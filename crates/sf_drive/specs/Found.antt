@@ -1,14 +1,18 @@
 -- what a drive found, and what it says of it
 use Rattle.std.specs.Prelude.{◌≡◌, ℕ, ◌*◌, Bool, true, false, List, [], ◌++◌, length, map, All, IsPermutation, Ok, codes, nat_eq}
-use Rattle.std.specs.List.{flat_map, sum_by}
+use Rattle.std.specs.List.{enumerate_from, flat_map, sum_by}
 use Rattle.sf_history.specs.declared.event.Event.{Event}
 use Rattle.sf_history.specs.declared.event.Event.TheVariants.{Lead, Enter, Forget, ForgetCall, Settle, Handed}
+use Rattle.sf_calls.specs.Tokens.{GroupValue}
 use Rattle.sf_checker.specs.Checker.{IsVerdictOf}
 use Rattle.sf_replay.specs.Record.{TextEvent}
 use Rattle.sf_replay.specs.TextKeys.{with_text_keys}
 use Rattle.sf_replay.specs.Written.{history_text}
+use Rattle.sf_spots.specs.Spaces.{SpaceId}
 use Rattle.sf_drive.specs.declared.jobs.Ended.{Ended}
+use Rattle.sf_drive.specs.declared.line.DriveLine.{DriveLine}
 use Rattle.sf_drive.specs.declared.report.Report.{Report}
+use Rattle.sf_drive.specs.Jobs.{IsPartOf}
 use Rattle.sf_drive.specs.Reports.{report_text}
 
 -- the logs of a drive keep no values
@@ -25,8 +29,11 @@ pub record IsFoundBy (threads gets : ℕ) (parts : List Ended) (report : Report)
   pub settled : All (λ part. part.settled ≡ true) parts
   pub verdict : IsVerdictOf nat_eq history report.verdict
 
-abbrev pub IsFound : ℕ → ℕ → Report → List DriveEvent → Type 0
-IsFound threads gets report history = (parts : List Ended) × IsFoundBy threads gets parts report history
+-- what a drive found: each part, in the order of the threads, is what came of its thread's job, over one key space and in one group, and this is what it found by them
+abbrev pub IsFound : DriveLine → Report → List DriveEvent → Type 0
+IsFound line report history =
+    (space : SpaceId) × (group : GroupValue) × (parts : List Ended) × All (λ at. IsPartOf space group line.keys line.gets at.0 at.1) (enumerate_from 0 parts)
+    × IsFoundBy line.threads line.gets parts report history
 
 -- in records each call of a drive is settled with the empty text
 abbrev pub empty_settled : Event (List ℕ) (Unit {0}) → TextEvent

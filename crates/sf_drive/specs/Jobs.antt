@@ -1,6 +1,7 @@
 -- what each thread of a drive does
 use Rattle.std.specs.Prelude.{◌≡◌, ℕ, zero, suc, ◌+◌, ◌*◌, ◌%◌, ◌==◌, Bool, true, false, cond, not, List, [], ◌∷◌, ◌++◌, length, Result, IfOk, is_ok, codes, decimal, string_bytes}
 use Rattle.sf_history.specs.declared.event.Event.{Event}
+use Rattle.sf_calls.specs.Tokens.{GroupValue}
 use Rattle.sf_spots.specs.Spaces.{SpaceId}
 use Rattle.sf_fill.specs.declared.fault.LoadFault.{LoadFault}
 use Rattle.sf_fill.specs.declared.reload.Forgot.{Forgot}
@@ -11,9 +12,9 @@ use Rattle.sf_fill.specs.Gets.{GetAnswer}
 use Rattle.sf_fill.specs.GetterValue.{GetterValue, is_owing}
 use Rattle.sf_fill.specs.Logs.{logged_by, empty_log}
 use Rattle.sf_fill.specs.Reloads.{HasReloaded}
+use Rattle.sf_door.specs.Opened.{IsNewGetter}
 use Rattle.sf_drive.specs.declared.jobs.Ended.{Ended}
 use Rattle.sf_drive.specs.declared.jobs.Entry.{Entry}
-use Rattle.sf_drive.specs.declared.line.DriveLine.{DriveLine}
 use Rattle.sf_drive.specs.Values.{value_of}
 
 -- the keys of a drive are k0, k1, and so on
@@ -35,11 +36,11 @@ abbrev pub AreEntries : ℕ → List Entry → Type 0
 AreEntries keys entries = (length entries ≡ keys) × AreNumbered 0 entries
 
 -- the number of the key that a thread gets at this turn: seven further on at each turn, and one further on for each thread
-abbrev pub turn_number : DriveLine → ℕ → ℕ → ℕ
-turn_number line thread turn = (7 * turn + thread) % line.keys
+abbrev pub turn_number : ℕ → ℕ → ℕ → ℕ
+turn_number keys thread turn = (7 * turn + thread) % keys
 
-abbrev pub turn_key : DriveLine → ℕ → ℕ → List ℕ
-turn_key line thread turn = key_name (turn_number line thread turn)
+abbrev pub turn_key : ℕ → ℕ → ℕ → List ℕ
+turn_key keys thread turn = key_name (turn_number keys thread turn)
 
 -- each tenth turn reloads its key
 abbrev pub reloads_at : ℕ → Bool
@@ -65,11 +66,11 @@ module _ {L : Type 0} (space : SpaceId) where
     pub reloaded : HasReloadedWhere reloads key middle new
 
   -- so many turns of a thread, from turn 0 on, of which so many were answered
-  abbrev pub HasTakenTurns : DriveLine → ℕ → ℕ → GetterValue L → GetterValue L → ℕ → Type 0
-  HasTakenTurns line thread zero old new answers = (new ≡ old) × (answers ≡ 0)
-  HasTakenTurns line thread (suc turn) old new answers =
-      (middle : GetterValue L) × (before : ℕ) × (right : Bool) × HasTakenTurns line thread turn old middle before
-      × IsTurn (turn_key line thread turn) (reloads_at turn) middle new right × (answers ≡ before + cond right 1 0)
+  abbrev pub HasTakenTurns : ℕ → ℕ → ℕ → GetterValue L → GetterValue L → ℕ → Type 0
+  HasTakenTurns keys thread zero old new answers = (new ≡ old) × (answers ≡ 0)
+  HasTakenTurns keys thread (suc turn) old new answers =
+      (middle : GetterValue L) × (before : ℕ) × (right : Bool) × HasTakenTurns keys thread turn old middle before
+      × IsTurn (turn_key keys thread turn) (reloads_at turn) middle new right × (answers ≡ before + cond right 1 0)
 
 module _ {L : Type 0} where
   -- the getter's calls added these events, and it logged them
@@ -91,10 +92,20 @@ module _ {L : Type 0} where
     pub logged : log ≡ (logged_by old.log added).events
 
 -- what a thread of a drive does: its turns, then it settles up, and gives its log
-pub record IsJob {L : Type 0} (space : SpaceId) (line : DriveLine) (thread : ℕ) (old new : GetterValue L) (part : Ended) : Type 0 where
+pub record IsJob {L : Type 0} (space : SpaceId) (keys gets thread : ℕ) (old new : GetterValue L) (part : Ended) : Type 0 where
   pub turned : GetterValue L
-  pub turns : HasTakenTurns space line thread line.gets old turned part.answers
+  pub turns : HasTakenTurns space keys thread gets old turned part.answers
   pub done : GetterValue L
   pub settled : HasSettled turned done part.settled
   pub log : part.log.items ≡ done.log.events
   pub emptied : new ≡ record done { log = empty_log 0 }
+
+-- what came of the job of this thread, which a new getter of the group did that has room to log eight events a get: this getter and this part. Which loaders the getter has is not said.
+pub record IsJobOf (space : SpaceId) (group : GroupValue) (keys gets thread : ℕ) (getter : GetterValue (Unit {0})) (part : Ended) : Type 0 where
+  pub old : GetterValue (Unit {0})
+  pub is_new : IsNewGetter group (8 * gets) old
+  pub job : IsJob space keys gets thread old getter part
+
+-- the same of some getter
+abbrev pub IsPartOf : SpaceId → GroupValue → ℕ → ℕ → ℕ → Ended → Type 0
+IsPartOf space group keys gets thread part = (getter : GetterValue (Unit {0})) × IsJobOf space group keys gets thread getter part

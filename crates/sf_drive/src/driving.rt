@@ -1,13 +1,13 @@
 //! A drive: its fill, its threads, and what comes of them.
-ghost use Rattle.std.specs.Prelude.{◌≡◌, ◌≢◌, ◌<◌, ◌≤◌, List, IfOk, codes, string_bytes, vec_len};
+ghost use Rattle.std.specs.Prelude.{◌≡◌, ◌≢◌, ◌*◌, ◌<◌, ◌≤◌, List, IfOk, codes, string_bytes, vec_len};
 ghost use Rattle.std.specs.Io.KnownBytes.{Appends};
 ghost use Rattle.sf_drive.specs.declared.report.DriveEnding.{DriveEnding};
 ghost use Rattle.sf_drive.specs.declared.report.Report.{Report};
 ghost use Rattle.sf_drive.specs.Found.{DriveEvent, IsFound, IsFoundBy, said_text};
-ghost use Rattle.sf_drive.specs.Jobs.{AreEntries};
+ghost use Rattle.sf_drive.specs.Jobs.{AreEntries, IsJobOf};
 ghost use Rattle.sf_drive.specs.Reports.{ending_of};
 ghost use Rattle.sf_words.specs.declared.limits.TheConstants.{LARGEST_PLACE};
-ghost use Rattle.sf_door.specs.Opened.{places_for};
+ghost use Rattle.sf_door.specs.Opened.{EachThread, IsNewGetter, places_for, without_loaders};
 ghost use Rattle.sf_drive.specs.Values.{StatesValues};
 
 use crate::found::{Found, said};
@@ -58,17 +58,20 @@ impl<'a, R: Wait + Clock + Eprint> Team for Crew<'a, R> {
 
     type Answer = Result<Found, Memory>;
 
-    ghost use Rattle.std.specs.Prelude.{◌≡◌, IfOk};
+    ghost use Rattle.std.specs.Prelude.{◌≡◌, ◌*◌, IfOk};
     ghost use Rattle.sf_drive.specs.Found.{IsFound};
-    ghost use Rattle.sf_drive.specs.Jobs.{AreEntries};
+    ghost use Rattle.sf_drive.specs.Jobs.{AreEntries, IsJobOf};
     ghost use Rattle.sf_drive.specs.Values.{StatesValues};
 
     ghost wants = { λ crew getters loaded. (getters ≡ crew.line.threads)
         × AreEntries crew.line.keys crew.entries.now × StatesValues loaded };
 
-    ghost ends = { λ crew answer.
-        IfOk answer (λ found. IsFound crew.line.threads crew.line.gets found.report
-        found.history) };
+    ghost room = { λ crew. 8 * crew.line.gets };
+
+    ghost gives = { λ crew space group. IsJobOf space group crew.line.keys crew.line.gets };
+
+    ghost ends = { λ crew answer. IfOk answer
+        (λ found. IsFound crew.line found.report found.history) };
 
     fn work<'d, D: Naming, N: Naming, O: Origin, L: LoadPath<Origin = O> + Drop>(
         &self,
@@ -78,6 +81,9 @@ impl<'a, R: Wait + Clock + Eprint> Team for Crew<'a, R> {
     ) -> (Getter<'d, D, N, O, L>, Ended)
         requires wants { (N.getters ≡ self.now.line.threads)
             × AreEntries self.now.line.keys self.now.entries.now × StatesValues O.loaded }
+        requires new { IsNewGetter N.group (8 * self.now.line.gets) getter }
+        ensures { IsJobOf N.space N.group self.now.line.keys self.now.line.gets index
+            (without_loaders result.0) result.1 }
     {
         self.get_all(fill, getter, index)
     }
@@ -92,8 +98,9 @@ impl<'a, R: Wait + Clock + Eprint> Team for Crew<'a, R> {
             × AreEntries self.now.line.keys self.now.entries.now × StatesValues O.loaded }
         requires getters { vec_len getters ≡ N.getters }
         requires parts { vec_len parts ≡ N.getters }
-        ensures { IfOk result (λ found.
-            IsFound self.now.line.threads self.now.line.gets found.report found.history) }
+        requires given { EachThread (IsJobOf N.space N.group self.now.line.keys self.now.line.gets)
+            getters.items parts.items }
+        ensures { IfOk result (λ found. IsFound self.now.line found.report found.history) }
     {
         let book = fill.book(self.rt);
         let gathered = fill.gather(self.rt, getters);
@@ -182,13 +189,18 @@ fn report<R: Wait + Threads + Clock + Eprint + Sync>(
     alloc: Global,
     line: DriveLine,
 ) -> Result<Found, Memory>
-    ensures { IfOk result (λ found. IsFound line.threads line.gets found.report found.history) }
+    ensures { IfOk result (λ found. IsFound line found.report found.history) }
 {
     let entries = entries(alloc, line.keys)?;
     let sizes = FillSizes {
         keys: keys_of(line),
         // A get adds three events at most, and one for each call of another key that it met; a reload adds one.
-        keeps: Sizes::new(LIMIT, 8 * line.gets as usize),
+        keeps: Sizes {
+            limit: LIMIT,
+            log: 8 * line.gets as usize,
+            near: 0,
+            near_limit: 0,
+        },
         first_generation: 1,
     };
     let crew = Crew {
@@ -213,7 +225,7 @@ pub fn drive<R: Wait + Threads + Clock + Eprint + Sync, W: Write>(
     // What is written is the report's text, or the records of the history on which its verdict is.
     ensures reported { IfOk result (λ ending. ending ≢ DriveEnding.OutOfMemory → (report : Report)
         × (history : List DriveEvent)
-        × IsFound line.threads line.gets report history × (ending ≡ ending_of report)
+        × IsFound line report history × (ending ≡ ending_of report)
         × Appends (W.contents writer.old) (W.contents writer.new)
         (said_text line.history report history)) }
     ensures refused { IfOk result (λ ending. ending ≡ DriveEnding.OutOfMemory
@@ -238,7 +250,7 @@ fn answer<R: Wait + Threads + Clock + Eprint + Sync>(
     line: DriveLine,
 ) -> Result<(DriveEnding, String), Memory>
     ensures { IfOk result (λ answered. (report : Report) × (history : List DriveEvent)
-        × IsFound line.threads line.gets report history
+        × IsFound line report history
         × (answered.0 ≡ ending_of report)
         × (string_bytes answered.1 ≡ said_text line.history report history)) }
 {

@@ -44,7 +44,7 @@ pub(crate) struct Crew<'a, R> {
 
 // The number of the key that the thread gets at this turn.
 fn turn_number(line: DriveLine, thread: u32, turn: u32) -> usize
-    ensures value { result ≡ turn_number line thread turn }
+    ensures value { result ≡ turn_number line.keys thread turn }
     ensures within { result < line.keys }
 {
     let next = 7 * turn as u64 + thread as u64;
@@ -96,8 +96,8 @@ impl<'a, R: Wait + Clock + Eprint> Crew<'a, R> {
         requires entries { AreEntries self.now.line.keys self.now.entries.now }
         requires values { StatesValues O.loaded }
         ensures { getter.entry.counted.gets < 2 ^ 64 - 1
-            → IsTurn N.space (turn_key self.now.line thread turn) (reloads_at turn) getter.entry
-            result.0 result.1 }
+            → IsTurn N.space (turn_key self.now.line.keys thread turn) (reloads_at turn)
+            getter.entry result.0 result.1 }
     {
         let number = turn_number(self.line, thread, turn);
         let entry = &self.entries[number];
@@ -120,7 +120,8 @@ impl<'a, R: Wait + Clock + Eprint> Crew<'a, R> {
         requires entries { AreEntries self.now.line.keys self.now.entries.now }
         requires values { StatesValues O.loaded }
         ensures job { getter.entry.counted.gets + self.now.line.gets < 2 ^ 64
-            → IsJob N.space self.now.line thread getter.entry result.0 result.1 }
+            → IsJob N.space self.now.line.keys self.now.line.gets thread
+            getter.entry result.0 result.1 }
         ensures counted { getter.entry.counted.gets + self.now.line.gets < 2 ^ 64
             → result.0.counted.gets ≡ getter.entry.counted.gets + self.now.line.gets }
         ensures logged { getter.entry.counted.gets + self.now.line.gets < 2 ^ 64

@@ -33,6 +33,10 @@ impl<'a, R: Wait> Team for Serve<'a, R> {
 
     ghost wants = { λ serve getters loaded. getters ≡ 2 };
 
+    ghost room = { λ serve. 0 };
+
+    ghost gives = { λ serve space group index getter part. ⊤ };
+
     ghost ends = { λ serve answer. ⊤ };
 
     fn work<'d, D: Naming, N: Naming, O: Origin, L: LoadPath<Origin = O> + Drop>(

@@ -65,6 +65,8 @@ impl<'a, R: Wait> Body for SecondLook<'a, R> {
 
     ghost wants = { λ look getters loaded. getters ≡ 2 };
 
+    ghost room = { λ look. 0 };
+
     ghost ends = { λ look found. ⊤ };
 
     fn run<
@@ -76,7 +78,7 @@ impl<'a, R: Wait> Body for SecondLook<'a, R> {
     >(self, fill: &Fill<'d, D, N, O>, getters: Vec<Getter<'d, D, N, O, L>>) -> Option<CallId>
         requires wants { N.getters ≡ 2 }
         requires getters { vec_len getters ≡ N.getters }
-        requires new { All (IsNewGetter N.group) getters.items }
+        requires new { All (IsNewGetter N.group 0) getters.items }
     {
         let SecondLook { rt, case } = self;
         let mut getters = getters;

@@ -27,6 +27,8 @@ impl<'a, R: Wait> Body for Stale<'a, R> {
 
     ghost wants = { λ stale getters loaded. getters ≡ 2 };
 
+    ghost room = { λ stale. 0 };
+
     ghost ends = { λ stale items. ⊤ };
 
     fn run<
@@ -38,7 +40,7 @@ impl<'a, R: Wait> Body for Stale<'a, R> {
     >(self, fill: &Fill<'d, D, N, O>, getters: Vec<Getter<'d, D, N, O, L>>) -> [usize; 2]
         requires wants { N.getters ≡ 2 }
         requires getters { vec_len getters ≡ N.getters }
-        requires new { All (IsNewGetter N.group) getters.items }
+        requires new { All (IsNewGetter N.group 0) getters.items }
     {
         let rt = self.rt;
         let mut getters = getters;

@@ -95,6 +95,10 @@ impl<'a, R: Wait> Team for Play<'a, R> {
 
     ghost wants = { λ play getters loaded. (getters ≡ 3) × IsOpenOrigin loaded };
 
+    ghost room = { λ play. play.setting.log };
+
+    ghost gives = { λ play space group index getter part. ⊤ };
+
     ghost ends = { λ play outcome. ⊤ };
 
     fn work<'d, D: Naming, N: Naming, O: Origin, L: LoadPath<Origin = O> + Drop>(

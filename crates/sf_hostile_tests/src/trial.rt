@@ -3,7 +3,7 @@ ghost use Rattle.std.specs.Prelude.{◌≡◌, ◌≤◌, All, vec_len};
 ghost use Rattle.sf_door.specs.Opened.{IsNewGetter};
 
 use bytes::{ByteStr, Bytes};
-use sf_door::{Body, DirectoryKeys, FillSizes, Keys, Sizes, with_fill};
+use sf_door::{Body, DirectoryKeys, FillSizes, Keys, with_fill};
 use sf_fill::{Fill, Getter, LoadFault, Naming, Totals, View};
 use sf_group::Memory;
 use sf_loaders::scripted::{Answer, FixedPicker, RoundChance, Script};
@@ -86,6 +86,8 @@ impl<'a, R: Wait> Body for GetAll<'a, R> {
 
     ghost wants = { λ all getters loaded. getters ≡ 1 };
 
+    ghost room = { λ all. 0 };
+
     ghost ends = { λ all outcome. ⊤ };
 
     fn run<
@@ -97,7 +99,7 @@ impl<'a, R: Wait> Body for GetAll<'a, R> {
     >(self, fill: &Fill<'d, D, N, O>, getters: Vec<Getter<'d, D, N, O, L>>) -> Outcome
         requires wants { N.getters ≡ 1 }
         requires getters { vec_len getters ≡ N.getters }
-        requires new { All (IsNewGetter N.group) getters.items }
+        requires new { All (IsNewGetter N.group 0) getters.items }
     {
         let GetAll { rt, alloc, keys } = self;
         let mut getters = getters;
@@ -150,7 +152,7 @@ pub fn try_out<R: Wait>(rt: &R, alloc: Global, setting: Setting) -> Result<Outco
     });
     let sizes = FillSizes {
         keys,
-        keeps: Sizes::new(setting.limit, 0),
+        keeps: FillSizes::new(keys, setting.limit).keeps,
         first_generation: setting.first_generation,
     };
     let all = GetAll {
