@@ -101,6 +101,16 @@ fn ask(group: &Group<Leader>, mut caller: Caller<Leader>) -> Result<Option<Kept>
     Err(())
 }
 
+// Puts the ticket to the others. How many were lost, for want of memory.
+fn keep(group: &Group<Leader>, tickets: &mut Vec<Kept>, kept: Kept) -> u32
+    requires kept { kept.ticket.group ≡ group.now }
+    requires others { All (λ k. k.ticket.group ≡ group.now) tickets.old.items }
+    ensures { All (λ k. k.ticket.group ≡ group.now) tickets.new.items }
+{
+    let _ = group;
+    u32::from(tickets.push(kept).is_err())
+}
+
 impl<'a> Team<'a> {
     fn work(self) -> Ended<'a> {
         let Team {
@@ -117,9 +127,8 @@ impl<'a> Team<'a> {
             match ask(group, caller) {
                 Ok(None) => led = led.wrapping_add(1),
                 Ok(Some(kept)) => {
-                    if tickets.push(kept).is_err() {
-                        wrong = wrong.wrapping_add(1);
-                    }
+                    let lost = keep(group, &mut tickets, kept);
+                    wrong = wrong.wrapping_add(lost);
                 }
                 Err(()) => wrong = wrong.wrapping_add(1),
             }
