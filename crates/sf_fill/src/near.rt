@@ -122,7 +122,8 @@ struct NearLetter<'d, D: Naming, N: Naming, O: Origin> {
     hits: u32,
 }
 
-/// A getter's own letters, by the rest of their places, one a slot. There are no slots before the first is kept.
+/// A getter's own letters: each lies in the slot that the rest of its place names, or in that one's neighbour. There are no slots
+/// before the first is kept.
 #[derive(Drop)]
 pub(crate) struct Near<'d, D: Naming, N: Naming, O: Origin> {
     slots: Vec<Option<NearLetter<'d, D, N, O>>>,
@@ -178,13 +179,59 @@ impl<'d, D: Naming, N: Naming, O: Origin> Near<'d, D, N, O> {
         }
     }
 
-    // The slot of the place.
-    fn slot(&self, place: u32) -> Option<usize> {
+    // The first of the two slots that a letter of the place may have; the other is its neighbour, if there is one.
+    fn first_slot(&self, place: u32) -> Option<usize> {
         let count = self.slots.len();
         if count == 0 {
             return None;
         }
         Some(place as usize % count)
+    }
+
+    // Whether the slot has a letter of the place.
+    fn has_place(&self, index: usize, place: u32) -> bool {
+        let Some(slot) = self.slots.get(index) else {
+            return false;
+        };
+        let Some(near) = slot.as_ref() else {
+            return false;
+        };
+        near.near.place() == place
+    }
+
+    // The slot that has a letter of the place.
+    fn find(&self, place: u32) -> Option<usize> {
+        let first = self.first_slot(place)?;
+        if self.has_place(first, place) {
+            return Some(first);
+        }
+        let second = first ^ 1;
+        self.has_place(second, place).then_some(second)
+    }
+
+    // How dear the slot is: a slot that is not there most of all, and an empty one least.
+    fn worth(&self, index: usize) -> u32 {
+        let Some(slot) = self.slots.get(index) else {
+            return u32::MAX;
+        };
+        let Some(near) = slot.as_ref() else {
+            return 0;
+        };
+        near.hits.saturating_add(1)
+    }
+
+    // The slot for a letter of the place: the one that has one, or else that of the two whose letter was answered less often.
+    fn slot_for(&self, place: u32) -> Option<usize> {
+        if let Some(index) = self.find(place) {
+            return Some(index);
+        }
+        let first = self.first_slot(place)?;
+        let second = first ^ 1;
+        if self.worth(second) < self.worth(first) {
+            Some(second)
+        } else {
+            Some(first)
+        }
     }
 
     // Empties the slot.
@@ -204,9 +251,9 @@ impl<'d, D: Naming, N: Naming, O: Origin> Near<'d, D, N, O> {
         self.hand = 0;
     }
 
-    // Empties the slot of the place.
+    // Empties the slot that has a letter of the place.
     pub(crate) fn remove(&mut self, place: u32) {
-        if let Some(index) = self.slot(place) {
+        if let Some(index) = self.find(place) {
             self.clear(index);
         }
     }
@@ -234,7 +281,7 @@ impl<'d, D: Naming, N: Naming, O: Origin> Near<'d, D, N, O> {
         ensures same { at.new ≡ at.old }
     {
         let place = at.number().number();
-        let index = self.slot(place)?;
+        let index = self.find(place)?;
         let letter = self.slots.get_mut(index)?.as_mut()?;
         let near = &mut letter.near;
         if near.place() != place || !near.is_of(key) || letter.hits >= HITS_ALONE {
@@ -249,7 +296,7 @@ impl<'d, D: Naming, N: Naming, O: Origin> Near<'d, D, N, O> {
         None
     }
 
-    // Whether the slot has the letter, which is counted as looked for.
+    // Whether the slot has the letter, which is counted as looked for then.
     fn has(&mut self, index: usize, letter: &Letter<FillValue<'d, D, O>>) -> bool {
         let Some(slot) = self.slots.get_mut(index) else {
             return false;
@@ -257,11 +304,14 @@ impl<'d, D: Naming, N: Naming, O: Origin> Near<'d, D, N, O> {
         let Some(near) = slot.as_mut() else {
             return false;
         };
+        if near.near.place() != letter.place() || near.near.call() != letter.call() {
+            return false;
+        }
         near.hits = 0;
-        near.near.place() == letter.place() && near.near.call() == letter.call()
+        true
     }
 
-    // Puts a copy of the letter into its slot, in the place of what that has, if it brings bytes and there is room; nothing is put
+    // Puts a copy of the letter into a slot, in the place of what that has, if it brings bytes and there is room; nothing is put
     // where memory is refused. The letter's note may show more then.
     #[inline(never)]
     pub(crate) fn keep(
@@ -280,7 +330,7 @@ impl<'d, D: Naming, N: Naming, O: Origin> Near<'d, D, N, O> {
                 self.slots = slots;
             }
         }
-        let Some(index) = self.slot(letter.place()) else {
+        let Some(index) = self.slot_for(letter.place()) else {
             return;
         };
         if self.has(index, letter) {
