@@ -62,6 +62,6 @@ pub use letter::Letter;
 pub use note::Note;
 pub use outcomes::{Begun, ChanBegun, Finished, Polled};
 pub use settled::Settled;
-pub use sf_calls::{Fit, MOST_CALLERS, MOST_PLACES, NotBegun, Sizes, Spent};
+pub use sf_calls::{Busy, Fit, MOST_CALLERS, MOST_PLACES, NotBegun, Sizes, Spent};
 pub use sf_history::{CallId, Event, Forgotten, Hit, Memory, Share};
 pub use ticket::Ticket;
