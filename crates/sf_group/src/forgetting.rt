@@ -4,8 +4,8 @@ ghost use Rattle.sf_calls.specs.Same.{IsPlaceOf};
 ghost use Rattle.sf_calls.specs.Forgets.{HasForgotten, HasForgotCall};
 ghost use Rattle.sf_group.specs.Calls.{HasTriedAtMost, HasNotForgotten};
 
-use crate::caller::Caller;
 use crate::group::{Group, MOST_TRIES};
+use crate::tokens::Caller;
 use sf_calls::{Busy, Fit};
 use sf_history::{CallId, Forgotten, Hit};
 use sf_word_steps::{Actor, ForgetAttempt, forget_often};
