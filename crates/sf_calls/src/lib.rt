@@ -15,5 +15,5 @@ mod sizes;
 
 pub use fit::Fit;
 pub use limits::{GREATEST_GENERATION, MOST_CALLERS, MOST_PLACES};
-pub use outcomes::{Begun, ChanBegun, Finished, NotBegun, Polled, Spent};
+pub use outcomes::{Begun, Busy, ChanBegun, Finished, NotBegun, Polled, Spent};
 pub use sizes::Sizes;

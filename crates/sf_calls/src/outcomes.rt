@@ -41,6 +41,10 @@ pub enum NotBegun<C> {
     Spent(C),
 }
 
+/// Why a bounded Forget made nothing: so many tries failed, 1 to `MOST_TRIES`, each because another changed what it looked at.
+#[derive(Clone, Copy)]
+pub struct Busy(pub u32);
+
 /// The refusal of an asking: a caller has used its last generation.
 #[derive(Drop)]
 pub struct Spent<C> {

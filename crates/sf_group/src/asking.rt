@@ -4,10 +4,8 @@ ghost use Rattle.sf_calls.specs.Same.{IsPlaceOf};
 ghost use Rattle.sf_calls.specs.Begins.{HasBegun, HasChanBegun};
 ghost use Rattle.sf_group.specs.Calls.{HasTriedToBegin, HasNotBegun, HaveTriedToBegin, HasNotBegunChan};
 
-use crate::caller::Caller;
-use crate::flight::Flight;
 use crate::group::{Group, MOST_TRIES};
-use crate::ticket::Ticket;
+use crate::tokens::{Caller, Flight, Ticket};
 use sf_calls::{Begun, ChanBegun, Fit, NotBegun};
 use sf_history::CallId;
 use sf_word_chans::{Askers, ask_together};

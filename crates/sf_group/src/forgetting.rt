@@ -4,24 +4,24 @@ ghost use Rattle.sf_calls.specs.Same.{IsPlaceOf};
 ghost use Rattle.sf_calls.specs.Forgets.{HasForgotten, HasForgotCall};
 ghost use Rattle.sf_group.specs.Calls.{HasTriedAtMost, HasNotForgotten};
 
-use crate::caller::Caller;
 use crate::group::{Group, MOST_TRIES};
-use sf_calls::Fit;
+use crate::tokens::Caller;
+use sf_calls::{Busy, Fit};
 use sf_history::{CallId, Forgotten, Hit};
 use sf_word_steps::{Actor, ForgetAttempt, forget_often};
 
 impl<V: Fit> Group<V> {
     /// The caller forgets the place: it closes the place's open call, or finds none. Refused as busy is one whose
     /// exchanges failed so often.
-    pub fn forget(&self, caller: &mut Caller<V>, place: u32, tries: u32) -> Result<Forgotten, u32>
+    pub fn forget(&self, caller: &mut Caller<V>, place: u32, tries: u32) -> Result<Forgotten, Busy>
         requires own { caller.old.group ≡ self.now }
         requires place { IsPlaceOf self.now place }
         requires tries { (1 ≤ tries) × (tries ≤ MOST_TRIES) }
         ensures forgotten { IfOk result (λ forgotten.
             HasForgotten caller.old place caller.new forgotten) }
         ensures tried { IfOk result (λ _. HasTriedAtMost caller.old tries caller.new.turns) }
-        ensures refused { IfErr result (λ failed.
-            HasNotForgotten caller.old place tries caller.new failed) }
+        ensures refused { IfErr result (λ busy.
+            HasNotForgotten caller.old place tries caller.new busy.0) }
     {
         let actor = Actor {
             sizes: self.sizes,
@@ -36,7 +36,7 @@ impl<V: Fit> Group<V> {
             ForgetAttempt::Missed => return Ok(Forgotten::Idle),
             ForgetAttempt::Lost => {}
         }
-        Err(tries)
+        Err(Busy(tries))
     }
 
     /// The caller forgets this call of the place, whichever call it is, and leaves a newer one as it is: it closes the call
@@ -48,14 +48,14 @@ impl<V: Fit> Group<V> {
         place: u32,
         call: CallId,
         tries: u32,
-    ) -> Result<Hit, u32>
+    ) -> Result<Hit, Busy>
         requires own { caller.old.group ≡ self.now }
         requires place { IsPlaceOf self.now place }
         requires tries { (1 ≤ tries) × (tries ≤ MOST_TRIES) }
         ensures forgot { IfOk result (λ hit. HasForgotCall caller.old place call hit caller.new) }
         ensures tried { IfOk result (λ _. HasTriedAtMost caller.old tries caller.new.turns) }
-        ensures refused { IfErr result (λ failed.
-            HasNotForgotten caller.old place tries caller.new failed) }
+        ensures refused { IfErr result (λ busy.
+            HasNotForgotten caller.old place tries caller.new busy.0) }
     {
         let actor = Actor {
             sizes: self.sizes,
@@ -70,6 +70,6 @@ impl<V: Fit> Group<V> {
             ForgetAttempt::Missed => return Ok(Hit::Missed),
             ForgetAttempt::Lost => {}
         }
-        Err(tries)
+        Err(Busy(tries))
     }
 }

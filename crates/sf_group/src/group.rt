@@ -6,8 +6,7 @@ ghost use Rattle.sf_calls.specs.Making.{IsNewCaller, new_caller, numbers_of};
 ghost use Rattle.sf_word_steps.specs.Stands.{IsSeatOf};
 ghost use Rattle.sf_group.specs.Dealing.{IsDealing};
 
-use crate::caller::Caller;
-use crate::seated::Seated;
+use crate::tokens::{Caller, Seated};
 use atomic_table::Table;
 use sf_calls::{Fit, MOST_CALLERS, MOST_PLACES, Sizes};
 use sf_schedules::Letter as Cell;

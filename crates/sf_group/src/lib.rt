@@ -39,29 +39,17 @@
 #![tactic(auto)]
 
 mod asking;
-mod caller;
-mod flight;
 mod forgetting;
 mod group;
-mod letter;
-mod note;
 mod notes;
 mod outcomes;
 mod polling;
 mod questions;
-mod seated;
-mod settled;
 mod settling;
-mod ticket;
-mod wide;
+mod tokens;
 
-pub use caller::Caller;
-pub use flight::Flight;
 pub use group::{Group, MOST_TRIES};
-pub use letter::Letter;
-pub use note::Note;
 pub use outcomes::{Begun, ChanBegun, Finished, Polled};
-pub use settled::Settled;
-pub use sf_calls::{Fit, MOST_CALLERS, MOST_PLACES, NotBegun, Sizes, Spent};
+pub use sf_calls::{Busy, Fit, MOST_CALLERS, MOST_PLACES, NotBegun, Sizes, Spent};
 pub use sf_history::{CallId, Event, Forgotten, Hit, Memory, Share};
-pub use ticket::Ticket;
+pub use tokens::{Caller, Flight, Letter, Note, Settled, Ticket};

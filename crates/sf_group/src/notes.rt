@@ -5,12 +5,8 @@ ghost use Rattle.sf_calls.specs.Seen.{StartsWith};
 ghost use Rattle.sf_calls.specs.Finishes.{IsHeldStill};
 ghost use Rattle.sf_calls.specs.Notes.{HasTold, HasLearnt, HasLearntLeading, HasGrown, HasMet, HasLent, HasCopied};
 
-use crate::caller::Caller;
-use crate::flight::Flight;
 use crate::group::Group;
-use crate::letter::Letter;
-use crate::note::Note;
-use crate::settled::Settled;
+use crate::tokens::{Caller, Flight, Letter, Note, Settled};
 use sf_calls::Fit;
 use sf_history::Memory;
 use sf_word_steps::{Tells, hear_note};

@@ -1,9 +1,5 @@
 //! How this group's calls end.
-use crate::caller::Caller;
-use crate::flight::Flight;
-use crate::letter::Letter;
-use crate::settled::Settled;
-use crate::ticket::Ticket;
+use crate::tokens::{Caller, Flight, Letter, Settled, Ticket};
 
 /// How an asking ended, over this group's tokens.
 pub type Begun<V> = sf_calls::Begun<Flight<V>, Ticket<V>>;

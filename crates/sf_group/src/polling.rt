@@ -2,10 +2,8 @@
 ghost use Rattle.std.specs.Prelude.{◌≡◌};
 ghost use Rattle.sf_calls.specs.Finishes.{HasPolled};
 
-use crate::caller::Caller;
 use crate::group::Group;
-use crate::letter::Letter;
-use crate::ticket::Ticket;
+use crate::tokens::{Caller, Letter, Ticket};
 use sf_calls::{Fit, Polled};
 use sf_word_steps::{Actor, collect};
 use std::sync::Wait;

@@ -5,12 +5,8 @@ ghost use Rattle.sf_calls.specs.Currents.{HasQuestioned, IsStillSaid};
 ghost use Rattle.sf_calls.specs.Finishes.{IsHeldStill};
 ghost use Rattle.sf_calls.specs.Forgets.{HasNamed};
 
-use crate::caller::Caller;
-use crate::flight::Flight;
 use crate::group::Group;
-use crate::letter::Letter;
-use crate::settled::Settled;
-use crate::ticket::Ticket;
+use crate::tokens::{Caller, Flight, Letter, Settled, Ticket};
 use sf_calls::Fit;
 use sf_history::CallId;
 use sf_word_steps::{Actor, ask_current, ask_named, is_still_current};

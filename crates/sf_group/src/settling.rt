@@ -6,14 +6,8 @@ ghost use Rattle.sf_word_steps.specs.View.{sizes_of, history_of};
 ghost use Rattle.sf_group.specs.Calls.{HasClosed, HasKnown};
 ghost use Rattle.sf_group.specs.Known.{IsPlaceIn, letter_of};
 
-use crate::caller::Caller;
-use crate::flight::Flight;
 use crate::group::Group;
-use crate::letter::Letter;
-use crate::note::Note;
-use crate::seated::Leader;
-use crate::settled::Settled;
-use crate::wide::MaybeNumber;
+use crate::tokens::{Caller, Flight, Leader, Letter, MaybeNumber, Note, Settled};
 use sf_calls::{Finished, Fit};
 use sf_history::CallId;
 use sf_word_steps::{

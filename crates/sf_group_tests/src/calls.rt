@@ -4,7 +4,7 @@ ghost use Rattle.std.specs.Prelude.{◌≡◌, All};
 ghost use Rattle.sf_group.specs.Same.{IsPlaceOf};
 
 use sf_group::{
-    Begun, CallId, Caller, Finished, Fit, Flight, Forgotten, Group, Letter, NotBegun, Polled,
+    Begun, Busy, CallId, Caller, Finished, Fit, Flight, Forgotten, Group, Letter, NotBegun, Polled,
     Settled, Share, Ticket,
 };
 use sf_history::Memory;
@@ -147,7 +147,7 @@ pub(crate) fn forget(
     let found = match group.forget(caller, place, 1) {
         Ok(Forgotten::Closed(call)) => Some(call),
         Ok(Forgotten::Idle) => None,
-        Err(tries) => panic!(rt; "it is busy after {tries}"),
+        Err(Busy(tries)) => panic!(rt; "it is busy after {tries}"),
     };
     match (found, closed) {
         (Some(call), _) => assert!(rt; closed == found, "it closed {call}"),

@@ -4,7 +4,7 @@ ghost use Rattle.std.specs.Prelude.{◌≡◌};
 ghost use Rattle.sf_group.specs.Same.{IsPlaceOf};
 
 use crate::calls::{Outcome, finish, hand_out, id, join, lead, next_caller, ready};
-use sf_group::{CallId, Caller, Group, Hit};
+use sf_group::{Busy, CallId, Caller, Group, Hit};
 use std::process::Abort;
 use std::test::Fail;
 
@@ -22,7 +22,7 @@ fn forget_call(
 {
     match group.forget_call(caller, 1, call, 1) {
         Ok(found) => assert!(rt; found == hit, "the Forget of {call} {found}"),
-        Err(tries) => panic!(rt; "it is busy after {tries}"),
+        Err(Busy(tries)) => panic!(rt; "it is busy after {tries}"),
     }
 }
 

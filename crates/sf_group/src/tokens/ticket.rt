@@ -5,7 +5,7 @@ ghost use Rattle.sf_word_steps.specs.View.{sizes_of};
 ghost use Rattle.sf_word_steps.specs.Stands.{Sits, next_in};
 ghost use Rattle.sf_group.specs.Known.{ticket_of, IsPlaceIn};
 
-use crate::seated::Seated;
+use crate::tokens::seated::Seated;
 use sf_history::CallId;
 use std::marker::Model;
 

@@ -7,7 +7,7 @@ use Rattle.sf_word_steps.specs.declared.view.View.{View}
 use Rattle.sf_word_steps.specs.View.{sizes_of, history_of}
 use Rattle.sf_word_steps.proofs.Seats.{tells_split}
 use Rattle.sf_group.specs.Known.{group_of, settled_of}
-use Rattle.sf_group.proofs.settled.Settled.tell.Goals as goal
+use Rattle.sf_group.proofs.tokens.settled.Settled.tell.Goals as goal
 
 pub split_seat-seat-requires : goal.split_seat-seat-requires
 split_seat-seat-requires g c = let one = c.group.invariant.1 in (

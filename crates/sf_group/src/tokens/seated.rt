@@ -1,5 +1,5 @@
 //! What tokens are made of.
-use crate::wide::MaybeCall;
+use crate::tokens::wide::MaybeCall;
 use sf_history::CallId;
 use sf_word_steps::WordSeat;
 

@@ -8,7 +8,7 @@ use Rattle.sf_group.specs.Known.{ticket_of}
 use Rattle.sf_group.proofs.LedCalls.{placed_later}
 use Rattle.sf_group.proofs.Deliveries.{sits_now, next_now}
 use Rattle.sf_group.proofs.StillRows.{still_said, holding_stays, still_ticket}
-use Rattle.sf_group.proofs.ticket.Ticket.is_still_current.Goals as goal
+use Rattle.sf_group.proofs.tokens.ticket.Ticket.is_still_current.Goals as goal
 
 pub invariant_of-self : goal.invariant_of-self
 invariant_of-self g c =

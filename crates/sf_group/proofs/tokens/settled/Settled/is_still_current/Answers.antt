@@ -10,7 +10,7 @@ use Rattle.sf_group.proofs.Finishes.{fits_later}
 use Rattle.sf_group.proofs.LedCalls.{placed_later}
 use Rattle.sf_group.proofs.Deliveries.{stands_later, still_row, sits_now, next_now}
 use Rattle.sf_group.proofs.StillRows.{still_said, owing_stays}
-use Rattle.sf_group.proofs.settled.Settled.is_still_current.Goals as goal
+use Rattle.sf_group.proofs.tokens.settled.Settled.is_still_current.Goals as goal
 
 pub invariant_of-self : goal.invariant_of-self
 invariant_of-self g c =

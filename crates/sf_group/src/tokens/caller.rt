@@ -1,7 +1,7 @@
 //! Callers that are free to ask and to forget.
 ghost use Rattle.std.specs.Prelude.{◌≡◌};
 
-use crate::seated::Seated;
+use crate::tokens::seated::Seated;
 use std::marker::Model;
 
 /// One who asks for places, in one thread at a time. It leads no call, owes no letter and holds no ticket. What it has

@@ -1,8 +1,8 @@
 //! Unfinished deliveries: callers that have settled their call, and owe letters of it.
 ghost use Rattle.std.specs.Prelude.{◌≡◌};
 
-use crate::seated::Leader;
-use crate::wide::MaybeNumber;
+use crate::tokens::seated::Leader;
+use crate::tokens::wide::MaybeNumber;
 use sf_calls::Fit;
 use std::marker::Model;
 

@@ -6,8 +6,8 @@ ghost use Rattle.sf_word_steps.specs.View.{sizes_of};
 ghost use Rattle.sf_word_steps.specs.Stands.{Sits, next_in};
 ghost use Rattle.sf_group.specs.Known.{flight_of, IsPlaceIn};
 
-use crate::seated::{Leader, Seated};
-use crate::wide::MaybeCall;
+use crate::tokens::seated::{Leader, Seated};
+use crate::tokens::wide::MaybeCall;
 use sf_history::CallId;
 use std::marker::Model;
 

@@ -13,7 +13,7 @@ use Rattle.sf_group.proofs.LedCalls.{placed_later}
 use Rattle.sf_group.proofs.Deliveries.{stands_later, still_row, sits_now, next_now}
 use Rattle.sf_group.proofs.NoteRows.{heard_shown}
 use Rattle.sf_group.proofs.OwingNotes.{owes_still}
-use Rattle.sf_group.proofs.settled.Settled.learn.Goals as goal
+use Rattle.sf_group.proofs.tokens.settled.Settled.learn.Goals as goal
 
 pub invariant_of-self : goal.invariant_of-self
 invariant_of-self g c =

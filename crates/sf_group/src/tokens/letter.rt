@@ -3,7 +3,7 @@ ghost use Rattle.std.specs.Prelude.{◌≡◌, true, nat_lt};
 ghost use Rattle.sf_schedules.specs.Schedules.{was_led_on};
 ghost use Rattle.sf_calls.specs.Finishes.{FitsLetter};
 
-use crate::note::Note;
+use crate::tokens::note::Note;
 use sf_calls::Fit;
 use sf_history::CallId;
 use std::marker::Model;

@@ -8,7 +8,7 @@ use Rattle.sf_group.specs.Known.{flight_of}
 use Rattle.sf_group.proofs.NoteRows.{leading_alone, leads_still, learnt_leading_row, follows_still}
 use Rattle.sf_word_steps.proofs.HearSteps.{heard_goes}
 use Rattle.sf_schedules.specs.declared.operation.Stage.TheVariants as stage
-use Rattle.sf_group.proofs.flight.Flight.learn.Goals as goal
+use Rattle.sf_group.proofs.tokens.flight.Flight.learn.Goals as goal
 
 pub invariant_of-self : goal.invariant_of-self
 invariant_of-self g c =

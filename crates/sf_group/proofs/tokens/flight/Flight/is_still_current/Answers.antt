@@ -9,7 +9,7 @@ use Rattle.sf_group.proofs.NoteRows.{follows_still}
 use Rattle.sf_group.proofs.LedCalls.{placed_later}
 use Rattle.sf_group.proofs.Deliveries.{sits_now, next_now}
 use Rattle.sf_group.proofs.StillRows.{still_said, leading_stays, same_flight}
-use Rattle.sf_group.proofs.flight.Flight.is_still_current.Goals as goal
+use Rattle.sf_group.proofs.tokens.flight.Flight.is_still_current.Goals as goal
 
 pub invariant_of-self : goal.invariant_of-self
 invariant_of-self g c =
