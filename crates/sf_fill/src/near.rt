@@ -118,7 +118,7 @@ struct NearLetter<'d, D: Naming, N: Naming, O: Origin> {
     near: NearView<'d, D, N, O>,
     /// How many bytes its key and its value have.
     bytes: usize,
-    /// How often it was answered since the getter last looked in the caches for it.
+    /// How often it was answered since the getter last looked in the caches for it, less how often another asked for its slot.
     hits: u32,
 }
 
@@ -311,6 +311,22 @@ impl<'d, D: Naming, N: Naming, O: Origin> Near<'d, D, N, O> {
         true
     }
 
+    // Whether the slot keeps what it has, which is of another place and was answered: each time this is asked takes one answer of it
+    // back, so that a letter stays that is answered more often than others ask for its slot.
+    fn keeps(&mut self, index: usize, place: u32) -> bool {
+        let Some(slot) = self.slots.get_mut(index) else {
+            return false;
+        };
+        let Some(near) = slot.as_mut() else {
+            return false;
+        };
+        if near.hits == 0 || near.near.place() == place {
+            return false;
+        }
+        near.hits -= 1;
+        true
+    }
+
     // Puts a copy of the letter into a slot, in the place of what that has, if it brings bytes and there is room; nothing is put
     // where memory is refused. The letter's note may show more then.
     #[inline(never)]
@@ -333,7 +349,7 @@ impl<'d, D: Naming, N: Naming, O: Origin> Near<'d, D, N, O> {
         let Some(index) = self.slot_for(letter.place()) else {
             return;
         };
-        if self.has(index, letter) {
+        if self.has(index, letter) || self.keeps(index, letter.place()) {
             return;
         }
         let Some(value_len) = letter.value().byte_count() else {

@@ -121,50 +121,60 @@ fn near_letter_goes_the_long_way(rt: HostRuntime) -> Result<(), Fail> {
     Ok(())
 }
 
-// What was counted by a getter of two letters near, while main has room for one key.
-fn of_two_near(
+const A: Step = Get("a");
+
+const B: Step = Get("b");
+
+const C: Step = Get("c");
+
+// Whether a getter of so many letters near, beside a main with room for one key, counts so many gets, hits and loads.
+fn are_counted(
     rt: &HostRuntime,
+    near: u32,
     steps: &'static [Step],
-    gets: u128,
-    cache_hits: u128,
-    local_loads: u128,
+    counts: [u128; 3],
 ) -> Result<bool, Fail> {
     let setting = Setting {
         places: 4,
         steps: [steps, &[], &[]],
         limit: 2,
-        near: 2,
+        near,
         ..SETTING
     };
     let book = try_out(rt, rt.alloc(), setting)?.book;
-    Ok(book.gets == gets && book.cache_hits == cache_hits && book.local_loads == local_loads)
+    Ok(counts == [book.gets, book.cache_hits, book.local_loads])
 }
 
 // Of three places two have odd numbers, or two have even ones: letters of these would share a slot, if each had but one.
 #[test]
-fn near_letters_share_two_slots(rt: HostRuntime) -> Result<(), Fail> {
-    const A: Step = Get("a");
-    const B: Step = Get("b");
-    const C: Step = Get("c");
+fn near_letters_have_two_slots(rt: HostRuntime) -> Result<(), Fail> {
     const AB: [Step; 8] = [A, B, C, A, A, B, B, A];
     const AC: [Step; 8] = [A, B, C, A, A, C, C, A];
     const BC: [Step; 8] = [A, B, C, B, B, C, C, B];
-    assert!(rt; of_two_near(&rt, &AB, 8, 3, 5)?, "a and b");
-    assert!(rt; of_two_near(&rt, &AC, 8, 3, 5)?, "a and c");
-    assert!(rt; of_two_near(&rt, &BC, 8, 3, 5)?, "b and c");
+    assert!(rt; are_counted(&rt, 2, &AB, [8, 3, 5])?, "a and b");
+    assert!(rt; are_counted(&rt, 2, &AC, [8, 3, 5])?, "a and c");
+    assert!(rt; are_counted(&rt, 2, &BC, [8, 3, 5])?, "b and c");
     Ok(())
 }
 
-// Of the two letters near, a third one takes the place of the one that was answered less often.
+// Of two letters near a third one takes the place of the one that was answered less often; and one that was answered stays, until
+// others have asked for its slot as often.
 #[test]
 fn near_letter_answered_often_stays(rt: HostRuntime) -> Result<(), Fail> {
-    const A: Step = Get("a");
-    const B: Step = Get("b");
-    const C: Step = Get("c");
     const FIRST: [Step; 8] = [A, A, B, B, Repeat("a", 5), C, C, A];
     const SECOND: [Step; 8] = [A, A, B, B, Repeat("b", 5), C, C, B];
-    assert!(rt; of_two_near(&rt, &FIRST, 12, 9, 3)?, "a");
-    assert!(rt; of_two_near(&rt, &SECOND, 12, 9, 3)?, "b");
+    const STAYS: [Step; 6] = [A, A, Repeat("a", 5), B, B, A];
+    const GOES: [Step; 7] = [A, A, Repeat("a", 2), B, Repeat("b", 3), C, B];
+    assert!(rt;
+        are_counted(&rt, 2, &FIRST, [12, 9, 3])?,
+        "the first of two"
+    );
+    assert!(rt;
+        are_counted(&rt, 2, &SECOND, [12, 9, 3])?,
+        "the second of two"
+    );
+    assert!(rt; are_counted(&rt, 1, &STAYS, [10, 8, 2])?, "stays");
+    assert!(rt; are_counted(&rt, 1, &GOES, [10, 7, 3])?, "goes");
     Ok(())
 }
 
