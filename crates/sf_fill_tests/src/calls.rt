@@ -4,7 +4,10 @@ use crate::rows::{SETTING, check};
 use crate::steps::Step;
 use crate::steps::Step::{ForgetAll, Get, GetKey, GetPresent, Put, Reload, Remove, Repeat, Stats};
 use crate::trial::{Setting, try_out};
+use std::alloc::Global;
+use std::sync::Wait;
 use std::test::Fail;
+use std::thread::Threads;
 
 // The put forgets what was loaded; the next get answers what was put, from the cache. The only key has the only place.
 #[test]
@@ -128,8 +131,9 @@ const B: Step = Get("b");
 const C: Step = Get("c");
 
 // Whether a getter of so many letters near, beside a main with room for one key, counts so many gets, hits and loads.
-fn are_counted(
-    rt: &HostRuntime,
+fn are_counted<R: Wait + Threads + Sync>(
+    rt: &R,
+    alloc: Global,
     near: u32,
     steps: &'static [Step],
     counts: [u128; 3],
@@ -141,7 +145,7 @@ fn are_counted(
         near,
         ..SETTING
     };
-    let book = try_out(rt, rt.alloc(), setting)?.book;
+    let book = try_out(rt, alloc, setting)?.book;
     Ok(counts == [book.gets, book.cache_hits, book.local_loads])
 }
 
@@ -151,9 +155,9 @@ fn near_letters_have_two_slots(rt: HostRuntime) -> Result<(), Fail> {
     const AB: [Step; 8] = [A, B, C, A, A, B, B, A];
     const AC: [Step; 8] = [A, B, C, A, A, C, C, A];
     const BC: [Step; 8] = [A, B, C, B, B, C, C, B];
-    assert!(rt; are_counted(&rt, 2, &AB, [8, 3, 5])?, "a and b");
-    assert!(rt; are_counted(&rt, 2, &AC, [8, 3, 5])?, "a and c");
-    assert!(rt; are_counted(&rt, 2, &BC, [8, 3, 5])?, "b and c");
+    assert!(rt; are_counted(&rt, rt.alloc(), 2, &AB, [8, 3, 5])?, "a and b");
+    assert!(rt; are_counted(&rt, rt.alloc(), 2, &AC, [8, 3, 5])?, "a and c");
+    assert!(rt; are_counted(&rt, rt.alloc(), 2, &BC, [8, 3, 5])?, "b and c");
     Ok(())
 }
 
@@ -166,15 +170,18 @@ fn near_letter_answered_often_stays(rt: HostRuntime) -> Result<(), Fail> {
     const STAYS: [Step; 6] = [A, A, Repeat("a", 5), B, B, A];
     const GOES: [Step; 7] = [A, A, Repeat("a", 2), B, Repeat("b", 3), C, B];
     assert!(rt;
-        are_counted(&rt, 2, &FIRST, [12, 9, 3])?,
+        are_counted(&rt, rt.alloc(), 2, &FIRST, [12, 9, 3])?,
         "the first of two"
     );
     assert!(rt;
-        are_counted(&rt, 2, &SECOND, [12, 9, 3])?,
+        are_counted(&rt, rt.alloc(), 2, &SECOND, [12, 9, 3])?,
         "the second of two"
     );
-    assert!(rt; are_counted(&rt, 1, &STAYS, [10, 8, 2])?, "stays");
-    assert!(rt; are_counted(&rt, 1, &GOES, [10, 7, 3])?, "goes");
+    assert!(rt;
+        are_counted(&rt, rt.alloc(), 1, &STAYS, [10, 8, 2])?,
+        "stays"
+    );
+    assert!(rt; are_counted(&rt, rt.alloc(), 1, &GOES, [10, 7, 3])?, "goes");
     Ok(())
 }
 
