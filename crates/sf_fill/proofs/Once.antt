@@ -4,10 +4,11 @@ use Rattle.sf_history.specs.declared.call.CallId.{CallId}
 use Rattle.std.specs.declared.alloc.AllocError.{AllocError}
 use Rattle.sf_calls.specs.Tokens.{GroupValue, CallerValue, LetterValue}
 use Rattle.sf_dir.specs.declared.refusal.Refusal.{Refusal}
+use Rattle.sf_spots.specs.declared.key_place.KeyPlace.{KeyPlace}
 use Rattle.sf_spots.specs.declared.key_space.KeyDesk.{KeyDesk}
 use Rattle.sf_spots.specs.declared.spot.Spot.{Spot}
 use Rattle.sf_spots.specs.Spaces.{SpaceId}
-use Rattle.sf_spots.specs.Spots.{IsRefusedSpot, IsSeeingSpace, IsSpotOfKey, spot_place}
+use Rattle.sf_spots.specs.Spots.{IsRefusedSpot, IsSeeingSpace, IsSpotOfKey, place_at, spot_place}
 use Rattle.sf_loaders.specs.LoadPath.{LoadAnswer}
 use Rattle.sf_fill.specs.declared.counters.totals.GetCounts.{GetCounts}
 use Rattle.sf_fill.specs.declared.counters.totals.Totals.{Totals}
@@ -19,7 +20,7 @@ use Rattle.sf_fill.specs.FillValue.{Filled}
 use Rattle.sf_fill.specs.Found.{Found, HasFoundFrom, Kept, Uncopied, get_alone, hit_counts}
 use Rattle.sf_fill.specs.Fresh.{IsFreshGet, delivered_by}
 use Rattle.sf_fill.specs.Gets.{GetAnswer, GetsFrom, GetsOnce, HasAsked, HasGot, IsFoundGet, LooksFrom, Reply, answer_in, refusal_of, reply_of}
-use Rattle.sf_fill.specs.Hits.{IsAbsent, IsAtHand, IsNoneAtHand, IsPresent, hit_answer}
+use Rattle.sf_fill.specs.Hits.{IsAbsent, IsAtHand, IsNoneAtHand, IsPresent, LooksAtHand, hit_answer}
 use Rattle.sf_fill.specs.GetterValue.{GetterValue, IsOfGroup, is_owing, number_of, seen_of}
 use Rattle.sf_fill.specs.Logs.{LogValue, HasLogged, logged_by}
 use Rattle.sf_fill.specs.Owing.{HasDelivered, HasSettledUp}
@@ -292,3 +293,16 @@ module _ {L : Type 0} where
       let draws : L → L → Type 0 = λ a b. Unit {0} in
       fresh path draws space key old new answer (got_once path draws space key old old new answer settled (present_once path draws space key old new answer h))
       (logs_once old old new settled (logged_already old free) (present_logged space key old new answer h))
+
+-- a look after one that found none
+pub looks_at_hand_on : {L : Type 0} (stated : List ℕ → CallId → List ℕ → Type 0) (key : List ℕ) (at mid after : KeyPlace) (a b c : GetterValue L) (answer : Option GetAnswer)
+    → LooksAtHand stated key at mid a b None → LooksAtHand stated key mid after b c answer → LooksAtHand stated key at after a c answer
+looks_at_hand_on stated key at mid after a b c answer first second =
+    let none : IsNoneAtHand (place_at at) a b = first.none refl in
+    record {
+      at_hand = some_then _ _ answer (λ found h. at_hand_on (place_at at) a b c none found (subst (λ (x : KeyPlace). IsAtHand (place_at x) b c found) first.same h)) second.at_hand;
+      none = λ is. none_on (place_at at) a b c none (subst (λ (x : KeyPlace). IsNoneAtHand (place_at x) b c) first.same (second.none is));
+      keyed = second.keyed;
+      loaded = second.loaded;
+      same = second.same ∙ first.same;
+    }

@@ -1,14 +1,16 @@
 -- gets that a letter at hand answers, and looks that find none
-use Rattle.std.specs.Prelude.{◌≡◌, ℕ, List, None, Result, Ok, Err, Some}
+use Rattle.std.specs.Prelude.{◌≡◌, ℕ, List, Option, None, Some, Result, Ok, Err, IfOk, IfSome}
 use Rattle.std.specs.declared.alloc.AllocError.{AllocError}
 use Rattle.sf_calls.specs.Tokens.{LetterValue}
+use Rattle.sf_history.specs.declared.call.CallId.{CallId}
+use Rattle.sf_spots.specs.declared.key_place.KeyPlace.{KeyPlace}
 use Rattle.sf_spots.specs.declared.spot.Spot.{Spot}
 use Rattle.sf_spots.specs.Spaces.{SpaceId}
-use Rattle.sf_spots.specs.Spots.{IsSeeingSpace, IsSpotOfKey, spot_place}
+use Rattle.sf_spots.specs.Spots.{IsSeeingSpace, IsSpotOfKey, place_at, spot_key, spot_place}
 use Rattle.sf_fill.specs.declared.fault.LoadFault.TheVariants as fault
 use Rattle.sf_fill.specs.FillValue.{Filled}
 use Rattle.sf_fill.specs.Found.{hit_counts}
-use Rattle.sf_fill.specs.Gets.{GetAnswer, LooksFrom, answer_in}
+use Rattle.sf_fill.specs.Gets.{GetAnswer, IsLoadedFor, LooksFrom, answer_in}
 use Rattle.sf_fill.specs.GetterValue.{GetterValue}
 use Rattle.sf_fill.specs.Totals.{with_counts}
 
@@ -29,6 +31,15 @@ module _ {L : Type 0} where
   pub record IsNoneAtHand (place : ℕ) (old new : GetterValue L) : Type 0 where
     pub looked : LooksFrom {E = AllocError} old.standing place None new.standing
     pub rest : new ≡ record old { standing = new.standing }
+
+module _ {L : Type 0} (stated : List ℕ → CallId → List ℕ → Type 0) (key : List ℕ) where
+  -- a look for the key at its place, which stays: a letter at hand is answered, which is of the key, with bytes that were stated; or there is none
+  pub record LooksAtHand (at after : KeyPlace) (old new : GetterValue L) (answer : Option GetAnswer) : Type 0 where
+    pub at_hand : IfSome answer (IsAtHand (place_at at) old new)
+    pub none : answer ≡ None → IsNoneAtHand (place_at at) old new
+    pub keyed : IfSome answer (λ found. IfOk found (λ (l : LetterValue Filled). spot_key l.value.spot ≡ key))
+    pub loaded : IfSome answer (λ found. IfOk found (IsLoadedFor stated key))
+    pub same : after ≡ at
 
 module _ {L : Type 0} (space : SpaceId) where
   -- the key has a place, for which a letter was at hand

@@ -9,7 +9,7 @@ ghost use Rattle.sf_fill.specs.Found.{DrawsWithin, Led, HasFoundFrom, HasRunFrom
 ghost use Rattle.sf_fill.specs.Counted.{IsCounted};
 ghost use Rattle.sf_fill.specs.Fresh.{IsFreshGet};
 ghost use Rattle.sf_fill.specs.Gets.{GetsOnce, HasAsked, HasGot, IsLoadedFor, IsOfKey, IsOfPlace, LooksFrom, counts_of, reply_of};
-ghost use Rattle.sf_fill.specs.Hits.{IsAbsent, IsAtHand, IsNoneAtHand, IsPresent};
+ghost use Rattle.sf_fill.specs.Hits.{IsAbsent, IsPresent, LooksAtHand};
 ghost use Rattle.sf_fill.specs.GetterValue.{is_owing, number_of, seen_of};
 ghost use Rattle.sf_fill.specs.Logs.{HasLogged};
 ghost use Rattle.sf_fill.specs.Rooted.{IsRooted};
@@ -263,12 +263,7 @@ impl<'d, D: Naming, N: Naming, O: Origin> Fill<'d, D, N, O> {
         requires space { IsInSpace D.space (spot_at key.now at.old) }
         requires keyed { spot_key (spot_at key.now at.old) ≡ key.now }
         requires place { IsPlaceOf N.group (place_at at.old) }
-        ensures at_hand { IfSome result (IsAtHand (place_at at.old) getter.old getter.new) }
-        ensures none { result ≡ None → IsNoneAtHand (place_at at.old) getter.old getter.new }
-        ensures keyed { IfSome result (λ answer.
-            IfOk answer (λ view. spot_key view.value.spot ≡ key.now)) }
-        ensures loaded { IfSome result (λ answer. IfOk answer (IsLoadedFor O.loaded key.now)) }
-        ensures same { at.new ≡ at.old }
+        ensures { LooksAtHand O.loaded key.now at.old at.new getter.old getter.new result }
     {
         let Standing::Free(caller) = &mut getter.standing else {
             return None;
@@ -294,12 +289,7 @@ impl<'d, D: Naming, N: Naming, O: Origin> Fill<'d, D, N, O> {
         requires room { getter.old.counted.gets < 2 ^ 64 - 1 }
         requires space { IsInSpace D.space (spot_at key.now at.old) }
         requires keyed { spot_key (spot_at key.now at.old) ≡ key.now }
-        ensures at_hand { IfSome result (IsAtHand (place_at at.old) getter.old getter.new) }
-        ensures none { result ≡ None → IsNoneAtHand (place_at at.old) getter.old getter.new }
-        ensures keyed { IfSome result (λ answer.
-            IfOk answer (λ view. spot_key view.value.spot ≡ key.now)) }
-        ensures loaded { IfSome result (λ answer. IfOk answer (IsLoadedFor O.loaded key.now)) }
-        ensures same { at.new ≡ at.old }
+        ensures { LooksAtHand O.loaded key.now at.old at.new getter.old getter.new result }
     {
         let Standing::Free(caller) = &mut getter.standing else {
             return None;
@@ -330,12 +320,7 @@ impl<'d, D: Naming, N: Naming, O: Origin> Fill<'d, D, N, O> {
         requires space { IsInSpace D.space (spot_at key.now at.old) }
         requires keyed { spot_key (spot_at key.now at.old) ≡ key.now }
         requires place { IsPlaceOf N.group (place_at at.old) }
-        ensures at_hand { IfSome result (IsAtHand (place_at at.old) getter.old getter.new) }
-        ensures none { result ≡ None → IsNoneAtHand (place_at at.old) getter.old getter.new }
-        ensures keyed { IfSome result (λ answer.
-            IfOk answer (λ view. spot_key view.value.spot ≡ key.now)) }
-        ensures loaded { IfSome result (λ answer. IfOk answer (IsLoadedFor O.loaded key.now)) }
-        ensures same { at.new ≡ at.old }
+        ensures { LooksAtHand O.loaded key.now at.old at.new getter.old getter.new result }
     {
         match self.look_near(rt, getter, at, key) {
             Some(answer) => Some(answer),

@@ -4,11 +4,12 @@ ghost use Rattle.sf_calls.specs.Making.{IsNewCaller};
 ghost use Rattle.sf_caches.specs.Trimming.{no_entries, room_of};
 ghost use Rattle.sf_words.specs.declared.limits.TheConstants.{LARGEST_PLACE, LARGEST_CALLER};
 ghost use Rattle.sf_spots.specs.Spaces.{AreDesksOf, places_in, space_of};
+ghost use Rattle.sf_fill.specs.Ledgers.{nothing_counted};
 ghost use Rattle.sf_fill.specs.Logs.{empty_log};
-ghost use Rattle.sf_fill.specs.Made.{AreParts, new_getters};
+ghost use Rattle.sf_fill.specs.Made.{AreOfGroup, AreParts, new_getters};
 ghost use Rattle.sf_fill.specs.Totals.{names_of};
 
-use crate::counters::{Accounts, Ledgers};
+use crate::counters::{Accounts, AllParts, Ledgers};
 use crate::fill::Fill;
 use crate::getter::{Getter, Standing};
 use crate::kept::{Cached, Kept};
@@ -86,6 +87,58 @@ fn reserve<'d, D: Naming, N: Naming, O: Origin, L>(
     })
 }
 
+// The getters of these desks, callers and loaders, in their order, each with a log, with near letters within the sizes, and with its
+// part of what all count. They are put into the list, which has room for them.
+fn getters_of<'d, D: Naming, N: Naming, O: Origin, L: Drop>(
+    alloc: Global,
+    sizes: Sizes,
+    desks: Vec<KeyDesk>,
+    callers: Vec<Caller<FillValue<'d, D, O>>>,
+    loaders: Vec<L>,
+    logs: Vec<Log>,
+    all: AllParts<N>,
+    list: Vec<Getter<'d, D, N, O, L>>,
+) -> Vec<Getter<'d, D, N, O, L>>
+    requires desks { (vec_len desks ≡ N.getters) × AreDesksOf N.space desks.items }
+    requires callers { (vec_len callers ≡ N.getters) × AreOfGroup N.group callers.items }
+    requires loaders { vec_len loaders ≡ N.getters }
+    requires logs { (vec_len logs ≡ N.getters)
+        × All (λ log. log ≡ empty_log sizes.log) logs.items }
+    requires all { (all.parts ≡ N.getters) × (all.counted ≡ nothing_counted) }
+    requires list { (list.items ≡ []) × (N.getters ≤ vec_capacity list) }
+    ensures made { result.items
+        ≡ new_getters sizes.log desks.items callers.entry.items loaders.items }
+    ensures count { vec_len result ≡ N.getters }
+{
+    let mut desks = desks;
+    let mut callers = callers;
+    let mut loaders = loaders;
+    let mut logs = logs;
+    let mut all = all;
+    let mut getters = list;
+    'deal: while let Some(desk) = desks.pop() {
+        let Some(caller) = callers.pop() else {
+            unreachable!()
+        };
+        let Some(loaders) = loaders.pop() else {
+            unreachable!()
+        };
+        let Some(log) = logs.pop() else {
+            unreachable!()
+        };
+        getters.push_reserved(Getter {
+            desk,
+            standing: Standing::Free(caller),
+            loaders,
+            tallies: all.deal(),
+            log,
+            near: Near::new(alloc, sizes.near as usize, sizes.near_limit),
+        });
+    }
+    getters.reverse();
+    getters
+}
+
 impl<'d, D: Naming, O: Origin, L: Drop> FillParts<'d, D, O, L> {
     /// The parts of a fill over the key space, which has at most 1,048,576 places, with a getter for each set of loaders, 1 to
     /// 65,535: a group whose callers' first generation is this one, from 1 on, and its ledgers. Refused where there is no memory.
@@ -145,20 +198,14 @@ impl<'d, D: Naming, N: Naming, O: Origin> Fill<'d, D, N, O> {
         ensures refused { IfErr result (λ back. back ≡ parts.entry) }
     {
         let FillParts {
-            mut desks,
+            desks,
             group,
-            mut callers,
-            mut loaders,
+            callers,
+            loaders,
             ledgers,
         } = parts;
-        let Sizes {
-            limit,
-            log,
-            near,
-            near_limit,
-        } = sizes;
         let count = desks.len();
-        let Ok(rooms) = reserve(alloc, limit, space.place_count(), count, log) else {
+        let Ok(rooms) = reserve(alloc, sizes.limit, space.place_count(), count, sizes.log) else {
             return Err(FillParts {
                 desks,
                 group,
@@ -169,36 +216,17 @@ impl<'d, D: Naming, N: Naming, O: Origin> Fill<'d, D, N, O> {
         };
         let Rooms {
             caches,
-            mut getters,
-            mut logs,
+            getters: list,
+            logs,
         } = rooms;
-        let (accounts, mut all) = Accounts::open(ledgers, count as u64);
-        'deal: while let Some(desk) = desks.pop() {
-            let Some(caller) = callers.pop() else {
-                unreachable!()
-            };
-            let Some(loaders) = loaders.pop() else {
-                unreachable!()
-            };
-            let Some(log) = logs.pop() else {
-                unreachable!()
-            };
-            getters.push_reserved(Getter {
-                desk,
-                standing: Standing::Free(caller),
-                loaders,
-                tallies: all.deal(),
-                log,
-                near: Near::new(alloc, near as usize, near_limit),
-            });
-        }
-        getters.reverse();
+        let (accounts, all) = Accounts::open(ledgers, count as u64);
+        let getters = getters_of(alloc, sizes, desks, callers, loaders, logs, all, list);
         let kept = Mutex::new(Kept { caches, accounts });
         let fill = Fill {
             space,
             group,
             kept,
-            limit,
+            limit: sizes.limit,
             alloc,
         };
         Ok((fill, getters))

@@ -3,7 +3,7 @@ use Rattle.sf_spots.specs.Spaces.{AreDesksOf}
 use Rattle.sf_fill.specs.Ledgers.{nothing_counted}
 use Rattle.sf_fill.specs.Logs.{empty_log}
 use Rattle.sf_fill.specs.Made.{AreOfGroup, new_getters}
-use Rattle.sf_fill.proofs.fill.Fill.new.Given as goal
+use Rattle.sf_fill.proofs.parts.getters_of.Given as goal
 
 abbrev pub invariant-deal : goal.invariant-deal
 invariant-deal g l = record {

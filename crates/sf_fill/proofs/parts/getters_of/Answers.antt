@@ -9,7 +9,7 @@ use Rattle.sf_fill.specs.Ledgers.{nothing_counted}
 use Rattle.sf_fill.specs.Logs.{LogValue, empty_log}
 use Rattle.sf_fill.proofs.Dealt.{dealt_more}
 use Rattle.sf_fill.proofs.Popped.{popped, last_is}
-use Rattle.sf_fill.proofs.fill.Fill.new.Goals as goal
+use Rattle.sf_fill.proofs.parts.getters_of.Goals as goal
 
 pub invariant_of-push_reserved : goal.invariant_of-push_reserved
 invariant_of-push_reserved g c =
