@@ -1,7 +1,11 @@
 //! Notes and letters that are passed on.
 
+ghost use Rattle.std.specs.Prelude.{◌≡◌, All};
+ghost use Rattle.sf_group.specs.Same.{IsPlaceOf};
+
 use crate::calls::{Outcome, finish, id, join, lead, next_caller};
-use sf_group::{Finished, Group, Polled};
+use sf_group::{Caller, Finished, Group, Polled};
+use std::process::Abort;
 use std::test::Fail;
 
 #[test]
@@ -88,6 +92,44 @@ fn shared_letters_are_copied(rt: HostRuntime) -> Result<(), Fail> {
         Polled::Pending(ticket) => {
             ticket.abandon();
             panic!(rt; "it is pending")
+        }
+    }
+    Ok(())
+}
+
+// The callers of the numbers 65,534 down to 1 join the call of the caller 65,535, and take no letters.
+fn join_all(rt: &impl Abort, group: &Group<Outcome>, list: &mut Vec<Caller<Outcome>>)
+    requires own { All (λ c. c.group ≡ group.now) list.old.items }
+    requires place { IsPlaceOf group.now 1 }
+{
+    for joined in 0..65_534 {
+        let number = 65_534 - joined;
+        let caller = next_caller(rt, group, list, number);
+        join(rt, group, caller, 1, id(65_535, 1), id(number, 1)).abandon();
+    }
+}
+
+// No more can join a call.
+#[test]
+fn letter_of_most_joiners_is_copied(rt: HostRuntime) -> Result<(), Fail> {
+    let (group, mut callers) = Group::<Outcome>::new(rt.alloc(), 1, 65_535, 1)?;
+    let last = next_caller(&rt, &group, &mut callers, 65_535);
+    let flight = lead(&rt, &group, last, 1, id(65_535, 1));
+    join_all(&rt, &group, &mut callers);
+    match group.finish(flight, Outcome(7)) {
+        Finished::Done(_leader, mut letter) => {
+            let Ok(copy) = group.copy(&mut letter) else {
+                panic!(rt; "its copy is refused")
+            };
+            let (joiners, value) = (copy.joiners(), copy.value().0);
+            assert!(rt;
+                joiners == 65_534 && value == 7,
+                "{joiners} joiners of {value}"
+            );
+        }
+        Finished::Held(settled) => {
+            settled.abandon();
+            panic!(rt; "it is held")
         }
     }
     Ok(())
