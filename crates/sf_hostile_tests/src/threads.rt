@@ -1,4 +1,4 @@
-//! Four threads that ask for one place a thousand times each, and never look twice.
+//! Four threads that ask for one place a thousand times each, and never look twice; again and again, until one was busy.
 
 ghost use Rattle.std.specs.Prelude.{◌≡◌, All, IfOk, IfSome};
 ghost use Rattle.sf_group.specs.Same.{IsPlaceOf};
@@ -8,9 +8,12 @@ use sf_history::Memory;
 use std::alloc::Global;
 use std::process::Abort;
 use std::test::Fail;
-use std::thread::{join, yield_now};
+use std::thread::{Threads, join, yield_now};
 
 const EACH: u32 = 1000;
+
+// How many rounds there are at most, of which the first is enough wherever threads run side by side.
+const ROUNDS: u32 = 2000;
 
 // Who led the call.
 #[derive(Clone, Copy)]
@@ -53,6 +56,8 @@ struct Ended<'a> {
     group: &'a Group<Leader>,
     tickets: Vec<Kept>,
     led: u32,
+    // Tries that were busy.
+    busy: u32,
     // Askings that ended otherwise, and tickets that were lost.
     wrong: u32,
     ghost kept: { All (λ k. k.ticket.group ≡ group.now) tickets.items },
@@ -68,9 +73,13 @@ struct Team<'a> {
     ghost placed: { IsPlaceOf group.now 1 },
 }
 
-// A caller asks with one try each time, and is usable where that is busy, until it led and settled or joined; at most
-// 1,000,000 times.
-fn ask(group: &Group<Leader>, mut caller: Caller<Leader>) -> Result<Option<Kept>, ()>
+// A caller asks with one try each time, and is usable where that is busy, which is counted, until it led and settled or joined;
+// at most 1,000,000 times.
+fn ask(
+    group: &Group<Leader>,
+    mut caller: Caller<Leader>,
+    busy: &mut u32,
+) -> Result<Option<Kept>, ()>
     requires own { caller.group ≡ group.now }
     requires place { IsPlaceOf group.now 1 }
     ensures { IfOk result (λ ended. IfSome ended (λ k. k.ticket.group ≡ group.now)) }
@@ -92,6 +101,7 @@ fn ask(group: &Group<Leader>, mut caller: Caller<Leader>) -> Result<Option<Kept>
                 if tries != 1 {
                     return Err(());
                 }
+                *busy = busy.wrapping_add(1);
                 caller = back;
             }
             Err(NotBegun::Spent(_)) => return Err(()),
@@ -119,12 +129,13 @@ impl<'a> Team<'a> {
             mut tickets,
         } = self;
         let mut led: u32 = 0;
+        let mut busy: u32 = 0;
         let mut wrong: u32 = 0;
         for _ in 0..EACH {
             let Some(caller) = callers.pop() else {
                 break;
             };
-            match ask(group, caller) {
+            match ask(group, caller, &mut busy) {
                 Ok(None) => led = led.wrapping_add(1),
                 Ok(Some(kept)) => {
                     let lost = keep(group, &mut tickets, kept);
@@ -137,6 +148,7 @@ impl<'a> Team<'a> {
             group,
             tickets,
             led,
+            busy,
             wrong,
         }
     }
@@ -163,12 +175,13 @@ fn take_letter(rt: &impl Abort, group: &Group<Leader>, kept: Kept)
 }
 
 impl<'a> Ended<'a> {
-    // Each ticket's letter is there at the first look. It answers how many askings led and how many joined.
+    // Each ticket's letter is there at the first look. It answers how many askings led or joined, and how many tries were busy.
     fn check(self, rt: &impl Abort) -> (u32, u32) {
         let Ended {
             group,
             mut tickets,
             led,
+            busy,
             wrong,
         } = self;
         assert!(rt; wrong == 0, "{wrong} askings ended otherwise");
@@ -177,7 +190,7 @@ impl<'a> Ended<'a> {
             take_letter(rt, group, kept);
             joined = joined.wrapping_add(1);
         }
-        (led, joined)
+        (led.wrapping_add(joined), busy)
     }
 }
 
@@ -207,24 +220,35 @@ fn next_team<'a>(
     })
 }
 
-// All threads have ended, so each flight is finished.
-#[test]
-fn four_thousand_askings_of_one_place(rt: HostRuntime) -> Result<(), Fail> {
-    let (group, mut list) = Group::<Leader>::new(rt.alloc(), 1, 4000, 1)?;
-    let one = next_team(&rt, rt.alloc(), &group, &mut list)?;
-    let two = next_team(&rt, rt.alloc(), &group, &mut list)?;
-    let three = next_team(&rt, rt.alloc(), &group, &mut list)?;
-    let four = next_team(&rt, rt.alloc(), &group, &mut list)?;
+// Four threads ask. All have ended then, so each flight is finished. It answers how many tries were busy.
+fn play<R: Threads + Abort + Sync>(rt: &R, alloc: Global) -> Result<u32, Fail> {
+    let (group, mut list) = Group::<Leader>::new(alloc, 1, 4000, 1)?;
+    let one = next_team(rt, alloc, &group, &mut list)?;
+    let two = next_team(rt, alloc, &group, &mut list)?;
+    let three = next_team(rt, alloc, &group, &mut list)?;
+    let four = next_team(rt, alloc, &group, &mut list)?;
     let ((one, two), (three, four)) = join(
-        &rt,
-        || join(&rt, || one.work(), || two.work()),
-        || join(&rt, || three.work(), || four.work()),
+        rt,
+        || join(rt, || one.work(), || two.work()),
+        || join(rt, || three.work(), || four.work()),
     );
     let mut asked: u32 = 0;
+    let mut met: u32 = 0;
     for ended in [one, two, three, four] {
-        let (led, joined) = ended.check(&rt);
-        asked = asked.wrapping_add(led).wrapping_add(joined);
+        let (ended, busy) = ended.check(rt);
+        asked = asked.wrapping_add(ended);
+        met = met.wrapping_add(busy);
     }
     assert!(rt; asked == 4000, "{asked} askings ended");
-    Ok(())
+    Ok(met)
+}
+
+#[test]
+fn four_thousand_askings_of_one_place(rt: HostRuntime) -> Result<(), Fail> {
+    for _ in 0..ROUNDS {
+        if play(&rt, rt.alloc())? > 0 {
+            return Ok(());
+        }
+    }
+    panic!(rt; "none is busy")
 }
