@@ -46,7 +46,10 @@ impl FillSizes {
     /// A fill of these keys, whose caches keep so many bytes of keys and values; getters log nothing, and keep no letter near.
     pub fn new(keys: Keys, limit: i64) -> FillSizes
         ensures keys { result.keys ≡ keys }
+        ensures limit { result.keeps.limit ≡ limit }
         ensures log { result.keeps.log ≡ 0 }
+        ensures near { (result.keeps.near ≡ 0) × (result.keeps.near_limit ≡ 0) }
+        ensures first { result.first_generation ≡ 1 }
     {
         FillSizes {
             keys,
