@@ -137,7 +137,7 @@ impl<'a, R: Wait + Clock> Team for Gets<'a, R> {
 
     ghost gives = { λ gets space group index getter part. ⊤ };
 
-    ghost ends = { λ gets took. ⊤ };
+    ghost ends = { λ gets parts took. ⊤ };
 
     fn work<'d, D: Naming, N: Naming, O: Origin, L: LoadPath<Origin = O> + Drop>(
         &self,

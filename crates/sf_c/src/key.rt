@@ -1,5 +1,5 @@
 //! Keys, as slots keep them and letters carry them.
-ghost use Rattle.std.specs.Prelude.{◌≡◌, ◌<◌, [], length, IfOk, IfErr};
+ghost use Rattle.std.specs.Prelude.{◌≡◌, ◌<◌, ◌≤◌, [], length, IfOk, IfErr, IfSome, IfNone};
 
 use arrayvec::ArrayVec;
 use sf_group::Memory;
@@ -45,25 +45,54 @@ impl Key {
         }
     }
 
+    /// The bytes on the heap, where they are too many to lie in the value itself.
+    pub(crate) fn counted(alloc: Global, bytes: &[u8]) -> Result<Option<Arc<Vec<u8>>>, Memory>
+        ensures long { IfOk result (λ made. IfSome made (λ long.
+            (long.value.items ≡ bytes.now) × (SHORT < length bytes.now))) }
+        ensures short { IfOk result (λ made. IfNone made (length bytes.now ≤ SHORT)) }
+        ensures refused { IfErr result (λ _. SHORT < length bytes.now) }
+    {
+        if bytes.len() <= SHORT {
+            return Ok(None);
+        }
+        let long = Vec::from_slice(alloc, bytes)?;
+        match Arc::new(alloc, long) {
+            Ok(long) => Ok(Some(long)),
+            Err(_) => Err(Memory),
+        }
+    }
+
     /// A copy of these bytes. Few need no memory.
     pub(crate) fn of(alloc: Global, bytes: &[u8]) -> Result<Key, Memory>
         ensures copy { IfOk result (λ key. key ≡ bytes.now) }
         ensures refused { IfErr result (λ _. SHORT < length bytes.now) }
     {
-        if bytes.len() > SHORT {
-            let long = Vec::from_slice(alloc, bytes)?;
-            let Ok(long) = Arc::new(alloc, long) else {
-                return Err(Memory);
-            };
-            return Ok(Key {
-                kept: Kept::Counted(long),
-            });
+        let long = Key::counted(alloc, bytes)?;
+        let mut key = Key::empty();
+        key.put(bytes, long);
+        Ok(key)
+    }
+
+    /// Becomes these bytes, which are long where they are too many to lie in the value itself. Others are written where the key
+    /// lies: what was just stored is not moved, since a move of whole words would wait for the stores.
+    pub(crate) fn put(&mut self, bytes: &[u8], long: Option<Arc<Vec<u8>>>)
+        requires long { IfSome long (λ long.
+            (long.value.items ≡ bytes.now) × (SHORT < length bytes.now)) }
+        requires short { IfNone long (length bytes.now ≤ SHORT) }
+        ensures { self.new ≡ bytes.now }
+    {
+        if let Some(long) = long {
+            self.kept = Kept::Counted(long);
+            return;
+        }
+        if let Kept::Inline(short) = &mut self.kept {
+            short.clear();
+            let _fits = short.try_extend_from_slice(bytes);
+            return;
         }
         let mut short = ArrayVec::new();
         let _fits = short.try_extend_from_slice(bytes);
-        Ok(Key {
-            kept: Kept::Inline(short),
-        })
+        self.kept = Kept::Inline(short);
     }
 
     /// Another one.

@@ -1,10 +1,10 @@
 //! What the caller of a slot does, and how the group's calls change it, with a code. A part that is not one for the call stays as
 //! it was. Those that are asked most look first whether they are for the call, and move no more of the part than what it is.
-ghost use Rattle.std.specs.Prelude.{◌≡◌, ◌≢◌, ◌≤◌, IsTrue, IsFalse, IfOk, IfErr, IfSome, IfNone};
+ghost use Rattle.std.specs.Prelude.{◌≡◌, ◌≢◌, ◌≤◌, ◌⊎◌, IsTrue, IsFalse, IfOk, IfErr, IfSome, IfNone};
 ghost use Rattle.sf_calls.specs.Same.{IsPlaceOf};
 ghost use Rattle.sf_calls.specs.Notes.{HasGrown};
 ghost use Rattle.sf_c.specs.Rows.{IsOf, HasGivenKey, IsLetterOf, HasAsked, HasAskedBoth, HasAskedChan, HasFinishedPart, HasGoneOnPart, HasPolledPart, HasForgotPart, HasGivenUp, HasQuestionedPart, HasToldPart, HasLearntPart, HasNumbered, IsFree, IsNotFree, IsLeading, IsNotLeading, IsWaiting, IsNotWaiting, call_in};
-ghost use Rattle.sf_c.specs.declared.part.Part.TheVariants.{Free, Leads, Waits};
+ghost use Rattle.sf_c.specs.declared.part.Part.TheVariants.{Free, Leads, Owes, Waits};
 
 use crate::codes::{BUSY, DONE, NOT_OPEN, NOTHING_LEFT, OTHER, OTHERWISE, SPENT, WRONG_STATE};
 use crate::key::Key;
@@ -213,7 +213,36 @@ impl Part {
             unreachable!()
         };
         let word = Word::new(value, replace(key, Key::empty()));
-        match group.finish_unrested(flight, word) {
+        match group.settle(flight, word) {
+            Finished::Done(caller, letter) => {
+                *joiners = letter.joiners();
+                *last = Some(letter);
+                *self = Part::Free(caller);
+                DONE
+            }
+            Finished::Held(settled) => self.delivers(group, settled, joiners, last),
+        }
+    }
+
+    // Hands out what is owed: done where that is all, otherwise some is owed still. Who settles a call that nobody joined keeps no
+    // room for it.
+    #[inline(never)]
+    fn delivers(
+        &mut self,
+        group: &Group<Word>,
+        settled: Settled<Word>,
+        joiners: &mut u32,
+        last: &mut Option<Letter<Word>>,
+    ) -> u32
+        requires own { settled.group ≡ group.now }
+        requires last { IsLetterOf group.now last.old }
+        ensures own { IsOf group.now self.new }
+        ensures last { IsLetterOf group.now last.new }
+        ensures row { HasGoneOnPart (Owes settled) self.new result joiners.old joiners.new last.old
+            last.new }
+        ensures code { (result ≡ DONE) ⊎ (result ≡ OTHERWISE) }
+    {
+        match group.go_on_unrested(settled) {
             Finished::Done(caller, letter) => {
                 *joiners = letter.joiners();
                 *last = Some(letter);
@@ -243,14 +272,11 @@ impl Part {
         ensures open { result.1 ≢ NOT_OPEN }
     {
         match self {
-            Part::Owes(settled) => match group.go_on_unrested(settled) {
-                Finished::Done(caller, letter) => {
-                    *joiners = letter.joiners();
-                    *last = Some(letter);
-                    (Part::Free(caller), DONE)
-                }
-                Finished::Held(settled) => (Part::Owes(settled), OTHERWISE),
-            },
+            Part::Owes(settled) => {
+                let mut part = Part::Gone;
+                let code = part.delivers(group, settled, joiners, last);
+                (part, code)
+            }
             Part::Free(caller) => (Part::Free(caller), WRONG_STATE),
             Part::Leads(flight) => (Part::Leads(flight), WRONG_STATE),
             Part::Waits(ticket) => (Part::Waits(ticket), WRONG_STATE),

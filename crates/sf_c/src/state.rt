@@ -176,16 +176,16 @@ impl State {
         if !self.part.is_free() {
             return WRONG_STATE;
         }
-        let Ok(asked) = Key::of(alloc, key) else {
+        let Ok(long) = Key::counted(alloc, key) else {
             return NOTHING_LEFT;
         };
         let place = self.places.of(key);
         let code = self.part.asks(&self.group, place, tries);
         if code == DONE {
-            self.asked = asked;
             self.own = false;
-        } else if code == OTHERWISE {
-            self.asked = asked;
+        }
+        if code == DONE || code == OTHERWISE {
+            self.asked.put(key, long);
         }
         code
     }

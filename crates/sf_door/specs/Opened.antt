@@ -1,8 +1,9 @@
 -- what one who opens a fill asks for, and finds
-use Rattle.std.specs.Prelude.{◌≡◌, ℕ, List, All}
+use Rattle.std.specs.Prelude.{◌≡◌, ℕ, List, length, All}
 use Rattle.std.specs.List.{enumerate_from, zip}
 use Rattle.sf_calls.specs.Tokens.{GroupValue, CallerValue}
 use Rattle.sf_calls.specs.Making.{IsNewCaller}
+use Rattle.sf_spots.specs.Spaces.{SpaceId}
 use Rattle.sf_fill.specs.declared.getter.Standing.TheVariants.{Free}
 use Rattle.sf_fill.specs.FillValue.{Filled}
 use Rattle.sf_fill.specs.GetterValue.{GetterValue, with_loaders}
@@ -32,3 +33,13 @@ module _ {L : Type 0} where
   -- a fact of each index, and of the getter and the part that stand there
   abbrev pub EachThread : {P : Type 0} → (ℕ → GetterValue (Unit {0}) → P → Type 0) → List (GetterValue L) → List P → Type 0
   EachThread gives getters parts = All (λ at. gives at.0 (without_loaders at.1.0) at.1.1) (enumerate_from 0 (zip getters parts))
+
+module _ {P : Type 0} where
+  -- each part stands at its index, and came of the work of some getter there
+  abbrev pub EachPart : (ℕ → GetterValue (Unit {0}) → P → Type 0) → List P → Type 0
+  EachPart gives parts = All (λ at. (getter : GetterValue (Unit {0})) × gives at.0 getter at.1) (enumerate_from 0 parts)
+
+  -- an answer that a team gave on the parts of so many threads, over one key space and in one group
+  abbrev pub IsOfThreads : {A : Type 0} → (SpaceId → GroupValue → ℕ → GetterValue (Unit {0}) → P → Type 0) → (List P → A → Type 0) → ℕ → A → Type 0
+  IsOfThreads gives ends threads answer =
+      (space : SpaceId) × (group : GroupValue) × (parts : List P) × (length parts ≡ threads) × EachPart (gives space group) parts × ends parts answer

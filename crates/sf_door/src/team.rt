@@ -9,7 +9,8 @@ ghost use Rattle.sf_calls.specs.Tokens.{GroupValue};
 ghost use Rattle.sf_spots.specs.Spaces.{SpaceId, AreDesksOf, places_in, space_of};
 ghost use Rattle.sf_fill.specs.GetterValue.{GetterValue};
 ghost use Rattle.sf_fill.specs.Made.{AreParts};
-ghost use Rattle.sf_door.specs.Opened.{EachThread, IsNewGetter, places_for, without_loaders};
+ghost use Rattle.sf_door.specs.Opened.{EachThread, IsNewGetter, IsOfThreads};
+ghost use Rattle.sf_door.specs.Opened.{places_for, without_loaders};
 
 use crate::sizes::{FillSizes, Keys};
 use sf_fill::{Fill, FillParts, Getter, Naming, Sizes};
@@ -40,8 +41,8 @@ pub trait Team {
     /// key space.
     ghost gives: { Self → SpaceId → GroupValue → ℕ → GetterValue (Unit {0}) → Self.Part → Type 0 };
 
-    /// What it says of its answer.
-    ghost ends: { Self → Self.Answer → Type 0 };
+    /// What it says of the parts, in the order of the loaders, and of its answer.
+    ghost ends: { Self → List Self.Part → Self.Answer → Type 0 };
 
     /// What the thread of this index does, from 0, with its getter, which it gives back.
     fn work<'d, D: Naming, N: Naming, O: Origin, L: LoadPath<Origin = O> + Drop>(
@@ -66,7 +67,7 @@ pub trait Team {
         requires getters { vec_len getters ≡ N.getters }
         requires parts { vec_len parts ≡ N.getters }
         requires given { EachThread (gives self.now N.space N.group) getters.items parts.items }
-        ensures { ends self.now result };
+        ensures { ends self.now parts.items result };
 }
 
 /// Makes a fill with a getter for each set of loaders, 1 to 65,535, lets a thread work with each, and the team finish. Refused
@@ -81,7 +82,8 @@ pub fn with_team<
     requires getters { (1 ≤ vec_len loaders) × (vec_len loaders ≤ LARGEST_CALLER) }
     requires wants { T.wants team.now (vec_len loaders) O.loaded }
     requires room { sizes.keeps.log ≡ T.room team.now }
-    ensures { IfOk result (λ answer. T.ends team.now answer) }
+    ensures { IfOk result
+        (IsOfThreads (T.gives team.now) (T.ends team.now) (vec_len loaders)) }
 {
     let getters = loaders.len() as u32;
     match sizes.keys {
@@ -127,7 +129,8 @@ fn with_space<
     requires desks { (vec_len desks ≡ vec_len loaders) × AreDesksOf D.space desks.items }
     requires wants { T.wants team.now (vec_len loaders) O.loaded }
     requires room { sizes.keeps.log ≡ T.room team.now }
-    ensures { IfOk result (λ answer. T.ends team.now answer) }
+    ensures { IfOk result
+        (IsOfThreads (T.gives team.now) (T.ends team.now) (vec_len loaders)) }
 {
     let parts = FillParts::new(alloc, space, desks, loaders, sizes.first_generation)?;
     with_all::<D, Brand, O, L, R, T>(rt, alloc, space, parts, sizes.keeps, team)
@@ -156,7 +159,7 @@ fn with_all<
     requires callers { All (IsNewCaller N.group) parts.callers.items }
     requires wants { T.wants team.now N.getters O.loaded }
     requires room { keeps.log ≡ T.room team.now }
-    ensures { IfOk result (λ answer. T.ends team.now answer) }
+    ensures { IfOk result (IsOfThreads (T.gives team.now) (T.ends team.now) N.getters) }
 {
     let Ok((fill, getters)) = Fill::<'d, D, N, O>::new(alloc, space, parts, keeps) else {
         return Err(Memory);
@@ -322,7 +325,7 @@ fn work_and_finish<
     requires getters { (vec_len getters ≡ N.getters) × (N.getters ≤ LARGEST_CALLER) }
     requires new { All (IsNewGetter N.group (T.room team.now)) getters.items }
     requires wants { T.wants team.now N.getters O.loaded }
-    ensures { IfOk result (λ answer. T.ends team.now answer) }
+    ensures { IfOk result (IsOfThreads (T.gives team.now) (T.ends team.now) N.getters) }
 {
     let Ok(parts) = Vec::with_capacity(alloc, getters.len()) else {
         abandon_all(getters);

@@ -1,7 +1,5 @@
 -- what a thread did, whatever its loaders are
-use Rattle.std.proofs.Common.{◌≡◌, ◌⊎◌, ℕ, zero, suc, ◌+◌, ◌*◌, Bool, true, false, List, [], ◌∷◌, length, All, Result, IfOk, Ok, Err, inl, inr, ap, arith}
-use Rattle.std.specs.List.{enumerate_from, zip}
-use Rattle.std.proofs.lemmas.List.Elements.{All-nil, All-cons, All-head, All-tail}
+use Rattle.std.proofs.Common.{◌⊎◌, ℕ, zero, suc, ◌*◌, Bool, true, false, List, Result, IfOk, Ok, Err, inl, inr, ap}
 use Rattle.sf_history.specs.declared.event.Event.{Event}
 use Rattle.sf_calls.specs.Tokens.{GroupValue}
 use Rattle.sf_spots.specs.Spaces.{SpaceId}
@@ -11,12 +9,12 @@ use Rattle.sf_fill.specs.Gets.{GetAnswer}
 use Rattle.sf_fill.specs.GetterValue.{GetterValue}
 use Rattle.sf_fill.specs.declared.fault.LoadFault.{LoadFault}
 use Rattle.sf_fill.specs.declared.reload.Forgot.{Forgot}
-use Rattle.sf_door.specs.Opened.{IsNewGetter, without_loaders}
+use Rattle.sf_door.specs.Opened.{IsNewGetter, IsOfThreads, without_loaders}
 use Rattle.sf_drive.specs.declared.found.Found.{Found}
 use Rattle.sf_drive.specs.declared.jobs.Ended.{Ended}
 use Rattle.sf_drive.specs.declared.line.DriveLine.{DriveLine}
 use Rattle.sf_drive.specs.Found.{IsFound, IsFoundBy}
-use Rattle.sf_drive.specs.Jobs.{HasReloadedWhere, HasSettled, HasTakenTurns, IsGetOf, IsJob, IsJobOf, IsPartOf, IsTurn, turn_key, reloads_at}
+use Rattle.sf_drive.specs.Jobs.{HasReloadedWhere, HasSettled, HasTakenTurns, IsGetOf, IsJob, IsJobOf, IsTurn, turn_key, reloads_at}
 
 module _ {L : Type 0} where
   abbrev erased : GetterValue L → GetterValue (Unit {0})
@@ -99,21 +97,9 @@ module _ {L : Type 0} where
       };
     }
 
-  -- the parts of as many getters
-  parts_of : (line : DriveLine) (space : SpaceId) (group : GroupValue) (n : ℕ) (getters : List (GetterValue L)) (parts : List Ended) → length getters ≡ length parts
-      → All (λ at. IsJobOf space group line.keys line.gets at.0 (erased at.1.0) at.1.1) (enumerate_from n (zip getters parts)) → All (λ at. IsPartOf space group line.keys line.gets at.0 at.1) (enumerate_from n parts)
-  parts_of line space group n [] [] same all = All-nil (λ at. IsPartOf space group line.keys line.gets at.0 at.1)
-  parts_of line space group n [] (p ∷ parts) same all = let no : ⊥ = omega (arith, same) in absurd no
-  parts_of line space group n (x ∷ getters) [] same all = All-nil (λ at. IsPartOf space group line.keys line.gets at.0 at.1)
-  parts_of line space group n (x ∷ getters) (p ∷ parts) same all =
-      let P : ℕ × (GetterValue L × Ended) → Type 0 = λ at. IsJobOf space group line.keys line.gets at.0 (erased at.1.0) at.1.1 in
-      let rest : List (ℕ × (GetterValue L × Ended)) = enumerate_from (n + 1) (zip getters parts) in
-      All-cons (λ at. IsPartOf space group line.keys line.gets at.0 at.1) (n, p) (enumerate_from (n + 1) parts) (erased x, All-head P (n, (x, p)) rest all)
-      (parts_of line space group (n + 1) getters parts (omega (arith, same)) (All-tail P (n, (x, p)) rest all))
-
-  -- what a drive found by these parts
-  pub found_by : {E : Type 0} (line : DriveLine) (space : SpaceId) (group : GroupValue) (getters : List (GetterValue L)) (parts : List Ended) (r : Result Found E) → length getters ≡ length parts
-      → All (λ at. IsJobOf space group line.keys line.gets at.0 (erased at.1.0) at.1.1) (enumerate_from 0 (zip getters parts))
-      → IfOk r (λ found. IsFoundBy line.threads line.gets parts found.report found.history) → IfOk r (λ found. IsFound line found.report found.history)
-  found_by line space group getters parts (Ok found) same jobs by = (space, group, parts, parts_of line space group 0 getters parts same jobs, by)
-  found_by line space group getters parts (Err refused) same jobs by = by
+-- what a drive found by the parts of its threads
+pub found_by : {E : Type 0} (line : DriveLine) (threads : ℕ) (r : Result Found E)
+    → IsOfThreads (λ space group. IsJobOf space group line.keys line.gets) (λ parts answer. IfOk answer (λ found. IsFoundBy line.threads line.gets parts found.report found.history)) threads r
+    → IfOk r (λ found. IsFound line found.report found.history)
+found_by line threads (Ok found) (space, group, parts, many, worked, by) = (space, group, parts, worked, by)
+found_by line threads (Err refused) (space, group, parts, many, worked, by) = by

@@ -59,7 +59,7 @@ impl<'a, R: Wait + Clock + Eprint> Team for Crew<'a, R> {
     type Answer = Result<Found, Memory>;
 
     ghost use Rattle.std.specs.Prelude.{◌≡◌, ◌*◌, IfOk};
-    ghost use Rattle.sf_drive.specs.Found.{IsFound};
+    ghost use Rattle.sf_drive.specs.Found.{IsFoundBy};
     ghost use Rattle.sf_drive.specs.Jobs.{AreEntries, IsJobOf};
     ghost use Rattle.sf_drive.specs.Values.{StatesValues};
 
@@ -70,8 +70,8 @@ impl<'a, R: Wait + Clock + Eprint> Team for Crew<'a, R> {
 
     ghost gives = { λ crew space group. IsJobOf space group crew.line.keys crew.line.gets };
 
-    ghost ends = { λ crew answer. IfOk answer
-        (λ found. IsFound crew.line found.report found.history) };
+    ghost ends = { λ crew parts answer. IfOk answer (λ found.
+        IsFoundBy crew.line.threads crew.line.gets parts found.report found.history) };
 
     fn work<'d, D: Naming, N: Naming, O: Origin, L: LoadPath<Origin = O> + Drop>(
         &self,
@@ -100,7 +100,8 @@ impl<'a, R: Wait + Clock + Eprint> Team for Crew<'a, R> {
         requires parts { vec_len parts ≡ N.getters }
         requires given { EachThread (IsJobOf N.space N.group self.now.line.keys self.now.line.gets)
             getters.items parts.items }
-        ensures { IfOk result (λ found. IsFound self.now.line found.report found.history) }
+        ensures { IfOk result (λ found. IsFoundBy self.now.line.threads self.now.line.gets
+            parts.items found.report found.history) }
     {
         let book = fill.book(self.rt);
         let gathered = fill.gather(self.rt, getters);

@@ -37,7 +37,7 @@ impl<'a, R: Wait> Team for Serve<'a, R> {
 
     ghost gives = { λ serve space group index getter part. ⊤ };
 
-    ghost ends = { λ serve answer. ⊤ };
+    ghost ends = { λ serve parts answer. ⊤ };
 
     fn work<'d, D: Naming, N: Naming, O: Origin, L: LoadPath<Origin = O> + Drop>(
         &self,

@@ -269,3 +269,32 @@ fn views_have_their_keys(rt: HostRuntime) -> Result<(), Fail> {
     check(&rt, &outcome, [said, ""], [3, 1, 2, 2, 0, 0, 2, 0]);
     Ok(())
 }
+
+// A key of 250 bytes.
+const LONG: &str = "kkkkkkkkkkkkkkkkkkkkkkkkkkkkkkkkkkkkkkkkkkkkkkkkkk\
+    kkkkkkkkkkkkkkkkkkkkkkkkkkkkkkkkkkkkkkkkkkkkkkkkkk\
+    kkkkkkkkkkkkkkkkkkkkkkkkkkkkkkkkkkkkkkkkkkkkkkkkkk\
+    kkkkkkkkkkkkkkkkkkkkkkkkkkkkkkkkkkkkkkkkkkkkkkkkkk\
+    kkkkkkkkkkkkkkkkkkkkkkkkkkkkkkkkkkkkkkkkkkkkkkkkkk";
+
+// A key of many bytes is loaded once, and is had from the cache then, whether its place is a directory's or a hash says it.
+#[test]
+fn long_key_is_kept(rt: HostRuntime) -> Result<(), Fail> {
+    const STEPS: [Step; 2] = [Get(LONG), Get(LONG)];
+    let alloc = rt.alloc();
+    assert!(rt; LONG.len() == 250, "the long key has another length");
+    let one = " v=true 1.1 root=1.1 joiners=0\n";
+    let said = format!(in alloc; "{LONG}{one}{LONG}{one}")?;
+    for open in [false, true] {
+        let setting = Setting {
+            open,
+            limit: 1_000,
+            key_bytes: 250,
+            steps: [&STEPS, &[], &[]],
+            ..SETTING
+        };
+        let outcome = try_out(&rt, alloc, setting)?;
+        check(&rt, &outcome, [said.as_str(), ""], [2, 1, 1, 1, 0, 0, 1, 0]);
+    }
+    Ok(())
+}

@@ -1,5 +1,5 @@
 //! A fill with two getters, from nothing.
-ghost use Rattle.std.specs.Prelude.{◌≡◌, ◌≤◌, vec_len};
+ghost use Rattle.std.specs.Prelude.{◌≡◌, ◌<◌, ◌≤◌, vec_len};
 ghost use Rattle.sf_fill_tests.specs.Origins.{IsOpenOrigin};
 
 use crate::loaders::{Flags, TestLoaders, TestLocal};
@@ -66,7 +66,7 @@ struct Play<'a, R> {
 }
 
 impl<'a, R: Wait> Play<'a, R> {
-    // What the getter of this index does, and says.
+    // What the getter of this index does, and says; then all that it counted is in the book.
     fn turns<'d, D: Naming, N: Naming, O: Origin, L: LoadPath<Origin = O> + Drop>(
         &self,
         fill: &Fill<'d, D, N, O>,
@@ -81,7 +81,69 @@ impl<'a, R: Wait> Play<'a, R> {
             1 => second,
             _ => third,
         };
-        run(self.rt, fill, getter, steps, self.flags, self.alloc)
+        let (mut getter, said) = run(self.rt, fill, getter, steps, self.flags, self.alloc);
+        getter.enter(self.rt, fill);
+        (getter, said)
+    }
+
+    // The getters after the turns of all, and what they said: those that had none beside each other have them here, one getter
+    // after another.
+    fn all_turns<'d, D: Naming, N: Naming, O: Origin, L: LoadPath<Origin = O> + Drop>(
+        &self,
+        fill: &Fill<'d, D, N, O>,
+        getters: Vec<Getter<'d, D, N, O, L>>,
+        parts: Vec<String>,
+    ) -> (Vec<Getter<'d, D, N, O, L>>, [String; 3])
+        requires origin { IsOpenOrigin O.loaded }
+        requires getters { vec_len getters ≡ 3 }
+        requires parts { vec_len parts ≡ 3 }
+        ensures { vec_len result.0 ≡ 3 }
+    {
+        let mut parts = parts;
+        let (Some(third), Some(second), Some(first)) = (parts.pop(), parts.pop(), parts.pop())
+        else {
+            unreachable!()
+        };
+        if self.setting.beside {
+            return (getters, [first, second, third]);
+        }
+        let mut getters = getters;
+        let Some(three) = getters.pop() else {
+            unreachable!()
+        };
+        let Some(two) = getters.pop() else {
+            unreachable!()
+        };
+        let Some(one) = getters.pop() else {
+            unreachable!()
+        };
+        let (one, first) = self.turns(fill, one, 0);
+        let (two, second) = self.turns(fill, two, 1);
+        let (three, third) = self.turns(fill, three, 2);
+        getters.push_reserved(one);
+        getters.push_reserved(two);
+        getters.push_reserved(three);
+        (getters, [first, second, third])
+    }
+
+    // What the book says once the getters are spent: they end one by one, or are gathered.
+    fn spent<'d, D: Naming, N: Naming, O: Origin, L: Drop>(
+        &self,
+        fill: &Fill<'d, D, N, O>,
+        getters: Vec<Getter<'d, D, N, O, L>>,
+    ) -> Totals
+        requires all { vec_len getters ≡ N.getters }
+        requires some { 0 < vec_len getters }
+    {
+        if !self.setting.ends {
+            return fill.gather(self.rt, getters);
+        }
+        let mut getters = getters;
+        'rest: while let Some(getter) = getters.pop() {
+            getter.end(self.rt, fill);
+        }
+        getters.destroy_empty();
+        fill.book(self.rt)
     }
 }
 
@@ -99,7 +161,7 @@ impl<'a, R: Wait> Team for Play<'a, R> {
 
     ghost gives = { λ play space group index getter part. ⊤ };
 
-    ghost ends = { λ play outcome. ⊤ };
+    ghost ends = { λ play parts outcome. ⊤ };
 
     fn work<'d, D: Naming, N: Naming, O: Origin, L: LoadPath<Origin = O> + Drop>(
         &self,
@@ -126,49 +188,11 @@ impl<'a, R: Wait> Team for Play<'a, R> {
         requires getters { vec_len getters ≡ N.getters }
         requires parts { vec_len parts ≡ N.getters }
     {
-        let rt = self.rt;
-        let mut getters = getters;
-        let Some(three) = getters.pop() else {
-            unreachable!()
-        };
-        let Some(two) = getters.pop() else {
-            unreachable!()
-        };
-        let Some(one) = getters.pop() else {
-            unreachable!()
-        };
-        let mut parts = parts;
-        let (Some(third), Some(second), Some(first)) = (parts.pop(), parts.pop(), parts.pop())
-        else {
-            unreachable!()
-        };
-        let ((mut one, first), (mut two, second), (mut three, third)) = if self.setting.beside {
-            ((one, first), (two, second), (three, third))
-        } else {
-            (
-                self.turns(fill, one, 0),
-                self.turns(fill, two, 1),
-                self.turns(fill, three, 2),
-            )
-        };
-        one.enter(rt, fill);
-        two.enter(rt, fill);
-        three.enter(rt, fill);
-        let book = fill.book(rt);
-        let gathered = if self.setting.ends {
-            one.end(rt, fill);
-            two.end(rt, fill);
-            three.end(rt, fill);
-            getters.destroy_empty();
-            fill.book(rt)
-        } else {
-            getters.push_reserved(one);
-            getters.push_reserved(two);
-            getters.push_reserved(three);
-            fill.gather(rt, getters)
-        };
+        let (getters, said) = self.all_turns(fill, getters, parts);
+        let book = fill.book(self.rt);
+        let gathered = self.spent(fill, getters);
         Outcome {
-            said: [first, second, third],
+            said,
             book,
             gathered,
             failed: false,

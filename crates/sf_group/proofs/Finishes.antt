@@ -33,7 +33,7 @@ owed_own None n own (inl is) joined = cc
 owed_own top n (Some o) (inr is) joined = inr (λ none. cc)
 owed_own top n None (inr is) joined = cc
 
-none_is : {A : Type 0} (o : Option A) → is_some o ≡ false → o ≡ None
+pub none_is : {A : Type 0} (o : Option A) → is_some o ≡ false → o ≡ None
 none_is None isnt = refl
 none_is (Some x) isnt = cc
 

@@ -1,5 +1,5 @@
 -- what calls over words say beside the table of calls: whose changes each failed try was, and how often a call tried
-use Rattle.std.specs.Prelude.{◌≡◌, ◌≤◌, ◌+◌, ℕ, List, ◌++◌}
+use Rattle.std.specs.Prelude.{◌≡◌, ◌≤◌, ◌+◌, ℕ, List, ◌++◌, None}
 use Rattle.sf_calls.specs.declared.outcomes.NotBegun.{NotBegun}
 use Rattle.sf_calls.specs.declared.outcomes.NotBegun.TheVariants.{Busy, Spent}
 use Rattle.sf_calls.specs.declared.outcomes.Begun.{Begun}
@@ -73,6 +73,11 @@ module _ {V : Type 0} where
   abbrev pub HasClosed : FlightValue V → Finished (CallerValue V) (LetterValue V) (SettledValue V) → Type 0
   HasClosed f (Done c l) = ClosesSeldom f c.turns
   HasClosed f (Held s) = ClosesSeldom f s.turns
+
+  -- a settle that hands no letter to another is done where none is owed
+  abbrev pub HasOwedNone : FlightValue V → Finished (CallerValue V) (LetterValue V) (SettledValue V) → Type 0
+  HasOwedNone f (Done c l) = (l.joiners ≡ 0) × (f.own ≡ None)
+  HasOwedNone f (Held s) = Unit {0}
 
   -- who goes on with a delivery knows more of the schedule then
   abbrev pub KnowsSince : SettledValue V → List (Turn V) → Type 0

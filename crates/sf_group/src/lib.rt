@@ -23,7 +23,8 @@
 //! | `go_on` | `Settled` | `Caller` and the leader's `Letter`; or `Settled` again |
 //! | `poll` | `Ticket` | `Caller` and its `Letter`; or the `Ticket` again |
 //! | `rest` | `&Ticket` | nothing; it alone may wait |
-//! | `finish_unrested`, `go_on_unrested` | as `finish` and `go_on` | the same, and wake nobody who rests |
+//! | `settle` | as `finish` | the same; `Settled` wherever another is owed a letter |
+//! | `go_on_unrested` | as `go_on` | the same, and wakes nobody who rests |
 //! | `is_current` | `&mut Caller` and `&mut Letter` | whether the letter's call is its place's current one |
 //! | `is_still_current` | any of the tokens, a place and a call | whether that call is the place's current one |
 //! | `named` | `&mut Caller` | the call that the place names, to forget that alone |

@@ -1,9 +1,9 @@
-//! Calls that settle and hand letters out: finish and go_on.
+//! Calls that settle and hand letters out: settle, finish and go_on.
 ghost use Rattle.std.specs.Prelude.{◌≡◌, ◌≤◌, true, Some};
 ghost use Rattle.sf_schedules.specs.Schedules.{was_led_on};
 ghost use Rattle.sf_calls.specs.Finishes.{HasFinished, HasGoneOn};
 ghost use Rattle.sf_word_steps.specs.View.{sizes_of, history_of};
-ghost use Rattle.sf_group.specs.Calls.{HasClosed, HasKnown};
+ghost use Rattle.sf_group.specs.Calls.{HasClosed, HasKnown, HasOwedNone};
 ghost use Rattle.sf_group.specs.Known.{IsPlaceIn, letter_of};
 
 use crate::group::Group;
@@ -26,50 +26,20 @@ impl<V: Fit> Group<V> {
         ensures finished { HasFinished V.fits flight value result }
         ensures closed { HasClosed flight result }
     {
-        self.settle(&self.resting, flight, value)
+        match self.settle(flight, value) {
+            Finished::Done(caller, letter) => Finished::Done(caller, letter),
+            Finished::Held(settled) => self.hand_on(&self.resting, settled),
+        }
     }
 
-    /// The same for a group in which nobody rests: nobody is woken, so who rests may sleep on.
-    pub fn finish_unrested(
-        &self,
-        flight: Flight<V>,
-        value: V,
-    ) -> Finished<Caller<V>, Letter<V>, Settled<V>>
+    /// The leader settles its call as by `finish`, and hands no letter to another: where somebody joined, or the call has an own
+    /// channel, the delivery is to be gone on with.
+    pub fn settle(&self, flight: Flight<V>, value: V) -> Finished<Caller<V>, Letter<V>, Settled<V>>
         requires own { flight.group ≡ self.now }
         requires fits { V.fits flight.place flight.call value flight.seen }
         ensures finished { HasFinished V.fits flight value result }
         ensures closed { HasClosed flight result }
-    {
-        self.settle(&Unrested, flight, value)
-    }
-
-    /// Goes on with a delivery that lacked memory, from where it stands. No letter is handed out twice.
-    pub fn go_on(&self, settled: Settled<V>) -> Finished<Caller<V>, Letter<V>, Settled<V>>
-        requires own { settled.group ≡ self.now }
-        ensures { HasGoneOn V.fits settled result }
-    {
-        self.hand_on(&self.resting, settled)
-    }
-
-    /// The same for a group in which nobody rests.
-    pub fn go_on_unrested(&self, settled: Settled<V>) -> Finished<Caller<V>, Letter<V>, Settled<V>>
-        requires own { settled.group ≡ self.now }
-        ensures { HasGoneOn V.fits settled result }
-    {
-        self.hand_on(&Unrested, settled)
-    }
-
-    // Settles the call, and hands its letters out.
-    fn settle<W: Wakes>(
-        &self,
-        resting: &W,
-        flight: Flight<V>,
-        value: V,
-    ) -> Finished<Caller<V>, Letter<V>, Settled<V>>
-        requires own { flight.group ≡ self.now }
-        requires fits { V.fits flight.place flight.call value flight.seen }
-        ensures finished { HasFinished V.fits flight value result }
-        ensures closed { HasClosed flight result }
+        ensures owed { HasOwedNone flight result }
     {
         let Flight {
             mut leader,
@@ -91,13 +61,12 @@ impl<V: Fit> Group<V> {
         );
         let joiners = tally.joiners as u64;
         if tally.top.is_some() || channel.is_some() {
-            let settled = Settled {
+            return Finished::Held(Settled {
                 leader,
                 joiners,
                 top: MaybeNumber::of(tally.top),
                 value,
-            };
-            return self.hand_on(resting, settled);
+            });
         }
         let Leader {
             mut seated,
@@ -109,7 +78,24 @@ impl<V: Fit> Group<V> {
         Finished::Done(Caller { seated }, letter)
     }
 
-    // Hands out what is owed.
+    /// Goes on with a delivery that lacked memory, from where it stands. No letter is handed out twice.
+    pub fn go_on(&self, settled: Settled<V>) -> Finished<Caller<V>, Letter<V>, Settled<V>>
+        requires own { settled.group ≡ self.now }
+        ensures { HasGoneOn V.fits settled result }
+    {
+        self.hand_on(&self.resting, settled)
+    }
+
+    /// The same for a group in which nobody rests: nobody is woken, so who rests may sleep on.
+    pub fn go_on_unrested(&self, settled: Settled<V>) -> Finished<Caller<V>, Letter<V>, Settled<V>>
+        requires own { settled.group ≡ self.now }
+        ensures { HasGoneOn V.fits settled result }
+    {
+        self.hand_on(&Unrested, settled)
+    }
+
+    // Hands out what is owed. Who settles a call that nobody joined keeps no room for it.
+    #[inline(never)]
     fn hand_on<W: Wakes>(
         &self,
         resting: &W,

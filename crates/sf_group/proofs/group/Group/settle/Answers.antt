@@ -1,4 +1,4 @@
-use Rattle.std.proofs.Common.{◌≡◌, ℕ, ◌∙◌, false, Option, inl, inr, sym, ap, subst, arith, rules}
+use Rattle.std.proofs.Common.{◌≡◌, ℕ, ◌∙◌, false, Option, None, inl, inr, sym, ap, subst, arith, rules}
 use Rattle.sf_history.specs.declared.call.CallId.{CallId}
 use Rattle.std.specs.Prelude.{is_some}
 use Rattle.atomic_table.specs.Table.{Me}
@@ -8,20 +8,21 @@ use Rattle.sf_schedules.specs.Turns.{at_members}
 use Rattle.sf_schedules.specs.Events.{settled}
 use Rattle.sf_calls.specs.declared.sizes.Sizes.{Sizes}
 use Rattle.sf_calls.specs.Tokens.{GroupValue, CallerValue, FlightValue, LetterValue}
-use Rattle.sf_calls.specs.Finishes.{IsDone, HasFinished}
+use Rattle.sf_calls.specs.Finishes.{IsDone, IsHeld}
 use Rattle.sf_word_steps.specs.View.{sizes_of}
 use Rattle.sf_word_steps.specs.Stands.{Sits, Goes}
 use Rattle.sf_word_steps.specs.Delivers.{IsOwed}
+use Rattle.sf_word_steps.specs.Settles.{IsJoined}
 use Rattle.sf_group.specs.Known.{caller_of, flight_of, settled_of}
-use Rattle.sf_group.specs.Calls.{ClosesSeldom, HasClosed}
-use Rattle.sf_group.proofs.Finishes.{held_row, done_row, closed_row, fits_later}
+use Rattle.sf_group.specs.Calls.{ClosesSeldom}
+use Rattle.sf_group.proofs.Finishes.{held_row, done_row, closed_row, fits_later, none_is}
 use Rattle.sf_group.proofs.LedCalls.{leading_led, led_later, placed_later}
-use Rattle.sf_group.proofs.Deliveries.{held_stands, finished_after, closed_known, sits_now, next_now}
+use Rattle.sf_group.proofs.Deliveries.{held_stands, sits_now, next_now}
 use Rattle.sf_group.proofs.group.Group.settle.Goals as goal
 use Rattle.sf_group.proofs.group.Group.settle.Goals.{then-is_some-via-then-is_some, then-is_some-via-else-is_some+then-is_some-2}
 
-pub invariant_of-settled : goal.invariant_of-settled
-invariant_of-settled g c =
+pub invariant_of-result : goal.invariant_of-result
+invariant_of-result g c =
     let led = c.flight.inside.leader in
     let who = led.seated in
     let v = who.seat.me.0 in
@@ -72,9 +73,7 @@ returns-then-is_some-clause-finished g c =
     ]) in
     let flight = flight_of who.seat.table_id v who.number led.place led.call led.own in
     let held = held_row who.seat.table_id t who.number led.place led.call led.own c.args.value n top v w c.settle_and_count-tally.ensures.own.0 c.flight.invariant.1 owed c.settle_and_count-tally.ensures.joined goes in
-    let s = settled_of t w who.number led.place led.call c.args.value n in
-    let gone = c.hand_on.ensures.gone in
-    subst (λ (x : FlightValue _). HasFinished g.V.Fit.fits x c.args.value c.hand_on.result) c.flight.view_is (finished_after g.V.Fit.fits flight c.args.value s c.hand_on.result held gone)
+    subst (λ (x : FlightValue _). IsHeld x c.args.value (settled_of t w who.number led.place led.call c.args.value n)) c.flight.view_is held
 
 pub returns-then-is_some-clause-closed : goal.returns-then-is_some-clause-closed
 returns-then-is_some-clause-closed g c =
@@ -89,15 +88,7 @@ returns-then-is_some-clause-closed g c =
     let es = settled who.number (record { caller = who.number; generation = led.call.generation }) led.own c.args.value n top in
     let same : sizes_of v ≡ c.self.inside.sizes = ap (λ (x : FlightValue _). x.group.sizes) c.flight.view_is ∙ (ap (λ (x : GroupValue). x.sizes) c.requires.own ∙ ap (λ (x : GroupValue). x.sizes) (sym c.self.view_is)) in
     let goes = subst (λ (o : Option CallId). Goes (sizes_of v) who.number v w (at_members led.place led.call.generation o c.args.value n top) (settled who.number (record { caller = who.number; generation = led.call.generation }) o c.args.value n top) 0) c.get-channel.ensures (subst (λ (z : Sizes). Goes z who.number v w (at_members led.place led.call.generation c.get-channel.result c.args.value n top) (settled who.number (record { caller = who.number; generation = led.call.generation }) c.get-channel.result c.args.value n top) 0) (sym same) c.settle_and_count-tally.ensures.settled) in
-    let owed : IsOwed top led.own = subst (λ (o : Option CallId). IsOwed top o) c.get-channel.ensures (elim c.then-is_some.branch [
-      | then-is_some-via-then-is_some w ↦ inl (sym c.is_some.ensures ∙ w.if-is_some.true)
-      | then-is_some-via-else-is_some+then-is_some-2 w ↦ inr (sym w.is_some-else-is_some.ensures ∙ w.if-is_some-2.true)
-    ]) in
-    let flight = flight_of who.seat.table_id v who.number led.place led.call led.own in
-    let held = held_row who.seat.table_id t who.number led.place led.call led.own c.args.value n top v w c.settle_and_count-tally.ensures.own.0 c.flight.invariant.1 owed c.settle_and_count-tally.ensures.joined goes in
-    let s = settled_of t w who.number led.place led.call c.args.value n in
-    let known = c.hand_on.ensures.known in
-    subst (λ (x : FlightValue _). HasClosed x c.hand_on.result) c.flight.view_is (closed_known flight s goes.turns c.hand_on.result held.group goes.knows known)
+    subst (λ (x : FlightValue _). ClosesSeldom x w.known.turns) c.flight.view_is (closed_row who.seat.table_id who.number led.place 0 led.call led.own v w p es goes)
 
 pub letter-letter-requires-clause-led : goal.letter-letter-requires-clause-led
 letter-letter-requires-clause-led g c =
@@ -161,3 +152,14 @@ returns-clause-closed g c =
     let turns_are = ap (λ (m : Me (Option (Letter _)) (View _)). m.0.known.turns) c.letter-letter.ensures.seat.1 in
     subst (λ ts. ClosesSeldom c.args.flight ts) (sym turns_are)
     (subst (λ (x : FlightValue _). ClosesSeldom x w.known.turns) c.flight.view_is (closed_row who.seat.table_id who.number led.place 0 led.call led.own v w p es goes))
+
+pub returns-clause-owed : goal.returns-clause-owed
+returns-clause-owed g c =
+    let led = c.flight.inside.leader in
+    let top = c.settle_and_count-tally.result.top in
+    let n = c.settle_and_count-tally.result.joiners in
+    let bare : is_some top ≡ false = sym c.is_some.ensures ∙ c.if-is_some.false in
+    let alone : is_some led.own ≡ false = subst (λ (o : Option CallId). is_some o ≡ false) c.get-channel.ensures (sym c.is_some-else-is_some.ensures ∙ c.if-is_some-2.false) in
+    let counted : IsJoined None n = subst (λ (m : Option ℕ). IsJoined m n) (none_is top bare) c.settle_and_count-tally.ensures.joined in
+    let written = ap (λ (l : LetterValue _). l.joiners) c.letter-letter.ensures.letter in
+    (omega (arith, counted, written), sym (ap (λ (x : FlightValue _). x.own) c.flight.view_is) ∙ none_is led.own alone)
