@@ -10,6 +10,7 @@ use Rattle.sf_schedules.specs.declared.letter.Letter.{Letter}
 use Rattle.sf_schedules.specs.declared.operation.Stage.{Stage}
 use Rattle.sf_schedules.specs.declared.operation.Stage.TheVariants as stage
 use Rattle.sf_schedules.specs.declared.turn.Turn.{Turn}
+use Rattle.sf_schedules.specs.Turns.{at_members}
 use Rattle.sf_schedules.specs.World.{first_world}
 use Rattle.sf_schedules.specs.Schedules.{IsSchedule}
 use Rattle.sf_schedules.proofs.Closings.{closes_are_few, closes_add}
@@ -39,6 +40,22 @@ module _ {V : Type 0} where
   later_owed a c None (Some m) owed = refl
   later_owed a c (Some o) None owed = refl
   later_owed a c (Some o) (Some m) owed = refl
+
+  -- what one who owes letters did, by what its token keeps
+  pub owing_so : (z y : Sizes) (a k joiners : ℕ) (c d : CallId) (own o : Option CallId) (x : V) (left : Option ℕ) (v w : View V) → y ≡ z → d ≡ c → o ≡ own
+      → Goes z a v w (at_members k d.generation o x joiners left) [] 0 → Goes y a v w (at_members k c.generation own x joiners left) [] 0
+  owing_so z y a k joiners c d own o x left v w sizes same channel goes =
+      subst (λ (s : Sizes). Goes s a v w (at_members k c.generation own x joiners left) [] 0) (sym sizes)
+      (subst (λ (e : CallId). Goes z a v w (at_members k e.generation own x joiners left) [] 0) same
+      (subst (λ (q : Option CallId). Goes z a v w (at_members k d.generation q x joiners left) [] 0) channel goes))
+
+  pub handed_so : (z y : Sizes) (a : ℕ) (c d : CallId) (own o : Option CallId) (top list : Option ℕ) (v w : View V) → y ≡ z → d ≡ c → o ≡ own → list ≡ top
+      → Goes z a v w stage.Free (handed_later a (record { caller = a; generation = d.generation }) o list) 0 → Goes y a v w stage.Free (handed_later a (record { caller = a; generation = c.generation }) own top) 0
+  handed_so z y a c d own o top list v w sizes same channel listed goes =
+      subst (λ (s : Sizes). Goes s a v w stage.Free (handed_later a (record { caller = a; generation = c.generation }) own top) 0) (sym sizes)
+      (subst (λ (e : CallId). Goes z a v w stage.Free (handed_later a (record { caller = a; generation = e.generation }) own top) 0) same
+      (subst (λ (q : Option CallId). Goes z a v w stage.Free (handed_later a (record { caller = a; generation = d.generation }) q top) 0) channel
+      (subst (λ (q : Option ℕ). Goes z a v w stage.Free (handed_later a (record { caller = a; generation = d.generation }) o q) 0) listed goes)))
 
   -- what stands in what a seat knew stands in what it knows since
   pub stands_later : (t : TableId) (a n : ℕ) (e : Event ℕ V) (v w : View V) (p : Stage V) (es : List (Event ℕ V)) → Stands e (history_of (sizes_of v) v.known.turns) → Goes (sizes_of v) a v w p es n → Stands e (history_of (sizes_of w) w.known.turns)

@@ -52,6 +52,15 @@ module _ {V : Type 0} where
   owed_events a c (Some o) x n None owed = refl
   owed_events a c (Some o) x n (Some m) owed = refl
 
+  -- what the leader's turns did, by what its token keeps
+  pub settled_so : (z y : Sizes) (a k n : ℕ) (c d : CallId) (own o : Option CallId) (x : V) (top : Option ℕ) (v w : View V) → y ≡ z → d ≡ c → o ≡ own
+      → Goes z a v w (at_members k d.generation o x n top) (settled a (record { caller = a; generation = d.generation }) o x n top) 0
+      → Goes y a v w (at_members k c.generation own x n top) (settled a (record { caller = a; generation = c.generation }) own x n top) 0
+  settled_so z y a k n c d own o x top v w sizes same channel goes =
+      subst (λ (s : Sizes). Goes s a v w (at_members k c.generation own x n top) (settled a (record { caller = a; generation = c.generation }) own x n top) 0) (sym sizes)
+      (subst (λ (e : CallId). Goes z a v w (at_members k e.generation own x n top) (settled a (record { caller = a; generation = e.generation }) own x n top) 0) same
+      (subst (λ (q : Option CallId). Goes z a v w (at_members k d.generation q x n top) (settled a (record { caller = a; generation = d.generation }) q x n top) 0) channel goes))
+
   -- what the leader's turns add, by its call
   settled_adds : (t : TableId) (a k : ℕ) (c : CallId) (own : Option CallId) (x : V) (n : ℕ) (top : Option ℕ) (v w : View V) (p : Stage V) → c.caller ≡ a → Goes (sizes_of v) a v w p (settled a (record { caller = a; generation = c.generation }) own x n top) 0
       → (es : List (Event ℕ V)) → settled a c own x n top ≡ es → Adds (flight_of t v a k c own).group a (history_of (sizes_of v) v.known.turns) (history_of (sizes_of w) w.known.turns) es 0

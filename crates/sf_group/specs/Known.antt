@@ -1,5 +1,5 @@
 -- what contracts see of groups, tokens, notes and letters with these seats
-use Rattle.std.specs.Prelude.{◌≡◌, ℕ, ◌≤◌, [], Option, Some}
+use Rattle.std.specs.Prelude.{◌≡◌, ℕ, ◌-◌, ◌≤◌, [], Option, Some}
 use Rattle.atomic_table.specs.Seated.{TableId}
 use Rattle.sf_history.specs.declared.call.CallId.{CallId}
 use Rattle.sf_calls.specs.declared.sizes.Sizes.{Sizes}
@@ -9,6 +9,10 @@ use Rattle.sf_word_steps.specs.View.{sizes_of, history_of}
 
 abbrev pub IsPlaceIn : Sizes → ℕ → Type 0
 IsPlaceIn z k = (1 ≤ k) × (k ≤ z.places)
+
+-- the call of a caller's last asking, which used the generation before this one
+abbrev pub call_before : ℕ → ℕ → CallId
+call_before a next = record { caller = a; generation = next - 1 }
 
 module _ {V : Type 0} where
   -- the seat is a note's: it stands for nobody

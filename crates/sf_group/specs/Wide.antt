@@ -6,9 +6,10 @@ use Rattle.sf_history.specs.declared.call.CallId.{CallId}
 abbrev pub call_in_word : ℕ → CallId
 call_in_word word = record { caller = word % 0x1_0000_0000; generation = word / 0x1_0000_0000 }
 
-abbrev pub if_counted : {A : Type 0} → ℕ → A → Option A
-if_counted zero it = None
-if_counted (suc _) it = Some it
+-- no call has the word 0
+abbrev pub call_if_any : ℕ → Option CallId
+call_if_any zero = None
+call_if_any (suc rest) = Some (call_in_word (suc rest))
 
 -- the number of which this is the next
 abbrev pub below : ℕ → Option ℕ

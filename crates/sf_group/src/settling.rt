@@ -50,12 +50,13 @@ impl<V: Fit> Group<V> {
             number: leader.seated.number as u32,
             place: leader.place as u32,
         };
+        let call = leader.call();
         let channel = leader.own.get();
         let tally = settle_and_count(
             &self.table.shared,
             &mut leader.seated.seat,
             actor,
-            leader.call.generation,
+            call.generation,
             channel,
             &value,
         );
@@ -71,7 +72,6 @@ impl<V: Fit> Group<V> {
         let Leader {
             mut seated,
             place,
-            call,
             own: _,
         } = leader;
         let letter = self.letter(&mut seated.seat, place, call, value, joiners);
@@ -116,10 +116,11 @@ impl<V: Fit> Group<V> {
             number: leader.seated.number as u32,
             place: leader.place as u32,
         };
+        let call = leader.call();
         let channel = leader.own.get();
         let list = top.get();
         let delivery = Delivery {
-            generation: leader.call.generation,
+            generation: call.generation,
             own: channel,
             joiners: joiners as u32,
         };
@@ -139,7 +140,6 @@ impl<V: Fit> Group<V> {
         let Leader {
             mut seated,
             place,
-            call,
             own: _,
         } = leader;
         let letter = self.letter(&mut seated.seat, place, call, value, joiners);

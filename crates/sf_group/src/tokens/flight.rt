@@ -1,5 +1,5 @@
 //! Flights: callers that lead a call.
-ghost use Rattle.std.specs.Prelude.{◌≡◌, ◌+◌, ◌≤◌, []};
+ghost use Rattle.std.specs.Prelude.{◌≡◌, ◌+◌, ◌≤◌, [], IfSome};
 ghost use Rattle.sf_schedules.specs.declared.operation.Stage.TheVariants.{Leading};
 ghost use Rattle.sf_calls.specs.Afters.{FollowsCall};
 ghost use Rattle.sf_word_steps.specs.View.{sizes_of};
@@ -22,22 +22,24 @@ impl<V> Model for Flight<V> {
     ghost use Rattle.sf_schedules.specs.declared.operation.Stage.TheVariants.{Leading};
     ghost use Rattle.sf_word_steps.specs.View.{sizes_of};
     ghost use Rattle.sf_word_steps.specs.Stands.{Sits, next_in};
-    ghost use Rattle.sf_group.specs.Known.{flight_of, IsPlaceIn};
+    ghost use Rattle.sf_group.specs.Known.{call_before, flight_of, IsPlaceIn};
     ghost use Rattle.sf_calls.specs.Tokens.{FlightValue};
     ghost use Rattle.sf_calls.specs.Afters.{FollowsCall};
 
     ghost Value = { FlightValue V };
 
     ghost view = { λ f. let l = f.leader in let s = l.seated in
-        flight_of s.seat.table_id s.seat.me.0 s.number l.place l.call l.own };
+        let call = call_before s.number s.next in
+        flight_of s.seat.table_id s.seat.me.0 s.number l.place call l.own };
 
     ghost invariant = { λ f. let l = f.leader in let s = l.seated in let v = s.seat.me.0 in
-        Sits (sizes_of v) s.number v (Leading l.place l.call.generation l.own)
-        × (l.call.caller ≡ s.number) × (s.next ≡ next_in (sizes_of v) v s.number)
-        × (s.seat.me.1 ≡ [])
-        × IsPlaceIn (sizes_of v) l.place × (1 ≤ l.call.generation)
-        × FollowsCall (flight_of s.seat.table_id v s.number l.place l.call l.own) f.after
-        × (s.number ≤ 4294967295) × (l.place ≤ 4294967295) };
+        let call = call_before s.number s.next in
+        Sits (sizes_of v) s.number v (Leading l.place call.generation l.own)
+        × (s.next ≡ next_in (sizes_of v) v s.number) × (s.seat.me.1 ≡ [])
+        × IsPlaceIn (sizes_of v) l.place
+        × FollowsCall (flight_of s.seat.table_id v s.number l.place call l.own) f.after
+        × (s.number ≤ 4294967295) × (l.place ≤ 4294967295)
+        × (2 ≤ s.next) × (s.next ≤ 4294967296) };
 }
 
 impl<V> Flight<V> {
@@ -51,22 +53,23 @@ impl<V> Flight<V> {
     ) -> Flight<V>
         requires sits { let v = seated.seat.me.0 in
             Sits (sizes_of v) seated.number v (Leading place call.generation own) }
-        requires call { (call.caller ≡ seated.number) × (1 ≤ call.generation) }
+        requires call { (call.caller ≡ seated.number) × (call.generation ≡ seated.next)
+            × (1 ≤ call.generation) }
         requires next { let v = seated.seat.me.0 in
             (seated.next ≤ 4294967295) × (seated.next + 1 ≡ next_in (sizes_of v) v seated.number) }
         requires alone { seated.seat.me.1 ≡ [] }
         requires place { IsPlaceIn (sizes_of seated.seat.me.0) place }
+        requires own { IfSome own (λ member. 1 ≤ member.caller) }
         requires after { let s = seated in
             FollowsCall (flight_of s.seat.table_id s.seat.me.0 s.number place call own) after }
         requires number { seated.number ≤ 4294967295 }
         ensures { let s = seated in
             result ≡ flight_of s.seat.table_id s.seat.me.0 s.number place call own }
     {
-        seated.next += 1;
+        seated.next = call.generation as u64 + 1;
         let leader = Leader {
             seated,
             place: place as u64,
-            call,
             own: MaybeCall::of(own),
         };
         Flight {
@@ -79,7 +82,7 @@ impl<V> Flight<V> {
     pub fn call(&self) -> CallId
         ensures { result ≡ self.now.call }
     {
-        self.leader.call
+        self.leader.call()
     }
 
     /// The number of its place.

@@ -23,23 +23,25 @@ impl<V: Fit> Model for Settled<V> {
     ghost use Rattle.sf_schedules.specs.Turns.{at_members};
     ghost use Rattle.sf_word_steps.specs.View.{sizes_of, history_of};
     ghost use Rattle.sf_word_steps.specs.Stands.{Sits, next_in};
-    ghost use Rattle.sf_group.specs.Known.{settled_of, IsPlaceIn};
+    ghost use Rattle.sf_group.specs.Known.{call_before, settled_of, IsPlaceIn};
     ghost use Rattle.sf_calls.specs.Tokens.{SettledValue};
 
     ghost Value = { SettledValue V };
 
     ghost view = { λ s. let l = s.leader in let a = l.seated in
-        settled_of a.seat.table_id a.seat.me.0 a.number l.place l.call s.value s.joiners };
+        let call = call_before a.number a.next in
+        settled_of a.seat.table_id a.seat.me.0 a.number l.place call s.value s.joiners };
 
     ghost invariant = { λ s. let l = s.leader in let a = l.seated in let v = a.seat.me.0 in
         let seen = history_of (sizes_of v) v.known.turns in
+        let call = call_before a.number a.next in
         Sits (sizes_of v) a.number v
-        (at_members l.place l.call.generation l.own s.value s.joiners s.top)
-        × (l.call.caller ≡ a.number) × (a.next ≡ next_in (sizes_of v) v a.number)
-        × (a.seat.me.1 ≡ []) × IsOwed s.top l.own × V.fits l.place l.call s.value seen
-        × Stands (event.Settle l.call.caller l.call s.value s.joiners) seen
+        (at_members l.place call.generation l.own s.value s.joiners s.top)
+        × (a.next ≡ next_in (sizes_of v) v a.number)
+        × (a.seat.me.1 ≡ []) × IsOwed s.top l.own × V.fits l.place call s.value seen
+        × Stands (event.Settle call.caller call s.value s.joiners) seen
         × IsPlaceIn (sizes_of v) l.place × (a.number ≤ 4294967295) × (l.place ≤ 4294967295)
-        × (s.joiners ≤ 4294967295) };
+        × (s.joiners ≤ 4294967295) × (2 ≤ a.next) × (a.next ≤ 4294967296) };
 }
 
 impl<V: Fit> Settled<V> {

@@ -1,7 +1,7 @@
 //! What tokens keep, each in whole words of eight bytes: also a number of four stands in a `u64` there. Tokens are moved a word at a
 //! time: a gap between two fields, or a tag of one byte, would be moved by bytes, and who reads it back as a word waits until they
 //! are all written.
-ghost use Rattle.std.specs.Prelude.{◌≡◌};
+ghost use Rattle.std.specs.Prelude.{◌≡◌, ◌≤◌, IfSome};
 
 use sf_history::CallId;
 use std::marker::Model;
@@ -9,76 +9,32 @@ use std::marker::Model;
 /// From a caller's number to the generation beside it.
 const SHIFT: u64 = 0x1_0000_0000;
 
-/// A call.
-#[derive(Drop)]
-pub(crate) struct WideCall {
-    word: u64,
-}
-
-impl Model for WideCall {
-    ghost use Rattle.sf_history.specs.declared.call.CallId.{CallId};
-    ghost use Rattle.sf_group.specs.Wide.{call_in_word};
-
-    ghost Value = { CallId };
-
-    ghost view = { λ c. call_in_word c.word };
-}
-
-impl WideCall {
-    pub(crate) fn of(call: CallId) -> WideCall
-        ensures { result ≡ call }
-    {
-        WideCall {
-            word: call.generation as u64 * SHIFT + call.caller as u64,
-        }
-    }
-
-    pub(crate) fn get(&self) -> CallId
-        ensures { result ≡ self.now }
-    {
-        CallId {
-            caller: (self.word % SHIFT) as u32,
-            generation: (self.word / SHIFT) as u32,
-        }
-    }
-}
-
-/// A call, or none.
+/// A call whose caller has a number from 1, or none.
 #[derive(Drop)]
 pub(crate) struct MaybeCall {
-    // 1 where there is one, and else 0.
-    count: u64,
-    call: WideCall,
+    // 0 where there is none.
+    word: u64,
 }
 
 impl Model for MaybeCall {
     ghost use Rattle.std.specs.Prelude.{Option};
     ghost use Rattle.sf_history.specs.declared.call.CallId.{CallId};
-    ghost use Rattle.sf_group.specs.Wide.{if_counted};
+    ghost use Rattle.sf_group.specs.Wide.{call_if_any};
 
     ghost Value = { Option CallId };
 
-    ghost view = { λ m. if_counted m.count m.call };
+    ghost view = { λ m. call_if_any m.word };
 }
 
 impl MaybeCall {
-    pub(crate) fn none() -> MaybeCall
-        ensures { result ≡ None }
-    {
-        MaybeCall {
-            count: 0,
-            call: WideCall { word: 0 },
-        }
-    }
-
     pub(crate) fn of(call: Option<CallId>) -> MaybeCall
+        requires { IfSome call (λ c. 1 ≤ c.caller) }
         ensures { result ≡ call }
     {
         match call {
-            None => MaybeCall::none(),
+            None => MaybeCall { word: 0 },
             Some(call) => MaybeCall {
-                count: 1,
-                call: WideCall::of(call),
+                word: call.generation as u64 * SHIFT + call.caller as u64,
             },
         }
     }
@@ -86,10 +42,13 @@ impl MaybeCall {
     pub(crate) fn get(&self) -> Option<CallId>
         ensures { result ≡ self.now }
     {
-        if self.count == 0 {
+        if self.word == 0 {
             None
         } else {
-            Some(self.call.get())
+            Some(CallId {
+                caller: (self.word % SHIFT) as u32,
+                generation: (self.word / SHIFT) as u32,
+            })
         }
     }
 }

@@ -1,6 +1,4 @@
-use Rattle.std.proofs.Common.{◌≡◌, ◌≤◌, ◌<◌, ◌∙◌, [], ◌∷◌, Option, None, refl, sym, ap, subst, arith, rules, ◌+◌}
-use Rattle.sf_history.specs.declared.call.CallId.{CallId}
-use Rattle.sf_calls.specs.Afters.{FollowsCall}
+use Rattle.std.proofs.Common.{◌≡◌, ◌≤◌, ◌<◌, ◌∙◌, [], ◌∷◌, None, refl, sym, ap, subst, arith, ◌+◌}
 use Rattle.sf_history.specs.declared.event.Event.TheVariants as event
 use Rattle.sf_schedules.specs.declared.operation.Stage.TheVariants as stage
 use Rattle.sf_calls.specs.declared.sizes.Sizes.{Sizes}
@@ -8,13 +6,13 @@ use Rattle.sf_calls.specs.declared.outcomes.Begun.TheVariants as begun
 use Rattle.sf_calls.specs.declared.outcomes.NotBegun.TheVariants as not_begun
 use Rattle.sf_word_steps.specs.View.{sizes_of}
 use Rattle.sf_calls.specs.Tokens.{GroupValue, CallerValue, FlightValue, TicketValue}
-use Rattle.sf_word_steps.specs.Stands.{Sits, next_in, Goes}
+use Rattle.sf_word_steps.specs.Stands.{next_in, Goes}
 use Rattle.sf_word_steps.specs.Changes.{Tries}
-use Rattle.sf_group.specs.Known.{IsPlaceIn, caller_of, flight_of, ticket_of}
+use Rattle.sf_group.specs.Known.{caller_of, flight_of, ticket_of}
 use Rattle.sf_calls.specs.Begins.{HasBegun, IsRefusedSpent}
 use Rattle.sf_word_steps.specs.Exchanges.{exchanges_of, HasExchanged}
 use Rattle.sf_group.specs.Calls.{HasTriedAtMost, HasNotBegun}
-use Rattle.sf_group.proofs.Rows.{sizes_are, follows_now, first_least, leads_now, lead_row, join_row, few_row, busy_row, spent_row}
+use Rattle.sf_group.proofs.Rows.{sizes_are, follows_now, first_least, lead_row, join_row, few_row, busy_row, spent_row}
 use Rattle.sf_group.proofs.group.Group.begin.Goals as goal
 
 pub returns-in_default-clause-refused : goal.returns-in_default-clause-refused
@@ -86,7 +84,7 @@ of-requires-clause-call g c =
     let least : 1 ≤ (sizes_of v).first = subst (λ (z : Sizes). 1 ≤ z.first) (sym same) c.self.invariant.3 in
     let first = first_least (sizes_of v) a v stage.Free c.caller.invariant.0 least in
     let given : c.in-Ok.generation ≡ next_in (sizes_of v) v a = c.in-Ok.ensures.1 ∙ c.caller.invariant.1 in
-    (refl, omega (arith, first, given))
+    (refl, c.in-Ok.ensures.1, omega (arith, first, given))
 
 pub of-requires-clause-after : goal.of-requires-clause-after
 of-requires-clause-after g c =

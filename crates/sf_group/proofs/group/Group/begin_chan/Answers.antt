@@ -1,6 +1,4 @@
-use Rattle.std.proofs.Common.{◌≡◌, ◌≤◌, ◌∙◌, [], ◌∷◌, Option, Some, refl, sym, ap, subst, arith, rules, ◌+◌}
-use Rattle.sf_history.specs.declared.call.CallId.{CallId}
-use Rattle.sf_calls.specs.Afters.{FollowsCall}
+use Rattle.std.proofs.Common.{◌≡◌, ◌≤◌, ◌∙◌, [], ◌∷◌, Some, refl, sym, ap, subst, arith, ◌+◌}
 use Rattle.sf_history.specs.declared.event.Event.TheVariants as event
 use Rattle.sf_schedules.specs.declared.operation.Stage.TheVariants as stage
 use Rattle.sf_schedules.specs.Schedules.{IsPlace}
@@ -11,16 +9,16 @@ use Rattle.sf_calls.specs.Tokens.{GroupValue, CallerValue, FlightValue, TicketVa
 use Rattle.sf_calls.specs.Begins.{HasChanBegun, AreRefusedSpent}
 use Rattle.sf_word_steps.specs.declared.asking.AskAttempt.{AskAttempt}
 use Rattle.sf_word_steps.specs.View.{setting_of, sizes_of}
-use Rattle.sf_word_steps.specs.Stands.{Sits, next_in, Goes}
+use Rattle.sf_word_steps.specs.Stands.{next_in, Goes}
 use Rattle.sf_word_chans.specs.declared.askers.Askers.{Askers}
 use Rattle.sf_word_chans.specs.Changes.{HaveChanged}
 use Rattle.sf_word_chans.specs.Together.{HasAsked}
-use Rattle.sf_group.specs.Known.{IsPlaceIn, caller_of, flight_of, ticket_of}
+use Rattle.sf_group.specs.Known.{caller_of, flight_of, ticket_of}
 use Rattle.sf_word_steps.specs.Exchanges.{exchanges_of, HasExchanged}
 use Rattle.sf_word_chans.specs.Exchanges.{HaveAskedSo}
 use Rattle.sf_group.specs.Calls.{HasTriedAtMost, HasNotBegunChan}
 use Rattle.sf_group.proofs.Rows.{sizes_are, first_least, follows_now, few_row}
-use Rattle.sf_group.proofs.ChanRows.{stands_now, led_chan_row, joined_chan_row, busy_chan_row, spent_chan_row}
+use Rattle.sf_group.proofs.ChanRows.{led_chan_row, joined_chan_row, busy_chan_row, spent_chan_row}
 use Rattle.sf_group.proofs.group.Group.begin_chan.Goals as goal
 
 pub returns-in_default-clause-refused : goal.returns-in_default-clause-refused
@@ -62,7 +60,10 @@ of-requires-clause-call g c =
     let low = first_least (sizes_of v) one.number v stage.Free c.caller.invariant.0 (subst (λ (s : Sizes). 1 ≤ s.first) (sym same) c.self.invariant.3) in
     let is = c.in-Some.ensures.given.0 in
     let next = c.caller.invariant.1 in
-    (refl, omega (arith, low, is, next))
+    (refl, is, omega (arith, low, is, next))
+
+pub of-requires-clause-own : goal.of-requires-clause-own
+of-requires-clause-own g c = c.second.invariant.0.caller.0
 
 pub of-requires-clause-after : goal.of-requires-clause-after
 of-requires-clause-after g c =

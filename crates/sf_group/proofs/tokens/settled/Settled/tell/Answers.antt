@@ -6,7 +6,7 @@ use Rattle.sf_calls.specs.Tokens.{GroupValue, SettledValue}
 use Rattle.sf_word_steps.specs.declared.view.View.{View}
 use Rattle.sf_word_steps.specs.View.{sizes_of, history_of}
 use Rattle.sf_word_steps.proofs.Seats.{tells_split}
-use Rattle.sf_group.specs.Known.{group_of, settled_of}
+use Rattle.sf_group.specs.Known.{call_before, group_of, settled_of}
 use Rattle.sf_group.proofs.tokens.settled.Settled.tell.Goals as goal
 
 pub split_seat-seat-requires : goal.split_seat-seat-requires
@@ -21,9 +21,10 @@ returns-clause-same g c =
     let s = c.self.inside in
     let led = s.leader in
     let who = led.seated in
+    let call = call_before who.number who.next in
     let done = c.split_seat-seat.ensures in
-    ap (λ (x : TableId). settled_of x c.split_seat-seat.new.seat.me.0 who.number led.place led.call s.value s.joiners) done.0
-    ∙ (ap (λ (m : Me (Option (Letter _)) (View _)). settled_of who.seat.table_id m.0 who.number led.place led.call s.value s.joiners) done.2 ∙ c.self.view_is)
+    ap (λ (x : TableId). settled_of x c.split_seat-seat.new.seat.me.0 who.number led.place call s.value s.joiners) done.0
+    ∙ (ap (λ (m : Me (Option (Letter _)) (View _)). settled_of who.seat.table_id m.0 who.number led.place call s.value s.joiners) done.2 ∙ c.self.view_is)
 
 pub returns-clause-told : goal.returns-clause-told
 returns-clause-told g c =
