@@ -13,7 +13,7 @@ use Rattle.sf_drive.specs.declared.line.DriveLine.{DriveLine}
 use Rattle.sf_drive.specs.declared.report.DriveEnding.{DriveEnding}
 use Rattle.sf_drive.specs.declared.report.DriveEnding.TheVariants.{OutOfMemory}
 use Rattle.sf_drive.specs.declared.report.Report.{Report}
-use Rattle.sf_drive.specs.Found.{DriveEvent, IsFound, said_text}
+use Rattle.sf_drive.specs.Found.{DriveEvent, IsFound, IsSaid, said_text}
 use Rattle.sf_drive.specs.Reports.{ending_of, status_of}
 use Rattle.sf_cli.specs.declared.usage.Subcommand.{Subcommand}
 use Rattle.sf_cli.specs.declared.usage.Subcommand.TheVariants.{Engine, Drive}
@@ -28,13 +28,15 @@ HasEnded e remaining old new ended =
     × (IfErr ended (λ fault. fault ≡ CannotRead → new ≡ old)
     × IfErr ended (λ fault. fault ≡ CannotWrite → IfSome remaining (λ input. (text : List ℕ) × IsAnswerOf e input text × AppendsPart old new text)))
 
--- the same of a drive: what it found, or the one line of its want of memory
+-- the same of a drive: what it found, the one line of its want of memory, or a beginning of such a text
 abbrev pub HasDriven : DriveLine → Option (List ℕ) → Option (List ℕ) → Result DriveEnding StreamFault → Type 0
 HasDriven line old new driven =
     IfOk driven (λ ending. ending ≢ OutOfMemory → (report : Report) × (history : List DriveEvent)
     × IsFound line report history × (ending ≡ ending_of report)
     × Appends old new (said_text line.history report history))
     × IfOk driven (λ ending. ending ≡ OutOfMemory → Appends old new (codes "out of memory\n"))
+    × IfErr driven (λ fault. fault ≡ CannotWrite)
+    × ((text : List ℕ) × IsSaid line text × AppendsPart old new text)
 
 -- the exit status of a drive: that of its end, and 2 where a stream failed
 abbrev pub drive_exit_status_of : Result DriveEnding StreamFault → ℕ

@@ -1,14 +1,16 @@
 //! What the command line asks for.
 
-ghost use Rattle.std.specs.Prelude.{◌≡◌, ◌≢◌, IfSome, IfNone, map, string_bytes};
+ghost use Rattle.std.specs.Prelude.{◌≡◌, ◌≢◌, [], IfSome, IfNone, IfOk, IfErr, map, string_bytes};
+ghost use Rattle.clap.specs.Words.{fault_of, kind_of};
 ghost use Rattle.sf_engines.specs.Engines.{name_of, shown_by};
 ghost use Rattle.sf_engines.specs.declared.engine.Engine as engines;
 ghost use Rattle.sf_cli.specs.Work.{options_of};
-ghost use Rattle.sf_cli.specs.Usage.{IsAskedBy};
+ghost use Rattle.sf_drive.specs.Words.{IsAskedLine, drive_app};
+ghost use Rattle.sf_cli.specs.Usage.{IsAskedBy, IsRefusedBy, IsUsageOf, IsWantOfMemory};
 
 use crate::table::{Work, named, program, shown};
 use clap::Error;
-use sf_drive::{DriveLine, NoDrive, drive_line};
+use sf_drive::{DriveLine, drive_line};
 use sf_engines::Engine;
 use std::alloc::{AllocError, Global};
 use std::fmt;
@@ -27,8 +29,6 @@ pub enum Subcommand {
 pub enum Mistake {
     /// What clap says.
     Said(Error),
-    /// What is said of the words of a drive.
-    NoDrive(NoDrive),
     /// They ask for the program that measures, which `./sfctl` runs.
     Elsewhere,
     /// clap takes them, and no subcommand does.
@@ -41,7 +41,6 @@ impl fmt::Display for Mistake {
     fn fmt<W: fmt::Write>(&self, f: &mut fmt::Formatter<W>) -> fmt::Result {
         match self {
             Mistake::Said(error) => error.fmt(f),
-            Mistake::NoDrive(error) => error.fmt(f),
             Mistake::Elsewhere => {
                 f.write_str(
                     "error: `bench` is a program of its own, sf_bench, which ./sfctl runs\n",
@@ -64,7 +63,9 @@ pub enum Usage {
 
 impl Usage {
     /// What clap answers in place of matches.
-    fn said(alloc: Global, error: Error) -> Usage {
+    fn said(alloc: Global, error: Error) -> Usage
+        ensures { IsUsageOf (kind_of error) result }
+    {
         if error.use_stderr() {
             return Usage::Mistake(Mistake::Said(error));
         }
@@ -76,6 +77,8 @@ impl Usage {
 }
 
 impl From<AllocError> for Usage {
+    ghost from_gives = { λ _ usage. IsWantOfMemory usage };
+
     fn from(error: AllocError) -> Usage {
         Usage::Mistake(Mistake::Said(Error::from(error)))
     }
@@ -93,11 +96,15 @@ fn refused(alloc: Global, words: &[String], otherwise: Mistake) -> Usage {
 }
 
 /// How much the words, the name of `drive` first, ask for.
-fn line(alloc: Global, words: &[String]) -> Result<DriveLine, Usage> {
+fn line(alloc: Global, words: &[String]) -> Result<DriveLine, Usage>
+    ensures asked { IfOk result (IsAskedLine (map string_bytes words.now)) }
+    ensures faultless { IfOk result (λ _. fault_of drive_app (map string_bytes words.now) ≡ []) }
+    ensures refused { IfErr result
+        (IsRefusedBy (fault_of drive_app (map string_bytes words.now))) }
+{
     match drive_line(alloc, words) {
         Ok(line) => Ok(line),
-        Err(NoDrive::Said(error)) => Err(Usage::said(alloc, error)),
-        Err(error) => Err(Usage::Mistake(Mistake::NoDrive(error))),
+        Err(error) => Err(Usage::said(alloc, error)),
     }
 }
 
@@ -128,7 +135,7 @@ pub fn parse(alloc: Global, words: &[String]) -> Result<Subcommand, Usage>
             None => Err(refused(alloc, words, Mistake::NotTaken)),
         },
         Some(Work::Drive) => {
-            let line = line(alloc, words.get(1..).unwrap_or_default())?;
+            let line = line(alloc, &words[1..])?;
             Ok(Subcommand::Drive(line))
         }
         Some(Work::Bench) => Err(refused(alloc, words, Mistake::Elsewhere)),

@@ -1,3 +1,4 @@
 pub mod Erased
 pub mod Numbered
+pub mod Options
 pub mod Turning

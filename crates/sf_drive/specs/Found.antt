@@ -1,5 +1,5 @@
 -- what a drive found, and what it says of it
-use Rattle.std.specs.Prelude.{◌≡◌, ℕ, ◌*◌, Bool, true, false, List, [], ◌++◌, length, map, All, IsPermutation, Ok, codes, nat_eq}
+use Rattle.std.specs.Prelude.{◌≡◌, ◌⊎◌, ℕ, ◌*◌, Bool, true, false, List, [], ◌++◌, length, map, All, IsPermutation, Ok, codes, nat_eq}
 use Rattle.std.specs.List.{enumerate_from, flat_map, sum_by}
 use Rattle.sf_history.specs.declared.event.Event.{Event}
 use Rattle.sf_history.specs.declared.event.Event.TheVariants.{Lead, Enter, Forget, ForgetCall, Settle, Handed}
@@ -51,3 +51,8 @@ drive_records history = history_text (map empty_settled (with_text_keys history)
 abbrev pub said_text : Bool → Report → List DriveEvent → List ℕ
 said_text false report history = report_text report ++ codes "\n"
 said_text true report history = drive_records history
+
+-- what a drive may write: what it found, or the one line of its want of memory
+abbrev pub IsSaid : DriveLine → List ℕ → Type 0
+IsSaid line text = (text ≡ codes "out of memory\n")
+    ⊎ ((report : Report) × (history : List DriveEvent) × IsFound line report history × (text ≡ said_text line.history report history))

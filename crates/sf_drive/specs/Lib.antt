@@ -2,3 +2,4 @@ pub mod Values
 pub mod Reports
 pub mod Jobs
 pub mod Found
+pub mod Words

@@ -1,11 +1,12 @@
 //! A drive: its fill, its threads, and what comes of them.
-ghost use Rattle.std.specs.Prelude.{◌≡◌, ◌≢◌, ◌*◌, ◌<◌, ◌≤◌, List, IfOk, codes, string_bytes, vec_len};
+ghost use Rattle.std.specs.Prelude.{◌≡◌, ◌≢◌, ◌*◌, ◌<◌, ◌≤◌, ℕ, List, IfOk, IfErr, codes, string_bytes, vec_len};
 ghost use Rattle.std.specs.Io.KnownBytes.{Appends};
 ghost use Rattle.sf_drive.specs.declared.report.DriveEnding.{DriveEnding};
 ghost use Rattle.sf_drive.specs.declared.report.Report.{Report};
-ghost use Rattle.sf_drive.specs.Found.{DriveEvent, IsFound, IsFoundBy, said_text};
+ghost use Rattle.sf_drive.specs.Found.{DriveEvent, IsFound, IsFoundBy, IsSaid, said_text};
 ghost use Rattle.sf_drive.specs.Jobs.{AreEntries, IsJobOf};
 ghost use Rattle.sf_drive.specs.Reports.{ending_of};
+ghost use Rattle.sf_text.specs.StreamText.{AppendsPart};
 ghost use Rattle.sf_words.specs.declared.limits.TheConstants.{LARGEST_PLACE};
 ghost use Rattle.sf_door.specs.Opened.{EachThread, IsNewGetter, places_for, without_loaders};
 ghost use Rattle.sf_drive.specs.Values.{StatesValues};
@@ -231,6 +232,10 @@ pub fn drive<R: Wait + Threads + Clock + Eprint + Sync, W: Write>(
         (said_text line.history report history)) }
     ensures refused { IfOk result (λ ending. ending ≡ DriveEnding.OutOfMemory
         → Appends (W.contents writer.old) (W.contents writer.new) (codes "out of memory\n")) }
+    ensures failed { IfErr result (λ fault. fault ≡ StreamFault.CannotWrite) }
+    // Where that fails, a beginning of such a text is written.
+    ensures part { (text : List ℕ) × IsSaid line text
+        × AppendsPart (W.contents writer.old) (W.contents writer.new) text }
 {
     match answer(rt, alloc, line) {
         Ok((ending, text)) => {

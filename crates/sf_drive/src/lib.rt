@@ -9,11 +9,10 @@ mod line;
 mod loaders;
 mod progress;
 mod report;
+mod words;
 
 pub use driving::drive;
-pub use line::{
-    DRIVE_ABOUT, DRIVE_HELP, DriveLine, MOST_GETS, MOST_KEYS, MOST_THREADS, NoDrive, drive_line,
-    switch, with_drive_options,
-};
+pub use line::{DriveLine, MOST_GETS, MOST_KEYS, MOST_THREADS};
 pub use progress::ProgressLine;
 pub use report::{DriveEnding, Report, status};
+pub use words::{DRIVE_ABOUT, DRIVE_HELP, drive_line, switch, with_drive_options};
