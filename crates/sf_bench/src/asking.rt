@@ -98,9 +98,21 @@ impl<'a> Operation for Lead<'a> {
                 place,
             },
         ) = self;
-        let flight = lead_new(group, caller, place)?;
-        let (caller, letter) = settle(group, flight)?;
-        drop(letter);
+        // Taken apart here: `lead_new` and `settle` would move the flight once more, which this row would count.
+        let caller = match group.begin(caller, place, MOST_TRIES) {
+            Ok(Begun::Lead(flight)) => match group.finish(flight, Number(1)) {
+                Finished::Done(caller, _) => caller,
+                Finished::Held(settled) => {
+                    settled.abandon();
+                    return Err(Fault::Memory);
+                }
+            },
+            Ok(Begun::Join(ticket)) => {
+                ticket.abandon();
+                return Err(Fault::Refused);
+            }
+            Err(not_begun) => return Err(refused(not_begun)),
+        };
         Ok(Lead(Asker {
             group,
             caller,
