@@ -10,7 +10,8 @@ ghost use Rattle.sf_calls.specs.Currents.{HasQuestioned};
 ghost use Rattle.sf_calls.specs.Notes.{HasCopied, HasLent};
 ghost use Rattle.sf_fill.specs.FillValue.{FitsFill};
 ghost use Rattle.sf_fill.specs.Settled.{IsKeptLetter, IsSettled, IsCopyOf, CopiesFollowed, HasLooked, HasLookedOn};
-ghost use Rattle.sf_calls.specs.Same.{IsPlaceOf};
+ghost use Rattle.sf_calls.specs.Same.{HasNothing, IsPlaceOf};
+ghost use Rattle.sf_calls.specs.Seen.{IsLawful};
 ghost use Rattle.sf_fill.specs.Totals.{with_counts, IsOfOneGet};
 
 use crate::counters::{Accounts, GetCounts, Tallies};
@@ -267,7 +268,7 @@ impl<'d, D: Naming, N: Naming, O: Origin> Kept<'d, D, N, O> {
     }
 
     // Takes the letters of the place's call out of both caches; those of a newer call stay.
-    fn remove_call(&mut self, place: u32, call: CallId)
+    pub(crate) fn remove_call(&mut self, place: u32, call: CallId)
         ensures { DropsOfBoth (λ letter. letter.call ≡ call) place self.old self.new }
     {
         self.drop_call(Which::Main, place, call);
@@ -346,32 +347,30 @@ impl<'d, D: Naming, N: Naming, O: Origin> Fill<'d, D, N, O> {
         kept.look_again(&self.group, flight, key, call)
     }
 
-    // Puts a copy of the letter into a cache; where memory for it is refused, nothing is put. The letter's note may show
-    // more then.
+    // Puts a copy of the letter into a cache, if the caller is told that its call is current; where memory for it is refused, nothing
+    // is put. It asks under the lock, so that no letter comes back that a reload took out. The letter's note may show more then.
     pub(crate) fn put_letter<R: Wait>(
         &self,
         rt: &R,
         which: Which,
         key_len: usize,
         value_len: usize,
+        caller: &mut Caller<FillValue<'d, D, O>>,
         letter: &mut Letter<FillValue<'d, D, O>>,
     )
         requires place { IsPlaceOf N.group letter.old.place }
-        requires group { letter.old.group ≡ N.group }
-        requires settled { IsSettled letter.old }
-        ensures { HasLent letter.old letter.new }
+        requires caller { (caller.old.group ≡ N.group) × IsLawful N.group.sizes caller.old.seen }
+        requires letter { (letter.old.group ≡ N.group) × IsSettled letter.old }
+        ensures caller { HasNothing caller.old caller.new }
+        ensures letter { HasLent letter.old letter.new }
     {
         let place = letter.place();
         if let Ok(copy) = self.group.copy(letter) {
             let mut kept = self.kept.lock(rt);
-            let _ = kept.put(which, place, key_len, value_len, copy);
+            if self.group.is_current(caller, letter) {
+                let _ = kept.put(which, place, key_len, value_len, copy);
+            }
         }
-    }
-
-    // Takes the letters of the place's call out of both caches; those of a newer call stay.
-    pub(crate) fn remove_call<R: Wait>(&self, rt: &R, place: u32, call: CallId) {
-        let mut kept = self.kept.lock(rt);
-        kept.remove_call(place, call);
     }
 
     /// Takes what the caches and this getter keep of the key out of them, without a Forget: the getter's next get of it asks the

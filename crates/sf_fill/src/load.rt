@@ -216,8 +216,6 @@ impl<'d, D: Naming, N: Naming, O: Origin> Fill<'d, D, N, O> {
         let Some(value_len) = letter.value().byte_count() else {
             return;
         };
-        if self.group.is_current(caller, letter) {
-            self.put_letter(rt, which, key_len, value_len, letter);
-        }
+        self.put_letter(rt, which, key_len, value_len, caller, letter);
     }
 }

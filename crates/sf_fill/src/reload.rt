@@ -50,7 +50,9 @@ impl Forgot {
 }
 
 impl<'d, D: Naming, N: Naming, O: Origin> Fill<'d, D, N, O> {
-    // Forgets the call that the place names, whose entries then leave both caches.
+    // Forgets the call that the place names, whose entries then leave both caches. The lock is held all the while: who leads a call
+    // that follows the named one has its second look before, so that its own call is named, or after, so that it finds nothing to
+    // take over, and loads.
     fn forget_named<R: Wait>(
         &self,
         rt: &R,
@@ -61,11 +63,12 @@ impl<'d, D: Naming, N: Naming, O: Origin> Fill<'d, D, N, O> {
         requires place { IsPlaceOf N.group place }
         ensures { ForgetsNamed caller.old place result caller.new }
     {
+        let mut kept = self.kept.lock(rt);
         let Some(call) = self.group.named(caller, place) else {
             return Forgot::Idle;
         };
         let hit = forget_call_wait(rt, &self.group, caller, place, call);
-        self.remove_call(rt, place, call);
+        kept.remove_call(place, call);
         Forgot::of(call, hit)
     }
 
