@@ -18,8 +18,7 @@ after_first f (x ∷ xs) = ap (map f) (take_all (length (x ∷ xs) - 1) xs (omeg
 pub returns-in_ok-line-in-Some-Drive : goal.returns-in_ok-line-in-Some-Drive
 returns-in_ok-line-in-Some-Drive c =
     let name : slice_get (map string_bytes c.args.words.now) 1 ≡ Some (codes "drive") = search rules in
-    let own : map string_bytes (slice_range c.args.words.now 1 (length c.args.words.now)) ≡ drop 1 (map string_bytes c.args.words.now) = after_first string_bytes c.args.words.now in
-    (
+    let own : map string_bytes (slice_range c.args.words.now 1 (length c.args.words.now)) ≡ drop 1 (map string_bytes c.args.words.now) = after_first string_bytes c.args.words.now in (
       name,
       subst (λ (w : List (List ℕ)). IsAskedLine w c.in_ok-line-in-Some-Drive.line) own c.in_ok-line-in-Some-Drive.ensures.asked,
       subst (λ (w : List (List ℕ)). fault_of drive_app w ≡ []) own c.in_ok-line-in-Some-Drive.ensures.faultless,
