@@ -24,7 +24,7 @@ struct Case {
 }
 
 // The call of the letter that the second look of a leader of place 1 finds.
-pub(crate) fn found_by<'d, D: Naming, N: Naming, O: Origin, R: Wait>(
+fn found_by<'d, D: Naming, N: Naming, O: Origin, R: Wait>(
     rt: &R,
     fill: &Fill<'d, D, N, O>,
     leader: Caller<FillValue<'d, D, O>>,
@@ -102,9 +102,7 @@ impl<'a, R: Wait> Body for SecondLook<'a, R> {
     }
 }
 
-pub(crate) fn loaders(
-    alloc: Global,
-) -> Result<Loaders<FixedPicker, Script, Script, RoundChance>, Memory> {
+fn loaders(alloc: Global) -> Result<Loaders<FixedPicker, Script, Script, RoundChance>, Memory> {
     Ok(Loaders::new(
         FixedPicker::new(None),
         Script::new(vec![in alloc; Answer::Value(Bytes::from("v"))]?),
