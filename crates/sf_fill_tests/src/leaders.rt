@@ -102,7 +102,10 @@ impl<'a, R: Wait> Body for SecondLook<'a, R> {
     }
 }
 
-fn loaders(alloc: Global) -> Result<Loaders<FixedPicker, Script, Script, RoundChance>, Memory> {
+/// Loaders that answer `v`, with no peer.
+pub(crate) fn loaders(
+    alloc: Global,
+) -> Result<Loaders<FixedPicker, Script, Script, RoundChance>, Memory> {
     Ok(Loaders::new(
         FixedPicker::new(None),
         Script::new(vec![in alloc; Answer::Value(Bytes::from("v"))]?),

@@ -14,6 +14,8 @@ mod leaders;
 #[cfg(test)]
 mod loaders;
 #[cfg(test)]
+mod missed;
+#[cfg(test)]
 mod rows;
 #[cfg(test)]
 mod spots;
