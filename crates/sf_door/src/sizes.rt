@@ -53,12 +53,7 @@ impl FillSizes {
     {
         FillSizes {
             keys,
-            keeps: Sizes {
-                limit,
-                log: 0,
-                near: 0,
-                near_limit: 0,
-            },
+            keeps: Sizes::new(limit, 0),
             first_generation: 1,
         }
     }

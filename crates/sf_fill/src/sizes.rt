@@ -1,5 +1,7 @@
 //! How much a fill and its getters keep.
 
+ghost use Rattle.std.specs.Prelude.{◌≡◌};
+
 /// How much a fill and its getters keep.
 #[derive(Clone, Copy)]
 pub struct Sizes {
@@ -15,7 +17,9 @@ pub struct Sizes {
 
 impl Sizes {
     /// Caches of so many bytes, getters that log so many events, and no letter near.
-    pub fn new(limit: i64, log: usize) -> Sizes {
+    pub fn new(limit: i64, log: usize) -> Sizes
+        ensures { result ≡ record { limit = limit; log = log; near = 0; near_limit = 0 } }
+    {
         Sizes {
             limit,
             log,
