@@ -16,3 +16,4 @@ pub mod Sums
 pub mod Told
 pub mod Purges
 pub mod Given
+pub mod Bytes

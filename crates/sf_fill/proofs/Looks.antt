@@ -54,6 +54,9 @@ current_letter g c d place l m told group at kept asked is = record {
   current = subst (λ (k : ℕ). WasCurrent k l.call c.seen l.seen d.seen) at (asked.right is);
 }
 
+pub current_at : (c d : CallerValue Filled) (p q : ℕ) (l : LetterValue Filled) → p ≡ q → IsCurrentLetter c p l d → IsCurrentLetter c q l d
+current_at c d p q l is current = subst (λ (k : ℕ). IsCurrentLetter c k l d) is current
+
 -- the same question in two steps: the caller learns what the note shows, and asks then
 pub questioned : (c u d : CallerValue Filled) (l m : LetterValue Filled) (told : Bool) → HasLearnt c l.seen u → HasNothing u d → IsStillSaid l.place l.call told u.seen d.seen → HasLent l m → HasQuestioned c l told d m
 questioned c u d l m told learnt nothing said lent = record {

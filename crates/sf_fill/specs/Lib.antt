@@ -17,6 +17,7 @@ pub mod Hits
 pub mod Reloads
 pub mod Counted
 pub mod Fresh
+pub mod Bytes
 pub mod Notes
 pub mod Purges
 pub mod Puts

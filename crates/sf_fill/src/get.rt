@@ -6,6 +6,7 @@ ghost use Rattle.sf_spots.specs.Spots.{IsInSpace, MayBe, place_at, spot_at, spot
 ghost use Rattle.sf_fill.specs.declared.fault.LoadFault.{LoadFault};
 ghost use Rattle.sf_fill.specs.declared.fault.GetRefusal.{GetRefusal};
 ghost use Rattle.sf_fill.specs.Found.{DrawsWithin, Led, HasFoundFrom, HasRunFrom, IfDone, found_by};
+ghost use Rattle.sf_fill.specs.Bytes.{BringsBytes, LooksForBytes};
 ghost use Rattle.sf_fill.specs.Counted.{IsCounted};
 ghost use Rattle.sf_fill.specs.Fresh.{IsFreshGet};
 ghost use Rattle.sf_fill.specs.Gets.{GetsOnce, HasAsked, HasGot, IsLoadedFor, IsOfKey, IsOfPlace, LooksFrom, counts_of, reply_of};
@@ -24,6 +25,7 @@ use crate::log::Log;
 use crate::naming::Naming;
 use crate::value::FillValue;
 use crate::view::{View, show};
+use bytes::Bytes;
 use sf_calls::Fit;
 use sf_group::{Begun, Caller, Event, Finished, Flight, Letter, Memory, Spent};
 use sf_loaders::{LoadPath, Origin};
@@ -48,11 +50,6 @@ const GET_ALONE: GetCounts = GetCounts {
     cache_hits: 0,
     loads: 0,
     run: NO_RUN,
-};
-
-const HIT: GetCounts = GetCounts {
-    cache_hits: 1,
-    ..GET_ALONE
 };
 
 const LOAD: GetCounts = GetCounts {
@@ -269,7 +266,7 @@ impl<'d, D: Naming, N: Naming, O: Origin> Fill<'d, D, N, O> {
             return None;
         };
         let found = getter.near.look(&self.group, at, key, caller)?;
-        self.count(rt, &mut getter.tallies, HIT);
+        self.count_hit(rt, &mut getter.tallies);
         match found {
             Ok(view) => Some(Ok(view)),
             Err(_) => Some(Err(LoadFault::Memory)),
@@ -296,7 +293,7 @@ impl<'d, D: Naming, N: Naming, O: Origin> Fill<'d, D, N, O> {
         };
         let place = at.number().number();
         let found = self.look(rt, &mut getter.tallies, place, key, caller)?;
-        self.count(rt, &mut getter.tallies, HIT);
+        self.count_hit(rt, &mut getter.tallies);
         match found {
             Ok(letter) => {
                 let mut letter = letter;
@@ -325,6 +322,60 @@ impl<'d, D: Naming, N: Naming, O: Origin> Fill<'d, D, N, O> {
         match self.look_near(rt, getter, at, key) {
             Some(answer) => Some(answer),
             None => self.look_far(rt, getter, at, key),
+        }
+    }
+
+    // The bytes of a letter that the getter keeps near, if there is one, and counts a hit then.
+    #[inline(always)]
+    fn look_near_for_bytes<R: Wait, L>(
+        &self,
+        rt: &R,
+        getter: &mut Getter<'d, D, N, O, L>,
+        at: &mut KeyPlace<'d>,
+        key: &[u8],
+    ) -> Option<Result<Bytes, LoadFault>>
+        requires room { getter.old.counted.gets < 2 ^ 64 - 1 }
+        requires space { IsInSpace D.space (spot_at key.now at.old) }
+        requires keyed { spot_key (spot_at key.now at.old) ≡ key.now }
+        requires place { IsPlaceOf N.group (place_at at.old) }
+        ensures found { IfSome result (λ bytes.
+            LooksForBytes O.loaded key.now at.old at.new getter.old getter.new (Some bytes)) }
+        ensures none { result ≡ None
+            → LooksAtHand O.loaded key.now at.old at.new getter.old getter.new None }
+    {
+        let Standing::Free(caller) = &mut getter.standing else {
+            return None;
+        };
+        let found = getter.near.look_for_bytes(&self.group, at, key, caller)?;
+        self.count_hit(rt, &mut getter.tallies);
+        match found {
+            Ok(bytes) => Some(Ok(bytes)),
+            Err(_) => Some(Err(LoadFault::Memory)),
+        }
+    }
+
+    // The bytes of a letter at hand, if there is one, and counts a hit then.
+    #[inline(always)]
+    fn look_for_bytes<R: Wait, L>(
+        &self,
+        rt: &R,
+        getter: &mut Getter<'d, D, N, O, L>,
+        at: &mut KeyPlace<'d>,
+        key: &[u8],
+    ) -> Option<Result<Bytes, LoadFault>>
+        requires room { getter.old.counted.gets < 2 ^ 64 - 1 }
+        requires space { IsInSpace D.space (spot_at key.now at.old) }
+        requires keyed { spot_key (spot_at key.now at.old) ≡ key.now }
+        requires place { IsPlaceOf N.group (place_at at.old) }
+        ensures { LooksForBytes O.loaded key.now at.old at.new getter.old getter.new result }
+    {
+        match self.look_near_for_bytes(rt, getter, at, key) {
+            Some(bytes) => Some(bytes),
+            None => match self.look_far(rt, getter, at, key) {
+                Some(Ok(view)) => Some(Ok(view.into_bytes())),
+                Some(Err(fault)) => Some(Err(fault)),
+                None => None,
+            },
         }
     }
 
@@ -391,6 +442,32 @@ impl<'d, D: Naming, N: Naming, O: Origin> Fill<'d, D, N, O> {
             return None;
         };
         self.look_once(rt, getter, &mut at, key)
+    }
+
+    /// The bytes alone of what `get_if_present` answers: nothing else of a view is copied, so it is the quickest hit. `None` where that
+    /// answers nothing.
+    pub fn get_bytes_if_present<R: Wait, L>(
+        &self,
+        rt: &R,
+        getter: &mut Getter<'d, D, N, O, L>,
+        key: &[u8],
+    ) -> Option<Result<Bytes, LoadFault>>
+        ensures bytes { IfSome result
+            (BringsBytes N.space O.loaded key.now getter.old getter.new) }
+        ensures absent { result ≡ None → (getter.new ≡ getter.old)
+            ⊎ IsAbsent N.space getter.old getter.new }
+        ensures owing { is_owing getter.old.standing ≡ true → (result ≡ None)
+            × (getter.new ≡ getter.old) }
+        ensures full { getter.old.counted.gets ≡ 2 ^ 64 - 1 → (result ≡ None)
+            × (getter.new ≡ getter.old) }
+    {
+        if getter.is_full() || getter.owes() {
+            return None;
+        }
+        let Ok(mut at) = self.space.find(&mut getter.desk, key) else {
+            return None;
+        };
+        self.look_for_bytes(rt, getter, &mut at, key)
     }
 
     /// Gets the key's value: from a cache, or by leading the key's call, or from the call that another leads. What the getter

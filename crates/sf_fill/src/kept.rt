@@ -9,6 +9,7 @@ ghost use Rattle.sf_fill.specs.Gets.{refusal_of};
 ghost use Rattle.sf_calls.specs.Currents.{HasQuestioned};
 ghost use Rattle.sf_calls.specs.Notes.{HasCopied, HasLent};
 ghost use Rattle.sf_fill.specs.FillValue.{FitsFill};
+ghost use Rattle.sf_fill.specs.Found.{hit_counts};
 ghost use Rattle.sf_fill.specs.Settled.{IsKeptLetter, IsSettled, IsCopyOf, CopiesFollowed, HasLooked, HasLookedOn};
 ghost use Rattle.sf_calls.specs.Same.{HasNothing, IsPlaceOf};
 ghost use Rattle.sf_calls.specs.Seen.{IsLawful};
@@ -411,6 +412,23 @@ impl<'d, D: Naming, N: Naming, O: Origin> Fill<'d, D, N, O> {
         ensures { tallies.new ≡ with_counts tallies.old counts }
     {
         tallies.count(counts);
+        self.enter_if_due(rt, tallies);
+    }
+
+    // The same of a get that a letter at hand answered.
+    #[inline(always)]
+    pub(crate) fn count_hit<R: Wait>(&self, rt: &R, tallies: &mut Tallies<N>)
+        requires { tallies.old.gets < 2 ^ 64 - 1 }
+        ensures { tallies.new ≡ with_counts tallies.old hit_counts }
+    {
+        tallies.count_hit();
+        self.enter_if_due(rt, tallies);
+    }
+
+    // Enters what 64 gets counted that were not entered yet.
+    fn enter_if_due<R: Wait>(&self, rt: &R, tallies: &mut Tallies<N>)
+        ensures { tallies.new ≡ tallies.old }
+    {
         if tallies.pending() >= MOST_PENDING {
             self.enter(rt, tallies);
         }

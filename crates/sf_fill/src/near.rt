@@ -1,15 +1,17 @@
 //! Letters that a getter keeps near: it looks at them before it takes the lock.
-ghost use Rattle.std.specs.Prelude.{◌≡◌, ◌↔◌, ◌≤◌, ◌<◌, IfOk, IfSome, IsTrue, Ok};
+ghost use Rattle.std.specs.Prelude.{◌≡◌, ◌↔◌, ◌≤◌, ◌<◌, IfOk, IfSome, IsTrue, None, Ok, Some, true};
 ghost use Rattle.sf_spots.specs.Spots.{IsInSpace, MayBe, place_at, spot_at, spot_key};
 ghost use Rattle.sf_calls.specs.Currents.{HasQuestioned};
 ghost use Rattle.sf_calls.specs.Notes.{HasLent};
 ghost use Rattle.sf_calls.specs.Same.{IsPlaceOf};
 ghost use Rattle.sf_fill.specs.Gets.{IsLoadedFor, answer_in};
-ghost use Rattle.sf_fill.specs.Settled.{IsKeptLetter, IsSettled, HasLooked};
+ghost use Rattle.sf_fill.specs.Bytes.{FindsBytes};
+ghost use Rattle.sf_fill.specs.Settled.{HasLooked, HasOnlyLooked, IsCurrentLetter, IsKeptLetter, IsSettled};
 
 use crate::naming::Naming;
 use crate::value::FillValue;
 use crate::view::View;
+use bytes::Bytes;
 use sf_group::{Caller, Group, Letter, Memory};
 use sf_history::CallId;
 use sf_loaders::Origin;
@@ -110,6 +112,22 @@ impl<'d, D: Naming, N: Naming, O: Origin> NearView<'d, D, N, O> {
         self.own.agree(at, key);
         self.own.again(group)
     }
+
+    // Its bytes, for the key of the place, which it may be of.
+    #[inline(always)]
+    fn bytes(&mut self, at: &mut KeyPlace<'d>, key: &[u8]) -> Result<Bytes, Memory>
+        requires space { IsInSpace D.space (spot_at key.now at.old) }
+        requires number { place_at at.old ≡ self.old.place }
+        requires may_be { MayBe self.old.value.spot key.now }
+        ensures bytes { IfOk result (λ bytes. self.old.value.result ≡ Ok bytes) }
+        ensures answer { answer_in self.old ≡ Ok self.old }
+        ensures keyed { spot_key self.old.value.spot ≡ spot_key (spot_at key.now at.old) }
+        ensures loaded { IsLoadedFor O.loaded (spot_key (spot_at key.now at.old)) self.old }
+        ensures same { (self.new ≡ self.old) × (at.new ≡ at.old) }
+    {
+        self.own.agree(at, key);
+        self.own.bytes().clone()
+    }
 }
 
 /// A slot's view.
@@ -122,12 +140,44 @@ struct NearLetter<'d, D: Naming, N: Naming, O: Origin> {
     hits: u32,
 }
 
+impl<'d, D: Naming, N: Naming, O: Origin> NearLetter<'d, D, N, O> {
+    // Whether its call is current, which is then an answer; nothing where it is not asked: where it is not of the key at the place, and
+    // each 64th time, so that the getter looks in the caches.
+    #[inline(always)]
+    fn is_current(
+        &mut self,
+        group: &Group<FillValue<'d, D, O>>,
+        place: u32,
+        key: &[u8],
+        caller: &mut Caller<FillValue<'d, D, O>>,
+    ) -> Option<bool>
+        requires group { group.now ≡ N.group }
+        requires caller { caller.old.group ≡ N.group }
+        requires place { IsPlaceOf N.group place }
+        ensures looked { HasOnlyLooked caller.old caller.new }
+        ensures current { result ≡ Some true
+            → IsCurrentLetter caller.old place self.old.near caller.new }
+        ensures lent { result ≡ Some true → HasLent self.old.near self.new.near }
+        ensures of_key { result ≡ Some true → (self.new.near.place ≡ place)
+            × MayBe self.new.near.value.spot key.now }
+    {
+        if self.near.place() != place || !self.near.is_of(key) || self.hits >= HITS_ALONE {
+            return None;
+        }
+        let current = self.near.is_current(group, caller);
+        if current {
+            self.hits += 1;
+        }
+        Some(current)
+    }
+}
+
 /// A getter's own letters: each lies in the slot that the rest of its place names, or in that one's neighbour. There are no slots
 /// before the first is kept.
 #[derive(Drop)]
 pub(crate) struct Near<'d, D: Naming, N: Naming, O: Origin> {
     slots: Vec<Option<NearLetter<'d, D, N, O>>>,
-    /// How many slots there are to be.
+    /// How many slots there are to be: none, or a power of two.
     most: usize,
     /// How many bytes they are to have at most.
     limit: usize,
@@ -136,6 +186,15 @@ pub(crate) struct Near<'d, D: Naming, N: Naming, O: Origin> {
     /// The slot that is emptied next where there is no room.
     hand: usize,
     alloc: Global,
+}
+
+// How many slots there are for so many letters: a power of two, so that a place names one without a division.
+fn slot_count(most: u32) -> usize {
+    if most == 0 {
+        0
+    } else {
+        (most as usize).next_power_of_two()
+    }
 }
 
 // Slots with nothing in them.
@@ -168,10 +227,10 @@ fn own_copy<'d, D: Naming, O: Origin>(
 
 impl<'d, D: Naming, N: Naming, O: Origin> Near<'d, D, N, O> {
     // No letters yet, and room for so many, of so many bytes.
-    pub(crate) fn new(alloc: Global, most: usize, limit: usize) -> Self {
+    pub(crate) fn new(alloc: Global, most: u32, limit: usize) -> Self {
         Near {
             slots: Vec::new(alloc),
-            most,
+            most: slot_count(most),
             limit,
             room: limit,
             hand: 0,
@@ -185,7 +244,7 @@ impl<'d, D: Naming, N: Naming, O: Origin> Near<'d, D, N, O> {
         if count == 0 {
             return None;
         }
-        Some(place as usize % count)
+        Some(place as usize & (count - 1))
     }
 
     // Whether the slot has a letter of the place.
@@ -283,14 +342,38 @@ impl<'d, D: Naming, N: Naming, O: Origin> Near<'d, D, N, O> {
         let place = at.number().number();
         let index = self.find(place)?;
         let letter = self.slots.get_mut(index)?.as_mut()?;
-        let near = &mut letter.near;
-        if near.place() != place || !near.is_of(key) || letter.hits >= HITS_ALONE {
-            return None;
-        }
-        let current = near.is_current(group, caller);
+        let current = letter.is_current(group, place, key, caller)?;
         if current {
-            letter.hits += 1;
-            return Some(near.show(group, at, key));
+            return Some(letter.near.show(group, at, key));
+        }
+        self.clear(index);
+        None
+    }
+
+    // The bytes of the getter's own letter of the key at the place, where `look` would answer the letter.
+    #[inline(always)]
+    pub(crate) fn look_for_bytes(
+        &mut self,
+        group: &Group<FillValue<'d, D, O>>,
+        at: &mut KeyPlace<'d>,
+        key: &[u8],
+        caller: &mut Caller<FillValue<'d, D, O>>,
+    ) -> Option<Result<Bytes, Memory>>
+        requires group { group.now ≡ N.group }
+        requires caller { caller.old.group ≡ N.group }
+        requires place { IsPlaceOf N.group (place_at at.old) }
+        requires space { IsInSpace D.space (spot_at key.now at.old) }
+        ensures found { IfSome result (FindsBytes O.loaded (spot_key (spot_at key.now at.old))
+            caller.old (place_at at.old) caller.new) }
+        ensures none { result ≡ None → HasOnlyLooked caller.old caller.new }
+        ensures same { at.new ≡ at.old }
+    {
+        let place = at.number().number();
+        let index = self.find(place)?;
+        let letter = self.slots.get_mut(index)?.as_mut()?;
+        let current = letter.is_current(group, place, key, caller)?;
+        if current {
+            return Some(letter.near.bytes(at, key));
         }
         self.clear(index);
         None

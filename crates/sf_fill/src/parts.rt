@@ -132,7 +132,7 @@ fn getters_of<'d, D: Naming, N: Naming, O: Origin, L: Drop>(
             loaders,
             tallies: all.deal(),
             log,
-            near: Near::new(alloc, sizes.near as usize, sizes.near_limit),
+            near: Near::new(alloc, sizes.near, sizes.near_limit),
         });
     }
     getters.reverse();

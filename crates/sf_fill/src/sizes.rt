@@ -9,7 +9,7 @@ pub struct Sizes {
     pub limit: i64,
     /// How many events each getter logs.
     pub log: usize,
-    /// How many letters each getter keeps near; none where it is 0.
+    /// How many letters each getter keeps near at most, rounded up to a power of two; none where it is 0.
     pub near: u32,
     /// What these keep, in bytes of keys and values, for each getter.
     pub near_limit: usize,

@@ -1,5 +1,6 @@
 //! All counters of a fill: their names, what one get adds to each, and what all getters count.
 ghost use Rattle.std.specs.Prelude.{◌≡◌, ◌+◌, ◌-◌, ◌<◌, ◌≤◌, ◌^◌, ◌↔◌, IsTrue, false};
+ghost use Rattle.sf_fill.specs.Found.{hit_counts};
 ghost use Rattle.sf_fill.specs.Ledgers.{nothing_counted};
 ghost use Rattle.sf_fill.specs.Totals.{plus, with_counts, counts_in, names_of, AreNamed, IsOfOneGet, IsWithinGets};
 ghost use Rattle.sf_words.specs.declared.limits.TheConstants.{LARGEST_CALLER};
@@ -268,6 +269,17 @@ impl<N: Naming> Tallies<N> {
     /// How many gets are counted and not entered yet.
     pub fn pending(&self) -> u64 {
         self.pending.gets
+    }
+
+    /// Counts a get that a letter at hand answered, which is to be entered.
+    #[inline(always)]
+    pub fn count_hit(&mut self)
+        requires { self.old.gets < 2 ^ 64 - 1 }
+        ensures { self.new ≡ with_counts self.old hit_counts }
+    {
+        self.gets += 1;
+        self.pending.gets += 1;
+        self.pending.cache_hits += 1;
     }
 
     /// Counts a get, which is to be entered.

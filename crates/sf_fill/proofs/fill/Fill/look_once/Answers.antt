@@ -1,4 +1,3 @@
-use Rattle.std.proofs.Common.{rules, refl}
 use Rattle.sf_fill.proofs.Once.{looks_at_hand_on}
 use Rattle.sf_fill.proofs.fill.Fill.look_once.Goals as goal
 

@@ -1,0 +1,63 @@
+-- the bytes alone of what is answered
+use Rattle.std.specs.Prelude.{◌≡◌, ℕ, List, Option, Some, Result, Ok, Err, IfOk}
+use Rattle.std.specs.Option.{option_map}
+use Rattle.std.specs.declared.alloc.AllocError.{AllocError}
+use Rattle.sf_calls.specs.Tokens.{CallerValue, LetterValue}
+use Rattle.sf_history.specs.declared.call.CallId.{CallId}
+use Rattle.sf_loaders.specs.declared.faults.LocalFault.{LocalFault}
+use Rattle.sf_loaders.specs.declared.faults.LocalFault.TheVariants as local
+use Rattle.sf_spots.specs.declared.key_place.KeyPlace.{KeyPlace}
+use Rattle.sf_spots.specs.Spaces.{SpaceId}
+use Rattle.sf_spots.specs.Spots.{spot_key}
+use Rattle.sf_fill.specs.declared.fault.LoadFault.{LoadFault}
+use Rattle.sf_fill.specs.declared.fault.LoadFault.TheVariants as fault
+use Rattle.sf_fill.specs.FillValue.{Filled}
+use Rattle.sf_fill.specs.Fresh.{IsFreshGet}
+use Rattle.sf_fill.specs.Gets.{GetAnswer, IsLoadedFor}
+use Rattle.sf_fill.specs.GetterValue.{GetterValue}
+use Rattle.sf_fill.specs.Hits.{IsPresent, LooksAtHand}
+use Rattle.sf_fill.specs.Settled.{HasLooked}
+
+-- a value's bytes, or its fault as a get's
+abbrev pub bytes_by : Result (List ℕ) LocalFault → Result (List ℕ) LoadFault
+bytes_by (Ok bytes) = Ok bytes
+bytes_by (Err (local.Failed text)) = Err (fault.Local text)
+bytes_by (Err local.Memory) = Err fault.LeaderMemory
+
+-- what is answered in bytes where this is answered of a letter
+abbrev pub bytes_in : GetAnswer → Result (List ℕ) LoadFault
+bytes_in (Ok l) = bytes_by l.value.result
+bytes_in (Err refused) = Err refused
+
+-- the bytes of the letter that a look found, or memory was refused for them
+abbrev pub AreBytesOf : Result (LetterValue Filled) AllocError → Result (List ℕ) AllocError → Type 0
+AreBytesOf (Ok l) (Ok bytes) = l.value.result ≡ Ok bytes
+AreBytesOf (Ok l) (Err refused) = ⊥
+AreBytesOf (Err refused) (Ok bytes) = ⊥
+AreBytesOf (Err refused) (Err also) = Unit {0}
+
+module _ (stated : List ℕ → CallId → List ℕ → Type 0) (key : List ℕ) where
+  -- a look at the place found a letter of the key, and these are its bytes
+  pub record FindsBytes (c : CallerValue Filled) (place : ℕ) (d : CallerValue Filled) (bytes : Result (List ℕ) AllocError) : Type 0 where
+    pub found : Result (LetterValue Filled) AllocError
+    pub looked : HasLooked c place (Some found) d
+    pub bytes_are : AreBytesOf found bytes
+    pub keyed : IfOk found (λ (l : LetterValue Filled). spot_key l.value.spot ≡ key)
+    pub loaded : IfOk found (IsLoadedFor stated key)
+
+module _ {L : Type 0} (stated : List ℕ → CallId → List ℕ → Type 0) (key : List ℕ) where
+  -- a look for the key at its place, of whose answer the bytes alone are brought
+  pub record LooksForBytes (at after : KeyPlace) (old new : GetterValue L) (bytes : Option (Result (List ℕ) LoadFault)) : Type 0 where
+    pub answer : Option GetAnswer
+    pub looks : LooksAtHand stated key at after old new answer
+    pub bytes_are : bytes ≡ option_map bytes_in answer
+
+module _ {L : Type 0} (space : SpaceId) (stated : List ℕ → CallId → List ℕ → Type 0) (key : List ℕ) where
+  -- the bytes of an answer that a letter at hand gives the key, which is as fresh as a get's
+  pub record BringsBytes (old new : GetterValue L) (bytes : Result (List ℕ) LoadFault) : Type 0 where
+    pub answer : GetAnswer
+    pub bytes_are : bytes ≡ bytes_in answer
+    pub present : IsPresent space key old new answer
+    pub fresh : IsFreshGet space key old new answer
+    pub keyed : IfOk answer (λ (l : LetterValue Filled). spot_key l.value.spot ≡ key)
+    pub loaded : IfOk answer (IsLoadedFor stated key)
