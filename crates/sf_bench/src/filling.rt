@@ -95,8 +95,8 @@ impl<'a, R: Wait + Clock> Gets<'a, R> {
         }
     }
 
-    // Gets keys in their order, so many from this turn on, as a server does: a letter at hand first, and else a get that loads.
-    // Whether each was answered.
+    // Gets keys in their order, so many from this turn on, as a server does: the bytes of a letter at hand first, and else a get that
+    // loads. Whether each was answered.
     fn get_in_order<'d, D: Naming, N: Naming, O: Origin, L: LoadPath<Origin = O>>(
         &self,
         fill: &Fill<'d, D, N, O>,
@@ -110,7 +110,7 @@ impl<'a, R: Wait + Clock> Gets<'a, R> {
         for _ in 0..count {
             let key = self.order.key(turn);
             turn = turn.wrapping_add(1);
-            if let Some(answer) = fill.get_if_present(self.rt, &mut getter, key) {
+            if let Some(answer) = fill.get_bytes_if_present(self.rt, &mut getter, key) {
                 answered = answered && answer.is_ok();
                 continue;
             }

@@ -2,7 +2,9 @@
 
 use crate::rows::{SETTING, check};
 use crate::steps::Step;
-use crate::steps::Step::{ForgetAll, Get, GetKey, GetPresent, Put, Reload, Remove, Repeat, Stats};
+use crate::steps::Step::{
+    BytesPresent, ForgetAll, Get, GetKey, GetPresent, Put, Reload, Remove, Repeat, Stats,
+};
 use crate::trial::{Setting, try_out};
 use std::alloc::Global;
 use std::sync::Wait;
@@ -218,22 +220,28 @@ fn reload_and_forget_all_reach_near_letters(rt: HostRuntime) -> Result<(), Fail>
 // Only a letter at hand is answered to who lends its getter, from a cache or from those near, and nothing is counted but that hit.
 #[test]
 fn only_what_is_present_is_lent(rt: HostRuntime) -> Result<(), Fail> {
-    const STEPS: [Step; 7] = [
+    const STEPS: [Step; 10] = [
         GetPresent("a"),
+        BytesPresent("a"),
         Get("a"),
-        GetPresent("a"),
+        BytesPresent("a"),
         GetPresent("a"),
         Reload("a"),
         GetPresent("a"),
+        BytesPresent("a"),
         GetPresent("abcde"),
+        BytesPresent("abcde"),
     ];
     let said = "a none\n\
+        a no bytes\n\
         a v=true 1.1 root=1.1 joiners=0\n\
-        a v=true 1.1 root=1.1 joiners=0\n\
+        a bytes v=true\n\
         a v=true 1.1 root=1.1 joiners=0\n\
         reload a cleared 1.1\n\
         a none\n\
-        abcde none\n";
+        a no bytes\n\
+        abcde none\n\
+        abcde no bytes\n";
     for near in [0, 4] {
         let setting = Setting {
             near,

@@ -21,6 +21,8 @@ pub enum Step {
     Get(&'static str),
     /// Gets the key if a letter of it is at hand.
     GetPresent(&'static str),
+    /// Gets the key's bytes alone if a letter of it is at hand.
+    BytesPresent(&'static str),
     /// Gets the key, and says the key of what is answered.
     GetKey(&'static str),
     /// Reloads the key.
@@ -77,6 +79,18 @@ fn say_view<'d, D: Naming, O: Origin>(
             )
         }
         Err(fault) => write!(said, "{key} {fault}\n"),
+    };
+}
+
+// What bytes are answered.
+fn say_bytes(said: &mut String, key: &str, answer: Option<Result<Bytes, LoadFault>>) {
+    let _ = match answer {
+        Some(Ok(bytes)) => {
+            let is_v = bytes.as_slice() == b"v".as_slice();
+            write!(said, "{key} bytes v={is_v}\n")
+        }
+        Some(Err(fault)) => write!(said, "{key} bytes {fault}\n"),
+        None => write!(said, "{key} no bytes\n"),
     };
 }
 
@@ -215,17 +229,47 @@ fn say_events(said: &mut String, log: &[Event<PlaceNo, ()>]) {
 }
 
 // Whether the answer is of a version before this one.
-fn is_old<'d, D: Naming, O: Origin>(
-    answer: &Result<View<'d, D, O>, LoadFault>,
-    version: u8,
-) -> bool {
+fn is_old(answer: &Result<Bytes, LoadFault>, version: u8) -> bool {
     match answer {
-        Ok(view) => match view.bytes().as_slice() {
+        Ok(bytes) => match bytes.as_slice() {
             [first] => *first < version,
             _ => true,
         },
         Err(_) => true,
     }
+}
+
+// The bytes of an answer.
+fn bytes_of<'d, D: Naming, O: Origin>(
+    answer: Result<View<'d, D, O>, LoadFault>,
+) -> Result<Bytes, LoadFault> {
+    match answer {
+        Ok(view) => Ok(view.into_bytes()),
+        Err(fault) => Err(fault),
+    }
+}
+
+// Gets the key's bytes as a server does: of a letter at hand first, for one of the keys the bytes alone, and else by a get.
+fn get_bytes<'d, D: Naming, N: Naming, O: Origin, L: LoadPath<Origin = O>>(
+    rt: &impl Wait,
+    fill: &Fill<'d, D, N, O>,
+    getter: Getter<'d, D, N, O, L>,
+    key: &str,
+) -> (Getter<'d, D, N, O, L>, Result<Bytes, LoadFault>) {
+    let mut getter = getter;
+    let present = if key == KEYS[0] {
+        fill.get_bytes_if_present(rt, &mut getter, key.as_bytes())
+    } else {
+        match fill.get_if_present(rt, &mut getter, key.as_bytes()) {
+            Some(answer) => Some(bytes_of(answer)),
+            None => None,
+        }
+    };
+    if let Some(answer) = present {
+        return (getter, answer);
+    }
+    let (getter, answer) = fill.get(rt, getter, key.as_bytes());
+    (getter, bytes_of(answer))
 }
 
 // Gets so often, and says how many answers were old.
@@ -245,14 +289,8 @@ fn read<'d, D: Naming, N: Naming, O: Origin, L: LoadPath<Origin = O>>(
                 .versions(key.as_bytes())
                 .reloaded
                 .load(Ordering::SeqCst);
-            let answer = match fill.get_if_present(rt, &mut getter, key.as_bytes()) {
-                Some(answer) => answer,
-                None => {
-                    let (back, answer) = fill.get(rt, getter, key.as_bytes());
-                    getter = back;
-                    answer
-                }
-            };
+            let (back, answer) = get_bytes(rt, fill, getter, key);
+            getter = back;
             if is_old(&answer, version) {
                 old = old.saturating_add(1);
             }
@@ -312,6 +350,10 @@ pub fn run<'d, D: Naming, N: Naming, O: Origin, L: LoadPath<Origin = O>>(
                     let _ = write!(&mut said, "{key} none\n");
                 }
             },
+            Step::BytesPresent(key) => {
+                let bytes = fill.get_bytes_if_present(rt, &mut getter, key.as_bytes());
+                say_bytes(&mut said, key, bytes);
+            }
             Step::GetKey(key) => getter = get_key(rt, fill, getter, key, &mut said),
             Step::Reload(key) => getter = reload(rt, fill, getter, key, &mut said),
             Step::Put(key, value) => getter = put(rt, fill, getter, key, value, &mut said),
