@@ -82,6 +82,20 @@ fn say_view<'d, D: Naming, O: Origin>(
     };
 }
 
+// What is answered of a letter at hand, if there is one.
+fn say_present<'d, D: Naming, O: Origin>(
+    said: &mut String,
+    key: &str,
+    answer: Option<Result<View<'d, D, O>, LoadFault>>,
+) {
+    match answer {
+        Some(answer) => say_view(said, key, &answer),
+        None => {
+            let _ = write!(said, "{key} none\n");
+        }
+    }
+}
+
 // What bytes are answered.
 fn say_bytes(said: &mut String, key: &str, answer: Option<Result<Bytes, LoadFault>>) {
     let _ = match answer {
@@ -344,15 +358,13 @@ pub fn run<'d, D: Naming, N: Naming, O: Origin, L: LoadPath<Origin = O>>(
                 say_view(&mut said, key, &answer);
                 getter = back;
             }
-            Step::GetPresent(key) => match fill.get_if_present(rt, &mut getter, key.as_bytes()) {
-                Some(answer) => say_view(&mut said, key, &answer),
-                None => {
-                    let _ = write!(&mut said, "{key} none\n");
-                }
-            },
+            Step::GetPresent(key) => {
+                let answer = fill.get_if_present(rt, &mut getter, key.as_bytes());
+                say_present(&mut said, key, answer);
+            }
             Step::BytesPresent(key) => {
-                let bytes = fill.get_bytes_if_present(rt, &mut getter, key.as_bytes());
-                say_bytes(&mut said, key, bytes);
+                let answer = fill.get_bytes_if_present(rt, &mut getter, key.as_bytes());
+                say_bytes(&mut said, key, answer);
             }
             Step::GetKey(key) => getter = get_key(rt, fill, getter, key, &mut said),
             Step::Reload(key) => getter = reload(rt, fill, getter, key, &mut said),
