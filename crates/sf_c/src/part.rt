@@ -220,8 +220,29 @@ impl Part {
                 *self = Part::Free(caller);
                 DONE
             }
-            Finished::Held(settled) => self.delivers(group, settled, joiners, last),
+            Finished::Held(settled) => self.delivers_held(group, settled, joiners, last),
         }
+    }
+
+    // Hands out what is owed. A function's room is cleared where it begins: `finishes` would clear for each call what this needs
+    // where somebody joined.
+    #[inline(always)]
+    fn delivers_held(
+        &mut self,
+        group: &Group<Word>,
+        settled: Settled<Word>,
+        joiners: &mut u32,
+        last: &mut Option<Letter<Word>>,
+    ) -> u32
+        requires own { settled.group ≡ group.now }
+        requires last { IsLetterOf group.now last.old }
+        ensures own { IsOf group.now self.new }
+        ensures last { IsLetterOf group.now last.new }
+        ensures row { HasGoneOnPart (Owes settled) self.new result joiners.old joiners.new last.old
+            last.new }
+        ensures code { (result ≡ DONE) ⊎ (result ≡ OTHERWISE) }
+    {
+        self.delivers(group, settled, joiners, last)
     }
 
     // Hands out what is owed: done where that is all, otherwise some is owed still. Who settles a call that nobody joined keeps no

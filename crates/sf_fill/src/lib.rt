@@ -7,6 +7,7 @@
 //! | To | Call |
 //! | --- | --- |
 //! | make a fill and its getters | `Fill::new`, with all its parts; which directory, group and ledgers they are is named by `Naming` |
+//! | have what is at hand, without a load | `get_bytes_if_present`, `get_if_present` |
 //! | get, reload | `get`, `reload` |
 //! | go on with a delivery that was refused memory | `owes`, `settle_up` |
 //! | count | `Fill::book` while it runs, `enter` for a getter's last gets in it, `gather` at the end |

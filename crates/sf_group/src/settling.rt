@@ -28,7 +28,7 @@ impl<V: Fit> Group<V> {
     {
         match self.settle(flight, value) {
             Finished::Done(caller, letter) => Finished::Done(caller, letter),
-            Finished::Held(settled) => self.hand_on(&self.resting, settled),
+            Finished::Held(settled) => self.hand_on_held(settled),
         }
     }
 
@@ -92,6 +92,17 @@ impl<V: Fit> Group<V> {
         ensures { HasGoneOn V.fits settled result }
     {
         self.hand_on(&Unrested, settled)
+    }
+
+    // Hands out what is owed, and wakes who rests. A function's room is cleared where it begins: `finish` would clear for each
+    // call what this needs where somebody joined.
+    #[inline(always)]
+    fn hand_on_held(&self, settled: Settled<V>) -> Finished<Caller<V>, Letter<V>, Settled<V>>
+        requires own { settled.group ≡ self.now }
+        ensures gone { HasGoneOn V.fits settled result }
+        ensures known { HasKnown settled result }
+    {
+        self.hand_on(&self.resting, settled)
     }
 
     // Hands out what is owed. Who settles a call that nobody joined keeps no room for it.

@@ -13,5 +13,5 @@ returns-in-Held-clause-row g =
     let led : g.args.self.now ≡ Leads flight = sym g.replace.ensures.value ∙ g.in-Ok.ensures.leads in
     let named : g.new-word.result ≡ word g.args.value key = g.new-word.ensures ∙ ap (λ k. word g.args.value k) g.replace-2.ensures.value in
     let held = subst (λ (w : WordValue). IsHeld flight w settled) named g.in-Held.ensures.finished in
-    subst (λ (p : Part). HasFinishedPart p g.args.value key g.delivers.new.self g.delivers.result g.args.joiners.now g.delivers.new.joiners g.args.last.now g.delivers.new.last) (sym led)
-    (delivered flight g.args.value key settled g.delivers.new.self g.delivers.result g.args.joiners.now g.delivers.new.joiners g.args.last.now g.delivers.new.last held g.delivers.ensures.row)
+    subst (λ (p : Part). HasFinishedPart p g.args.value key g.delivers_held.new.self g.delivers_held.result g.args.joiners.now g.delivers_held.new.joiners g.args.last.now g.delivers_held.new.last) (sym led)
+    (delivered flight g.args.value key settled g.delivers_held.new.self g.delivers_held.result g.args.joiners.now g.delivers_held.new.joiners g.args.last.now g.delivers_held.new.last held g.delivers_held.ensures.row)
