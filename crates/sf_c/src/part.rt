@@ -127,6 +127,29 @@ impl Part {
         }
     }
 
+    // What the caller does now: each inlined where it is called, for the whole part is cleared and written, and not where a call
+    // begins.
+    #[inline(always)]
+    fn now_free(&mut self, caller: Caller<Word>)
+        ensures { self.new ≡ Free caller }
+    {
+        *self = Part::Free(caller);
+    }
+
+    #[inline(always)]
+    fn now_leads(&mut self, flight: Flight<Word>)
+        ensures { self.new ≡ Leads flight }
+    {
+        *self = Part::Leads(flight);
+    }
+
+    #[inline(always)]
+    fn now_waits(&mut self, ticket: Ticket<Word>)
+        ensures { self.new ≡ Waits ticket }
+    {
+        *self = Part::Waits(ticket);
+    }
+
     /// Asks for the place: done where it leads then, otherwise it waits then.
     pub(crate) fn asks(&mut self, group: &Group<Word>, place: u32, tries: u32) -> u32
         requires own { IsOf group.now self.old }
@@ -144,19 +167,19 @@ impl Part {
         };
         match group.begin(caller, place, tries) {
             Ok(Begun::Lead(flight)) => {
-                *self = Part::Leads(flight);
+                self.now_leads(flight);
                 DONE
             }
             Ok(Begun::Join(ticket)) => {
-                *self = Part::Waits(ticket);
+                self.now_waits(ticket);
                 OTHERWISE
             }
             Err(NotBegun::Spent(back)) => {
-                *self = Part::Free(back);
+                self.now_free(back);
                 SPENT
             }
             Err(NotBegun::Busy(_, back)) => {
-                *self = Part::Free(back);
+                self.now_free(back);
                 BUSY
             }
         }
@@ -217,7 +240,7 @@ impl Part {
             Finished::Done(caller, letter) => {
                 *joiners = letter.joiners();
                 *last = Some(letter);
-                *self = Part::Free(caller);
+                self.now_free(caller);
                 DONE
             }
             Finished::Held(settled) => self.delivers_held(group, settled, joiners, last),
@@ -267,7 +290,7 @@ impl Part {
             Finished::Done(caller, letter) => {
                 *joiners = letter.joiners();
                 *last = Some(letter);
-                *self = Part::Free(caller);
+                self.now_free(caller);
                 DONE
             }
             Finished::Held(settled) => {
@@ -331,7 +354,7 @@ impl Part {
         };
         match group.poll(ticket) {
             Polled::Ready(caller, letter) => {
-                *self = Part::Free(caller);
+                self.now_free(caller);
                 *value = letter.value().number();
                 if letter.value().key() != key.as_slice() {
                     return OTHER;
@@ -341,7 +364,7 @@ impl Part {
                 DONE
             }
             Polled::Pending(ticket) => {
-                *self = Part::Waits(ticket);
+                self.now_waits(ticket);
                 OTHERWISE
             }
         }
