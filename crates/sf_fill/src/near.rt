@@ -410,10 +410,28 @@ impl<'d, D: Naming, N: Naming, O: Origin> Near<'d, D, N, O> {
         true
     }
 
+    // Puts a copy of the letter into a slot, if there are to be any. The letter's note may show more then.
+    #[inline(always)]
+    pub(crate) fn keep(
+        &mut self,
+        group: &Group<FillValue<'d, D, O>>,
+        key_len: usize,
+        letter: &mut Letter<FillValue<'d, D, O>>,
+    )
+        requires group { group.now ≡ N.group }
+        requires letter { letter.old.group ≡ N.group }
+        requires settled { IsSettled letter.old }
+        ensures { HasLent letter.old letter.new }
+    {
+        if self.most > 0 {
+            self.keep_in_slot(group, key_len, letter);
+        }
+    }
+
     // Puts a copy of the letter into a slot, in the place of what that has, if it brings bytes and there is room; nothing is put
     // where memory is refused. The letter's note may show more then.
     #[inline(never)]
-    pub(crate) fn keep(
+    fn keep_in_slot(
         &mut self,
         group: &Group<FillValue<'d, D, O>>,
         key_len: usize,
