@@ -30,6 +30,7 @@ impl<V: Fit> Group<V> {
     /// The caller asks for the place: it leads a new call where the place has no open one, and else joins that. Refused
     /// as spent is a caller that has no generation left, which is looked at first; as busy one whose tries (1 to 65,536)
     /// all failed, each since another had changed a word between its reading and its exchange.
+    #[inline(always)]
     pub fn begin(
         &self,
         caller: Caller<V>,

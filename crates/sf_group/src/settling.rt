@@ -20,6 +20,7 @@ impl<V: Fit> Group<V> {
     /// for one, the delivery is still to be gone on with. It settles in at most one try more than there are callers, since
     /// each of its tries that fails is another caller's joining, or the call's one Forget. The value has to fit the call, by
     /// what the leader has seen.
+    #[inline(always)]
     pub fn finish(&self, flight: Flight<V>, value: V) -> Finished<Caller<V>, Letter<V>, Settled<V>>
         requires own { flight.group ≡ self.now }
         requires fits { V.fits flight.place flight.call value flight.seen }
