@@ -127,8 +127,7 @@ impl Part {
         }
     }
 
-    // What the caller does now: each inlined where it is called, for the whole part is cleared and written, and not where a call
-    // begins.
+    // What the caller does now. Inlined, so that a part is cleared where it is assigned, and not where an export begins.
     #[inline(always)]
     fn now_free(&mut self, caller: Caller<Word>)
         ensures { self.new ≡ Free caller }
@@ -247,8 +246,7 @@ impl Part {
         }
     }
 
-    // Hands out what is owed. A function's room is cleared where it begins: `finishes` would clear for each call what this needs
-    // where somebody joined.
+    // Hands out what is owed. Inlined, so that its locals are cleared where somebody joined, and not at each `finishes`.
     #[inline(always)]
     fn delivers_held(
         &mut self,

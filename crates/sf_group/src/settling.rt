@@ -95,8 +95,8 @@ impl<V: Fit> Group<V> {
         self.hand_on(&Unrested, settled)
     }
 
-    // Hands out what is owed, and wakes who rests. A function's room is cleared where it begins: `finish` would clear for each
-    // call what this needs where somebody joined.
+    // Hands out what is owed, and wakes who rests. Inlined, so that its locals are cleared where somebody joined, and not at each
+    // `finish`.
     #[inline(always)]
     fn hand_on_held(&self, settled: Settled<V>) -> Finished<Caller<V>, Letter<V>, Settled<V>>
         requires own { settled.group ≡ self.now }
