@@ -4,7 +4,7 @@ use Rattle.std.proofs.lemmas.List.Elements.{All-nil, All-cons, All-head, All-tai
 use Rattle.sf_calls.specs.Tokens.{GroupValue, CallerValue}
 use Rattle.sf_calls.specs.Making.{IsNewCaller}
 use Rattle.sf_spots.specs.declared.key_space.KeyDesk.{KeyDesk}
-use Rattle.sf_fill.specs.FillValue.{Filled}
+use Rattle.sf_letters.specs.FillValue.{Filled}
 use Rattle.sf_fill.specs.GetterValue.{GetterValue, new_getter}
 use Rattle.sf_fill.specs.Made.{new_getters}
 use Rattle.sf_door.specs.Opened.{IsNewGetter}

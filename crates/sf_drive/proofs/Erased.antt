@@ -4,10 +4,10 @@ use Rattle.sf_history.specs.declared.event.Event.{Event}
 use Rattle.sf_calls.specs.Tokens.{GroupValue}
 use Rattle.sf_spots.specs.Spaces.{SpaceId}
 use Rattle.sf_fill.specs.Fresh.{ForgetsOnce, IsAnswered, IsUnanswered}
-use Rattle.sf_fill.specs.FillValue.{Filled}
-use Rattle.sf_fill.specs.Gets.{GetAnswer}
+use Rattle.sf_letters.specs.FillValue.{Filled}
+use Rattle.sf_letters.specs.Answers.{GetAnswer}
 use Rattle.sf_fill.specs.GetterValue.{GetterValue}
-use Rattle.sf_fill.specs.declared.fault.LoadFault.{LoadFault}
+use Rattle.sf_letters.specs.declared.fault.LoadFault.{LoadFault}
 use Rattle.sf_fill.specs.declared.reload.Forgot.{Forgot}
 use Rattle.sf_door.specs.Opened.{IsNewGetter, IsOfThreads, without_loaders}
 use Rattle.sf_drive.specs.declared.found.Found.{Found}

@@ -5,9 +5,9 @@ use Rattle.std.proofs.lemmas.Bool.{ne_eqb}
 use Rattle.std.proofs.lemmas.List.Sums.{sum_by-append}
 use Rattle.sf_history.specs.declared.call.CallId.{CallId}
 use Rattle.sf_loaders.specs.declared.faults.LocalFault.{LocalFault}
-use Rattle.sf_fill.specs.declared.fault.LoadFault.{LoadFault}
+use Rattle.sf_letters.specs.declared.fault.LoadFault.{LoadFault}
 use Rattle.sf_fill.specs.declared.reload.Forgot.{Forgot}
-use Rattle.sf_fill.specs.Gets.{GetAnswer, IsLoadedFor}
+use Rattle.sf_letters.specs.Answers.{GetAnswer, IsLoadedFor}
 use Rattle.sf_drive.specs.Values.{StatesValues, value_of}
 use mir.Val.{bool_byte}
 use Rattle.sf_history.specs.declared.event.Event.{Event}
@@ -17,7 +17,7 @@ use Rattle.sf_calls.proofs.AddsAgain.{grows_again}
 use Rattle.sf_spots.specs.Spaces.{SpaceId}
 use Rattle.sf_fill.specs.declared.getter.Standing.{Standing}
 use Rattle.sf_fill.specs.Counted.{askings_in, is_asking}
-use Rattle.sf_fill.specs.FillValue.{Filled}
+use Rattle.sf_letters.specs.FillValue.{Filled}
 use Rattle.sf_fill.specs.Fresh.{HasAdded, IsReloading}
 use Rattle.sf_fill.specs.GetterValue.{GetterValue, number_of, seen_of, group_of}
 use Rattle.sf_fill.specs.Logs.{LogValue, logged_by}

@@ -7,11 +7,11 @@ use Rattle.sf_calls.specs.Begins.{HasJoined}
 use Rattle.sf_calls.specs.Finishes.{IsReady}
 use Rattle.sf_spots.specs.Spaces.{SpaceId}
 use Rattle.sf_spots.specs.Spots.{IsInSpace, IsOther}
-use Rattle.sf_fill.specs.declared.counters.totals.GetCounts.{GetCounts}
-use Rattle.sf_fill.specs.FillValue.{Filled, FitsFill}
+use Rattle.sf_counters.specs.declared.totals.GetCounts.{GetCounts}
+use Rattle.sf_letters.specs.FillValue.{Filled, FitsFill}
 use Rattle.sf_fill.specs.Found.{Led, HasMissed}
 use Rattle.sf_fill.specs.Gets.{counts_of}
-use Rattle.sf_fill.specs.Totals.{IsOfOneGet}
+use Rattle.sf_counters.specs.Totals.{IsOfOneGet}
 
 -- what a get counts whose caller led
 pub led_counts : (finished : Finished (CallerValue Filled) (LetterValue Filled) (SettledValue Filled)) (n : GetCounts) → IsOfOneGet n → IsOfOneGet (counts_of (Led finished n))

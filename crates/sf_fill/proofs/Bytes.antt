@@ -11,20 +11,20 @@ use Rattle.sf_spots.specs.declared.key_place.KeyPlace.{KeyPlace}
 use Rattle.sf_spots.specs.declared.key_space.KeyDesk.{KeyDesk}
 use Rattle.sf_spots.specs.Spaces.{SpaceId}
 use Rattle.sf_spots.specs.Spots.{place_at, spot_key}
-use Rattle.sf_fill.specs.declared.counters.totals.Totals.{Totals}
-use Rattle.sf_fill.specs.declared.fault.LoadFault.{LoadFault}
-use Rattle.sf_fill.specs.declared.fault.LoadFault.TheVariants as fault
+use Rattle.sf_counters.specs.declared.totals.Totals.{Totals}
+use Rattle.sf_letters.specs.declared.fault.LoadFault.{LoadFault}
+use Rattle.sf_letters.specs.declared.fault.LoadFault.TheVariants as fault
 use Rattle.sf_fill.specs.declared.getter.Standing.{Standing}
 use Rattle.sf_fill.specs.declared.getter.Standing.TheVariants.{Free}
 use Rattle.sf_fill.specs.Bytes.{AreBytesOf, BringsBytes, FindsBytes, LooksForBytes, bytes_by, bytes_in}
-use Rattle.sf_fill.specs.FillValue.{Filled}
-use Rattle.sf_fill.specs.Found.{hit_counts}
-use Rattle.sf_fill.specs.Gets.{GetAnswer, IsLoadedFor, answer_by}
+use Rattle.sf_letters.specs.FillValue.{Filled}
+use Rattle.sf_counters.specs.GetCounts.{hit_counts}
+use Rattle.sf_letters.specs.Answers.{GetAnswer, IsLoadedFor, answer_by}
 use Rattle.sf_fill.specs.GetterValue.{GetterValue, is_owing}
 use Rattle.sf_fill.specs.Hits.{IsAtHand, IsNoneAtHand, IsPresent, LooksAtHand, hit_answer}
 use Rattle.sf_fill.specs.Logs.{LogValue}
-use Rattle.sf_fill.specs.Settled.{IsCurrentLetter}
-use Rattle.sf_fill.specs.Totals.{with_counts}
+use Rattle.sf_letters.specs.Settled.{IsCurrentLetter}
+use Rattle.sf_counters.specs.Totals.{with_counts}
 use Rattle.sf_fill.proofs.Once.{found_at_hand, looks_at_hand_on, present_fresh}
 
 -- the bytes of a near letter whose call is current

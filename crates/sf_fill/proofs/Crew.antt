@@ -5,7 +5,7 @@ use Rattle.std.proofs.lemmas.List.FromFn.{length-range_with_len}
 use Rattle.std.specs.List.{range_with_len}
 use Rattle.sf_calls.specs.Making.{IsNewCaller}
 use Rattle.sf_calls.specs.Tokens.{GroupValue, CallerValue}
-use Rattle.sf_fill.specs.FillValue.{Filled}
+use Rattle.sf_letters.specs.FillValue.{Filled}
 use Rattle.sf_fill.specs.Made.{AreOfGroup}
 
 pub as_many : {X : Type 0} (f : X → ℕ) (xs : List X) (n : ℕ) → map f xs ≡ range_with_len 1 n → length xs ≡ n

@@ -31,29 +31,31 @@ use Rattle.sf_spots.specs.declared.spot.Spot.{Spot}
 use Rattle.sf_spots.specs.declared.spot.Spot.TheVariants as spot
 use Rattle.sf_spots.specs.Spaces.{SpaceId}
 use Rattle.sf_spots.specs.Spots.{IsInSpace, IsOther, spot_place}
-use Rattle.sf_fill.specs.declared.fault.LoadFault.{LoadFault}
-use Rattle.sf_fill.specs.declared.fault.LoadFault.TheVariants as fault
+use Rattle.sf_letters.specs.declared.fault.LoadFault.{LoadFault}
+use Rattle.sf_letters.specs.declared.fault.LoadFault.TheVariants as fault
 use Rattle.sf_fill.specs.declared.reload.Forgot.{Forgot}
 use Rattle.sf_fill.specs.declared.reload.Forgot.TheVariants as forgot
 use Rattle.sf_fill.specs.declared.getter.Standing.{Standing}
 use Rattle.sf_fill.specs.declared.getter.Standing.TheVariants.{Free, Owing}
-use Rattle.sf_fill.specs.declared.counters.totals.GetCounts.{GetCounts}
-use Rattle.sf_fill.specs.declared.counters.totals.Totals.{Totals}
+use Rattle.sf_counters.specs.declared.totals.GetCounts.{GetCounts}
+use Rattle.sf_counters.specs.declared.totals.Totals.{Totals}
 use Rattle.sf_fill.specs.Counted.{has_asking, is_asking, askings_in, IsCounted}
-use Rattle.sf_fill.specs.FillValue.{Filled, FitsFill, fill_lasts}
-use Rattle.sf_fill.specs.Found.{Found, Kept, Uncopied, Unmade, Spent, Joined, Led, get_alone, HasFound, HasFoundFrom, HasMissed, HasRun, IsMiss, IsSource}
+use Rattle.sf_letters.specs.FillValue.{Filled, FitsFill, fill_lasts}
+use Rattle.sf_counters.specs.GetCounts.{get_alone}
+use Rattle.sf_fill.specs.Found.{Found, Kept, Uncopied, Unmade, Spent, Joined, Led, HasFound, HasFoundFrom, HasMissed, HasRun, IsMiss, IsSource}
 use Rattle.sf_fill.specs.Fresh.{HasAdded, handed_by, delivered_by, IsFresh, IsAsking, IsAnswer, IsMissedEnter, AreMissed, IsUnanswered, forgot_by, IsOutdated, IsFreshGet, ForgetsOnce, IsReloading}
-use Rattle.sf_fill.specs.Gets.{GetAnswer, Reply, reply_of, refusal_of, answer_by, IsFoundGet, GetsFrom, HasGot}
+use Rattle.sf_letters.specs.Answers.{GetAnswer, refusal_of, answer_by}
+use Rattle.sf_fill.specs.Gets.{Reply, reply_of, IsFoundGet, GetsFrom, HasGot}
 use Rattle.sf_fill.specs.GetterValue.{GetterValue, IsOfGroup, number_of, group_of, seen_of, is_owing}
 use Rattle.sf_fill.specs.Logs.{logged_by}
 use Rattle.sf_fill.specs.Owing.{HasDelivered}
 use Rattle.sf_fill.specs.Reloads.{HasForgotNamed, ForgetsNamed, ReloadsFrom, HasReloaded}
 use Rattle.sf_calls.specs.Unforgotten.{IsUnforgotten}
-use Rattle.sf_fill.specs.Settled.{HasOnlyLooked, IsSettled}
-use Rattle.sf_fill.proofs.Looks.{looked_again, still_looked}
+use Rattle.sf_letters.specs.Settled.{HasOnlyLooked, IsSettled}
+use Rattle.sf_letters.proofs.Looks.{looked_again, still_looked}
 use Rattle.sf_fill.proofs.Outdated.{outdated}
 use Rattle.sf_calls.proofs.Moments.{first_added, led_current, entered_current, stands_more}
-use Rattle.sf_fill.proofs.Rooting.{root_unforgotten}
+use Rattle.sf_letters.proofs.Rooting.{root_unforgotten}
 
 abbrev Seen : Type 0
 Seen = List (Event ℕ Filled)

@@ -5,12 +5,9 @@ pub mod Fresh
 pub mod Got
 pub mod Logging
 pub mod LogSteps
-pub mod Looks
 pub mod Once
 pub mod Outdated
 pub mod Popped
-pub mod Promoted
-pub mod Rooting
 pub mod Spots
 pub mod Sums
 pub mod Told

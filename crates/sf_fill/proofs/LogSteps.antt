@@ -8,19 +8,19 @@ use Rattle.sf_calls.specs.Same.{call_of}
 use Rattle.sf_calls.specs.Begins.{HasLed, HasJoined, IsRefusedSpent}
 use Rattle.sf_calls.specs.Finishes.{IsReady}
 use Rattle.sf_spots.specs.declared.key_space.KeyDesk.{KeyDesk}
-use Rattle.sf_fill.specs.declared.counters.totals.Totals.{Totals}
+use Rattle.sf_counters.specs.declared.totals.Totals.{Totals}
 use Rattle.sf_fill.specs.declared.getter.Standing.{Standing}
 use Rattle.sf_fill.specs.declared.reload.Forgot.{Forgot}
-use Rattle.sf_fill.specs.FillValue.{Filled, FitsFill}
+use Rattle.sf_letters.specs.FillValue.{Filled, FitsFill}
 use Rattle.sf_fill.specs.Fresh.{HasAdded, delivered_by, forgot_by}
 use Rattle.sf_fill.specs.GetterValue.{GetterValue, number_of, seen_of}
 use Rattle.sf_fill.specs.Logs.{LogValue, HasLogged, logged_by, logged_one}
 use Rattle.sf_fill.specs.Owing.{HasDelivered, HasSettledUp}
 use Rattle.sf_fill.specs.Reloads.{ForgetsNamed}
-use Rattle.sf_fill.specs.Settled.{HasOnlyLooked}
+use Rattle.sf_letters.specs.Settled.{HasOnlyLooked}
 use Rattle.sf_fill.proofs.Fresh.{delivered, forget_moved}
 use Rattle.sf_fill.proofs.Logging.{logs_again, logs_added, logs_still, logs_these}
-use Rattle.sf_fill.proofs.Looks.{still_looked}
+use Rattle.sf_letters.proofs.Looks.{still_looked}
 
 abbrev Seen : Type 0
 Seen = List (Event ℕ Filled)

@@ -15,7 +15,7 @@ use Rattle.sf_calls.proofs.AddsAgain.{starts_again}
 use Rattle.sf_calls.proofs.Moments.{legal_before, stands_more, stands_own}
 use Rattle.sf_fill.specs.declared.reload.Forgot.{Forgot}
 use Rattle.sf_fill.specs.declared.reload.Forgot.TheVariants as forgot
-use Rattle.sf_fill.specs.FillValue.{Filled}
+use Rattle.sf_letters.specs.FillValue.{Filled}
 use Rattle.sf_fill.specs.Fresh.{handed_by, forgot_by}
 use Rattle.sf_spots.specs.Spots.{spot_place}
 use Rattle.sf_fill.specs.GetterValue.{number_of, seen_of}

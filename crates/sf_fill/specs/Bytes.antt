@@ -9,14 +9,14 @@ use Rattle.sf_loaders.specs.declared.faults.LocalFault.TheVariants as local
 use Rattle.sf_spots.specs.declared.key_place.KeyPlace.{KeyPlace}
 use Rattle.sf_spots.specs.Spaces.{SpaceId}
 use Rattle.sf_spots.specs.Spots.{spot_key}
-use Rattle.sf_fill.specs.declared.fault.LoadFault.{LoadFault}
-use Rattle.sf_fill.specs.declared.fault.LoadFault.TheVariants as fault
-use Rattle.sf_fill.specs.FillValue.{Filled}
+use Rattle.sf_letters.specs.declared.fault.LoadFault.{LoadFault}
+use Rattle.sf_letters.specs.declared.fault.LoadFault.TheVariants as fault
+use Rattle.sf_letters.specs.FillValue.{Filled}
 use Rattle.sf_fill.specs.Fresh.{IsFreshGet}
-use Rattle.sf_fill.specs.Gets.{GetAnswer, IsLoadedFor}
+use Rattle.sf_letters.specs.Answers.{GetAnswer, IsLoadedFor}
 use Rattle.sf_fill.specs.GetterValue.{GetterValue}
 use Rattle.sf_fill.specs.Hits.{IsPresent, LooksAtHand}
-use Rattle.sf_fill.specs.Settled.{HasLooked}
+use Rattle.sf_letters.specs.Settled.{HasLooked}
 
 -- a value's bytes, or its fault as a get's
 abbrev pub bytes_by : Result (List ℕ) LocalFault → Result (List ℕ) LoadFault

@@ -5,8 +5,8 @@ use Rattle.sf_history.specs.declared.event.Event.{Event}
 use Rattle.sf_history.specs.declared.event.Event.TheVariants.{Lead, Enter, Forget, ForgetCall, Settle, Handed}
 use Rattle.sf_history.specs.History.{own_events}
 use Rattle.sf_calls.specs.Seen.{StartsWith}
-use Rattle.sf_fill.specs.FillValue.{Filled}
-use Rattle.sf_fill.specs.Gets.{GetAnswer}
+use Rattle.sf_letters.specs.FillValue.{Filled}
+use Rattle.sf_letters.specs.Answers.{GetAnswer}
 use Rattle.sf_fill.specs.GetterValue.{GetterValue, number_of, seen_of}
 
 module _ {V : Type 0} where

@@ -12,15 +12,15 @@ use Rattle.sf_spots.specs.declared.spot.Spot.{Spot}
 use Rattle.sf_spots.specs.Spaces.{SpaceId}
 use Rattle.sf_spots.specs.Spots.{IsInSpace, IsOther, spot_place}
 use Rattle.sf_loaders.specs.LoadPath.{LoadAnswer}
-use Rattle.sf_loaders.specs.declared.counts.Counts.{Counts}
 use Rattle.sf_loaders.specs.declared.counts.Source.{Source}
 use Rattle.sf_loaders.specs.declared.counts.Source.TheVariants.{Peer, Local}
 use Rattle.sf_loaders.specs.declared.faults.LocalFault.{LocalFault}
 use Rattle.sf_fill.specs.declared.get.Asked.{Asked}
 use Rattle.sf_fill.specs.declared.get.Asked.TheVariants as asked
-use Rattle.sf_fill.specs.declared.counters.totals.GetCounts.{GetCounts}
-use Rattle.sf_fill.specs.FillValue.{Filled, FitsFill}
-use Rattle.sf_fill.specs.Settled.{HasOnlyLooked, IsCurrentLetter, IsFollowed}
+use Rattle.sf_counters.specs.declared.totals.GetCounts.{GetCounts}
+use Rattle.sf_counters.specs.GetCounts.{load_counts, second_look_counts}
+use Rattle.sf_letters.specs.FillValue.{Filled, FitsFill}
+use Rattle.sf_letters.specs.Settled.{HasOnlyLooked, IsCurrentLetter, IsFollowed}
 
 -- what a get of a free caller comes to: a cache's letter, or one whose copy was refused memory; or what an asking comes to
 pub data Found : Type 0 where
@@ -36,22 +36,6 @@ found_by (asked.Unmade c) = Unmade c
 found_by (asked.Spent c) = Spent c
 found_by (asked.Joined c l) = Joined c l
 found_by (asked.Led finished n) = Led finished n
-
-abbrev pub no_run : Counts
-no_run = record { loads_deduped = 0; peer_loads = 0; peer_errors = 0; local_loads = 0; local_load_errors = 0 }
-
--- a get that a cache answers, one that asks the group, one whose leader finds a value in a cache, and one that neither asks nor hits
-abbrev pub hit_counts : GetCounts
-hit_counts = record { gets = 1; cache_hits = 1; loads = 0; run = no_run }
-
-abbrev pub load_counts : Counts → GetCounts
-load_counts run = record { gets = 1; cache_hits = 0; loads = 1; run = run }
-
-abbrev pub second_look_counts : GetCounts
-second_look_counts = record { gets = 1; cache_hits = 1; loads = 1; run = no_run }
-
-abbrev pub get_alone : GetCounts
-get_alone = record { gets = 1; cache_hits = 0; loads = 0; run = no_run }
 
 -- the bytes without who gave them
 abbrev pub bytes_in : Result (List ℕ × Source) LocalFault → Result (List ℕ) LocalFault

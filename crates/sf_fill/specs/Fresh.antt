@@ -11,15 +11,15 @@ use Rattle.sf_spots.specs.declared.spot.Spot.{Spot}
 use Rattle.sf_spots.specs.Spaces.{SpaceId}
 use Rattle.sf_spots.specs.Spots.{IsOther, IsSpotOfKey, spot_place}
 use Rattle.sf_loaders.specs.declared.faults.LocalFault.TheVariants as local
-use Rattle.sf_fill.specs.declared.fault.LoadFault.{LoadFault}
-use Rattle.sf_fill.specs.declared.fault.LoadFault.TheVariants as fault
+use Rattle.sf_letters.specs.declared.fault.LoadFault.{LoadFault}
+use Rattle.sf_letters.specs.declared.fault.LoadFault.TheVariants as fault
 use Rattle.sf_fill.specs.declared.reload.Forgot.{Forgot}
 use Rattle.sf_fill.specs.declared.reload.Forgot.TheVariants as forgot
 use Rattle.sf_fill.specs.declared.getter.Standing.{Standing}
 use Rattle.sf_fill.specs.declared.getter.Standing.TheVariants.{Free, Owing}
 use Rattle.sf_fill.specs.Counted.{askings_in}
-use Rattle.sf_fill.specs.FillValue.{Filled}
-use Rattle.sf_fill.specs.Gets.{GetAnswer}
+use Rattle.sf_letters.specs.FillValue.{Filled}
+use Rattle.sf_letters.specs.Answers.{GetAnswer}
 use Rattle.sf_fill.specs.Logs.{logged_by}
 use Rattle.sf_fill.specs.GetterValue.{GetterValue, number_of, group_of, seen_of, is_owing}
 use Rattle.sf_calls.specs.Unforgotten.{IsUnforgotten}

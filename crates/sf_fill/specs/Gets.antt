@@ -1,5 +1,5 @@
 -- how gets end
-use Rattle.std.specs.Prelude.{◌≡◌, ℕ, ◌⊎◌, List, Option, None, Result, Ok, Err, IfOk}
+use Rattle.std.specs.Prelude.{◌≡◌, ℕ, ◌⊎◌, List, Option, None, Result, Err}
 use Rattle.sf_history.specs.declared.call.CallId.{CallId}
 use Rattle.sf_calls.specs.declared.outcomes.Finished.TheVariants.{Done, Held}
 use Rattle.sf_calls.specs.Tokens.{CallerValue, LetterValue}
@@ -8,42 +8,20 @@ use Rattle.sf_spots.specs.declared.spot.Spot.{Spot}
 use Rattle.sf_spots.specs.Spaces.{SpaceId}
 use Rattle.sf_spots.specs.Spots.{IsSpotOfKey, IsRefusedSpot, IsSeeingSpace, MayBe}
 use Rattle.sf_dir.specs.declared.refusal.Refusal.{Refusal}
-use Rattle.sf_dir.specs.declared.refusal.Refusal.TheVariants as refusal
 use Rattle.sf_loaders.specs.LoadPath.{LoadAnswer}
-use Rattle.sf_loaders.specs.declared.faults.LocalFault.{LocalFault}
-use Rattle.sf_loaders.specs.declared.faults.LocalFault.TheVariants as local
-use Rattle.sf_fill.specs.declared.fault.LoadFault.{LoadFault}
-use Rattle.sf_fill.specs.declared.fault.LoadFault.TheVariants as fault
-use Rattle.sf_fill.specs.declared.fault.GetRefusal.TheVariants as refused
+use Rattle.sf_letters.specs.declared.fault.LoadFault.TheVariants as fault
+use Rattle.sf_letters.specs.declared.fault.GetRefusal.TheVariants as refused
 use Rattle.sf_fill.specs.declared.getter.Standing.{Standing}
 use Rattle.sf_fill.specs.declared.getter.Standing.TheVariants.{Free, Owing}
-use Rattle.sf_fill.specs.declared.counters.totals.GetCounts.{GetCounts}
-use Rattle.sf_fill.specs.FillValue.{Filled}
-use Rattle.sf_fill.specs.Found.{Found, Kept, Uncopied, Unmade, Spent, Joined, Led, HasFound, HasFoundFrom, hit_counts, load_counts, get_alone, no_run}
+use Rattle.sf_counters.specs.declared.totals.GetCounts.{GetCounts}
+use Rattle.sf_letters.specs.Answers.{GetAnswer, answer_in, refusal_of}
+use Rattle.sf_letters.specs.FillValue.{Filled}
+use Rattle.sf_counters.specs.GetCounts.{hit_counts, load_counts, get_alone, no_run}
+use Rattle.sf_fill.specs.Found.{Found, Kept, Uncopied, Unmade, Spent, Joined, Led, HasFound, HasFoundFrom}
 use Rattle.sf_fill.specs.GetterValue.{GetterValue}
 use Rattle.sf_fill.specs.Owing.{HasSettledUp}
-use Rattle.sf_fill.specs.Settled.{HasLookedOn}
-use Rattle.sf_fill.specs.Totals.{with_counts}
-
-abbrev pub GetAnswer : Type 0
-GetAnswer = Result (LetterValue Filled) LoadFault
-
--- what is answered of a letter: itself where it has bytes, and else its fault
-abbrev pub answer_by : LetterValue Filled → Result (List ℕ) LocalFault → GetAnswer
-answer_by l (Ok bytes) = Ok l
-answer_by l (Err (local.Failed text)) = Err (fault.Local text)
-answer_by l (Err local.Memory) = Err fault.LeaderMemory
-
-abbrev pub answer_in : LetterValue Filled → GetAnswer
-answer_in l = answer_by l l.value.result
-
--- a letter's bytes are what was stated for the key and the call whose run loaded them
-abbrev pub IsLoadedFor : (List ℕ → CallId → List ℕ → Type 0) → List ℕ → LetterValue Filled → Type 0
-IsLoadedFor loaded key l = IfOk l.value.result (λ bytes. loaded key l.value.root bytes)
-
-abbrev pub refusal_of : Refusal → LoadFault
-refusal_of refusal.KeyTooLong = fault.Refused refused.KeyTooLong
-refusal_of refusal.Full = fault.Refused refused.Full
+use Rattle.sf_letters.specs.Settled.{HasLookedOn}
+use Rattle.sf_counters.specs.Totals.{with_counts}
 
 -- where the caller then stands, what is counted, and what is answered
 abbrev pub Reply : Type 0

@@ -5,9 +5,9 @@ use Rattle.sf_calls.specs.Tokens.{GroupValue, CallerValue}
 use Rattle.sf_spots.specs.declared.key_space.KeyDesk.{KeyDesk}
 use Rattle.sf_fill.specs.declared.getter.Standing.{Standing}
 use Rattle.sf_fill.specs.declared.getter.Standing.TheVariants.{Free, Owing}
-use Rattle.sf_fill.specs.declared.counters.totals.Totals.{Totals}
-use Rattle.sf_fill.specs.FillValue.{Filled}
-use Rattle.sf_fill.specs.Ledgers.{nothing_counted}
+use Rattle.sf_counters.specs.declared.totals.Totals.{Totals}
+use Rattle.sf_letters.specs.FillValue.{Filled}
+use Rattle.sf_counters.specs.Ledgers.{nothing_counted}
 use Rattle.sf_fill.specs.Logs.{LogValue, empty_log}
 
 -- its desk, its caller, which is free or owes letters, its loaders, what it has counted, and its log

@@ -7,12 +7,13 @@ use Rattle.sf_spots.specs.declared.key_place.KeyPlace.{KeyPlace}
 use Rattle.sf_spots.specs.declared.spot.Spot.{Spot}
 use Rattle.sf_spots.specs.Spaces.{SpaceId}
 use Rattle.sf_spots.specs.Spots.{IsSeeingSpace, IsSpotOfKey, place_at, spot_key, spot_place}
-use Rattle.sf_fill.specs.declared.fault.LoadFault.TheVariants as fault
-use Rattle.sf_fill.specs.FillValue.{Filled}
-use Rattle.sf_fill.specs.Found.{hit_counts}
-use Rattle.sf_fill.specs.Gets.{GetAnswer, IsLoadedFor, LooksFrom, answer_in}
+use Rattle.sf_letters.specs.declared.fault.LoadFault.TheVariants as fault
+use Rattle.sf_letters.specs.FillValue.{Filled}
+use Rattle.sf_counters.specs.GetCounts.{hit_counts}
+use Rattle.sf_letters.specs.Answers.{GetAnswer, IsLoadedFor, answer_in}
+use Rattle.sf_fill.specs.Gets.{LooksFrom}
 use Rattle.sf_fill.specs.GetterValue.{GetterValue}
-use Rattle.sf_fill.specs.Totals.{with_counts}
+use Rattle.sf_counters.specs.Totals.{with_counts}
 
 -- what is answered of a letter at hand; its copy may have been refused memory
 abbrev pub hit_answer : Result (LetterValue Filled) AllocError → GetAnswer

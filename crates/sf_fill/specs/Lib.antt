@@ -1,12 +1,3 @@
-pub mod ByteCounts
-pub mod Names
-pub mod FaultText
-pub mod Rooted
-pub mod FillValue
-pub mod Totals
-pub mod Ledgers
-pub mod Nowhere
-pub mod Settled
 pub mod Logs
 pub mod GetterValue
 pub mod Made
@@ -21,4 +12,3 @@ pub mod Bytes
 pub mod Notes
 pub mod Purges
 pub mod Puts
-pub mod Keeping

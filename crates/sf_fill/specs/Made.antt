@@ -5,9 +5,9 @@ use Rattle.sf_calls.specs.Tokens.{GroupValue, CallerValue}
 use Rattle.sf_spots.specs.declared.key_space.KeyDesk.{KeyDesk}
 use Rattle.sf_spots.specs.Spaces.{SpaceId, AreDesksOf, places_in}
 use Rattle.sf_fill.specs.declared.parts.FillParts.{FillParts}
-use Rattle.sf_fill.specs.Names.{LedgerNames}
-use Rattle.sf_fill.specs.Totals.{AreNamed}
-use Rattle.sf_fill.specs.FillValue.{Filled}
+use Rattle.sf_counters.specs.Names.{LedgerNames}
+use Rattle.sf_counters.specs.Totals.{AreNamed}
+use Rattle.sf_letters.specs.FillValue.{Filled}
 use Rattle.sf_fill.specs.GetterValue.{GetterValue, new_getter}
 
 module _ {L : Type 0} where

@@ -12,7 +12,7 @@ use Rattle.sf_spots.specs.Spaces.{SpaceId}
 use Rattle.sf_spots.specs.Spots.{spot_place}
 use Rattle.sf_fill.specs.declared.reload.Forgot.{Forgot}
 use Rattle.sf_fill.specs.declared.reload.Forgot.TheVariants as forgot
-use Rattle.sf_fill.specs.FillValue.{Filled}
+use Rattle.sf_letters.specs.FillValue.{Filled}
 use Rattle.sf_fill.specs.Fresh.{HasAdded, IsFresh, IsForgetOf}
 use Rattle.sf_calls.specs.Unforgotten.{forgets}
 use Rattle.sf_fill.specs.Purges.{HasForgottenFirst}

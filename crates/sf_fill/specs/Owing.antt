@@ -5,7 +5,7 @@ use Rattle.sf_calls.specs.Tokens.{LetterValue}
 use Rattle.sf_calls.specs.Finishes.{HasGoneOn}
 use Rattle.sf_fill.specs.declared.getter.Standing.{Standing}
 use Rattle.sf_fill.specs.declared.getter.Standing.TheVariants.{Free, Owing}
-use Rattle.sf_fill.specs.FillValue.{Filled, FitsFill}
+use Rattle.sf_letters.specs.FillValue.{Filled, FitsFill}
 use Rattle.sf_fill.specs.GetterValue.{GetterValue}
 
 -- a caller that owes nothing stays; a delivery that is owed goes on, and is done or is owed still

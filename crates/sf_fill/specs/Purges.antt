@@ -3,7 +3,7 @@ use Rattle.std.specs.Prelude.{◌≡◌, ℕ, zero, suc, ◌≤◌, true, false,
 use Rattle.sf_history.specs.declared.event.Event.{Event}
 use Rattle.sf_fill.specs.declared.getter.Standing.{Standing}
 use Rattle.sf_fill.specs.declared.reload.Forgot.{Forgot}
-use Rattle.sf_fill.specs.FillValue.{Filled}
+use Rattle.sf_letters.specs.FillValue.{Filled}
 use Rattle.sf_fill.specs.Fresh.{HasAdded, IsOutdated, handed_by, forgot_by}
 use Rattle.sf_fill.specs.Logs.{logged_by}
 use Rattle.sf_fill.specs.GetterValue.{GetterValue, number_of, seen_of}

@@ -3,16 +3,16 @@ use Rattle.std.specs.Prelude.{◌≡◌, ℕ, ◌-◌, ◌<◌, ◌^◌, List, S
 use Rattle.sf_calls.specs.Tokens.{LetterValue}
 use Rattle.sf_loaders.specs.Given.{KnownBytes}
 use Rattle.sf_spots.specs.Spaces.{SpaceId}
-use Rattle.sf_fill.specs.declared.fault.GetRefusal.TheVariants as refused
-use Rattle.sf_fill.specs.declared.fault.LoadFault.{LoadFault}
-use Rattle.sf_fill.specs.declared.fault.LoadFault.TheVariants as fault
+use Rattle.sf_letters.specs.declared.fault.GetRefusal.TheVariants as refused
+use Rattle.sf_letters.specs.declared.fault.LoadFault.{LoadFault}
+use Rattle.sf_letters.specs.declared.fault.LoadFault.TheVariants as fault
 use Rattle.sf_fill.specs.declared.put.Put.{Put}
 use Rattle.sf_fill.specs.declared.put.Put.TheVariants.{Settled, Met}
 use Rattle.sf_fill.specs.declared.reload.Forgot.{Forgot}
 use Rattle.sf_fill.specs.Counted.{IsCounted}
-use Rattle.sf_fill.specs.FillValue.{Filled}
+use Rattle.sf_letters.specs.FillValue.{Filled}
 use Rattle.sf_fill.specs.Fresh.{IsFreshGet, IsReloading}
-use Rattle.sf_fill.specs.Gets.{GetAnswer}
+use Rattle.sf_letters.specs.Answers.{GetAnswer}
 use Rattle.sf_fill.specs.GetterValue.{GetterValue, with_loaders}
 
 abbrev pub PutAnswer : Type 0

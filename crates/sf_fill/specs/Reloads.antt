@@ -10,14 +10,14 @@ use Rattle.sf_spots.specs.declared.spot.Spot.{Spot}
 use Rattle.sf_spots.specs.Spaces.{SpaceId}
 use Rattle.sf_spots.specs.Spots.{IsSpotOfKey, IsRefusedSpot, IsSeeingSpace, spot_place}
 use Rattle.sf_dir.specs.declared.refusal.Refusal.{Refusal}
-use Rattle.sf_fill.specs.declared.fault.LoadFault.{LoadFault}
-use Rattle.sf_fill.specs.declared.fault.LoadFault.TheVariants as fault
+use Rattle.sf_letters.specs.declared.fault.LoadFault.{LoadFault}
+use Rattle.sf_letters.specs.declared.fault.LoadFault.TheVariants as fault
 use Rattle.sf_fill.specs.declared.reload.Forgot.{Forgot}
 use Rattle.sf_fill.specs.declared.reload.Forgot.TheVariants as forgot
 use Rattle.sf_fill.specs.declared.getter.Standing.{Standing}
 use Rattle.sf_fill.specs.declared.getter.Standing.TheVariants.{Free, Owing}
-use Rattle.sf_fill.specs.FillValue.{Filled}
-use Rattle.sf_fill.specs.Gets.{refusal_of}
+use Rattle.sf_letters.specs.FillValue.{Filled}
+use Rattle.sf_letters.specs.Answers.{refusal_of}
 use Rattle.sf_fill.specs.GetterValue.{GetterValue}
 use Rattle.sf_fill.specs.Owing.{HasSettledUp}
 

@@ -1,14 +1,13 @@
 //! Fills, and what lies under their lock.
 ghost use Rattle.std.specs.Prelude.{◌≡◌, ◌<◌, map, vec_len};
-ghost use Rattle.sf_fill.specs.Totals.{sums_of};
+ghost use Rattle.sf_counters.specs.Totals.{sums_of};
 ghost use Rattle.sf_fill.specs.GetterValue.{GetterValue};
 
-use crate::counters::{Accounts, AllParts, Totals};
 use crate::getter::Getter;
-use crate::kept::Kept;
-use crate::naming::Naming;
-use crate::value::FillValue;
+use crate::locked::Locked;
+use sf_counters::{Accounts, AllParts, Naming, Totals};
 use sf_group::Group;
+use sf_letters::FillValue;
 use sf_loaders::Origin;
 use sf_spots::KeySpace;
 use std::alloc::Global;
@@ -21,7 +20,7 @@ use std::sync::{Mutex, Wait};
 pub struct Fill<'d, D: Naming, N: Naming, O: Origin> {
     pub(crate) space: KeySpace<'d>,
     pub(crate) group: Group<FillValue<'d, D, O>>,
-    pub(crate) kept: Mutex<Kept<'d, D, N, O>>,
+    pub(crate) locked: Mutex<Locked<'d, D, N, O>>,
     pub(crate) limit: i64,
     pub(crate) alloc: Global,
 }
@@ -46,7 +45,7 @@ impl<'d, D: Naming, N: Naming, O: Origin> Fill<'d, D, N, O> {
     /// What all getters have entered so far. A getter that runs has entered all that it counted but its last 63 gets at most; one
     /// that has ended, and one that was just told to `enter`, all.
     pub fn book<R: Wait>(&self, rt: &R) -> Totals {
-        self.kept.lock(rt).accounts.totals()
+        self.locked.lock(rt).accounts.totals()
     }
 
     /// The group whose callers its getters are. Others of its callers may ask and forget beside them.
@@ -63,9 +62,9 @@ impl<'d, D: Naming, N: Naming, O: Origin> Fill<'d, D, N, O> {
         requires some { 0 < vec_len getters }
         ensures { result ≡ sums_of (map (λ (g : GetterValue L). g.counted) getters.entry.items) }
     {
-        let mut kept = self.kept.lock(rt);
-        let mut all = sum_up(&mut kept.accounts, getters);
-        kept.accounts.gathered(&mut all)
+        let mut locked = self.locked.lock(rt);
+        let mut all = sum_up(&mut locked.accounts, getters);
+        locked.accounts.gathered(&mut all)
     }
 }
 

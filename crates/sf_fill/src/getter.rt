@@ -7,14 +7,13 @@ ghost use Rattle.sf_fill.specs.Owing.{HasDelivered, HasSettledUp};
 ghost use Rattle.sf_calls.specs.Notes.{HasGrown};
 ghost use Rattle.sf_fill.specs.Notes.{HasToldNote, HasLearntNote, NotesCarryPurges, NotesCarryReloads};
 
-use crate::counters::Tallies;
 use crate::fill::Fill;
 use crate::log::Log;
-use crate::naming::Naming;
 use crate::near::Near;
-use crate::value::FillValue;
 use sf_calls::Fit;
+use sf_counters::{Naming, Tallies};
 use sf_group::{Caller, Event, Finished, Memory, Note, Settled};
+use sf_letters::FillValue;
 use sf_loaders::Origin;
 use sf_spots::KeyDesk;
 use sf_words::PlaceNo;

@@ -15,33 +15,24 @@
 //! | spend a getter | `end`, or `gather` |
 #![tactic(auto)]
 
-mod counters;
-mod fault;
 mod fill;
 mod get;
 mod getter;
-mod kept;
 mod load;
+mod locked;
 mod log;
-mod naming;
 mod near;
 mod parts;
 mod put;
 mod reload;
-mod second;
 mod sizes;
-mod value;
-mod view;
 
-pub use counters::{Accounts, AllParts, GetCounts, Ledgers, Tallies, Totals};
-pub use fault::{GetRefusal, LoadFault};
 pub use fill::Fill;
 pub use getter::Getter;
-pub use naming::Naming;
 pub use parts::FillParts;
 pub use put::Put;
 pub use reload::Forgot;
 pub use sf_caches::{CacheStats, Which};
+pub use sf_counters::{Accounts, AllParts, GetCounts, Ledgers, Naming, Tallies, Totals};
+pub use sf_letters::{FillValue, GetRefusal, LoadFault, View};
 pub use sizes::Sizes;
-pub use value::FillValue;
-pub use view::View;

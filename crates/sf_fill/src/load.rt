@@ -1,24 +1,23 @@
 //! What a getter does once it leads a call.
 ghost use Rattle.std.specs.Prelude.{◌≡◌, IfOk};
-ghost use Rattle.sf_fill.specs.Keeping.{GoesWithin, LoadsInto, SourceGoesInto, cache_of, taken_over};
+ghost use Rattle.sf_letters.specs.Keeping.{GoesWithin, LoadsInto, SourceGoesInto, cache_of, taken_over};
 ghost use Rattle.sf_calls.specs.Same.{HasNothing, IsPlaceOf, IsSameFlight};
 ghost use Rattle.sf_calls.specs.Seen.{IsLawful};
 ghost use Rattle.sf_calls.specs.Notes.{HasLent};
 ghost use Rattle.sf_spots.specs.Spots.{IsInSpace, MayBe, spot_key, spot_place};
-ghost use Rattle.sf_fill.specs.FillValue.{FitsFill};
-ghost use Rattle.sf_fill.specs.Found.{DrawsFor, DrawsWithin, HasSettled, IsFromCache, IsLoaded, IsSource, second_look_counts};
-ghost use Rattle.sf_fill.specs.Rooted.{IsRooted};
-ghost use Rattle.sf_fill.specs.Settled.{CopiesFollowed, IsSettled};
-ghost use Rattle.sf_fill.specs.Totals.{IsOfOneGet};
+ghost use Rattle.sf_letters.specs.FillValue.{FitsFill};
+ghost use Rattle.sf_counters.specs.GetCounts.{second_look_counts};
+ghost use Rattle.sf_fill.specs.Found.{DrawsFor, DrawsWithin, HasSettled, IsFromCache, IsLoaded, IsSource};
+ghost use Rattle.sf_letters.specs.Rooted.{IsRooted};
+ghost use Rattle.sf_letters.specs.Settled.{CopiesFollowed, IsSettled};
+ghost use Rattle.sf_counters.specs.Totals.{IsOfOneGet};
 
-use crate::counters::GetCounts;
 use crate::fill::Fill;
-use crate::naming::Naming;
-use crate::second::{InCache, Missed};
-use crate::value::FillValue;
 use sf_caches::Which;
+use sf_counters::{GetCounts, NO_RUN, Naming};
 use sf_group::{Caller, Finished, Flight, Letter};
-use sf_loaders::{Counts, LoadPath, LocalFault, Origin, Source};
+use sf_letters::{FillValue, InCache, Missed};
+use sf_loaders::{LoadPath, LocalFault, Origin, Source};
 use sf_spots::Spot;
 use std::sync::Wait;
 
@@ -34,15 +33,6 @@ const SECOND_LOOK: GetCounts = GetCounts {
     cache_hits: 1,
     loads: 1,
     run: NO_RUN,
-};
-
-/// What is counted where the load path is not run.
-pub(crate) const NO_RUN: Counts = Counts {
-    loads_deduped: 0,
-    peer_loads: 0,
-    peer_errors: 0,
-    local_loads: 0,
-    local_load_errors: 0,
 };
 
 impl<'d, D: Naming, N: Naming, O: Origin> Fill<'d, D, N, O> {

@@ -4,16 +4,15 @@ ghost use Rattle.sf_spots.specs.Spots.{IsInSpace, MayBe, place_at, spot_at, spot
 ghost use Rattle.sf_calls.specs.Currents.{HasQuestioned};
 ghost use Rattle.sf_calls.specs.Notes.{HasLent};
 ghost use Rattle.sf_calls.specs.Same.{IsPlaceOf};
-ghost use Rattle.sf_fill.specs.Gets.{IsLoadedFor, answer_in};
+ghost use Rattle.sf_letters.specs.Answers.{IsLoadedFor, answer_in};
 ghost use Rattle.sf_fill.specs.Bytes.{FindsBytes};
-ghost use Rattle.sf_fill.specs.Settled.{HasLooked, HasOnlyLooked, IsCurrentLetter, IsKeptLetter, IsSettled};
+ghost use Rattle.sf_letters.specs.Settled.{HasLooked, HasOnlyLooked, IsCurrentLetter, IsKeptLetter, IsSettled};
 
-use crate::naming::Naming;
-use crate::value::FillValue;
-use crate::view::View;
 use bytes::Bytes;
+use sf_counters::Naming;
 use sf_group::{Caller, Group, Letter, Memory};
 use sf_history::CallId;
+use sf_letters::{FillValue, View};
 use sf_loaders::Origin;
 use sf_spots::KeyPlace;
 use std::alloc::Global;
@@ -32,8 +31,8 @@ struct NearView<'d, D: Naming, N: Naming, O: Origin> {
 
 impl<'d, D: Naming, N: Naming, O: Origin> Model for NearView<'d, D, N, O> {
     ghost use Rattle.sf_calls.specs.Tokens.{LetterValue};
-    ghost use Rattle.sf_fill.specs.FillValue.{Filled};
-    ghost use Rattle.sf_fill.specs.Settled.{IsKeptLetter};
+    ghost use Rattle.sf_letters.specs.FillValue.{Filled};
+    ghost use Rattle.sf_letters.specs.Settled.{IsKeptLetter};
 
     ghost Value = { LetterValue Filled };
 

@@ -4,22 +4,20 @@ ghost use Rattle.sf_calls.specs.Making.{IsNewCaller};
 ghost use Rattle.sf_caches.specs.Trimming.{no_entries, room_of};
 ghost use Rattle.sf_words.specs.declared.limits.TheConstants.{LARGEST_PLACE, LARGEST_CALLER};
 ghost use Rattle.sf_spots.specs.Spaces.{AreDesksOf, places_in, space_of};
-ghost use Rattle.sf_fill.specs.Ledgers.{nothing_counted};
+ghost use Rattle.sf_counters.specs.Ledgers.{nothing_counted};
 ghost use Rattle.sf_fill.specs.Logs.{empty_log};
 ghost use Rattle.sf_fill.specs.Made.{AreOfGroup, AreParts, new_getters};
-ghost use Rattle.sf_fill.specs.Totals.{names_of};
+ghost use Rattle.sf_counters.specs.Totals.{names_of};
 
-use crate::counters::{Accounts, AllParts, Ledgers};
 use crate::fill::Fill;
 use crate::getter::{Getter, Standing};
-use crate::kept::{Cached, Kept};
+use crate::locked::Locked;
 use crate::log::Log;
-use crate::naming::Naming;
 use crate::near::Near;
 use crate::sizes::Sizes;
-use crate::value::FillValue;
-use sf_caches::Caches;
+use sf_counters::{Accounts, AllParts, Ledgers, Naming};
 use sf_group::{Caller, Group, Memory};
+use sf_letters::{FillValue, Kept};
 use sf_loaders::Origin;
 use sf_spots::{KeyDesk, KeySpace};
 use std::alloc::Global;
@@ -42,7 +40,7 @@ pub struct FillParts<'d, D: Naming, O: Origin, L> {
 
 /// All memory that a fill takes when it is made.
 struct Rooms<'d, D: Naming, N: Naming, O: Origin, L> {
-    caches: Caches<Cached<'d, D, N, O>>,
+    kept: Kept<'d, D, N, O>,
     getters: Vec<Getter<'d, D, N, O, L>>,
     logs: Vec<Log>,
 }
@@ -68,20 +66,21 @@ fn reserve<'d, D: Naming, N: Naming, O: Origin, L>(
     getters: usize,
     log: usize,
 ) -> Result<Rooms<'d, D, N, O, L>, Memory>
-    requires { 1 ≤ places }
+    requires limit { limit ≡ N.limit }
+    requires places { (1 ≤ places) × (places ≡ N.group.sizes.places) }
     ensures getters { IfOk result (λ r.
         (r.getters.items ≡ []) × (getters ≤ vec_capacity r.getters)) }
-    ensures caches { IfOk result (λ r. r.caches ≡ no_entries (room_of limit) places) }
+    ensures kept { IfOk result (λ r. r.kept ≡ no_entries (room_of limit) places) }
     ensures logs { IfOk result (λ r. (vec_len r.logs ≡ getters)
         × All (λ empty. empty ≡ empty_log log) r.logs.items) }
 {
-    let caches = Caches::new(alloc, limit, places)?;
+    let kept = Kept::new(alloc, limit, places)?;
     let logs = logs_with_room(alloc, getters, log)?;
     let Ok(list) = Vec::with_capacity(alloc, getters) else {
         return Err(Memory);
     };
     Ok(Rooms {
-        caches,
+        kept,
         getters: list,
         logs,
     })
@@ -215,17 +214,17 @@ impl<'d, D: Naming, N: Naming, O: Origin> Fill<'d, D, N, O> {
             });
         };
         let Rooms {
-            caches,
+            kept,
             getters: list,
             logs,
         } = rooms;
         let (accounts, all) = Accounts::open(ledgers, count as u64);
         let getters = getters_of(alloc, sizes, desks, callers, loaders, logs, all, list);
-        let kept = Mutex::new(Kept { caches, accounts });
+        let locked = Mutex::new(Locked { kept, accounts });
         let fill = Fill {
             space,
             group,
-            kept,
+            locked,
             limit: sizes.limit,
             alloc,
         };

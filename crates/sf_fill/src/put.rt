@@ -3,12 +3,11 @@ ghost use Rattle.std.specs.Prelude.{◌<◌, ◌-◌, ◌^◌};
 ghost use Rattle.sf_history.specs.declared.call.CallId.{CallId};
 ghost use Rattle.sf_fill.specs.Puts.{GetsGiven, HasPut};
 
-use crate::fault::{GetRefusal, LoadFault};
 use crate::fill::Fill;
 use crate::getter::Getter;
-use crate::naming::Naming;
-use crate::view::View;
 use bytes::Bytes;
+use sf_counters::Naming;
+use sf_letters::{GetRefusal, LoadFault, View};
 use sf_loaders::{Given, Origin};
 use std::sync::Wait;
 

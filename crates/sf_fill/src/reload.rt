@@ -8,15 +8,14 @@ ghost use Rattle.sf_fill.specs.Purges.{ForgetsAll};
 ghost use Rattle.sf_fill.specs.GetterValue.{IsOfGroup, number_of, seen_of};
 ghost use Rattle.sf_fill.specs.Logs.{HasLogged};
 
-use crate::fault::{LoadFault, of_key};
 use crate::fill::Fill;
 use crate::getter::{Getter, Standing};
 use crate::log::Log;
-use crate::naming::Naming;
 use crate::near::Near;
-use crate::value::FillValue;
+use sf_counters::Naming;
 use sf_group::{Caller, Memory};
 use sf_history::{CallId, Hit};
+use sf_letters::{FillValue, LoadFault, of_key};
 use sf_loaders::Origin;
 use sf_spots::KeyDesk;
 use sf_wait::forget_call_wait;
@@ -63,12 +62,12 @@ impl<'d, D: Naming, N: Naming, O: Origin> Fill<'d, D, N, O> {
         requires place { IsPlaceOf N.group place }
         ensures { ForgetsNamed caller.old place result caller.new }
     {
-        let mut kept = self.kept.lock(rt);
+        let mut locked = self.locked.lock(rt);
         let Some(call) = self.group.named(caller, place) else {
             return Forgot::Idle;
         };
         let hit = forget_call_wait(rt, &self.group, caller, place, call);
-        kept.remove_call(place, call);
+        locked.kept.remove_call(place, call);
         Forgot::of(call, hit)
     }
 

@@ -1,7 +1,7 @@
 //! The counters of a fill.
 
 ghost use Rattle.std.specs.Prelude.{◌≡◌};
-ghost use Rattle.sf_fill.specs.Totals.{AreNamed};
+ghost use Rattle.sf_counters.specs.Totals.{AreNamed};
 
 use sf_fill::{Accounts, GetCounts, Ledgers, Naming, Totals};
 use sf_loaders::Counts;

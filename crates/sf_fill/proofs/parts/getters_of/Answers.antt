@@ -1,11 +1,11 @@
 use Rattle.std.proofs.Common.{◌≡◌, ◌+◌, ap, ◌∙◌, arith, vec_len}
 use Rattle.sf_spots.specs.Spaces.{IsDeskOf}
 use Rattle.sf_calls.specs.Tokens.{CallerValue}
-use Rattle.sf_fill.specs.declared.counters.totals.Totals.{Totals}
+use Rattle.sf_counters.specs.declared.totals.Totals.{Totals}
 use Rattle.sf_fill.specs.declared.getter.Standing.TheVariants.{Free}
-use Rattle.sf_fill.specs.FillValue.{Filled}
+use Rattle.sf_letters.specs.FillValue.{Filled}
 use Rattle.sf_fill.specs.GetterValue.{GetterValue}
-use Rattle.sf_fill.specs.Ledgers.{nothing_counted}
+use Rattle.sf_counters.specs.Ledgers.{nothing_counted}
 use Rattle.sf_fill.specs.Logs.{LogValue, empty_log}
 use Rattle.sf_fill.proofs.Dealt.{dealt_more}
 use Rattle.sf_fill.proofs.Popped.{popped, last_is}

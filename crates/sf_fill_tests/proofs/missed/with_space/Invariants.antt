@@ -1,6 +1,6 @@
 use Rattle.std.specs.Prelude.{pos}
 use Rattle.sf_spots.specs.Spaces.{space_of}
-use Rattle.sf_fill.specs.Totals.{names_of}
+use Rattle.sf_counters.specs.Totals.{names_of}
 use Rattle.sf_fill_tests.proofs.missed.with_space.Given as goal
 
 abbrev pub ghosts-play : goal.ghosts-play

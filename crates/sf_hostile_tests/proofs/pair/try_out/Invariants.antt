@@ -1,5 +1,5 @@
 use Rattle.std.specs.Prelude.{pos}
-use Rattle.sf_fill.specs.Nowhere.{no_group, no_ledgers}
+use Rattle.sf_counters.specs.Nowhere.{no_group, no_ledgers}
 use Rattle.sf_spots.specs.Spaces.{space_of}
 use Rattle.sf_hostile_tests.proofs.pair.try_out.Given as goal
 

@@ -5,8 +5,8 @@ use Rattle.sf_calls.specs.declared.outcomes.Finished.{Finished}
 use Rattle.sf_calls.specs.declared.outcomes.Finished.TheVariants.{Done, Held}
 use Rattle.sf_calls.specs.Tokens.{CallerValue, FlightValue, LetterValue, SettledValue}
 use Rattle.sf_calls.specs.Same.{IsSameFlight}
-use Rattle.sf_fill.specs.declared.counters.totals.GetCounts.{GetCounts}
-use Rattle.sf_fill.specs.FillValue.{Filled}
+use Rattle.sf_counters.specs.declared.totals.GetCounts.{GetCounts}
+use Rattle.sf_letters.specs.FillValue.{Filled}
 use Rattle.sf_fill.specs.Found.{HasSettled, Led}
 use Rattle.sf_fill.specs.Gets.{reply_of}
 use Rattle.sf_fill.specs.GetterValue.{seen_of}

@@ -1,5 +1,5 @@
 use Rattle.std.proofs.Common.{rules}
-use Rattle.sf_fill.proofs.Looks.{follows_fit}
+use Rattle.sf_letters.proofs.Looks.{follows_fit}
 use Rattle.sf_fill.proofs.fill.Fill.reuse.Goals as goal
 
 pub returns-in-Ok-clause-fits : goal.returns-in-Ok-clause-fits

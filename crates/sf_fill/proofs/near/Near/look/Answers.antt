@@ -1,5 +1,5 @@
 use Rattle.std.proofs.Common.{rules}
-use Rattle.sf_fill.proofs.Looks.{current_at, looked_lent_on}
+use Rattle.sf_letters.proofs.Looks.{current_at, looked_lent_on}
 use Rattle.sf_fill.proofs.near.Near.look.Goals as goal
 
 pub returns-then-current-clause-looked : goal.returns-then-current-clause-looked

@@ -1,0 +1,3 @@
+pub mod Rooting
+pub mod Looks
+pub mod Promoted
