@@ -1,5 +1,4 @@
 -- what one get counts
-use Rattle.std.specs.Prelude.{ℕ}
 use Rattle.sf_loaders.specs.declared.counts.Counts.{Counts}
 use Rattle.sf_counters.specs.declared.totals.GetCounts.{GetCounts}
 

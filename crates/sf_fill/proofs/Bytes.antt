@@ -3,7 +3,6 @@ use Rattle.std.proofs.Common.{◌≡◌, ℕ, List, Option, Some, None, IfSome, 
 use Rattle.std.specs.Option.{option_map}
 use Rattle.std.specs.declared.alloc.AllocError.{AllocError}
 use Rattle.sf_calls.specs.Tokens.{CallerValue, LetterValue}
-use Rattle.sf_calls.specs.Notes.{HasLent}
 use Rattle.sf_history.specs.declared.call.CallId.{CallId}
 use Rattle.sf_loaders.specs.declared.faults.LocalFault.{LocalFault}
 use Rattle.sf_loaders.specs.declared.faults.LocalFault.TheVariants as local
@@ -16,22 +15,16 @@ use Rattle.sf_letters.specs.declared.fault.LoadFault.{LoadFault}
 use Rattle.sf_letters.specs.declared.fault.LoadFault.TheVariants as fault
 use Rattle.sf_fill.specs.declared.getter.Standing.{Standing}
 use Rattle.sf_fill.specs.declared.getter.Standing.TheVariants.{Free}
-use Rattle.sf_fill.specs.Bytes.{AreBytesOf, BringsBytes, FindsBytes, LooksForBytes, bytes_by, bytes_in}
+use Rattle.sf_near.specs.Bytes.{AreBytesOf, FindsBytes}
+use Rattle.sf_fill.specs.Bytes.{BringsBytes, LooksForBytes, bytes_by, bytes_in}
 use Rattle.sf_letters.specs.FillValue.{Filled}
 use Rattle.sf_counters.specs.GetCounts.{hit_counts}
 use Rattle.sf_letters.specs.Answers.{GetAnswer, IsLoadedFor, answer_by}
 use Rattle.sf_fill.specs.GetterValue.{GetterValue, is_owing}
 use Rattle.sf_fill.specs.Hits.{IsAtHand, IsNoneAtHand, IsPresent, LooksAtHand, hit_answer}
 use Rattle.sf_fill.specs.Logs.{LogValue}
-use Rattle.sf_letters.specs.Settled.{IsCurrentLetter}
 use Rattle.sf_counters.specs.Totals.{with_counts}
 use Rattle.sf_fill.proofs.Once.{found_at_hand, looks_at_hand_on, present_fresh}
-
--- the bytes of a near letter whose call is current
-pub finds_bytes : (stated : List ℕ → CallId → List ℕ → Type 0) (key : List ℕ) (c d : CallerValue Filled) (place : ℕ) (l m : LetterValue Filled) (bytes : Result (List ℕ) AllocError)
-    → IsCurrentLetter c place l d → HasLent l m → IfOk bytes (λ b. m.value.result ≡ Ok b) → spot_key m.value.spot ≡ key → IsLoadedFor stated key m → FindsBytes stated key c place d bytes
-finds_bytes stated key c d place l m (Ok b) current lent is keyed loaded = record { found = Ok m; looked = (l, current, lent); bytes_are = is; keyed = keyed; loaded = loaded }
-finds_bytes stated key c d place l m (Err e) current lent is keyed loaded = record { found = Err e; looked = (l, current); bytes_are = tt; keyed = tt; loaded = tt }
 
 -- a get's bytes, where a want of memory is a fault of its own
 abbrev pub brought : Result (List ℕ) AllocError → Result (List ℕ) LoadFault

@@ -1,8 +1,7 @@
 -- the bytes alone of what is answered
-use Rattle.std.specs.Prelude.{◌≡◌, ℕ, List, Option, Some, Result, Ok, Err, IfOk}
+use Rattle.std.specs.Prelude.{◌≡◌, ℕ, List, Option, Result, Ok, Err, IfOk}
 use Rattle.std.specs.Option.{option_map}
-use Rattle.std.specs.declared.alloc.AllocError.{AllocError}
-use Rattle.sf_calls.specs.Tokens.{CallerValue, LetterValue}
+use Rattle.sf_calls.specs.Tokens.{LetterValue}
 use Rattle.sf_history.specs.declared.call.CallId.{CallId}
 use Rattle.sf_loaders.specs.declared.faults.LocalFault.{LocalFault}
 use Rattle.sf_loaders.specs.declared.faults.LocalFault.TheVariants as local
@@ -16,7 +15,6 @@ use Rattle.sf_fill.specs.Fresh.{IsFreshGet}
 use Rattle.sf_letters.specs.Answers.{GetAnswer, IsLoadedFor}
 use Rattle.sf_fill.specs.GetterValue.{GetterValue}
 use Rattle.sf_fill.specs.Hits.{IsPresent, LooksAtHand}
-use Rattle.sf_letters.specs.Settled.{HasLooked}
 
 -- a value's bytes, or its fault as a get's
 abbrev pub bytes_by : Result (List ℕ) LocalFault → Result (List ℕ) LoadFault
@@ -28,22 +26,6 @@ bytes_by (Err local.Memory) = Err fault.LeaderMemory
 abbrev pub bytes_in : GetAnswer → Result (List ℕ) LoadFault
 bytes_in (Ok l) = bytes_by l.value.result
 bytes_in (Err refused) = Err refused
-
--- the bytes of the letter that a look found, or memory was refused for them
-abbrev pub AreBytesOf : Result (LetterValue Filled) AllocError → Result (List ℕ) AllocError → Type 0
-AreBytesOf (Ok l) (Ok bytes) = l.value.result ≡ Ok bytes
-AreBytesOf (Ok l) (Err refused) = ⊥
-AreBytesOf (Err refused) (Ok bytes) = ⊥
-AreBytesOf (Err refused) (Err also) = Unit {0}
-
-module _ (stated : List ℕ → CallId → List ℕ → Type 0) (key : List ℕ) where
-  -- a look at the place found a letter of the key, and these are its bytes
-  pub record FindsBytes (c : CallerValue Filled) (place : ℕ) (d : CallerValue Filled) (bytes : Result (List ℕ) AllocError) : Type 0 where
-    pub found : Result (LetterValue Filled) AllocError
-    pub looked : HasLooked c place (Some found) d
-    pub bytes_are : AreBytesOf found bytes
-    pub keyed : IfOk found (λ (l : LetterValue Filled). spot_key l.value.spot ≡ key)
-    pub loaded : IfOk found (IsLoadedFor stated key)
 
 module _ {L : Type 0} (stated : List ℕ → CallId → List ℕ → Type 0) (key : List ℕ) where
   -- a look for the key at its place, of whose answer the bytes alone are brought

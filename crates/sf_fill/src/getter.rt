@@ -9,12 +9,12 @@ ghost use Rattle.sf_fill.specs.Notes.{HasToldNote, HasLearntNote, NotesCarryPurg
 
 use crate::fill::Fill;
 use crate::log::Log;
-use crate::near::Near;
 use sf_calls::Fit;
 use sf_counters::{Naming, Tallies};
 use sf_group::{Caller, Event, Finished, Memory, Note, Settled};
 use sf_letters::FillValue;
 use sf_loaders::Origin;
+use sf_near::Near;
 use sf_spots::KeyDesk;
 use sf_words::PlaceNo;
 use std::marker::Model;
@@ -34,6 +34,19 @@ impl<V: Fit> Standing<V> {
         match self {
             Standing::Free(_) => false,
             Standing::Owing(_) => true,
+        }
+    }
+
+    // The caller, if it is free; what it owes else never comes.
+    fn into_caller(self) -> Option<Caller<V>>
+        ensures { result ≡ free_caller self }
+    {
+        match self {
+            Standing::Free(caller) => Some(caller),
+            Standing::Owing(settled) => {
+                settled.abandon();
+                None
+            }
         }
     }
 
@@ -127,13 +140,7 @@ impl<'d, D: Naming, N: Naming, O: Origin, L> Getter<'d, D, N, O, L> {
             near: _,
         } = self;
         fill.enter(rt, &mut tallies);
-        match standing {
-            Standing::Free(caller) => Some(caller),
-            Standing::Owing(settled) => {
-                settled.abandon();
-                None
-            }
-        }
+        standing.into_caller()
     }
 
     /// Enters in the fill's book what the getter has counted and not entered yet: its last 63 gets at most.

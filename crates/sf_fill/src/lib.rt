@@ -21,7 +21,6 @@ mod getter;
 mod load;
 mod locked;
 mod log;
-mod near;
 mod parts;
 mod put;
 mod reload;

@@ -1,5 +1,5 @@
 -- what is answered of a letter
-use Rattle.std.specs.Prelude.{◌≡◌, ℕ, List, Result, Ok, Err, IfOk}
+use Rattle.std.specs.Prelude.{ℕ, List, Result, Ok, Err, IfOk}
 use Rattle.sf_history.specs.declared.call.CallId.{CallId}
 use Rattle.sf_calls.specs.Tokens.{LetterValue}
 use Rattle.sf_dir.specs.declared.refusal.Refusal.{Refusal}

@@ -1,6 +1,6 @@
 use Rattle.std.proofs.Common.{rules}
 use Rattle.sf_letters.proofs.Looks.{current_at, looked_lent_on}
-use Rattle.sf_fill.proofs.near.Near.look.Goals as goal
+use Rattle.sf_near.proofs.near.Near.look.Goals as goal
 
 pub returns-then-current-clause-looked : goal.returns-then-current-clause-looked
 returns-then-current-clause-looked g c =

@@ -1,133 +1,24 @@
-//! Letters that a getter keeps near: it looks at them before it takes the lock.
-ghost use Rattle.std.specs.Prelude.{◌≡◌, ◌↔◌, ◌≤◌, ◌<◌, IfOk, IfSome, IsTrue, None, Ok, Some, true};
+//! The slots of a getter's near letters.
+ghost use Rattle.std.specs.Prelude.{◌≡◌, ◌≤◌, ◌<◌, IfOk, IfSome, None, Ok, Some, true};
 ghost use Rattle.sf_spots.specs.Spots.{IsInSpace, MayBe, place_at, spot_at, spot_key};
-ghost use Rattle.sf_calls.specs.Currents.{HasQuestioned};
 ghost use Rattle.sf_calls.specs.Notes.{HasLent};
 ghost use Rattle.sf_calls.specs.Same.{IsPlaceOf};
 ghost use Rattle.sf_letters.specs.Answers.{IsLoadedFor, answer_in};
-ghost use Rattle.sf_fill.specs.Bytes.{FindsBytes};
 ghost use Rattle.sf_letters.specs.Settled.{HasLooked, HasOnlyLooked, IsCurrentLetter, IsKeptLetter, IsSettled};
+ghost use Rattle.sf_near.specs.Bytes.{FindsBytes};
 
+use crate::view::NearView;
 use bytes::Bytes;
 use sf_counters::Naming;
 use sf_group::{Caller, Group, Letter, Memory};
-use sf_history::CallId;
 use sf_letters::{FillValue, View};
 use sf_loaders::Origin;
 use sf_spots::KeyPlace;
 use std::alloc::Global;
-use std::marker::{Model, PhantomData};
 use std::mem;
 
 /// How many near hits of a letter there are from one look in the caches to the next, so that their order knows of it.
 const HITS_ALONE: u32 = 63;
-
-/// A letter of the fill's group, whose call was settled so, as a view: its bytes nobody shares but who was answered it.
-#[derive(Drop)]
-struct NearView<'d, D: Naming, N: Naming, O: Origin> {
-    own: View<'d, D, O>,
-    of: PhantomData<N>,
-}
-
-impl<'d, D: Naming, N: Naming, O: Origin> Model for NearView<'d, D, N, O> {
-    ghost use Rattle.sf_calls.specs.Tokens.{LetterValue};
-    ghost use Rattle.sf_letters.specs.FillValue.{Filled};
-    ghost use Rattle.sf_letters.specs.Settled.{IsKeptLetter};
-
-    ghost Value = { LetterValue Filled };
-
-    ghost view = { λ n. n.own };
-
-    ghost invariant = { λ n. IsKeptLetter N.group n.own.place n.own };
-}
-
-impl<'d, D: Naming, N: Naming, O: Origin> NearView<'d, D, N, O> {
-    // A view to be kept.
-    fn new(own: View<'d, D, O>) -> Self
-        requires { IsKeptLetter N.group own.place own }
-        ensures { result ≡ own.entry }
-    {
-        NearView {
-            own,
-            of: PhantomData,
-        }
-    }
-
-    // The number of its place.
-    fn place(&self) -> u32
-        ensures { result ≡ self.now.place }
-    {
-        self.own.place()
-    }
-
-    // Its call.
-    fn call(&self) -> CallId
-        ensures { result ≡ self.now.call }
-    {
-        self.own.call()
-    }
-
-    // Whether it may be of the key, whose place is its own.
-    fn is_of(&self, key: &[u8]) -> bool
-        ensures { IsTrue result ↔ MayBe self.now.value.spot key.now }
-    {
-        self.own.is_of(key)
-    }
-
-    // Whether its call is its place's current one. The caller learns what its note shows first.
-    fn is_current(
-        &mut self,
-        group: &Group<FillValue<'d, D, O>>,
-        caller: &mut Caller<FillValue<'d, D, O>>,
-    ) -> bool
-        requires group { group.now ≡ N.group }
-        requires caller { caller.old.group ≡ N.group }
-        requires place { IsPlaceOf N.group self.old.place }
-        ensures kept { IsKeptLetter N.group self.old.place self.old }
-        ensures asked { HasQuestioned caller.old self.old result caller.new self.new }
-    {
-        self.own.is_current(group, caller)
-    }
-
-    // Another view of the same, for the key of the place, which it may be of.
-    #[inline(always)]
-    fn show(
-        &mut self,
-        group: &Group<FillValue<'d, D, O>>,
-        at: &mut KeyPlace<'d>,
-        key: &[u8],
-    ) -> Result<View<'d, D, O>, Memory>
-        requires group { group.now ≡ N.group }
-        requires space { IsInSpace D.space (spot_at key.now at.old) }
-        requires number { place_at at.old ≡ self.old.place }
-        requires may_be { MayBe self.old.value.spot key.now }
-        ensures again { IfOk result (λ view. HasLent self.old view) }
-        ensures answer { IfOk result (λ view. answer_in view ≡ Ok view) }
-        ensures keyed { IfOk result (λ view.
-            spot_key view.value.spot ≡ spot_key (spot_at key.now at.old)) }
-        ensures loaded { IfOk result (IsLoadedFor O.loaded (spot_key (spot_at key.now at.old))) }
-        ensures same { at.new ≡ at.old }
-    {
-        self.own.agree(at, key);
-        self.own.again(group)
-    }
-
-    // Its bytes, for the key of the place, which it may be of.
-    #[inline(always)]
-    fn bytes(&mut self, at: &mut KeyPlace<'d>, key: &[u8]) -> Result<Bytes, Memory>
-        requires space { IsInSpace D.space (spot_at key.now at.old) }
-        requires number { place_at at.old ≡ self.old.place }
-        requires may_be { MayBe self.old.value.spot key.now }
-        ensures bytes { IfOk result (λ bytes. self.old.value.result ≡ Ok bytes) }
-        ensures answer { answer_in self.old ≡ Ok self.old }
-        ensures keyed { spot_key self.old.value.spot ≡ spot_key (spot_at key.now at.old) }
-        ensures loaded { IsLoadedFor O.loaded (spot_key (spot_at key.now at.old)) self.old }
-        ensures same { (self.new ≡ self.old) × (at.new ≡ at.old) }
-    {
-        self.own.agree(at, key);
-        self.own.bytes().clone()
-    }
-}
 
 /// A slot's view.
 #[derive(Drop)]
@@ -174,7 +65,7 @@ impl<'d, D: Naming, N: Naming, O: Origin> NearLetter<'d, D, N, O> {
 /// A getter's own letters: each lies in the slot that the rest of its place names, or in that one's neighbour. There are no slots
 /// before the first is kept.
 #[derive(Drop)]
-pub(crate) struct Near<'d, D: Naming, N: Naming, O: Origin> {
+pub struct Near<'d, D: Naming, N: Naming, O: Origin> {
     slots: Vec<Option<NearLetter<'d, D, N, O>>>,
     /// How many slots there are to be: none, or a power of two.
     most: usize,
@@ -225,8 +116,8 @@ fn own_copy<'d, D: Naming, O: Origin>(
 }
 
 impl<'d, D: Naming, N: Naming, O: Origin> Near<'d, D, N, O> {
-    // No letters yet, and room for so many, of so many bytes.
-    pub(crate) fn new(alloc: Global, most: u32, limit: usize) -> Self {
+    /// No letters yet, and room for so many, of so many bytes.
+    pub fn new(alloc: Global, most: u32, limit: usize) -> Self {
         Near {
             slots: Vec::new(alloc),
             most: slot_count(most),
@@ -302,24 +193,24 @@ impl<'d, D: Naming, N: Naming, O: Origin> Near<'d, D, N, O> {
         }
     }
 
-    // Empties all slots, which are given back.
-    pub(crate) fn empty(&mut self) {
+    /// Empties all slots, which are given back.
+    pub fn empty(&mut self) {
         self.slots = Vec::new(self.alloc);
         self.room = self.limit;
         self.hand = 0;
     }
 
-    // Empties the slot that has a letter of the place.
-    pub(crate) fn remove(&mut self, place: u32) {
+    /// Empties the slot that has a letter of the place.
+    pub fn remove(&mut self, place: u32) {
         if let Some(index) = self.find(place) {
             self.clear(index);
         }
     }
 
-    // What the getter's own letter of the key at the place answers, if its call is current; else its slot is emptied. Each 64th
-    // time there is none, so that the getter looks in the caches.
+    /// What the getter's own letter of the key at the place answers, if its call is current; else its slot is emptied. Each 64th
+    /// time there is none, so that the getter looks in the caches.
     #[inline(always)]
-    pub(crate) fn look(
+    pub fn look(
         &mut self,
         group: &Group<FillValue<'d, D, O>>,
         at: &mut KeyPlace<'d>,
@@ -349,9 +240,9 @@ impl<'d, D: Naming, N: Naming, O: Origin> Near<'d, D, N, O> {
         None
     }
 
-    // The bytes of the getter's own letter of the key at the place, where `look` would answer the letter.
+    /// The bytes of the getter's own letter of the key at the place, where `look` would answer the letter.
     #[inline(always)]
-    pub(crate) fn look_for_bytes(
+    pub fn look_for_bytes(
         &mut self,
         group: &Group<FillValue<'d, D, O>>,
         at: &mut KeyPlace<'d>,
@@ -409,9 +300,9 @@ impl<'d, D: Naming, N: Naming, O: Origin> Near<'d, D, N, O> {
         true
     }
 
-    // Puts a copy of the letter into a slot, if there are to be any. The letter's note may show more then.
+    /// Puts a copy of the letter into a slot, if there are to be any. The letter's note may show more then.
     #[inline(always)]
-    pub(crate) fn keep(
+    pub fn keep(
         &mut self,
         group: &Group<FillValue<'d, D, O>>,
         key_len: usize,

@@ -1,7 +1,7 @@
 use Rattle.std.proofs.Common.{rules}
-use Rattle.sf_fill.proofs.Bytes.{finds_bytes}
+use Rattle.sf_near.proofs.Bytes.{finds_bytes}
 use Rattle.sf_letters.proofs.Looks.{current_at}
-use Rattle.sf_fill.proofs.near.Near.look_for_bytes.Goals as goal
+use Rattle.sf_near.proofs.near.Near.look_for_bytes.Goals as goal
 
 pub returns-then-current-clause-found : goal.returns-then-current-clause-found
 returns-then-current-clause-found g c =
