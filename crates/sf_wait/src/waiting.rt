@@ -1,5 +1,5 @@
 //! The group's calls that can be busy or pending, each as a form that comes back when it is done.
-ghost use Rattle.std.specs.Prelude.{◌≡◌, ◌≤◌, IfOk, IfErr};
+ghost use Rattle.std.specs.Prelude.{◌≡◌, IfOk, IfErr};
 ghost use Rattle.sf_calls.specs.Same.{IsPlaceOf};
 ghost use Rattle.sf_calls.specs.Begins.{HasBegun, HasChanBegun, IsRefusedSpent, AreRefusedSpent};
 ghost use Rattle.sf_calls.specs.Forgets.{HasForgotten, HasForgotCall};
@@ -7,13 +7,13 @@ ghost use Rattle.sf_calls.specs.Finishes.{HasFinished, HasGoneOn, IsReady};
 
 use sf_calls::{Fit, NotBegun, Spent};
 use sf_group::{
-    Begun, CallId, Caller, ChanBegun, Finished, Flight, Forgotten, Group, Hit, Letter, MOST_TRIES,
-    Polled, Settled, Ticket,
+    Begun, CallId, Caller, ChanBegun, Finished, Flight, Forgotten, Group, Hit, Letter, Polled,
+    Settled, Ticket,
 };
 use std::sync::Wait;
 
-#[cfg(test)]
-mod tests;
+// How often a form tries before it begins again: once, since it is never told to give up.
+const TRIES: u32 = 1;
 
 /// The caller asks for the place: it leads a new call where the place has no open one, and else joins that. Refused is a
 /// caller that has no generation left.
@@ -28,26 +28,9 @@ pub fn begin_wait<V: Fit, R: Wait>(
     ensures begun { IfOk result (λ begun. HasBegun caller place begun) }
     ensures spent { IfErr result (λ refused. IsRefusedSpent caller refused.back) }
 {
-    begin_by(rt, group, caller, place, MOST_TRIES)
-}
-
-// Asks with so many tries at once.
-fn begin_by<V: Fit, R: Wait>(
-    rt: &R,
-    group: &Group<V>,
-    caller: Caller<V>,
-    place: u32,
-    tries: u32,
-) -> Result<Begun<V>, Spent<Caller<V>>>
-    requires own { caller.group ≡ group.now }
-    requires place { IsPlaceOf group.now place }
-    requires tries { (1 ≤ tries) × (tries ≤ MOST_TRIES) }
-    ensures begun { IfOk result (λ begun. HasBegun caller place begun) }
-    ensures spent { IfErr result (λ refused. IsRefusedSpent caller refused.back) }
-{
     let mut asking = caller;
     for _ in rt.forever() {
-        match group.begin(asking, place, tries) {
+        match group.begin(asking, place, TRIES) {
             Ok(begun) => return Ok(begun),
             Err(NotBegun::Busy(_, back)) => asking = back,
             Err(NotBegun::Spent(back)) => return Err(Spent { back }),
@@ -73,30 +56,10 @@ pub fn do_chan<V: Fit, R: Wait>(
     ensures spent { IfErr result (λ refused.
         AreRefusedSpent caller second refused.back.0 refused.back.1) }
 {
-    begin_chan_by(rt, group, caller, second, place, MOST_TRIES)
-}
-
-// The same with a second.
-fn begin_chan_by<V: Fit, R: Wait>(
-    rt: &R,
-    group: &Group<V>,
-    caller: Caller<V>,
-    second: Caller<V>,
-    place: u32,
-    tries: u32,
-) -> Result<ChanBegun<V>, Spent<(Caller<V>, Caller<V>)>>
-    requires caller { caller.group ≡ group.now }
-    requires second { second.group ≡ group.now }
-    requires place { IsPlaceOf group.now place }
-    requires tries { (1 ≤ tries) × (tries ≤ MOST_TRIES) }
-    ensures begun { IfOk result (λ begun. HasChanBegun caller second place begun) }
-    ensures spent { IfErr result (λ refused.
-        AreRefusedSpent caller second refused.back.0 refused.back.1) }
-{
     let mut asking = caller;
     let mut other = second;
     for _ in rt.forever() {
-        match group.begin_chan(asking, other, place, tries) {
+        match group.begin_chan(asking, other, place, TRIES) {
             Ok(begun) => return Ok(begun),
             Err(NotBegun::Busy(_, (back, second_back))) => {
                 asking = back;
@@ -137,24 +100,8 @@ pub fn forget_wait<V: Fit, R: Wait>(
     requires place { IsPlaceOf group.now place }
     ensures { HasForgotten caller.old place caller.new result }
 {
-    forget_by(rt, group, caller, place, MOST_TRIES)
-}
-
-// Forgets with so many tries at once.
-fn forget_by<V: Fit, R: Wait>(
-    rt: &R,
-    group: &Group<V>,
-    caller: &mut Caller<V>,
-    place: u32,
-    tries: u32,
-) -> Forgotten
-    requires own { caller.old.group ≡ group.now }
-    requires place { IsPlaceOf group.now place }
-    requires tries { (1 ≤ tries) × (tries ≤ MOST_TRIES) }
-    ensures { HasForgotten caller.old place caller.new result }
-{
     for _ in rt.forever() {
-        if let Ok(forgotten) = group.forget(caller, place, tries) {
+        if let Ok(forgotten) = group.forget(caller, place, TRIES) {
             return forgotten;
         }
     }
@@ -173,25 +120,8 @@ pub fn forget_call_wait<V: Fit, R: Wait>(
     requires place { IsPlaceOf group.now place }
     ensures { HasForgotCall caller.old place call result caller.new }
 {
-    forget_call_by(rt, group, caller, place, call, MOST_TRIES)
-}
-
-// The same of one call.
-fn forget_call_by<V: Fit, R: Wait>(
-    rt: &R,
-    group: &Group<V>,
-    caller: &mut Caller<V>,
-    place: u32,
-    call: CallId,
-    tries: u32,
-) -> Hit
-    requires own { caller.old.group ≡ group.now }
-    requires place { IsPlaceOf group.now place }
-    requires tries { (1 ≤ tries) × (tries ≤ MOST_TRIES) }
-    ensures { HasForgotCall caller.old place call result caller.new }
-{
     for _ in rt.forever() {
-        if let Ok(hit) = group.forget_call(caller, place, call, tries) {
+        if let Ok(hit) = group.forget_call(caller, place, call, TRIES) {
             return hit;
         }
     }

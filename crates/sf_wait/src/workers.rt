@@ -10,9 +10,6 @@ use std::snapshot::Snapshot;
 use std::sync::atomic::{AtomicU32, Ordering};
 use std::thread::{Promise, PromisedHandle, Scope, Threads};
 
-#[cfg(test)]
-mod tests;
-
 /// What stands between taking a job and doing it.
 pub trait Gate {
     /// Comes back when the job of this number, from 1, may be done.

@@ -10,15 +10,29 @@ use std::process::Abort;
 use std::sync::Wait;
 use std::sync::atomic::{AtomicU32, Ordering};
 use std::test::Fail;
-use std::thread::yield_now;
+use std::thread::{Threads, yield_now};
+
+// Whether the gate was passed, how many jobs ran, and how many of them before it was.
+#[derive(Drop)]
+struct Counts {
+    passed: AtomicU32,
+    runs: AtomicU32,
+    early: AtomicU32,
+}
+
+impl Counts {
+    fn new(passed: u32) -> Counts {
+        Counts {
+            passed: AtomicU32::new(passed),
+            runs: AtomicU32::new(0),
+            early: AtomicU32::new(0),
+        }
+    }
+}
 
 // Counts its runs, and those before its gate was passed.
 #[derive(Drop)]
-struct Marked<'a> {
-    passed: &'a AtomicU32,
-    runs: &'a AtomicU32,
-    early: &'a AtomicU32,
-}
+struct Marked<'a>(&'a Counts);
 
 impl Work<Outcome> for Marked<'_> {
     ghost may_run = { λ _. Unit {0} };
@@ -26,9 +40,9 @@ impl Work<Outcome> for Marked<'_> {
     ghost answers = { λ _ _. Unit {0} };
 
     fn run(self) -> Outcome {
-        self.runs.fetch_add(1, Ordering::SeqCst);
-        if self.passed.load(Ordering::SeqCst) == 0 {
-            self.early.fetch_add(1, Ordering::SeqCst);
+        self.0.runs.fetch_add(1, Ordering::SeqCst);
+        if self.0.passed.load(Ordering::SeqCst) == 0 {
+            self.0.early.fetch_add(1, Ordering::SeqCst);
         }
         Outcome(1)
     }
@@ -36,14 +50,14 @@ impl Work<Outcome> for Marked<'_> {
 
 // Its first pass takes so long that a job that does not wait for it runs before.
 #[derive(Drop)]
-struct Slow<'a>(&'a AtomicU32);
+struct Slow<'a>(&'a Counts);
 
 impl Gate for Slow<'_> {
     fn pass(&self, _job: u32) {
         for _ in 0..100 {
             yield_now();
         }
-        self.0.store(1, Ordering::SeqCst);
+        self.0.passed.store(1, Ordering::SeqCst);
     }
 }
 
@@ -72,15 +86,10 @@ fn lead(
 #[test]
 fn abandoned_job_is_not_done(rt: HostRuntime) -> Result<(), Fail> {
     let (group, mut callers) = Group::<Outcome>::new(rt.alloc(), 1, 1, 1)?;
-    let (passed, runs, early) = (AtomicU32::new(1), AtomicU32::new(0), AtomicU32::new(0));
+    let counts = Counts::new(1);
     let flight = lead(&rt, &group, &mut callers, 1);
-    let work = Marked {
-        passed: &passed,
-        runs: &runs,
-        early: &early,
-    };
-    Job::new(flight, work).abandon();
-    let runs = runs.load(Ordering::SeqCst);
+    Job::new(flight, Marked(&counts)).abandon();
+    let runs = counts.runs.load(Ordering::SeqCst);
     assert!(rt; runs == 0, "it ran {runs} times");
     Ok(())
 }
@@ -112,9 +121,7 @@ fn most_jobs<'a>(
     alloc: Global,
     group: &Group<Outcome>,
     callers: &mut Vec<Caller<Outcome>>,
-    passed: &'a AtomicU32,
-    runs: &'a AtomicU32,
-    early: &'a AtomicU32,
+    counts: &'a Counts,
 ) -> Result<Vec<Job<Outcome, Marked<'a>>>, AllocError>
     requires own { All (λ c. c.group ≡ group.now) callers.old.items }
     requires places { group.now.sizes.places ≡ 64 }
@@ -124,40 +131,57 @@ fn most_jobs<'a>(
     let mut jobs = Vec::with_capacity(alloc, 64)?;
     for index in 0..64 {
         let flight = lead(rt, group, callers, index + 1);
-        let work = Marked {
-            passed,
-            runs,
-            early,
-        };
-        jobs.push_reserved(Job::new(flight, work));
+        jobs.push_reserved(Job::new(flight, Marked(counts)));
     }
     Ok(jobs)
+}
+
+// How many of the jobs are done behind the gate.
+fn serve_all(
+    rt: &(impl Abort + Threads + Wait + Sync),
+    alloc: Global,
+    group: &Group<Outcome>,
+    gate: &Slow<'_>,
+    jobs: Vec<Job<Outcome, Marked<'_>>>,
+) -> u32
+    requires own { All (λ job. job.flight.group ≡ group.now) jobs.items }
+    requires number { vec_len jobs ≡ 64 }
+{
+    match serve(rt, alloc, group, gate, jobs) {
+        Ok(list) => count_done(list),
+        Err(Unserved { back }) => {
+            abandon_all(back);
+            panic!(rt; "no memory")
+        }
+    }
+}
+
+// All of the 64 ran, and none of them before the gate was passed.
+fn check_all_done(rt: &impl Abort, done: u32, counts: &Counts) {
+    let runs = counts.runs.load(Ordering::SeqCst);
+    let early = counts.early.load(Ordering::SeqCst);
+    assert!(rt; done == 64 && runs == 64, "{done} are done by {runs} runs");
+    assert!(rt; early == 0, "{early} ran before the gate");
 }
 
 #[test]
 fn most_jobs_are_done_behind_the_gate(rt: HostRuntime) -> Result<(), Fail> {
     let (group, mut callers) = Group::<Outcome>::new(rt.alloc(), 64, 64, 1)?;
-    let (passed, runs, early) = (AtomicU32::new(0), AtomicU32::new(0), AtomicU32::new(0));
-    let Ok(jobs) = most_jobs(
-        &rt,
-        rt.alloc(),
-        &group,
-        &mut callers,
-        &passed,
-        &runs,
-        &early,
-    ) else {
-        panic!(rt; "no memory")
-    };
-    let done = match serve(&rt, rt.alloc(), &group, &Slow(&passed), jobs) {
-        Ok(list) => count_done(list),
-        Err(Unserved { back }) => {
-            abandon_all(back);
-            panic!(rt; "no memory");
-        }
-    };
-    let (runs, early) = (runs.load(Ordering::SeqCst), early.load(Ordering::SeqCst));
-    assert!(rt; done == 64 && runs == 64, "{done} are done by {runs} runs");
-    assert!(rt; early == 0, "{early} ran before the gate");
+    let counts = Counts::new(0);
+    let jobs = most_jobs(&rt, rt.alloc(), &group, &mut callers, &counts)?;
+    let done = serve_all(&rt, rt.alloc(), &group, &Slow(&counts), jobs);
+    check_all_done(&rt, done, &counts);
+    Ok(())
+}
+
+// A job whose thread cannot be made is left, and does not run. `.ci/refused-memory` runs this where no thread can be made.
+#[test]
+fn jobs_without_a_thread_are_left(rt: HostRuntime) -> Result<(), Fail> {
+    let (group, mut callers) = Group::<Outcome>::new(rt.alloc(), 64, 64, 1)?;
+    let counts = Counts::new(0);
+    let jobs = most_jobs(&rt, rt.alloc(), &group, &mut callers, &counts)?;
+    let done = serve_all(&rt, rt.alloc(), &group, &Slow(&counts), jobs);
+    let runs = counts.runs.load(Ordering::SeqCst);
+    assert!(rt; done == runs, "{done} are done by {runs} runs");
     Ok(())
 }

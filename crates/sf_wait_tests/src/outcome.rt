@@ -82,6 +82,22 @@ pub fn lead<V: Fit>(rt: &(impl Abort + Wait), group: &Group<V>, caller: Caller<V
     }
 }
 
+// The caller joins a call of place 1.
+pub fn join_call<V: Fit>(rt: &(impl Abort + Wait), group: &Group<V>, caller: Caller<V>) -> Ticket<V>
+    requires own { caller.group ≡ group.now }
+    requires place { IsPlaceOf group.now 1 }
+    ensures { result.group ≡ group.now }
+{
+    match begin_wait(rt, group, caller, 1) {
+        Ok(Begun::Join(ticket)) => ticket,
+        Ok(Begun::Lead(flight)) => {
+            flight.abandon();
+            panic!(rt; "it leads")
+        }
+        Err(Spent { back }) => panic!(rt; "caller {} is spent", back.number()),
+    }
+}
+
 // The caller leads, and the second holds its own channel.
 pub fn lead_chan<V: Fit>(
     rt: &(impl Abort + Wait),

@@ -1,14 +1,17 @@
 //! Jobs that workers do side by side, while another thread waits for one of their letters.
-ghost use Rattle.std.specs.Prelude.{◌≡◌};
+ghost use Rattle.std.specs.Prelude.{◌≡◌, ◌≤◌, All, vec_capacity, vec_len};
+ghost use Rattle.sf_calls.specs.Same.{IsPlaceOf};
 
 use crate::holding::{Batch, Kept};
 use crate::outcome::{Outcome, check_call, id, lead_chan, next_caller};
-use sf_group::{Group, Letter};
+use sf_group::{Caller, Flight, Group, Letter, Ticket};
 use sf_wait::{Gate, Job, Served, Work, wait};
+use std::alloc::Global;
 use std::process::Abort;
+use std::sync::Wait;
 use std::sync::atomic::{AtomicBool, AtomicU32, Ordering};
 use std::test::Fail;
-use std::thread::{join, yield_now};
+use std::thread::{Threads, join, yield_now};
 
 #[derive(Drop)]
 pub struct Number(pub u32);
@@ -30,6 +33,17 @@ struct SecondFirst {
     failed: AtomicBool,
     first: AtomicU32,
     second: AtomicU32,
+}
+
+impl SecondFirst {
+    fn new() -> SecondFirst {
+        SecondFirst {
+            answered: AtomicBool::new(false),
+            failed: AtomicBool::new(false),
+            first: AtomicU32::new(0),
+            second: AtomicU32::new(0),
+        }
+    }
 }
 
 impl Gate for SecondFirst {
@@ -68,48 +82,79 @@ fn check_done(rt: &impl Abort, served: Option<Served<Outcome, Number>>, caller: 
     }
 }
 
-fn check_two(rt: &impl Abort, mut list: Vec<Served<Outcome, Number>>) {
+fn check_two(rt: &impl Abort, served: Option<Vec<Served<Outcome, Number>>>) {
+    let Some(mut list) = served else {
+        panic!(rt; "no memory")
+    };
     check_done(rt, list.pop(), 3, 2);
     check_done(rt, list.pop(), 1, 1);
     assert!(rt; list.is_empty(), "more than two answers");
     list.destroy_empty();
 }
 
-#[test]
-fn gate_two_jobs(rt: HostRuntime) -> Result<(), Fail> {
-    let (group, mut callers) = Group::<Outcome>::new(rt.alloc(), 2, 4, 1)?;
-    let mut jobs = Vec::with_capacity(rt.alloc(), 2)?;
-    let four = next_caller(&rt, &group, &mut callers);
-    let three = next_caller(&rt, &group, &mut callers);
-    let two = next_caller(&rt, &group, &mut callers);
-    let one = next_caller(&rt, &group, &mut callers);
-    let (first_flight, own) = lead_chan(&rt, &group, one, two, 1);
-    let (second_flight, second_own) = lead_chan(&rt, &group, three, four, 2);
-    jobs.push_reserved(Job::new(first_flight, Number(1)));
-    jobs.push_reserved(Job::new(second_flight, Number(2)));
-    let gate = SecondFirst {
-        answered: AtomicBool::new(false),
-        failed: AtomicBool::new(false),
-        first: AtomicU32::new(0),
-        second: AtomicU32::new(0),
-    };
-    let kept = Kept::new(&group, second_own);
-    let batch = Batch::new(&group, jobs);
+// The letter of the second job comes while both are served.
+fn serve_while_waiting(
+    rt: &(impl Abort + Threads + Wait + Sync),
+    alloc: Global,
+    batch: Batch<'_>,
+    second: Kept<'_, Outcome>,
+) {
+    let gate = SecondFirst::new();
     let (value, served) = join(
-        &rt,
+        rt,
         || {
-            let value = kept.poll_often(&rt);
+            let value = second.poll_often(rt);
             gate.answered.store(true, Ordering::SeqCst);
             value
         },
-        || batch.serve(&rt, rt.alloc(), &gate),
+        || batch.serve(rt, alloc, &gate),
     );
-    check_passes(&rt, &gate);
+    check_passes(rt, &gate);
     assert!(rt; value == Some(2), "the letter's value");
-    match served {
-        Some(list) => check_two(&rt, list),
-        None => panic!(rt; "no memory"),
-    }
+    check_two(rt, served);
+}
+
+// Of the next two callers the lower leads the place, and the other holds its channel.
+fn next_lead(
+    rt: &(impl Abort + Wait),
+    group: &Group<Outcome>,
+    callers: &mut Vec<Caller<Outcome>>,
+    place: u32,
+) -> (Flight<Outcome>, Ticket<Outcome>)
+    requires own { All (λ c. c.group ≡ group.now) callers.old.items }
+    requires place { IsPlaceOf group.now place }
+    ensures flight { result.0.group ≡ group.now }
+    ensures ticket { result.1.group ≡ group.now }
+    ensures rest { All (λ c. c.group ≡ group.now) callers.new.items }
+{
+    let second = next_caller(rt, group, callers);
+    let caller = next_caller(rt, group, callers);
+    lead_chan(rt, group, caller, second, place)
+}
+
+// Jobs 1 and 2, in the room that there is for them.
+fn two_jobs<'a>(
+    group: &'a Group<Outcome>,
+    mut jobs: Vec<Job<Outcome, Number>>,
+    first: Flight<Outcome>,
+    second: Flight<Outcome>,
+) -> Batch<'a>
+    requires own { (first.group ≡ group.now) × (second.group ≡ group.now) }
+    requires room { (vec_len jobs ≡ 0) × (2 ≤ vec_capacity jobs) }
+{
+    jobs.push_reserved(Job::new(first, Number(1)));
+    jobs.push_reserved(Job::new(second, Number(2)));
+    Batch::new(group, jobs)
+}
+
+#[test]
+fn gate_two_jobs(rt: HostRuntime) -> Result<(), Fail> {
+    let (group, mut callers) = Group::<Outcome>::new(rt.alloc(), 2, 4, 1)?;
+    let jobs = Vec::with_capacity(rt.alloc(), 2)?;
+    let (second, second_own) = next_lead(&rt, &group, &mut callers, 2);
+    let (first, own) = next_lead(&rt, &group, &mut callers, 1);
+    let batch = two_jobs(&group, jobs, first, second);
+    serve_while_waiting(&rt, rt.alloc(), batch, Kept::new(&group, second_own));
     let (_, letter) = wait(&rt, &group, own);
     check_call(&rt, letter.call(), id(1, 1));
     Ok(())

@@ -11,7 +11,7 @@ use std::process::Abort;
 use std::sync::Wait;
 use std::sync::atomic::{AtomicBool, AtomicU32, Ordering};
 use std::test::Fail;
-use std::thread::{join, yield_now};
+use std::thread::{Threads, join, yield_now};
 
 const PLACES: u32 = 8;
 
@@ -158,6 +158,16 @@ fn check_tally(rt: &impl Abort, tally: Tally) -> u32 {
     led
 }
 
+// How often the two led.
+fn work_at_once(
+    rt: &(impl Abort + Threads + Wait + Sync),
+    one: Worker<'_>,
+    other: Worker<'_>,
+) -> u32 {
+    let (one, other) = join(rt, || one.work(rt), || other.work(rt));
+    check_tally(rt, one).wrapping_add(check_tally(rt, other))
+}
+
 #[test]
 fn four_threads_over_eight_places(rt: HostRuntime) -> Result<(), Fail> {
     let (group, mut callers) = Group::<Outcome>::new(rt.alloc(), PLACES, 4, 1)?;
@@ -166,15 +176,12 @@ fn four_threads_over_eight_places(rt: HostRuntime) -> Result<(), Fail> {
     let three = next_worker(&rt, &group, &mut callers, &loads);
     let two = next_worker(&rt, &group, &mut callers, &loads);
     let one = next_worker(&rt, &group, &mut callers, &loads);
-    let ((one, two), (three, four)) = join(
+    let (led, more) = join(
         &rt,
-        || join(&rt, || one.work(&rt), || two.work(&rt)),
-        || join(&rt, || three.work(&rt), || four.work(&rt)),
+        || work_at_once(&rt, one, two),
+        || work_at_once(&rt, three, four),
     );
-    let mut led: u32 = 0;
-    for tally in [one, two, three, four] {
-        led = led.wrapping_add(check_tally(&rt, tally));
-    }
+    let led = led.wrapping_add(more);
     let loads = loads.load(Ordering::SeqCst);
     assert!(rt; loads == led, "{loads} loads of {led} calls");
     Ok(())
@@ -191,6 +198,13 @@ pub(crate) fn is_seen(flag: &AtomicBool) -> bool {
     false
 }
 
+// One alone has loaded, and did not wait in vain.
+pub(crate) fn check_one_load(rt: &impl Abort, loads: &AtomicU32, failed: &AtomicBool) {
+    let loads = loads.load(Ordering::SeqCst);
+    let failed = failed.load(Ordering::SeqCst);
+    assert!(rt; loads == 1 && !failed, "{loads} loads");
+}
+
 // What the two threads tell each other.
 #[derive(Drop)]
 struct Flags {
@@ -201,6 +215,15 @@ struct Flags {
 }
 
 impl Flags {
+    fn new() -> Flags {
+        Flags {
+            loading: AtomicBool::new(false),
+            joined: AtomicBool::new(false),
+            failed: AtomicBool::new(false),
+            loads: AtomicU32::new(0),
+        }
+    }
+
     // Waits until the other has joined.
     fn load(&self) -> Outcome {
         self.loads.fetch_add(1, Ordering::SeqCst);
@@ -294,6 +317,26 @@ fn next_place(rt: &impl Abort, directory: &Directory, desks: &mut Vec<Desk>) -> 
     }
 }
 
+fn next_asker<'a>(
+    rt: &impl Abort,
+    group: &'a Group<Outcome>,
+    callers: &mut Vec<Caller<Outcome>>,
+    place: u32,
+    flags: &'a Flags,
+) -> Asker<'a>
+    requires { All (λ c. c.group ≡ group.now) callers.old.items }
+    ensures { All (λ c. c.group ≡ group.now) callers.new.items }
+{
+    assert!(rt; group.has(place), "no place {place}");
+    let caller = next_caller(rt, group, callers);
+    Asker {
+        group,
+        caller,
+        place,
+        flags,
+    }
+}
+
 fn check_shared(rt: &impl Abort, letter: Option<Letter<Outcome>>) {
     let Some(letter) = letter else {
         panic!(rt; "no letter")
@@ -306,41 +349,23 @@ fn check_shared(rt: &impl Abort, letter: Option<Letter<Outcome>>) {
     );
 }
 
+// The first leads while the second joins, and both have the letter of its load.
+fn ask_at_once(rt: &(impl Abort + Threads + Wait + Sync), first: Asker<'_>, second: Asker<'_>) {
+    let (first, second) = join(rt, || first.lead(rt), || second.join(rt));
+    check_shared(rt, first);
+    check_shared(rt, second);
+}
+
 #[test]
 fn two_threads_one_load(rt: HostRuntime) -> Result<(), Fail> {
     let (directory, mut desks) = Directory::new(rt.alloc(), 4, 8, 2, 0, 0)?;
     let (group, mut callers) = Group::<Outcome>::new(rt.alloc(), 4, 2, 1)?;
     let second_place = next_place(&rt, &directory, &mut desks);
     let place = next_place(&rt, &directory, &mut desks);
-    assert!(rt;
-        group.has(place) && group.has(second_place),
-        "no such place"
-    );
-    let flags = Flags {
-        loading: AtomicBool::new(false),
-        joined: AtomicBool::new(false),
-        failed: AtomicBool::new(false),
-        loads: AtomicU32::new(0),
-    };
-    let second = Asker {
-        group: &group,
-        caller: next_caller(&rt, &group, &mut callers),
-        place: second_place,
-        flags: &flags,
-    };
-    let first = Asker {
-        group: &group,
-        caller: next_caller(&rt, &group, &mut callers),
-        place,
-        flags: &flags,
-    };
-    let (first, second) = join(&rt, || first.lead(&rt), || second.join(&rt));
-    check_shared(&rt, first);
-    check_shared(&rt, second);
-    let (loads, failed) = (
-        flags.loads.load(Ordering::SeqCst),
-        flags.failed.load(Ordering::SeqCst),
-    );
-    assert!(rt; loads == 1 && !failed, "{loads} loads");
+    let flags = Flags::new();
+    let second = next_asker(&rt, &group, &mut callers, second_place, &flags);
+    let first = next_asker(&rt, &group, &mut callers, place, &flags);
+    ask_at_once(&rt, first, second);
+    check_one_load(&rt, &flags.loads, &flags.failed);
     Ok(())
 }

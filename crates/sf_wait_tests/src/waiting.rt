@@ -3,10 +3,12 @@ ghost use Rattle.std.specs.Prelude.{◌≡◌};
 ghost use Rattle.sf_calls.specs.Same.{IsPlaceOf};
 ghost use Rattle.sf_calls.specs.declared.outcomes.Finished.TheVariants.{Held};
 
-use crate::outcome::{Outcome, check_call, check_letter, id, lead, lead_chan, next_caller};
+use crate::outcome::{
+    Outcome, check_call, check_letter, id, join_call, lead, lead_chan, next_caller,
+};
 use crate::serving::Number;
-use sf_group::{Begun, Caller, Finished, Flight, Forgotten, Group, Letter, Settled, Spent};
-use sf_wait::{DoFault, Job, begin_wait, do_with, finish_wait, forget_wait, go_on_wait, wait};
+use sf_group::{Caller, Finished, Flight, Forgotten, Group, Letter, Settled, Ticket};
+use sf_wait::{DoFault, Job, do_with, finish_wait, forget_wait, go_on_wait, wait};
 use std::process::Abort;
 use std::sync::Wait;
 use std::sync::atomic::{AtomicU32, Ordering};
@@ -51,25 +53,18 @@ fn forms_of_a_channel(rt: HostRuntime) -> Result<(), Fail> {
     let (flight, ticket) = lead_chan(&rt, &group, one, two, 1);
     let (_, letter) = finish(&rt, &group, flight, 7);
     check_letter(&rt, &letter, id(1, 1), 7, 0);
-    let (two, letter) = wait(&rt, &group, ticket);
-    check_letter(&rt, &letter, id(1, 1), 7, 0);
-    assert!(rt; two.number() == 2, "caller {} is free", two.number());
+    wait_as_second(&rt, &group, ticket);
     Ok(())
 }
 
-// The caller joins, and gives its ticket up, so that a copy is owed that it never takes.
-fn join_once(rt: &(impl Abort + Wait), group: &Group<Outcome>, caller: Caller<Outcome>)
-    requires own { caller.group ≡ group.now }
-    requires place { IsPlaceOf group.now 1 }
+// The letter of caller 2's own channel, which is free again then.
+fn wait_as_second(rt: &(impl Abort + Wait), group: &Group<Outcome>, ticket: Ticket<Outcome>)
+    requires { ticket.group ≡ group.now }
 {
-    match begin_wait(rt, group, caller, 1) {
-        Ok(Begun::Join(ticket)) => ticket.abandon(),
-        Ok(Begun::Lead(flight)) => {
-            flight.abandon();
-            panic!(rt; "it leads")
-        }
-        Err(Spent { back }) => panic!(rt; "caller {} is spent", back.number()),
-    }
+    let (two, letter) = wait(rt, group, ticket);
+    check_letter(rt, &letter, id(1, 1), 7, 0);
+    let number = two.number();
+    assert!(rt; number == 2, "caller {number} is free");
 }
 
 fn held(rt: &impl Abort, finished: Finished<Outcome>) -> Settled<Outcome>
@@ -87,7 +82,8 @@ fn held_delivery_goes_on(rt: HostRuntime) -> Result<(), Fail> {
     let two = next_caller(&rt, &group, &mut callers);
     let one = next_caller(&rt, &group, &mut callers);
     let flight = lead(&rt, &group, one);
-    join_once(&rt, &group, two);
+    // A copy is owed that it never takes.
+    join_call(&rt, &group, two).abandon();
     let settled = held(&rt, finish_wait(&group, flight, Outcome(100)));
     held(&rt, go_on_wait(&group, settled)).abandon();
     Ok(())
@@ -127,7 +123,16 @@ fn lone_do_loads_once(rt: HostRuntime) -> Result<(), Fail> {
     check_letter(&rt, &letter, id(1, 4_294_967_295), 7, 0);
     let loads = loads.load(Ordering::SeqCst);
     assert!(rt; loads == 1, "after {loads} loads");
-    match do_with(&rt, &group, one, 1, || Outcome(8)) {
+    ask_when_spent(&rt, &group, one);
+    Ok(())
+}
+
+// Caller 1 has no generation left, so that it and its load come back.
+fn ask_when_spent(rt: &(impl Abort + Wait), group: &Group<Outcome>, caller: Caller<Outcome>)
+    requires own { caller.group ≡ group.now }
+    requires place { IsPlaceOf group.now 1 }
+{
+    match do_with(rt, group, caller, 1, || Outcome(8)) {
         Err(DoFault::Spent(one, load)) => {
             let Outcome(value) = load();
             assert!(rt; value == 8 && one.number() == 1, "its load answers {value}");
@@ -138,7 +143,6 @@ fn lone_do_loads_once(rt: HostRuntime) -> Result<(), Fail> {
         }
         Ok(_) => panic!(rt; "it is not spent"),
     }
-    Ok(())
 }
 
 #[test]
@@ -147,7 +151,7 @@ fn do_is_held_where_a_copy_is_refused(rt: HostRuntime) -> Result<(), Fail> {
     let two = next_caller(&rt, &group, &mut callers);
     let one = next_caller(&rt, &group, &mut callers);
     let load = || {
-        join_once(&rt, &group, two);
+        join_call(&rt, &group, two).abandon();
         Outcome(100)
     };
     match do_with(&rt, &group, one, 1, load) {

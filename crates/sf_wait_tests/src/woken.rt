@@ -2,9 +2,8 @@
 ghost use Rattle.std.specs.Prelude.{◌≡◌};
 
 use crate::holding::Kept;
-use crate::outcome::{lead, lead_chan, next_caller};
-use sf_group::{Begun, Finished, Fit, Flight, Group, Memory, Share};
-use sf_wait::begin_wait;
+use crate::outcome::{join_call, lead, lead_chan, next_caller};
+use sf_group::{Finished, Fit, Flight, Group, Memory, Share};
 use std::alloc::AllocError;
 use std::marker::Model;
 use std::process::Abort;
@@ -135,24 +134,12 @@ fn delivery_that_goes_on_wakes(rt: HostRuntime) -> Result<(), Fail> {
     let two = next_caller(&rt, &group, &mut callers);
     let one = next_caller(&rt, &group, &mut callers);
     let flight = lead(&rt, &group, one);
-    match begin_wait(&rt, &group, two, 1) {
-        Ok(Begun::Join(ticket)) => {
-            let leader = Leader {
-                group: &group,
-                flight,
-                refused: 1,
-            };
-            check_woken(&rt, leader, Kept::new(&group, ticket));
-        }
-        Ok(Begun::Lead(other)) => {
-            other.abandon();
-            flight.abandon();
-            panic!(rt; "it leads")
-        }
-        Err(_) => {
-            flight.abandon();
-            panic!(rt; "it is spent")
-        }
-    }
+    let leader = Leader {
+        group: &group,
+        flight,
+        refused: 1,
+    };
+    let ticket = join_call(&rt, &group, two);
+    check_woken(&rt, leader, Kept::new(&group, ticket));
     Ok(())
 }

@@ -1,6 +1,6 @@
 use Rattle.std.proofs.Common.{◌≡◌, ◌⊎◌}
 use Rattle.sf_calls.specs.Same.{IsStill, IsUnspent}
-use Rattle.sf_wait.proofs.waiting.begin_by.Given as goal
+use Rattle.sf_wait.proofs.waiting.begin_wait.Given as goal
 
 -- the caller is the one from the start; once it was refused as busy, it is known to have a generation left
 abbrev pub invariant-loop : goal.invariant-loop

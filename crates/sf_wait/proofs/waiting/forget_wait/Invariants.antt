@@ -1,5 +1,5 @@
 use Rattle.sf_calls.specs.Same.{IsStill}
-use Rattle.sf_wait.proofs.waiting.forget_call_by.Given as goal
+use Rattle.sf_wait.proofs.waiting.forget_wait.Given as goal
 
 -- the caller is the one from the start
 abbrev pub invariant-loop : goal.invariant-loop

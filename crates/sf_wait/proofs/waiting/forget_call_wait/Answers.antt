@@ -1,5 +1,5 @@
 use Rattle.sf_calls.proofs.RowsAfter.{call_forgotten_after}
-use Rattle.sf_wait.proofs.waiting.forget_call_by.Goals as goal
+use Rattle.sf_wait.proofs.waiting.forget_call_wait.Goals as goal
 
 pub returns-in-Ok : goal.returns-in-Ok
 returns-in-Ok g c = call_forgotten_after c.args.caller.now c.loop.caller c.forget_call.new.caller c.args.place c.args.call c.in-Ok.hit c.loop.invariant.2 c.in-Ok.ensures.forgot

@@ -1,6 +1,6 @@
 use Rattle.std.proofs.Common.{◌≡◌, ◌⊎◌}
 use Rattle.sf_calls.specs.Same.{IsStill, IsUnspent}
-use Rattle.sf_wait.proofs.waiting.begin_chan_by.Given as goal
+use Rattle.sf_wait.proofs.waiting.do_chan.Given as goal
 
 -- the same of two callers
 abbrev pub invariant-loop : goal.invariant-loop

@@ -1,9 +1,10 @@
-//! The forms with one try at once, so that they are busy, and ask again.
+//! Forms that are busy beside another thread's, and ask again.
 ghost use Rattle.std.specs.Prelude.{◌≡◌, All, IfSome};
 ghost use Rattle.sf_calls.specs.Same.{IsPlaceOf};
 
-use super::{begin_by, begin_chan_by, forget_by, forget_call_by, wait};
+use crate::outcome::next_caller;
 use sf_group::{Begun, CallId, Caller, ChanBegun, Finished, Flight, Forgotten, Group};
+use sf_wait::{begin_wait, do_chan, forget_call_wait, forget_wait, wait};
 use std::process::Abort;
 use std::sync::Wait;
 use std::sync::atomic::{AtomicU32, Ordering};
@@ -52,7 +53,7 @@ impl<'a> Asker<'a> {
         requires place { IsPlaceOf group.now 1 }
         ensures { IfSome result (λ c. c.group ≡ group.now) }
     {
-        match begin_by(rt, group, caller, 1, 1) {
+        match begin_wait(rt, group, caller, 1) {
             Ok(Begun::Lead(flight)) => {
                 led.fetch_add(1, Ordering::SeqCst);
                 settle(group, flight)
@@ -75,7 +76,7 @@ impl<'a> Asker<'a> {
         requires place { IsPlaceOf group.now 1 }
         ensures { IfSome result (λ both. (both.0.group ≡ group.now) × (both.1.group ≡ group.now)) }
     {
-        match begin_chan_by(rt, group, caller, second, 1, 1) {
+        match do_chan(rt, group, caller, second, 1) {
             Ok(ChanBegun::Led(flight, ticket)) => {
                 led.fetch_add(1, Ordering::SeqCst);
                 let settled = settle(group, flight);
@@ -107,17 +108,14 @@ impl<'a> Asker<'a> {
             };
             caller = free;
             second = other;
-            if matches!(
-                forget_by(rt, group, &mut caller, 1, 1),
-                Forgotten::Closed(_)
-            ) {
+            if matches!(forget_wait(rt, group, &mut caller, 1), Forgotten::Closed(_)) {
                 closed.fetch_add(1, Ordering::SeqCst);
             }
             let call = CallId {
                 caller: second.number(),
                 generation: 1,
             };
-            forget_call_by(rt, group, &mut second, 1, call, 1);
+            forget_call_wait(rt, group, &mut second, 1, call);
         }
         true
     }
@@ -134,12 +132,8 @@ fn next<'a>(
     requires place { IsPlaceOf group.now 1 }
     ensures { All (λ c. c.group ≡ group.now) list.new.items }
 {
-    let Some(caller) = list.pop() else {
-        panic!(rt; "no more callers")
-    };
-    let Some(second) = list.pop() else {
-        panic!(rt; "no more callers")
-    };
+    let caller = next_caller(rt, group, list);
+    let second = next_caller(rt, group, list);
     Asker {
         group,
         caller,
