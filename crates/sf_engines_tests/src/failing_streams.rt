@@ -93,35 +93,46 @@ const ROWS: [(Engine, &[u8], usize, &[u8]); 3] = [
     (Engine::Check, b"{\"format\":1}", 4, b"legal: 0 events\n"),
 ];
 
+/// Starts an engine on a reader whose read of this number fails: that is said, and where no read fails all is answered.
+fn assert_read(
+    rt: &impl Abort,
+    alloc: Global,
+    engine: Engine,
+    mut reader: FailingReader,
+    answer: &[u8],
+) {
+    let fails_at = reader.fails_at;
+    let mut written: Vec<u8> = Vec::new(alloc);
+    let ended = engine.start(alloc, &mut reader, &mut written);
+    // Three reads of the text, and a fourth that meets its end.
+    if fails_at <= 4 {
+        let is_said = matches!(ended, Err(StreamFault::CannotRead)) && written.is_empty();
+        assert!(rt; is_said, "read {fails_at} fails otherwise");
+        assert_reads(rt, reader.reads, fails_at);
+    } else {
+        let is_answered = matches!(ended, Ok(Ending::Answered)) && written.as_slice() == answer;
+        assert!(rt; is_answered, "another answer where no read fails");
+    }
+}
+
+fn assert_reads(rt: &impl Abort, reads: u32, fails_at: u32) {
+    assert!(rt;
+        reads == fails_at,
+        "{reads} reads, of which {fails_at} failed"
+    );
+}
+
 #[test]
 fn failing_reads(rt: HostRuntime) -> Result<(), Fail> {
     for (engine, text, bytes_a_call, answer) in ROWS {
-        // Three reads of the text, and a fourth that meets its end.
         for fails_at in 1..6 {
-            let mut reader = FailingReader {
+            let reader = FailingReader {
                 text,
                 bytes_a_call,
                 reads: 0,
                 fails_at,
             };
-            let mut written: Vec<u8> = Vec::new(rt.alloc());
-            let ended = engine.start(rt.alloc(), &mut reader, &mut written);
-            let reads = reader.reads;
-            if fails_at <= 4 {
-                assert!(rt;
-                    matches!(ended, Err(StreamFault::CannotRead)) && written.is_empty(),
-                    "read {fails_at} fails otherwise"
-                );
-                assert!(rt;
-                    reads == fails_at,
-                    "{reads} reads, of which {fails_at} failed"
-                );
-            } else {
-                assert!(rt;
-                    matches!(ended, Ok(Ending::Answered)) && written.as_slice() == answer,
-                    "another answer where no read fails"
-                );
-            }
+            assert_read(&rt, rt.alloc(), engine, reader, answer);
         }
     }
     Ok(())

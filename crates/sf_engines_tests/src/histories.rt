@@ -1,7 +1,9 @@
 //! Worked histories, legal and illegal, and lines that are no records.
 
+use crate::answers::answers;
+use crate::long_inputs::times;
 use sf_engines::{Ending, Engine};
-use std::alloc::Global;
+use std::alloc::{AllocError, Global};
 use std::process::Abort;
 use std::test::Fail;
 
@@ -13,12 +15,7 @@ fn judges(
     line: &str,
     ending: Ending,
 ) -> Result<(), Fail> {
-    let mut written: Vec<u8> = Vec::new(alloc);
-    let ended = Engine::Check.start(alloc, &mut records.as_bytes(), &mut written)?;
-    let said = str::from_utf8(written.as_slice()).unwrap_or("no text");
-    assert!(rt; said == line, "{records} answers {said}");
-    assert!(rt; ended == ending, "{records} ends otherwise");
-    Ok(())
+    answers(rt, alloc, Engine::Check, records.as_bytes(), line, ending)
 }
 
 #[test]
@@ -62,29 +59,45 @@ fn histories(rt: HostRuntime) -> Result<(), Fail> {
     Ok(())
 }
 
-const LEAD: &str = "{\"e\":\"lead\",\"by\":1,\"k\":\"k\",\"c\":[1,1],\"own\":null}\n";
+/// The records that rows call by name.
+const RECORDS: &str = r#"lead {"e":"lead","by":1,"k":"k","c":[1,1],"own":null}
+enter {"e":"enter","by":2,"k":"k","c":[1,1],"m":[2,1]}
+enter_too {"e":"enter","by":3,"k":"k","c":[1,1],"m":[3,1]}
+settle {"e":"settle","by":1,"c":[1,1],"ok":"v","joiners":0}
+handed {"e":"handed","by":1,"c":[1,1]}
+closed {"e":"forgetcall","by":2,"k":"k","c":[1,1],"hit":"closed"}
+cleared {"e":"forgetcall","by":2,"k":"k","c":[1,1],"hit":"cleared"}
+missed {"e":"forgetcall","by":2,"k":"k","c":[1,1],"hit":"missed"}
+forget {"e":"forget","by":3,"k":"k","closed":[1,1]}
+idle {"e":"forget","by":3,"k":"k","closed":null}
+newer {"e":"lead","by":3,"k":"k","c":[3,1],"own":null}
+other {"e":"lead","by":1,"k":"j","c":[1,1],"own":null}
+lead_aside {"e":"lead","by":4,"k":"j","c":[4,1],"own":null}
+enter_aside {"e":"enter","by":5,"k":"j","c":[4,1],"m":[5,1]}
+enter_aside_too {"e":"enter","by":6,"k":"j","c":[4,1],"m":[6,1]}
+"#;
 
-const ENTER: &str = "{\"e\":\"enter\",\"by\":2,\"k\":\"k\",\"c\":[1,1],\"m\":[2,1]}\n";
-
-const ENTER_TOO: &str = "{\"e\":\"enter\",\"by\":3,\"k\":\"k\",\"c\":[1,1],\"m\":[3,1]}\n";
-
-/// Checks the records of a format: the first ones, and then a settle of the call 1.1 that says its joiners so.
-fn settles(
-    rt: &impl Abort,
-    alloc: Global,
-    format: u32,
-    before: &[&str],
-    joiners: &str,
-    line: &str,
-) -> Result<(), Fail> {
-    let mut records = format!(in alloc; "{{\"format\":{format}}}\n")?;
-    for record in before {
-        records.push_str(record)?;
+/// The record of this name.
+fn record(rt: &impl Abort, name: &str) -> &'static str {
+    for row in RECORDS.lines() {
+        let (called, record) = row.split_once(' ').unwrap_or((row, ""));
+        if called == name {
+            return record;
+        }
     }
-    records.push_str("{\"e\":\"settle\",\"by\":1,\"c\":[1,1],\"ok\":\"v\",")?;
-    records.push_str(joiners)?;
-    records.push_str("}\n")?;
-    judges(rt, alloc, records.as_str(), line, ending_of(line))
+    panic!(rt; "no record is called {name}")
+}
+
+/// Adds the record that a word names; a word in quotes is a settle of the call 1.1 that says its joiners so.
+fn push_record(rt: &impl Abort, records: &mut String, word: &str) -> Result<(), AllocError> {
+    if word.starts_with('"') {
+        records.push_str("{\"e\":\"settle\",\"by\":1,\"c\":[1,1],\"ok\":\"v\",")?;
+        records.push_str(word)?;
+        records.push_str("}\n")
+    } else {
+        records.push_str(record(rt, word))?;
+        records.push_str("\n")
+    }
 }
 
 /// How it ends where this line is said.
@@ -98,173 +111,108 @@ fn ending_of(line: &str) -> Ending {
     }
 }
 
+/// Checks the records that a row names, in this format: `lead closed: legal: 2 events`. A row that begins with `#` is a
+/// remark.
+fn says(rt: &impl Abort, alloc: Global, format: u32, row: &str) -> Result<(), Fail> {
+    if row.starts_with('#') {
+        return Ok(());
+    }
+    let (words, line) = row.split_once(": ").unwrap_or((row, ""));
+    let mut records = format!(in alloc; "{{\"format\":{format}}}\n")?;
+    for word in words.split(' ') {
+        push_record(rt, &mut records, word)?;
+    }
+    judges(rt, alloc, records.as_str(), line, ending_of(line))
+}
+
+const COUNTS: &str = r#"lead enter "joiners":1: legal: 3 events
+lead enter "joiners":2: event 3: number of joiners is wrong
+lead enter "joiners":0: event 3: number of joiners is wrong
+lead "joiners":0: legal: 2 events
+lead enter enter_too "joiners":2: legal: 4 events
+lead enter enter_too "joiners":1: event 4: number of joiners is wrong
+lead "joiners":4294967295: event 2: number of joiners is wrong
+lead "joiners":4294967296: line 3: not a record
+lead "joiners":-1: line 3: not a record
+lead "joiners":0.0: line 3: not a record
+lead "joiners":"0": line 3: not a record
+lead "joiners":false: line 3: not a record
+# The mark of the first format.
+lead "shared":false: line 3: not a record
+lead "joiners":0,"shared":false: line 3: not a record
+"#;
+
 /// The number of joiners is that of the enters on the call.
 #[test]
 fn joiner_counts_in_records(rt: HostRuntime) -> Result<(), Fail> {
-    let rows: [(&[&str], &str, &str); 14] = [
-        (&[LEAD, ENTER], "\"joiners\":1", "legal: 3 events\n"),
-        (
-            &[LEAD, ENTER],
-            "\"joiners\":2",
-            "event 3: number of joiners is wrong\n",
-        ),
-        (
-            &[LEAD, ENTER],
-            "\"joiners\":0",
-            "event 3: number of joiners is wrong\n",
-        ),
-        (&[LEAD], "\"joiners\":0", "legal: 2 events\n"),
-        (
-            &[LEAD, ENTER, ENTER_TOO],
-            "\"joiners\":2",
-            "legal: 4 events\n",
-        ),
-        (
-            &[LEAD, ENTER, ENTER_TOO],
-            "\"joiners\":1",
-            "event 4: number of joiners is wrong\n",
-        ),
-        (
-            &[LEAD],
-            "\"joiners\":4294967295",
-            "event 2: number of joiners is wrong\n",
-        ),
-        (&[LEAD], "\"joiners\":4294967296", "line 3: not a record\n"),
-        (&[LEAD], "\"joiners\":-1", "line 3: not a record\n"),
-        (&[LEAD], "\"joiners\":0.0", "line 3: not a record\n"),
-        (&[LEAD], "\"joiners\":\"0\"", "line 3: not a record\n"),
-        (&[LEAD], "\"joiners\":false", "line 3: not a record\n"),
-        // The mark of the first format.
-        (&[LEAD], "\"shared\":false", "line 3: not a record\n"),
-        (
-            &[LEAD],
-            "\"joiners\":0,\"shared\":false",
-            "line 3: not a record\n",
-        ),
-    ];
-    for (before, joiners, line) in rows {
-        for format in [2, 3] {
-            settles(&rt, rt.alloc(), format, before, joiners, line)?;
-        }
+    for row in COUNTS.split_inclusive('\n') {
+        says(&rt, rt.alloc(), 2, row)?;
+        says(&rt, rt.alloc(), 3, row)?;
     }
     Ok(())
 }
+
+const MARKS: &str = r#"lead enter "shared":true: legal: 3 events
+lead enter "shared":false: event 3: number of joiners is wrong
+lead "shared":false: legal: 2 events
+lead "shared":true: event 2: number of joiners is wrong
+lead enter enter_too "shared":true: legal: 4 events
+# Two enters on another call, which are not counted.
+lead lead_aside enter_aside enter_aside_too enter "shared":true: legal: 6 events
+lead enter "shared":1: line 4: not a record
+# The number of the later formats.
+lead enter "joiners":1: line 4: not a record
+lead enter "shared":true,"joiners":1: line 4: not a record
+"#;
 
 /// A mark stands for nobody, or for those who entered in the lines before, and at least one.
 #[test]
 fn first_format_is_still_read(rt: HostRuntime) -> Result<(), Fail> {
-    // Two enters on another call, which are not counted.
-    let aside =
-        "{\"e\":\"lead\",\"by\":4,\"k\":\"j\",\"c\":[4,1],\"own\":null}\n{\"e\":\"enter\",\"by\":5,\"k\":\"j\",\"c\":[4,1],\"m\":[5,1]}\n{\"e\":\"enter\",\"by\":6,\"k\":\"j\",\"c\":[4,1],\"m\":[6,1]}\n";
-    let rows: [(&[&str], &str, &str); 9] = [
-        (&[LEAD, ENTER], "\"shared\":true", "legal: 3 events\n"),
-        (
-            &[LEAD, ENTER],
-            "\"shared\":false",
-            "event 3: number of joiners is wrong\n",
-        ),
-        (&[LEAD], "\"shared\":false", "legal: 2 events\n"),
-        (
-            &[LEAD],
-            "\"shared\":true",
-            "event 2: number of joiners is wrong\n",
-        ),
-        (
-            &[LEAD, ENTER, ENTER_TOO],
-            "\"shared\":true",
-            "legal: 4 events\n",
-        ),
-        (
-            &[LEAD, aside, ENTER],
-            "\"shared\":true",
-            "legal: 6 events\n",
-        ),
-        (&[LEAD, ENTER], "\"shared\":1", "line 4: not a record\n"),
-        // The number of the later formats.
-        (&[LEAD, ENTER], "\"joiners\":1", "line 4: not a record\n"),
-        (
-            &[LEAD, ENTER],
-            "\"shared\":true,\"joiners\":1",
-            "line 4: not a record\n",
-        ),
-    ];
-    for (before, mark, line) in rows {
-        settles(&rt, rt.alloc(), 1, before, mark, line)?;
+    for row in MARKS.split_inclusive('\n') {
+        says(&rt, rt.alloc(), 1, row)?;
     }
     Ok(())
 }
 
-const SETTLE: &str = "{\"e\":\"settle\",\"by\":1,\"c\":[1,1],\"ok\":\"v\",\"joiners\":0}\n";
-
-const CLOSED: &str = "{\"e\":\"forgetcall\",\"by\":2,\"k\":\"k\",\"c\":[1,1],\"hit\":\"closed\"}\n";
-
-const CLEARED: &str =
-    "{\"e\":\"forgetcall\",\"by\":2,\"k\":\"k\",\"c\":[1,1],\"hit\":\"cleared\"}\n";
-
-const MISSED: &str = "{\"e\":\"forgetcall\",\"by\":2,\"k\":\"k\",\"c\":[1,1],\"hit\":\"missed\"}\n";
-
-/// Checks records of a format.
-fn says(
-    rt: &impl Abort,
-    alloc: Global,
-    format: u32,
-    records: &[&str],
-    line: &str,
-) -> Result<(), Fail> {
-    let mut text = format!(in alloc; "{{\"format\":{format}}}\n")?;
-    for record in records {
-        text.push_str(record)?;
-    }
-    judges(rt, alloc, text.as_str(), line, ending_of(line))
-}
+const HITS: &str = "# A call that nobody led is missed, and stays new.
+missed lead: legal: 2 events
+closed: event 1: hit is wrong
+cleared: event 1: hit is wrong
+# An open call.
+lead closed: legal: 2 events
+lead cleared: event 2: hit is wrong
+lead missed: event 2: hit is wrong
+lead closed settle handed: legal: 4 events
+lead closed newer: legal: 3 events
+lead closed enter: event 3: call is not the open one
+# A settled call.
+lead settle cleared handed: legal: 4 events
+lead settle closed: event 3: hit is wrong
+lead settle missed: event 3: hit is wrong
+lead settle cleared idle: legal: 4 events
+# A call that a Forget ended, of the key or of that call.
+lead forget missed: legal: 3 events
+lead forget closed: event 3: hit is wrong
+lead forget cleared: event 3: hit is wrong
+lead closed missed: legal: 3 events
+lead closed settle cleared: event 4: hit is wrong
+lead settle cleared missed: legal: 4 events
+lead settle cleared cleared: event 4: hit is wrong
+lead settle idle missed: legal: 4 events
+# Beside a newer call of its key.
+lead settle newer missed: legal: 4 events
+lead settle newer closed: event 4: hit is wrong
+lead settle newer cleared: event 4: hit is wrong
+# An open call of another key.
+other missed: legal: 2 events
+other closed: event 2: hit is wrong
+";
 
 /// An open call is closed, one that is current and not open is cleared, and one that is not current is missed.
 #[test]
 fn hits_in_records(rt: HostRuntime) -> Result<(), Fail> {
-    let forget = "{\"e\":\"forget\",\"by\":3,\"k\":\"k\",\"closed\":[1,1]}\n";
-    let idle = "{\"e\":\"forget\",\"by\":3,\"k\":\"k\",\"closed\":null}\n";
-    let newer = "{\"e\":\"lead\",\"by\":3,\"k\":\"k\",\"c\":[3,1],\"own\":null}\n";
-    let other = "{\"e\":\"lead\",\"by\":1,\"k\":\"j\",\"c\":[1,1],\"own\":null}\n";
-    let handed = "{\"e\":\"handed\",\"by\":1,\"c\":[1,1]}\n";
-    let rows: [(&[&str], &str); 26] = [
-        // A call that nobody led is missed, and stays new.
-        (&[MISSED, LEAD], "legal: 2 events\n"),
-        (&[CLOSED], "event 1: hit is wrong\n"),
-        (&[CLEARED], "event 1: hit is wrong\n"),
-        // An open call.
-        (&[LEAD, CLOSED], "legal: 2 events\n"),
-        (&[LEAD, CLEARED], "event 2: hit is wrong\n"),
-        (&[LEAD, MISSED], "event 2: hit is wrong\n"),
-        (&[LEAD, CLOSED, SETTLE, handed], "legal: 4 events\n"),
-        (&[LEAD, CLOSED, newer], "legal: 3 events\n"),
-        (
-            &[LEAD, CLOSED, ENTER],
-            "event 3: call is not the open one\n",
-        ),
-        // A settled call.
-        (&[LEAD, SETTLE, CLEARED, handed], "legal: 4 events\n"),
-        (&[LEAD, SETTLE, CLOSED], "event 3: hit is wrong\n"),
-        (&[LEAD, SETTLE, MISSED], "event 3: hit is wrong\n"),
-        (&[LEAD, SETTLE, CLEARED, idle], "legal: 4 events\n"),
-        // A call that a Forget ended, of the key or of that call.
-        (&[LEAD, forget, MISSED], "legal: 3 events\n"),
-        (&[LEAD, forget, CLOSED], "event 3: hit is wrong\n"),
-        (&[LEAD, forget, CLEARED], "event 3: hit is wrong\n"),
-        (&[LEAD, CLOSED, MISSED], "legal: 3 events\n"),
-        (&[LEAD, CLOSED, SETTLE, CLEARED], "event 4: hit is wrong\n"),
-        (&[LEAD, SETTLE, CLEARED, MISSED], "legal: 4 events\n"),
-        (&[LEAD, SETTLE, CLEARED, CLEARED], "event 4: hit is wrong\n"),
-        (&[LEAD, SETTLE, idle, MISSED], "legal: 4 events\n"),
-        // Beside a newer call of its key.
-        (&[LEAD, SETTLE, newer, MISSED], "legal: 4 events\n"),
-        (&[LEAD, SETTLE, newer, CLOSED], "event 4: hit is wrong\n"),
-        (&[LEAD, SETTLE, newer, CLEARED], "event 4: hit is wrong\n"),
-        // An open call of another key.
-        (&[other, MISSED], "legal: 2 events\n"),
-        (&[other, CLOSED], "event 2: hit is wrong\n"),
-    ];
-    for (records, line) in rows {
-        says(&rt, rt.alloc(), 3, records, line)?;
+    for row in HITS.split_inclusive('\n') {
+        says(&rt, rt.alloc(), 3, row)?;
     }
     Ok(())
 }
@@ -272,36 +220,58 @@ fn hits_in_records(rt: HostRuntime) -> Result<(), Fail> {
 #[test]
 fn second_format_has_no_forgetcall(rt: HostRuntime) -> Result<(), Fail> {
     for format in [1, 2] {
-        let records = [LEAD, CLOSED];
-        says(&rt, rt.alloc(), format, &records, "line 3: not a record\n")?;
-        let records = [MISSED];
-        says(&rt, rt.alloc(), format, &records, "line 2: not a record\n")?;
+        says(
+            &rt,
+            rt.alloc(),
+            format,
+            "lead closed: line 3: not a record\n",
+        )?;
+        says(&rt, rt.alloc(), format, "missed: line 2: not a record\n")?;
     }
     Ok(())
 }
 
+/// Checks a history of this format whose second line, with which this text begins, is no record.
+fn second_line_is_no_record(
+    rt: &impl Abort,
+    alloc: Global,
+    format: u32,
+    text: &str,
+) -> Result<(), Fail> {
+    let records = format!(in alloc; "{{\"format\":{format}}}\n{text}")?;
+    judges(
+        rt,
+        alloc,
+        records.as_str(),
+        "line 2: not a record\n",
+        Ending::Refused,
+    )
+}
+
+const HOSTILE_FORGETS: &str = r#"{"e":"forgetcall","by":2,"k":"k","c":[1,1],"hit":"lost"}
+{"e":"forgetcall","by":2,"k":"k","c":[1,1],"hit":"Missed"}
+{"e":"forgetcall","by":2,"k":"k","c":[1,1],"hit":"missed "}
+{"e":"forgetcall","by":2,"k":"k","c":[1,1],"hit":""}
+{"e":"forgetcall","by":2,"k":"k","c":[1,1],"hit":null}
+{"e":"forgetcall","by":2,"k":"k","c":[1,1],"hit":2}
+{"e":"forgetcall","by":2,"k":"k","c":[1,1]}
+{"e":"forgetcall","by":2,"k":"k","c":null,"hit":"missed"}
+{"e":"forgetcall","by":2,"k":"k","c":[1,0],"hit":"missed"}
+{"e":"forgetcall","by":2,"k":"k","c":[65536,1],"hit":"missed"}
+{"e":"forgetcall","by":0,"k":"k","c":[1,1],"hit":"missed"}
+{"e":"forgetcall","by":2,"k":null,"c":[1,1],"hit":"missed"}
+{"e":"forgetcall","by":2,"k":"k","c":[1,1],"hit":"missed","m":[2,1]}
+{"e":"forget","by":2,"k":"k","c":[1,1],"hit":"missed"}
+{"e":"forgetcall","by":2,"k":"k","closed":[1,1]}
+"#;
+
 /// Its names are four, its call is no null, and its hit is one of three texts.
 #[test]
 fn hostile_forgets_of_one_call(rt: HostRuntime) -> Result<(), Fail> {
-    for record in [
-        "{\"e\":\"forgetcall\",\"by\":2,\"k\":\"k\",\"c\":[1,1],\"hit\":\"lost\"}\n",
-        "{\"e\":\"forgetcall\",\"by\":2,\"k\":\"k\",\"c\":[1,1],\"hit\":\"Missed\"}\n",
-        "{\"e\":\"forgetcall\",\"by\":2,\"k\":\"k\",\"c\":[1,1],\"hit\":\"missed \"}\n",
-        "{\"e\":\"forgetcall\",\"by\":2,\"k\":\"k\",\"c\":[1,1],\"hit\":\"\"}\n",
-        "{\"e\":\"forgetcall\",\"by\":2,\"k\":\"k\",\"c\":[1,1],\"hit\":null}\n",
-        "{\"e\":\"forgetcall\",\"by\":2,\"k\":\"k\",\"c\":[1,1],\"hit\":2}\n",
-        "{\"e\":\"forgetcall\",\"by\":2,\"k\":\"k\",\"c\":[1,1]}\n",
-        "{\"e\":\"forgetcall\",\"by\":2,\"k\":\"k\",\"c\":null,\"hit\":\"missed\"}\n",
-        "{\"e\":\"forgetcall\",\"by\":2,\"k\":\"k\",\"c\":[1,0],\"hit\":\"missed\"}\n",
-        "{\"e\":\"forgetcall\",\"by\":2,\"k\":\"k\",\"c\":[65536,1],\"hit\":\"missed\"}\n",
-        "{\"e\":\"forgetcall\",\"by\":0,\"k\":\"k\",\"c\":[1,1],\"hit\":\"missed\"}\n",
-        "{\"e\":\"forgetcall\",\"by\":2,\"k\":null,\"c\":[1,1],\"hit\":\"missed\"}\n",
-        "{\"e\":\"forgetcall\",\"by\":2,\"k\":\"k\",\"c\":[1,1],\"hit\":\"missed\",\"m\":[2,1]}\n",
-        "{\"e\":\"forget\",\"by\":2,\"k\":\"k\",\"c\":[1,1],\"hit\":\"missed\"}\n",
-        "{\"e\":\"forgetcall\",\"by\":2,\"k\":\"k\",\"closed\":[1,1]}\n",
-    ] {
-        let records = [record, MISSED];
-        says(&rt, rt.alloc(), 3, &records, "line 2: not a record\n")?;
+    let missed = record(&rt, "missed");
+    for line in HOSTILE_FORGETS.lines() {
+        let lines = format!(in rt.alloc(); "{line}\n{missed}\n")?;
+        second_line_is_no_record(&rt, rt.alloc(), 3, lines.as_str())?;
     }
     Ok(())
 }
@@ -331,28 +301,44 @@ const FOUR_EVENTS: [[&str; 5]; 3] = [
     ],
 ];
 
+/// Checks a record that is cut at every byte but the last, below what stands before it.
+fn is_cut_record(
+    rt: &impl Abort,
+    alloc: Global,
+    before: &str,
+    record: &str,
+    line: u64,
+) -> Result<(), Fail> {
+    let refused = format!(in alloc; "line {line}: not a record\n")?;
+    for cut in 1..record.len() {
+        let part = record.get(..cut).unwrap_or_default();
+        let records = format!(in alloc; "{before}{part}")?;
+        judges(
+            rt,
+            alloc,
+            records.as_str(),
+            refused.as_str(),
+            Ending::Refused,
+        )?;
+    }
+    Ok(())
+}
+
+/// Checks records of so many legal events.
+fn is_legal(rt: &impl Abort, alloc: Global, records: &str, events: usize) -> Result<(), Fail> {
+    let legal = format!(in alloc; "legal: {events} events\n")?;
+    judges(rt, alloc, records, legal.as_str(), Ending::Answered)
+}
+
 /// Checks a history of legal events that is cut at every byte.
 fn is_cut(rt: &impl Abort, alloc: Global, lines: &[&str]) -> Result<(), Fail> {
     // What stands before the line that is cut.
     let mut before = String::new(alloc);
     for (i, record) in lines.iter().enumerate() {
-        let line = i as u64 + 1;
-        let refused = format!(in alloc; "line {line}: not a record\n")?;
-        let legal = format!(in alloc; "legal: {i} events\n")?;
-        for cut in 1..record.len() {
-            let mut records = before.clone()?;
-            records.push_str(record.get(..cut).unwrap_or_default())?;
-            judges(
-                rt,
-                alloc,
-                records.as_str(),
-                refused.as_str(),
-                Ending::Refused,
-            )?;
-        }
+        is_cut_record(rt, alloc, before.as_str(), record, i as u64 + 1)?;
         for end in [*record, "\n"] {
             before.push_str(end)?;
-            judges(rt, alloc, before.as_str(), legal.as_str(), Ending::Answered)?;
+            is_legal(rt, alloc, before.as_str(), i)?;
         }
     }
     Ok(())
@@ -366,31 +352,27 @@ fn history_cut_at_every_byte(rt: HostRuntime) -> Result<(), Fail> {
     Ok(())
 }
 
+const HOSTILE_RECORDS: &str = r#"{"e":"lead","by":1,"k":"k","c":[1,0],"own":null}
+{"e":"lead","by":65536,"k":"k","c":[1,1],"own":null}
+{"e":"lead","by":1,"k":"k","c":[1,4294967296],"own":null}
+{"e":"lead","by":1,"k":"k","c":[1,1]}
+{"e":"lead","by":1,"k":"k","c":[1,1],"own":null,"x":1}
+{"e":"leave","by":1,"k":"k","c":[1,1],"own":null}
+"#;
+
 #[test]
 fn hostile_records(rt: HostRuntime) -> Result<(), Fail> {
-    let mut deep = String::from_str(rt.alloc(), "{\"format\":1}\n")?;
-    for _ in 0..128 {
-        deep.push_str("[")?;
+    second_line_is_no_record(&rt, rt.alloc(), 1, times(rt.alloc(), "[", 128)?.as_str())?;
+    for line in HOSTILE_RECORDS.split_inclusive('\n') {
+        second_line_is_no_record(&rt, rt.alloc(), 1, line)?;
     }
-    let rows = [
-        deep.as_str(),
-        "{\"format\":1}\n{\"e\":\"lead\",\"by\":1,\"k\":\"k\",\"c\":[1,0],\"own\":null}\n",
-        "{\"format\":1}\n\n{\"e\":\"lead\",\"by\":1,\"k\":\"k\",\"c\":[1,1],\"own\":null}\n",
-        "{\"format\":1}\n{\"e\":\"lead\",\"by\":65536,\"k\":\"k\",\"c\":[1,1],\"own\":null}\n",
-        "{\"format\":1}\n{\"e\":\"lead\",\"by\":1,\"k\":\"k\",\"c\":[1,4294967296],\"own\":null}\n",
-        "{\"format\":1}\n{\"e\":\"lead\",\"by\":1,\"k\":\"k\",\"c\":[1,1]}\n",
-        "{\"format\":1}\n{\"e\":\"lead\",\"by\":1,\"k\":\"k\",\"c\":[1,1],\"own\":null,\"x\":1}\n",
-        "{\"format\":1}\n{\"e\":\"leave\",\"by\":1,\"k\":\"k\",\"c\":[1,1],\"own\":null}\n",
-    ];
-    for records in rows {
-        judges(
-            &rt,
-            rt.alloc(),
-            records,
-            "line 2: not a record\n",
-            Ending::Refused,
-        )?;
-    }
+    // An empty line, and a record below it.
+    second_line_is_no_record(
+        &rt,
+        rt.alloc(),
+        1,
+        "\n{\"e\":\"lead\",\"by\":1,\"k\":\"k\",\"c\":[1,1],\"own\":null}\n",
+    )?;
     for first in ["{\"format\":4}\n", "{\"format\":9}\n"] {
         judges(
             &rt,
@@ -405,13 +387,12 @@ fn hostile_records(rt: HostRuntime) -> Result<(), Fail> {
 
 #[test]
 fn a_record_that_is_no_text(rt: HostRuntime) -> Result<(), Fail> {
-    let mut written: Vec<u8> = Vec::new(rt.alloc());
-    let records: &[u8] = b"{\"format\":1}\n{\"e\":\"handed\",\"by\":1,\"c\":[1,1]}\n\xff\n";
-    let ended = Engine::Check.start(rt.alloc(), &mut &*records, &mut written)?;
-    assert!(rt;
-        written.as_slice() == b"line 3: not a record\n".as_slice(),
-        "another answer"
-    );
-    assert!(rt; ended == Ending::Refused, "it is not refused");
-    Ok(())
+    answers(
+        &rt,
+        rt.alloc(),
+        Engine::Check,
+        b"{\"format\":1}\n{\"e\":\"handed\",\"by\":1,\"c\":[1,1]}\n\xff\n",
+        "line 3: not a record\n",
+        Ending::Refused,
+    )
 }

@@ -6,7 +6,7 @@ use std::process::Abort;
 use std::test::Fail;
 
 /// A text so many times.
-fn times(alloc: Global, text: &str, n: u32) -> Result<String, AllocError> {
+pub(crate) fn times(alloc: Global, text: &str, n: u32) -> Result<String, AllocError> {
     let mut all = String::new(alloc);
     for _ in 0..n {
         all.push_str(text)?;

@@ -1,14 +1,17 @@
 //! What scripts and schedules did, as records.
 
+use crate::answers::answers;
 use sf_engines::{Ending, Engine, Shown};
+use std::alloc::Global;
+use std::process::Abort;
 use std::test::Fail;
 
 /// An engine, its input, and its answer: each record but the first is an event.
-const ROWS: [(Engine, &[u8], &[u8]); 5] = [
+const ROWS: [(Engine, &[u8], &str); 5] = [
     (
         Engine::Run { history: true },
         b"ask 1 k\nask 2 k\nsettle 1 ok v\ntake 2\n",
-        b"{\"format\":3}
+        "{\"format\":3}
 {\"e\":\"lead\",\"by\":1,\"k\":\"k\",\"c\":[1,1],\"own\":null}
 {\"e\":\"enter\",\"by\":2,\"k\":\"k\",\"c\":[1,1],\"m\":[2,1]}
 {\"e\":\"settle\",\"by\":1,\"c\":[1,1],\"ok\":\"v\",\"joiners\":1}
@@ -18,7 +21,7 @@ const ROWS: [(Engine, &[u8], &[u8]); 5] = [
     (
         Engine::Run { history: true },
         b"chan 1 2 k\nforget 3 k\nforget 3 j\nsettle 1 err down\n",
-        b"{\"format\":3}
+        "{\"format\":3}
 {\"e\":\"lead\",\"by\":1,\"k\":\"k\",\"c\":[1,1],\"own\":[2,1]}
 {\"e\":\"forget\",\"by\":3,\"k\":\"k\",\"closed\":[1,1]}
 {\"e\":\"forget\",\"by\":3,\"k\":\"j\",\"closed\":null}
@@ -29,7 +32,7 @@ const ROWS: [(Engine, &[u8], &[u8]); 5] = [
     (
         Engine::Run { history: true },
         b"ask 1 k\nforgetcall 2 k 1.1\nask 3 k\nforgetcall 2 k 1.1\nsettle 3 ok n\nforgetcall 2 k 3.1\ncurrent k 3.1\nsettle 1 ok o\n",
-        b"{\"format\":3}
+        "{\"format\":3}
 {\"e\":\"lead\",\"by\":1,\"k\":\"k\",\"c\":[1,1],\"own\":null}
 {\"e\":\"forgetcall\",\"by\":2,\"k\":\"k\",\"c\":[1,1],\"hit\":\"closed\"}
 {\"e\":\"lead\",\"by\":3,\"k\":\"k\",\"c\":[3,1],\"own\":null}
@@ -44,7 +47,7 @@ const ROWS: [(Engine, &[u8], &[u8]); 5] = [
     (
         Engine::Steps(Shown::History),
         b"do 1 ask 20\nstep 1 3\ndo 1 settle ok v\nstep 1 2\ndo 3 forgetcall 20 1.1\nstep 3 3\ndo 3 forgetcall 20 2.1\nstep 3\ndo 3 named 20\nstep 3\n",
-        b"{\"format\":3}
+        "{\"format\":3}
 {\"e\":\"lead\",\"by\":1,\"k\":\"20\",\"c\":[1,1],\"own\":null}
 {\"e\":\"settle\",\"by\":1,\"c\":[1,1],\"ok\":\"v\",\"joiners\":0}
 {\"e\":\"handed\",\"by\":1,\"c\":[1,1]}
@@ -55,7 +58,7 @@ const ROWS: [(Engine, &[u8], &[u8]); 5] = [
     (
         Engine::Steps(Shown::History),
         b"do 1 ask 20\nstep 1 3\ndo 3 forget 20\nstep 3 3\ndo 1 settle ok v\nstep 1 2\nstep 3\n",
-        b"{\"format\":3}
+        "{\"format\":3}
 {\"e\":\"lead\",\"by\":1,\"k\":\"20\",\"c\":[1,1],\"own\":null}
 {\"e\":\"forget\",\"by\":3,\"k\":\"20\",\"closed\":[1,1]}
 {\"e\":\"settle\",\"by\":1,\"c\":[1,1],\"ok\":\"v\",\"joiners\":0}
@@ -64,41 +67,39 @@ const ROWS: [(Engine, &[u8], &[u8]); 5] = [
     ),
 ];
 
+/// Checks records, the very ones that an engine wrote.
+fn is_legal(rt: &impl Abort, alloc: Global, records: &str) -> Result<(), Fail> {
+    let mut judged: Vec<u8> = Vec::new(alloc);
+    let ended = Engine::Check.start(alloc, &mut records.as_bytes(), &mut judged)?;
+    assert!(rt; ended == Ending::Answered, "it is not legal that {records}");
+    Ok(())
+}
+
 #[test]
 fn recorded_histories_are_legal(rt: HostRuntime) -> Result<(), Fail> {
     for (engine, input, records) in ROWS {
-        let mut written: Vec<u8> = Vec::new(rt.alloc());
-        let ended = engine.start(rt.alloc(), &mut &*input, &mut written)?;
-        let said = str::from_utf8(written.as_slice()).unwrap_or("no text");
-        assert!(rt; written.as_slice() == records, "other records: {said}");
-        assert!(rt; ended == Ending::Answered, "it ends otherwise");
-        let mut judged: Vec<u8> = Vec::new(rt.alloc());
-        let ended = Engine::Check.start(rt.alloc(), &mut written.as_slice(), &mut judged)?;
-        assert!(rt; ended == Ending::Answered, "it is not legal that {said}");
+        answers(&rt, rt.alloc(), engine, input, records, Ending::Answered)?;
+        is_legal(&rt, rt.alloc(), records)?;
     }
     Ok(())
 }
 
 #[test]
 fn refused_inputs_have_no_records(rt: HostRuntime) -> Result<(), Fail> {
-    let rows: [(Engine, &[u8], &[u8]); 2] = [
-        (
-            Engine::Run { history: true },
-            b"ask 1 k\nask 1 k\n",
-            b"line 2: caller 1 is not free\n",
-        ),
-        (
-            Engine::Steps(Shown::History),
-            b"do 1 ask 1\nstep 1 4\n",
-            b"line 2: not a turn of this schedule\n",
-        ),
-    ];
-    for (engine, input, line) in rows {
-        let mut written: Vec<u8> = Vec::new(rt.alloc());
-        let ended = engine.start(rt.alloc(), &mut &*input, &mut written)?;
-        let said = str::from_utf8(written.as_slice()).unwrap_or("no text");
-        assert!(rt; written.as_slice() == line, "another line: {said}");
-        assert!(rt; ended == Ending::Refused, "it ends otherwise");
-    }
-    Ok(())
+    answers(
+        &rt,
+        rt.alloc(),
+        Engine::Run { history: true },
+        b"ask 1 k\nask 1 k\n",
+        "line 2: caller 1 is not free\n",
+        Ending::Refused,
+    )?;
+    answers(
+        &rt,
+        rt.alloc(),
+        Engine::Steps(Shown::History),
+        b"do 1 ask 1\nstep 1 4\n",
+        "line 2: not a turn of this schedule\n",
+        Ending::Refused,
+    )
 }

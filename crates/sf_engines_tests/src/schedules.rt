@@ -1,5 +1,6 @@
 //! Worked schedules, and lines that are no turns.
 
+use crate::answers::answers;
 use sf_engines::{Ending, Engine, Shown};
 use std::alloc::Global;
 use std::process::Abort;
@@ -13,12 +14,14 @@ fn prints(
     printed: &str,
     ending: Ending,
 ) -> Result<(), Fail> {
-    let mut written: Vec<u8> = Vec::new(alloc);
-    let ended = Engine::Steps(Shown::Lines).start(alloc, &mut &*schedule, &mut written)?;
-    let said = str::from_utf8(written.as_slice()).unwrap_or("no text");
-    assert!(rt; said == printed, "{printed} answers {said}");
-    assert!(rt; ended == ending, "{printed} ends otherwise");
-    Ok(())
+    answers(
+        rt,
+        alloc,
+        Engine::Steps(Shown::Lines),
+        schedule,
+        printed,
+        ending,
+    )
 }
 
 #[test]
@@ -127,57 +130,80 @@ fn forgets_of_one_call(rt: HostRuntime) -> Result<(), Fail> {
     Ok(())
 }
 
+/// Plays a row: the number of the line that is no turn, and the schedule, its lines parted by `; `. A row that begins with
+/// `#` is a remark.
+fn is_no_turn(rt: &impl Abort, alloc: Global, row: &str) -> Result<(), Fail> {
+    if row.starts_with('#') {
+        return Ok(());
+    }
+    let (line, turns) = row.split_once(": ").unwrap_or((row, ""));
+    let mut schedule = String::new(alloc);
+    for turn in turns.split("; ") {
+        schedule.push_str(turn)?;
+        schedule.push_str("\n")?;
+    }
+    let refusal = format!(in alloc; "line {line}: not a turn of this schedule\n")?;
+    prints(
+        rt,
+        alloc,
+        schedule.as_bytes(),
+        refusal.as_str(),
+        Ending::Refused,
+    )
+}
+
+const HOSTILE: &str = "2: do 1 ask 1; step 1 1001
+2: do 1 ask 1; drop 1
+1: do 1 ask 65
+1: do 65 ask 1
+1: do 0 ask 1
+2: do 1 ask 1; do 1 ask 2
+1: do 1 settle ok v
+1: step 1
+# A step beyond the end comes before a line of bad form.
+2: do 1 ask 1; step 1 4; foo
+2: do 1 ask 1; ; step 1
+# A question is of a call that was led on its place.
+1: do 1 current 1 1.1
+3: do 1 ask 1; step 1 3; do 2 current 2 1.1
+# A chan has two free callers, and only the first makes its steps.
+1: do 1 chan 1 1
+2: do 1 chan 2 1; do 3 chan 2 1
+3: do 1 chan 2 1; step 1; step 2
+# A poll is made by one that holds a ticket.
+1: do 1 poll
+3: do 1 ask 1; step 1 3; do 1 poll
+# A forget of one call, and what the key word names, are for free callers.
+3: do 1 ask 1; step 1 3; do 1 forgetcall 1 1.1
+3: do 1 ask 1; step 1 3; do 1 named 1
+1: do 1 forgetcall 65 1.1
+1: do 1 forgetcall 0 1.1
+1: do 65 forgetcall 1 1.1
+1: do 1 forgetcall 1
+1: do 1 forgetcall 1 1
+1: do 1 forgetcall 1 1.0
+1: do 1 forgetcall 1 65536.1
+1: do 1 forgetcall 1 1.4294967296
+2: do 1 forgetcall 1 1.1; drop 1
+2: do 1 forgetcall 1 1.1; step 1 2
+# A forget that has closed its call is not dropped, though its clear is still to come.
+5: do 1 ask 1; step 1 3; do 2 forgetcall 1 1.1; step 2 3; drop 2
+1: do 1 named 65
+1: do 1 named 1 1.1
+2: do 1 named 1; drop 1
+2: do 1 named 1; step 1 2
+";
+
 #[test]
 fn hostile_schedules(rt: HostRuntime) -> Result<(), Fail> {
-    let rows: [(&[u8], u32); 35] = [
-        (b"do 1 ask 1\nstep 1 1001\n", 2),
-        (b"do 1 ask 1\ndrop 1\n", 2),
-        (b"do 1 ask 65\n", 1),
-        (b"do 65 ask 1\n", 1),
-        (b"do 0 ask 1\n", 1),
-        (b"do 1 ask 1\ndo 1 ask 2\n", 2),
-        (b"do 1 settle ok v\n", 1),
-        (b"step 1\n", 1),
-        // A step beyond the end comes before a line of bad form.
-        (b"do 1 ask 1\nstep 1 4\nfoo\n", 2),
-        (b"do 1 ask 1\n\nstep 1\n", 2),
-        (b"do 1 ask 1\nstep 1 \xff\n", 2),
-        // A question is of a call that was led on its place.
-        (b"do 1 current 1 1.1\n", 1),
-        (b"do 1 ask 1\nstep 1 3\ndo 2 current 2 1.1\n", 3),
-        // A chan has two free callers, and only the first makes its steps.
-        (b"do 1 chan 1 1\n", 1),
-        (b"do 1 chan 2 1\ndo 3 chan 2 1\n", 2),
-        (b"do 1 chan 2 1\nstep 1\nstep 2\n", 3),
-        // A poll is made by one that holds a ticket.
-        (b"do 1 poll\n", 1),
-        (b"do 1 ask 1\nstep 1 3\ndo 1 poll\n", 3),
-        // A forget of one call, and what the key word names, are for free callers.
-        (b"do 1 ask 1\nstep 1 3\ndo 1 forgetcall 1 1.1\n", 3),
-        (b"do 1 ask 1\nstep 1 3\ndo 1 named 1\n", 3),
-        (b"do 1 forgetcall 65 1.1\n", 1),
-        (b"do 1 forgetcall 0 1.1\n", 1),
-        (b"do 65 forgetcall 1 1.1\n", 1),
-        (b"do 1 forgetcall 1\n", 1),
-        (b"do 1 forgetcall 1 1\n", 1),
-        (b"do 1 forgetcall 1 1.0\n", 1),
-        (b"do 1 forgetcall 1 65536.1\n", 1),
-        (b"do 1 forgetcall 1 1.4294967296\n", 1),
-        (b"do 1 forgetcall 1 1.1\ndrop 1\n", 2),
-        (b"do 1 forgetcall 1 1.1\nstep 1 2\n", 2),
-        // A forget that has closed its call is not dropped, though its clear is still to come.
-        (
-            b"do 1 ask 1\nstep 1 3\ndo 2 forgetcall 1 1.1\nstep 2 3\ndrop 2\n",
-            5,
-        ),
-        (b"do 1 named 65\n", 1),
-        (b"do 1 named 1 1.1\n", 1),
-        (b"do 1 named 1\ndrop 1\n", 2),
-        (b"do 1 named 1\nstep 1 2\n", 2),
-    ];
-    for (schedule, line) in rows {
-        let refusal = format!(in rt.alloc(); "line {line}: not a turn of this schedule\n")?;
-        prints(&rt, rt.alloc(), schedule, refusal.as_str(), Ending::Refused)?;
+    for row in HOSTILE.lines() {
+        is_no_turn(&rt, rt.alloc(), row)?;
     }
-    Ok(())
+    prints(
+        &rt,
+        rt.alloc(),
+        b"do 1 ask 1\nstep 1 \xff\n",
+        "line 2: not a turn of this schedule\n",
+        Ending::Refused,
+    )
 }

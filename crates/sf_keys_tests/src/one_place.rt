@@ -54,68 +54,97 @@ fn pending(rt: &impl Abort, group: &Group<Item>, ticket: Ticket<Item>, key: &[u8
     }
 }
 
+// The leader settles its call with what a load answers for the key: so many joined it.
+fn settle(
+    rt: &impl Abort,
+    group: &Group<Item>,
+    flight: Flight<Item>,
+    key: &'static [u8],
+    joiners: u32,
+)
+    requires { flight.group ≡ group.now }
+{
+    match group.finish(flight, item(key)) {
+        Finished::Done(_, letter) => {
+            let joined = letter.joiners();
+            assert!(rt; joined == joiners, "{joined} joined")
+        }
+        Finished::Held(settled) => {
+            settled.abandon();
+            panic!(rt; "it is held")
+        }
+    }
+}
+
+// The number in the letter that is there, where that is the key's and not another's.
+fn polled(rt: &impl Abort, group: &Group<Item>, ticket: Ticket<Item>, key: &[u8]) -> Option<usize>
+    requires { ticket.group ≡ group.now }
+{
+    match poll_key(group, ticket, key) {
+        KeyPolled::Ready(_, letter) => Some(size_in(&letter, key)),
+        KeyPolled::Other(_) => None,
+        KeyPolled::Pending(ticket) => {
+            ticket.abandon();
+            panic!(rt; "no letter")
+        }
+    }
+}
+
+fn are_found(rt: &impl Abort, first: Option<usize>, second: Option<usize>) {
+    assert!(rt;
+        first == Some(5),
+        "the key's letter is taken for another's, or has another number"
+    );
+    assert!(rt;
+        second.is_none(),
+        "another key's letter is taken for the key's"
+    );
+}
+
 #[test]
 fn polls_of_two_keys(rt: HostRuntime) -> Result<(), Fail> {
     let (group, mut callers) = Group::<Item>::new(rt.alloc(), 1, 3, 1)?;
     let caller = next_caller(&rt, &group, &mut callers);
     let flight = lead(&rt, &group, caller, b"first");
     let caller = next_caller(&rt, &group, &mut callers);
-    let own = join(&rt, &group, caller, b"first");
+    let first = join(&rt, &group, caller, b"first");
     let caller = next_caller(&rt, &group, &mut callers);
-    let other = join(&rt, &group, caller, b"second");
-    let own = pending(&rt, &group, own, b"first");
-    let other = pending(&rt, &group, other, b"second");
-    match group.finish(flight, item(b"first")) {
-        Finished::Done(_, letter) => assert!(rt;
-            letter.joiners() == 2,
-            "{} joined",
-            letter.joiners()
-        ),
-        Finished::Held(settled) => {
-            settled.abandon();
-            panic!(rt; "it is held")
-        }
-    }
-    match poll_key(&group, own, b"first") {
-        KeyPolled::Ready(_, letter) => {
-            let size = size_in(&letter, b"first");
-            assert!(rt; size == 5, "its value is {size}")
-        }
-        KeyPolled::Other(_) => panic!(rt; "the key's letter is taken for another's"),
-        KeyPolled::Pending(ticket) => {
-            ticket.abandon();
-            panic!(rt; "no letter")
-        }
-    }
-    match poll_key(&group, other, b"second") {
-        KeyPolled::Other(_) => {}
-        KeyPolled::Ready(_, _) => panic!(rt; "another key's letter is taken for the key's"),
-        KeyPolled::Pending(ticket) => {
-            ticket.abandon();
-            panic!(rt; "no letter")
-        }
-    }
+    let second = join(&rt, &group, caller, b"second");
+    let first = pending(&rt, &group, first, b"first");
+    let second = pending(&rt, &group, second, b"second");
+    settle(&rt, &group, flight, b"first", 2);
+    let first = polled(&rt, &group, first, b"first");
+    let second = polled(&rt, &group, second, b"second");
+    are_found(&rt, first, second);
     Ok(())
 }
 
-// What a do of this key comes to: whether it was alone, and the number.
+fn is_answer(rt: &impl Abort, alone: bool, size: usize, expected: (bool, usize)) {
+    assert!(rt; (alone, size) == expected, "alone: {alone}, {size}");
+}
+
+// A do of this key comes to this: whether it was alone, and the number.
 fn do_once(
     rt: &(impl Abort + Wait),
     group: &Group<Item>,
     caller: Caller<Item>,
     key: &'static [u8],
     rounds: u32,
-) -> (Caller<Item>, bool, usize)
+    expected: (bool, usize),
+) -> Caller<Item>
     requires own { caller.group ≡ group.now }
     requires place { group.now.sizes.places ≡ 1 }
-    ensures { result.0.group ≡ group.now }
+    ensures { result.group ≡ group.now }
 {
     match do_key(rt, group, ONE, caller, key, rounds, || item(key)) {
         Ok(KeyAnswer::Letter(caller, letter)) => {
-            let size = size_in(&letter, key);
-            (caller, false, size)
+            is_answer(rt, false, size_in(&letter, key), expected);
+            caller
         }
-        Ok(KeyAnswer::Alone(caller, item)) => (caller, true, item.value.0),
+        Ok(KeyAnswer::Alone(caller, item)) => {
+            is_answer(rt, true, item.value.0, expected);
+            caller
+        }
         Err(_) => panic!(rt; "it is refused"),
     }
 }
@@ -124,12 +153,9 @@ fn do_once(
 fn dos_in_turn(rt: HostRuntime) -> Result<(), Fail> {
     let (group, mut callers) = Group::<Item>::new(rt.alloc(), 1, 1, 1)?;
     let caller = next_caller(&rt, &group, &mut callers);
-    let (caller, alone, size) = do_once(&rt, &group, caller, b"first", 1);
-    assert!(rt; !alone && size == 5, "alone: {alone}, {size}");
-    let (mut caller, alone, size) = do_once(&rt, &group, caller, b"second", 1);
-    assert!(rt; !alone && size == 6, "alone: {alone}, {size}");
+    let caller = do_once(&rt, &group, caller, b"first", 1, (false, 5));
+    let mut caller = do_once(&rt, &group, caller, b"second", 1, (false, 6));
     let _ = forget_key(&rt, &group, ONE, &mut caller, b"third");
-    let (_, alone, size) = do_once(&rt, &group, caller, b"third", 0);
-    assert!(rt; alone && size == 5, "alone: {alone}, {size}");
+    do_once(&rt, &group, caller, b"third", 0, (true, 5));
     Ok(())
 }

@@ -140,7 +140,32 @@ fn next_worker<'a>(
     }
 }
 
-// Four threads share so many places. Each do has an answer of its key; a load is a led call's or one alone.
+fn is_right(rt: &impl Abort, tally: Tally) {
+    let Tally {
+        letters,
+        alone,
+        wrong,
+    } = tally;
+    assert!(rt;
+        wrong == 0 && letters.wrapping_add(alone) == DOS,
+        "{letters} letters, {alone} alone, {wrong} wrong"
+    );
+}
+
+// Each do has an answer of its key; a load is a led call's or one alone.
+fn is_whole(rt: &impl Abort, tallies: [Tally; 4], loads: u32) {
+    let mut alone: u32 = 0;
+    for tally in tallies {
+        is_right(rt, tally);
+        alone = alone.wrapping_add(tally.alone);
+    }
+    assert!(rt;
+        alone <= loads && loads <= 4 * DOS,
+        "{loads} loads, {alone} alone"
+    );
+}
+
+// Four threads share so many places.
 fn four_threads(
     rt: &(impl Abort + Wait + Threads + AllocGlobal + Sync),
     count: u32,
@@ -163,22 +188,7 @@ fn four_threads(
         || join(rt, || one.work(rt), || two.work(rt)),
         || join(rt, || three.work(rt), || four.work(rt)),
     );
-    let mut alone: u32 = 0;
-    for tally in [one, two, three, four] {
-        assert!(rt; tally.wrong == 0, "{} answers were wrong", tally.wrong);
-        assert!(rt;
-            tally.letters.wrapping_add(tally.alone) == DOS,
-            "{} letters, {} alone",
-            tally.letters,
-            tally.alone
-        );
-        alone = alone.wrapping_add(tally.alone);
-    }
-    let loads = loads.load(Ordering::SeqCst);
-    assert!(rt;
-        alone <= loads && loads <= 4 * DOS,
-        "{loads} loads, {alone} alone"
-    );
+    is_whole(rt, [one, two, three, four], loads.load(Ordering::SeqCst));
     Ok(())
 }
 
