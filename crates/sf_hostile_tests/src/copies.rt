@@ -3,7 +3,7 @@
 ghost use Rattle.std.specs.Prelude.{◌≡◌, IfSome};
 
 use crate::askings::{join, lead};
-use sf_group::{Finished, Fit, Group, Polled, Share, Ticket};
+use sf_group::{Finished, Fit, Group, Letter, Polled, Settled, Share, Ticket};
 use sf_history::Memory;
 use std::alloc::{AllocError, Global};
 use std::cell::Cell;
@@ -35,6 +35,15 @@ impl Fit for Scarce {
     ghost lasts = { λ _ _ _ _ _ f. f };
 }
 
+// A joiner's letter, which is to be there.
+fn check_letter(rt: &impl Abort, letter: &Letter<Scarce>, due: bool) {
+    assert!(rt; due, "a letter is there too early");
+    assert!(rt;
+        letter.value().value == 7 && letter.joiners() == 3,
+        "another letter"
+    );
+}
+
 // The letter is there where it is due, and else the ticket comes back.
 fn poll(
     rt: &impl Abort,
@@ -47,11 +56,7 @@ fn poll(
 {
     match group.poll(ticket) {
         Polled::Ready(_, letter) => {
-            assert!(rt; due, "a letter is there too early");
-            assert!(rt;
-                letter.value().value == 7 && letter.joiners() == 3,
-                "another letter"
-            );
+            check_letter(rt, &letter, due);
             None
         }
         Polled::Pending(ticket) => {
@@ -76,6 +81,29 @@ fn poll_rest(rt: &impl Abort, group: &Group<Scarce>, ticket: Option<Ticket<Scarc
     }
 }
 
+// The leader's letter, of a delivery that is to be done.
+fn check_done(rt: &impl Abort, letter: &Letter<Scarce>, due: bool) {
+    assert!(rt; due, "it is done");
+    assert!(rt;
+        letter.value().value == 7 && letter.joiners() == 3,
+        "the leader's letter"
+    );
+}
+
+// A delivery that is to be held, and is done once it goes on.
+fn go_on(rt: &impl Abort, group: &Group<Scarce>, settled: Settled<Scarce>, due: bool)
+    requires { settled.group ≡ group.now }
+{
+    assert!(rt; due, "it is held");
+    match group.go_on(settled) {
+        Finished::Done(_, letter) => check_done(rt, &letter, true),
+        Finished::Held(settled) => {
+            settled.abandon();
+            panic!(rt; "it is held again")
+        }
+    }
+}
+
 // One leads and three join; the copy of this number is refused. Those who joined last get their letters first.
 fn deliver(rt: &impl Abort, alloc: Global, refused: u32) -> Result<(), Fail> {
     let (group, mut callers) = match Group::<Scarce>::new(alloc, 1, 4, 1) {
@@ -94,27 +122,9 @@ fn deliver(rt: &impl Abort, alloc: Global, refused: u32) -> Result<(), Fail> {
     let last = poll(rt, &group, last, refused > 1);
     let second = poll(rt, &group, second, refused > 2);
     let first = poll(rt, &group, first, refused > 3);
-    let finished = match finished {
-        Finished::Held(settled) => {
-            assert!(rt; refused <= 3, "it is held");
-            group.go_on(settled)
-        }
-        Finished::Done(leader, letter) => {
-            assert!(rt; refused > 3, "it is done");
-            Finished::Done(leader, letter)
-        }
-    };
     match finished {
-        Finished::Held(settled) => {
-            settled.abandon();
-            panic!(rt; "it is held again")
-        }
-        Finished::Done(_, letter) => {
-            assert!(rt;
-                letter.value().value == 7 && letter.joiners() == 3,
-                "the leader's letter"
-            )
-        }
+        Finished::Held(settled) => go_on(rt, &group, settled, refused <= 3),
+        Finished::Done(_, letter) => check_done(rt, &letter, refused > 3),
     }
     poll_rest(rt, &group, last);
     poll_rest(rt, &group, second);

@@ -52,10 +52,14 @@ fn check<R: Wait + Abort>(
         Ok(outcome) => outcome,
         Err(_) => try_out(rt, alloc, setting)?,
     };
-    let Outcome { said: is, book } = outcome;
-    assert!(rt; is.as_str() == said, "{is}");
-    assert!(rt; book == counted, "another book");
+    check_outcome(rt, &outcome, said, counted);
     Ok(())
+}
+
+fn check_outcome(rt: &impl Abort, outcome: &Outcome, said: &str, counted: Totals) {
+    let is = outcome.said.as_str();
+    assert!(rt; is == said, "{is}");
+    assert!(rt; outcome.book == counted, "another book");
 }
 
 #[test]

@@ -1,6 +1,6 @@
 //! Fills of two getters, and a spare caller that joins the first one's load. Wherever one allocation is refused, each get
 //! answers the value, and one at most the fault for want of memory; what is owed is delivered then.
-ghost use Rattle.std.specs.Prelude.{◌≡◌, ◌≤◌, IfSome, vec_len, pos};
+ghost use Rattle.std.specs.Prelude.{◌≡◌, ◌≤◌, IfOk, IfSome, vec_len, pos};
 ghost use Rattle.sf_calls.specs.Same.{IsPlaceOf};
 ghost use Rattle.sf_words.specs.declared.limits.TheConstants.{LARGEST_PLACE};
 ghost use Rattle.sf_spots.specs.Spaces.{AreDesksOf, places_in, space_of};
@@ -417,6 +417,23 @@ fn with_all<
         unreachable!()
     };
     getters.destroy_empty();
+    Ok(play(rt, &fill, one, two, caller, place, scene, flags))
+}
+
+// Gets of the two getters, beside the caller or in turn.
+fn play<'d, 'f, D: Naming + Send + Sync, N: Naming + Send + Sync, R: Wait + Threads + Abort + Sync>(
+    rt: &R,
+    fill: &Fill<'d, D, N, AnyValue>,
+    one: Getter<'d, D, N, AnyValue, PairLoaders<'f>>,
+    two: Getter<'d, D, N, AnyValue, PairLoaders<'f>>,
+    caller: Caller<FillValue<'d, D, AnyValue>>,
+    place: u32,
+    scene: Scene,
+    flags: &'f Flags,
+) -> Played
+    requires own { caller.group ≡ N.group }
+    requires place { IsPlaceOf N.group place }
+{
     let one = Tried {
         getter: one,
         refused: 0,
@@ -427,14 +444,14 @@ fn with_all<
     };
     if scene == Scene::Joined {
         drop(two);
-        return Ok(play_beside(rt, &fill, one, caller, place, flags));
+        return play_beside(rt, fill, one, caller, place, flags);
     }
-    let refused = play_in_turn(rt, &fill, one, two, scene);
-    Ok(Played {
+    let refused = play_in_turn(rt, fill, one, two, scene);
+    Played {
         refused,
         met: true,
         loads: 0,
-    })
+    }
 }
 
 fn loaders<'f>(
@@ -454,6 +471,21 @@ fn loaders<'f>(
         local,
         RoundChance::default(),
     ))
+}
+
+// Those of both getters: the first one's wait for what the scene has beside them.
+fn two_loaders<'f>(
+    alloc: Global,
+    scene: Scene,
+    flags: &'f Flags,
+) -> Result<Vec<PairLoaders<'f>>, Memory>
+    ensures { IfOk result (λ sets. vec_len sets ≡ 2) }
+{
+    let peer = (scene == Scene::FailedPeer).then_some(0);
+    let met = (scene == Scene::Joined).then_some(flags);
+    let first = loaders(alloc, peer, met)?;
+    let second = loaders(alloc, peer, None)?;
+    Ok(vec![in alloc; first, second]?)
 }
 
 // The last caller, and the two before it.
@@ -492,6 +524,7 @@ fn with_space<'d, 'f, D: Naming + Send + Sync, R: Wait + Threads + Abort + Sync>
     requires space { (space_of space ≡ D.space) × (places_in D.space ≤ LARGEST_PLACE) }
     requires desks { (vec_len desks ≡ 3) × AreDesksOf D.space desks.items }
 {
+    let loaders = two_loaders(alloc, scene, flags)?;
     let (group, callers) = Group::<FillValue<'d, D, AnyValue>>::new(
         alloc,
         space.place_count(),
@@ -515,16 +548,11 @@ fn with_space<'d, 'f, D: Naming + Send + Sync, R: Wait + Threads + Abort + Sync>
     if !group.has(place) {
         panic!(rt; "the group has no such place")
     }
-    let peer = (scene == Scene::FailedPeer).then_some(0);
-    let mut sets = Vec::with_capacity(alloc, 2)?;
-    let met = (scene == Scene::Joined).then_some(flags);
-    sets.push_reserved(loaders(alloc, peer, met)?);
-    sets.push_reserved(loaders(alloc, peer, None)?);
     let parts = FillParts {
         desks,
         group,
         callers,
-        loaders: sets,
+        loaders,
         ledgers: Ledgers::new(2),
     };
     with_all::<D, Brand, R>(rt, alloc, space, parts, caller, place, scene, flags)

@@ -133,17 +133,21 @@ fn get_all<'d, D: Naming, N: Naming, O: Origin, L: LoadPath<Origin = O>, R: Wait
     (getter, said)
 }
 
+type OneLoaders = Loaders<FixedPicker, Script, Script, RoundChance>;
+
+// What the getter loads by.
+fn loaders(alloc: Global, setting: Setting) -> Result<OneLoaders, Memory> {
+    let peer = script(alloc, setting.peer_fails.unwrap_or(0), "p")?;
+    let local = script(alloc, setting.local_fails, "v")?;
+    let picker = FixedPicker::new(setting.peer_fails.map(|_| 0));
+    Ok(Loaders::new(picker, peer, local, RoundChance::default()))
+}
+
 /// What comes of the setting.
 pub fn try_out<R: Wait>(rt: &R, alloc: Global, setting: Setting) -> Result<Outcome, Memory>
     requires places { (1 ≤ setting.places) × (setting.places ≤ 8) }
     requires first_generation { 1 ≤ setting.first_generation }
 {
-    let set = Loaders::new(
-        FixedPicker::new(setting.peer_fails.map(|_| 0)),
-        script(alloc, setting.peer_fails.unwrap_or(0), "p")?,
-        script(alloc, setting.local_fails, "v")?,
-        RoundChance::default(),
-    );
     let keys = Keys::Directory(DirectoryKeys {
         keys: setting.places,
         key_bytes: 250,
@@ -160,5 +164,6 @@ pub fn try_out<R: Wait>(rt: &R, alloc: Global, setting: Setting) -> Result<Outco
         alloc,
         keys: setting.keys,
     };
-    with_fill(alloc, sizes, vec![in alloc; set]?, all)
+    let sets = vec![in alloc; loaders(alloc, setting)?]?;
+    with_fill(alloc, sizes, sets, all)
 }
