@@ -3,7 +3,8 @@ ghost use Rattle.std.specs.Prelude.{◌≡◌, IfSome};
 ghost use Rattle.sf_group.specs.Same.{IsPlaceOf};
 
 use crate::calls::{Outcome, next_caller};
-use sf_group::{Begun, Caller, Finished, Group, NotBegun, Polled, Ticket};
+use sf_group::{Begun, Caller, Finished, Flight, Group, NotBegun, Polled, Ticket};
+use std::process::Abort;
 use std::sync::atomic::{AtomicBool, Ordering};
 use std::test::Fail;
 use std::thread;
@@ -44,6 +45,20 @@ fn take(group: &Group<Outcome>, mut ticket: Ticket<Outcome>) -> Option<Caller<Ou
     None
 }
 
+// The caller, once its call is settled.
+fn settle(group: &Group<Outcome>, flight: Flight<Outcome>) -> Option<Caller<Outcome>>
+    requires { flight.group ≡ group.now }
+    ensures { IfSome result (λ c. c.group ≡ group.now) }
+{
+    match group.finish(flight, Outcome(7)) {
+        Finished::Done(back, _) => Some(back),
+        Finished::Held(settled) => {
+            settled.abandon();
+            None
+        }
+    }
+}
+
 impl<'a> Asker<'a> {
     // The other stops where this one has ended.
     fn work(self) -> Ended {
@@ -61,31 +76,33 @@ impl<'a> Asker<'a> {
             if met.load(Ordering::SeqCst) {
                 return Ended::Others;
             }
-            match group.begin(caller, 1, 1) {
-                Ok(Begun::Lead(flight)) => match group.finish(flight, Outcome(7)) {
-                    Finished::Done(back, _) => caller = back,
-                    Finished::Held(settled) => {
-                        settled.abandon();
-                        return Ended::Wrong;
-                    }
-                },
-                Ok(Begun::Join(ticket)) => {
-                    let Some(back) = take(group, ticket) else {
-                        return Ended::Wrong;
-                    };
-                    caller = back;
-                }
+            let back = match group.begin(caller, 1, 1) {
+                Ok(Begun::Lead(flight)) => settle(group, flight),
+                Ok(Begun::Join(ticket)) => take(group, ticket),
                 Err(NotBegun::Busy(tries, back)) => {
                     if tries == 1 && back.number() == number {
                         return Ended::Busy;
                     }
-                    return Ended::Wrong;
+                    None
                 }
-                Err(NotBegun::Spent(_)) => return Ended::Wrong,
-            }
+                Err(NotBegun::Spent(_)) => None,
+            };
+            let Some(back) = back else {
+                return Ended::Wrong;
+            };
+            caller = back;
         }
         Ended::Wrong
     }
+}
+
+// One is busy at least, and the other is not wrong.
+fn check_ended(rt: &impl Abort, one: Ended, two: Ended) {
+    assert!(rt;
+        one != Ended::Wrong && two != Ended::Wrong,
+        "an asking ended otherwise"
+    );
+    assert!(rt; one == Ended::Busy || two == Ended::Busy, "none is busy");
 }
 
 #[test]
@@ -103,10 +120,6 @@ fn one_try_is_busy_beside_another(rt: HostRuntime) -> Result<(), Fail> {
         met: &met,
     };
     let (one, two) = thread::join(&rt, || one.work(), || two.work());
-    assert!(rt;
-        one != Ended::Wrong && two != Ended::Wrong,
-        "an asking ended otherwise"
-    );
-    assert!(rt; one == Ended::Busy || two == Ended::Busy, "none is busy");
+    check_ended(&rt, one, two);
     Ok(())
 }

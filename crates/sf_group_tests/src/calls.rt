@@ -181,11 +181,23 @@ pub(crate) fn hand_out(
     ensures { result.group ≡ group.now }
 {
     let (call, place) = (flight.call(), flight.place());
+    let (caller, letter) = settle(rt, group, flight, value);
+    check_letter(rt, &letter, place, call, value, joiners);
+    caller
+}
+
+/// The leader settles its call. It is free again then, and has its letter.
+pub(crate) fn settle(
+    rt: &impl Abort,
+    group: &Group<Outcome>,
+    flight: Flight<Outcome>,
+    value: u32,
+) -> (Caller<Outcome>, Letter<Outcome>)
+    requires { flight.group ≡ group.now }
+    ensures { (result.0.group ≡ group.now) × (result.1.group ≡ group.now) }
+{
     match group.finish(flight, Outcome(value)) {
-        Finished::Done(caller, letter) => {
-            check_letter(rt, &letter, place, call, value, joiners);
-            caller
-        }
+        Finished::Done(caller, letter) => (caller, letter),
         Finished::Held(settled) => {
             settled.abandon();
             panic!(rt; "it is held")
@@ -241,16 +253,50 @@ pub(crate) fn ready(
     ensures { result.group ≡ group.now }
 {
     let call = ticket.call();
+    let (caller, letter) = take(rt, group, ticket);
+    check_letter(rt, &letter, place, call, value, joiners);
+    caller
+}
+
+/// The ticket's letter is there. Its caller is free again then, and has it.
+pub(crate) fn take(
+    rt: &impl Abort,
+    group: &Group<Outcome>,
+    ticket: Ticket<Outcome>,
+) -> (Caller<Outcome>, Letter<Outcome>)
+    requires { ticket.group ≡ group.now }
+    ensures { (result.0.group ≡ group.now) × (result.1.group ≡ group.now) }
+{
     match group.poll(ticket) {
-        Polled::Ready(caller, letter) => {
-            check_letter(rt, &letter, place, call, value, joiners);
-            caller
-        }
+        Polled::Ready(caller, letter) => (caller, letter),
         Polled::Pending(ticket) => {
             ticket.abandon();
             panic!(rt; "it is pending")
         }
     }
+}
+
+/// The joiner asks for the place, and joins the flight's call, this one, as this member. The leader settles it, and each
+/// has its letter.
+pub(crate) fn share_call(
+    rt: &impl Abort,
+    group: &Group<Outcome>,
+    flight: Flight<Outcome>,
+    joiner: Caller<Outcome>,
+    place: u32,
+    call: CallId,
+    member: CallId,
+    value: u32,
+) -> (Caller<Outcome>, Caller<Outcome>)
+    requires leader { flight.group ≡ group.now }
+    requires joiner { joiner.group ≡ group.now }
+    requires place { IsPlaceOf group.now place }
+    ensures { (result.0.group ≡ group.now) × (result.1.group ≡ group.now) }
+{
+    let ticket = join(rt, group, joiner, place, call, member);
+    let leader = hand_out(rt, group, flight, value, 1);
+    let joiner = ready(rt, group, ticket, place, value, 1);
+    (leader, joiner)
 }
 
 /// It is not there yet.

@@ -103,15 +103,16 @@ fn spend_chan(
 #[test]
 fn own_and_later_channel(rt: HostRuntime) -> Result<(), Fail> {
     let (group, mut callers) = Group::<Outcome>::new(rt.alloc(), 1, 4, 1)?;
-    let four = next_caller(&rt, &group, &mut callers, 4);
-    let three = next_caller(&rt, &group, &mut callers, 3);
-    let two = next_caller(&rt, &group, &mut callers, 2);
-    let one = next_caller(&rt, &group, &mut callers, 1);
-    let (flight, own) = lead_chan(&rt, &group, one, two, id(1, 1), id(2, 1));
-    let (later, mut three) = join_chan(&rt, &group, three, four, id(1, 1), id(4, 1));
+    let (rt, group, callers) = (&rt, &group, &mut callers);
+    let four = next_caller(rt, group, callers, 4);
+    let three = next_caller(rt, group, callers, 3);
+    let two = next_caller(rt, group, callers, 2);
+    let one = next_caller(rt, group, callers, 1);
+    let (flight, own) = lead_chan(rt, group, one, two, id(1, 1), id(2, 1));
+    let (later, mut three) = join_chan(rt, group, three, four, id(1, 1), id(4, 1));
     assert!(rt; three.number() == 3, "another caller is free");
-    forget(&rt, &group, &mut three, 1, Some(id(1, 1)));
-    lead(&rt, &group, three, 1, id(3, 1)).abandon();
+    forget(rt, group, &mut three, 1, Some(id(1, 1)));
+    lead(rt, group, three, 1, id(3, 1)).abandon();
     flight.abandon();
     own.abandon();
     later.abandon();
@@ -121,12 +122,13 @@ fn own_and_later_channel(rt: HostRuntime) -> Result<(), Fail> {
 #[test]
 fn second_caller_spent(rt: HostRuntime) -> Result<(), Fail> {
     let (group, mut callers) = Group::<Outcome>::new(rt.alloc(), 2, 2, 4_294_967_295)?;
-    let two = next_caller(&rt, &group, &mut callers, 2);
-    let one = next_caller(&rt, &group, &mut callers, 1);
-    let flight = lead(&rt, &group, two, 2, id(2, 4_294_967_295));
-    let two = finish(&rt, &group, flight, 7);
-    let (one, two) = spend_chan(&rt, &group, one, two);
+    let (rt, group, callers) = (&rt, &group, &mut callers);
+    let two = next_caller(rt, group, callers, 2);
+    let one = next_caller(rt, group, callers, 1);
+    let flight = lead(rt, group, two, 2, id(2, 4_294_967_295));
+    let two = finish(rt, group, flight, 7);
+    let (one, two) = spend_chan(rt, group, one, two);
     assert!(rt; two.number() == 2, "another second comes back");
-    lead(&rt, &group, one, 1, id(1, 4_294_967_295)).abandon();
+    lead(rt, group, one, 1, id(1, 4_294_967_295)).abandon();
     Ok(())
 }

@@ -3,7 +3,9 @@ ghost use Rattle.std.specs.Prelude.{◌≡◌, All};
 ghost use Rattle.sf_group.specs.Same.{IsPlaceOf};
 
 use crate::calls::id;
-use sf_group::{Begun, CallId, Caller, Finished, Fit, Flight, Group, Letter, Polled, Share};
+use sf_group::{
+    Begun, CallId, Caller, Finished, Fit, Flight, Group, Letter, Polled, Share, Ticket,
+};
 use sf_history::Memory;
 use std::process::Abort;
 use std::test::Fail;
@@ -48,20 +50,54 @@ fn lead(
     }
 }
 
+fn join(rt: &impl Abort, group: &Group<Loaded>, caller: Caller<Loaded>) -> Ticket<Loaded>
+    requires own { caller.group ≡ group.now }
+    requires place { IsPlaceOf group.now 1 }
+    ensures { result.group ≡ group.now }
+{
+    match group.begin(caller, 1, 1) {
+        Ok(Begun::Join(ticket)) => ticket,
+        Ok(Begun::Lead(flight)) => {
+            flight.abandon();
+            panic!(rt; "it leads")
+        }
+        Err(_) => panic!(rt; "it is refused"),
+    }
+}
+
+// The leader settles this call, and its letter says so.
 fn finish(
     rt: &impl Abort,
     group: &Group<Loaded>,
     flight: Flight<Loaded>,
+    call: CallId,
     value: Loaded,
-) -> (Caller<Loaded>, Letter<Loaded>)
+    joiners: u32,
+) -> Caller<Loaded>
     requires { flight.group ≡ group.now }
-    ensures caller { result.0.group ≡ group.now }
+    ensures { result.group ≡ group.now }
 {
     match group.finish(flight, value) {
-        Finished::Done(caller, letter) => (caller, letter),
+        Finished::Done(caller, letter) => {
+            check(rt, &letter, call, value, joiners);
+            caller
+        }
         Finished::Held(settled) => {
             settled.abandon();
             panic!(rt; "it is held")
+        }
+    }
+}
+
+// The joiner's letter is there.
+fn take(rt: &impl Abort, group: &Group<Loaded>, ticket: Ticket<Loaded>) -> Letter<Loaded>
+    requires { ticket.group ≡ group.now }
+{
+    match group.poll(ticket) {
+        Polled::Ready(_, letter) => letter,
+        Polled::Pending(ticket) => {
+            ticket.abandon();
+            panic!(rt; "the letter is not there")
         }
     }
 }
@@ -72,39 +108,41 @@ fn check(rt: &impl Abort, letter: &Letter<Loaded>, call: CallId, value: Loaded, 
     assert!(rt; letter.joiners() == joiners, "{} joined", letter.joiners());
 }
 
+fn next_caller(
+    rt: &impl Abort,
+    group: &Group<Loaded>,
+    list: &mut Vec<Caller<Loaded>>,
+) -> Caller<Loaded>
+    requires { All (λ c. c.group ≡ group.now) list.old.items }
+    ensures caller { result.group ≡ group.now }
+    ensures rest { All (λ c. c.group ≡ group.now) list.new.items }
+{
+    let _ = group;
+    let Some(caller) = list.pop() else {
+        panic!(rt; "no more callers")
+    };
+    caller
+}
+
+// The first call ends with the fault 5, which its joiner gets too, and the next with the number 7.
+fn fail_and_load(rt: &impl Abort, group: &Group<Loaded>, callers: &mut Vec<Caller<Loaded>>)
+    requires own { All (λ c. c.group ≡ group.now) callers.old.items }
+    requires place { IsPlaceOf group.now 1 }
+{
+    let two = next_caller(rt, group, callers);
+    let one = next_caller(rt, group, callers);
+    let flight = lead(rt, group, one, id(1, 1));
+    let ticket = join(rt, group, two);
+    let one = finish(rt, group, flight, id(1, 1), Loaded::Fault(5), 1);
+    let letter = take(rt, group, ticket);
+    check(rt, &letter, id(1, 1), Loaded::Fault(5), 1);
+    let flight = lead(rt, group, one, id(1, 2));
+    finish(rt, group, flight, id(1, 2), Loaded::Fine(7), 0);
+}
+
 #[test]
 fn error_is_shared_and_not_kept(rt: HostRuntime) -> Result<(), Fail> {
     let (group, mut callers) = Group::<Loaded>::new(rt.alloc(), 1, 2, 1)?;
-    let (Some(two), Some(one)) = (callers.pop(), callers.pop()) else {
-        panic!(rt; "no more callers")
-    };
-    let flight = lead(&rt, &group, one, id(1, 1));
-    match group.begin(two, 1, 1) {
-        Ok(Begun::Join(ticket)) => {
-            let (one, letter) = finish(&rt, &group, flight, Loaded::Fault(5));
-            check(&rt, &letter, id(1, 1), Loaded::Fault(5), 1);
-            match group.poll(ticket) {
-                Polled::Ready(_, letter) => {
-                    check(&rt, &letter, id(1, 1), Loaded::Fault(5), 1);
-                }
-                Polled::Pending(ticket) => {
-                    ticket.abandon();
-                    panic!(rt; "the letter is not there")
-                }
-            }
-            let flight = lead(&rt, &group, one, id(1, 2));
-            let (_, letter) = finish(&rt, &group, flight, Loaded::Fine(7));
-            check(&rt, &letter, id(1, 2), Loaded::Fine(7), 0);
-        }
-        Ok(Begun::Lead(other)) => {
-            other.abandon();
-            flight.abandon();
-            panic!(rt; "it leads")
-        }
-        Err(_) => {
-            flight.abandon();
-            panic!(rt; "it is refused")
-        }
-    }
+    fail_and_load(&rt, &group, &mut callers);
     Ok(())
 }

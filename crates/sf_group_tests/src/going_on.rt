@@ -1,9 +1,9 @@
 //! A delivery that lacks memory for a while.
 
-ghost use Rattle.std.specs.Prelude.{◌≡◌, All, IfErr};
+ghost use Rattle.std.specs.Prelude.{◌≡◌, All};
 ghost use Rattle.sf_group.specs.Same.{IsPlaceOf};
 
-use sf_group::{Begun, Caller, Finished, Fit, Flight, Group, Polled, Share, Ticket};
+use sf_group::{Begun, Caller, Finished, Fit, Flight, Group, Polled, Settled, Share, Ticket};
 use sf_history::Memory;
 use std::alloc::AllocError;
 use std::cell::Cell;
@@ -74,44 +74,56 @@ fn lead(rt: &impl Abort, group: &Group<Scarce>, list: &mut Vec<Caller<Scarce>>) 
     }
 }
 
-// The ticket's letter, or the ticket.
-fn look(group: &Group<Scarce>, ticket: Ticket<Scarce>) -> Result<u32, Ticket<Scarce>>
-    requires { ticket.group ≡ group.now }
-    ensures { IfErr result (λ t. t.group ≡ group.now) }
+// The leader settles its call with 7, of which one copy is there, and owes a letter.
+fn hold(rt: &impl Abort, group: &Group<Scarce>, flight: Flight<Scarce>) -> Settled<Scarce>
+    requires { flight.group ≡ group.now }
+    ensures { result.group ≡ group.now }
 {
-    match group.poll(ticket) {
-        Polled::Ready(_, letter) => Ok(letter.value().value),
-        Polled::Pending(ticket) => Err(ticket),
-    }
-}
-
-// One copy is there, for the last that joined; the other is refused, and is there when the delivery goes on.
-#[test]
-fn delivery_goes_on_where_it_stood(rt: HostRuntime) -> Result<(), Fail> {
-    let (group, mut callers) = Group::<Scarce>::new(rt.alloc(), 1, 3, 1)?;
-    let flight = lead(&rt, &group, &mut callers);
-    let first = join(&rt, &group, &mut callers);
-    let last = join(&rt, &group, &mut callers);
     let value = Scarce {
         value: 7,
         left: Cell::new(1),
     };
-    let settled = match group.finish(flight, value) {
+    match group.finish(flight, value) {
         Finished::Held(settled) => settled,
         Finished::Done(..) => panic!(rt; "it is done"),
-    };
-    let joiners = settled.joiners();
-    match look(&group, last) {
-        Ok(found) => assert!(rt; found == 7, "a letter with {found}"),
-        Err(ticket) => {
+    }
+}
+
+// The ticket's letter is there, with 7.
+fn ready(rt: &impl Abort, group: &Group<Scarce>, ticket: Ticket<Scarce>, whose: &str)
+    requires { ticket.group ≡ group.now }
+{
+    match group.poll(ticket) {
+        Polled::Ready(_, letter) => check_value(rt, letter.value().value),
+        Polled::Pending(ticket) => {
             ticket.abandon();
-            panic!(rt; "the last is not there")
+            panic!(rt; "{whose} is not there")
         }
     }
-    let first = match look(&group, first) {
-        Err(ticket) => ticket,
-        Ok(found) => panic!(rt; "the first is there, with {found}"),
-    };
+}
+
+fn check_value(rt: &impl Abort, found: u32) {
+    assert!(rt; found == 7, "a letter with {found}");
+}
+
+// It is not there yet.
+fn pending(rt: &impl Abort, group: &Group<Scarce>, ticket: Ticket<Scarce>) -> Ticket<Scarce>
+    requires { ticket.group ≡ group.now }
+    ensures { result.group ≡ group.now }
+{
+    match group.poll(ticket) {
+        Polled::Pending(ticket) => ticket,
+        Polled::Ready(_, letter) => {
+            let found = letter.value().value;
+            panic!(rt; "the first is there, with {found}")
+        }
+    }
+}
+
+// The delivery, to two joiners, comes to its end.
+fn go_on(rt: &impl Abort, group: &Group<Scarce>, settled: Settled<Scarce>)
+    requires { settled.group ≡ group.now }
+{
     match group.go_on(settled) {
         Finished::Done(_, letter) => assert!(rt; letter.joiners() == 2, "not of two joiners"),
         Finished::Held(settled) => {
@@ -119,16 +131,31 @@ fn delivery_goes_on_where_it_stood(rt: HostRuntime) -> Result<(), Fail> {
             panic!(rt; "it is held again")
         }
     }
+}
+
+// One copy is there, for the last that joined; the other is refused, and is there when the delivery goes on.
+fn deliver_twice(rt: &impl Abort, group: &Group<Scarce>, callers: &mut Vec<Caller<Scarce>>)
+    requires own { All (λ c. c.group ≡ group.now) callers.old.items }
+    requires place { IsPlaceOf group.now 1 }
+{
+    let flight = lead(rt, group, callers);
+    let first = join(rt, group, callers);
+    let last = join(rt, group, callers);
+    let settled = hold(rt, group, flight);
+    let joiners = settled.joiners();
+    ready(rt, group, last, "the last");
+    let first = pending(rt, group, first);
+    go_on(rt, group, settled);
     assert!(rt;
         joiners == 2,
         "{joiners} joiners before the delivery went on"
     );
-    match look(&group, first) {
-        Ok(found) => assert!(rt; found == 7, "a letter with {found}"),
-        Err(ticket) => {
-            ticket.abandon();
-            panic!(rt; "the first is not there")
-        }
-    }
+    ready(rt, group, first, "the first");
+}
+
+#[test]
+fn delivery_goes_on_where_it_stood(rt: HostRuntime) -> Result<(), Fail> {
+    let (group, mut callers) = Group::<Scarce>::new(rt.alloc(), 1, 3, 1)?;
+    deliver_twice(&rt, &group, &mut callers);
     Ok(())
 }

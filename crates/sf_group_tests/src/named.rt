@@ -3,8 +3,8 @@
 ghost use Rattle.std.specs.Prelude.{◌≡◌};
 ghost use Rattle.sf_group.specs.Same.{IsPlaceOf};
 
-use crate::calls::{Outcome, finish, hand_out, id, join, lead, next_caller, ready};
-use sf_group::{Busy, CallId, Caller, Group, Hit};
+use crate::calls::{Outcome, finish, id, lead, next_caller, share_call};
+use sf_group::{Busy, CallId, Caller, Flight, Group, Hit};
 use std::process::Abort;
 use std::test::Fail;
 
@@ -43,29 +43,43 @@ fn check_named(
     }
 }
 
+// Call 1.1 is forgotten, and the newer call 3.1 stays open for those who come, until it is settled and forgotten too.
+fn forget_newer_call(
+    rt: &impl Abort,
+    group: &Group<Outcome>,
+    mut two: Caller<Outcome>,
+    new: Flight<Outcome>,
+    four: Caller<Outcome>,
+)
+    requires two { two.group ≡ group.now }
+    requires new { new.group ≡ group.now }
+    requires four { four.group ≡ group.now }
+    requires place { IsPlaceOf group.now 1 }
+{
+    forget_call(rt, group, &mut two, id(1, 1), Hit::Missed);
+    share_call(rt, group, new, four, 1, id(3, 1), id(4, 1), 8);
+    check_named(rt, group, &mut two, Some(id(3, 1)));
+    forget_call(rt, group, &mut two, id(3, 1), Hit::Cleared);
+    check_named(rt, group, &mut two, None);
+    forget_call(rt, group, &mut two, id(3, 1), Hit::Missed);
+}
+
 #[test]
 fn forgotten_call_by_name(rt: HostRuntime) -> Result<(), Fail> {
     let (group, mut callers) = Group::<Outcome>::new(rt.alloc(), 1, 4, 1)?;
-    let four = next_caller(&rt, &group, &mut callers, 4);
-    let three = next_caller(&rt, &group, &mut callers, 3);
-    let mut two = next_caller(&rt, &group, &mut callers, 2);
-    let one = next_caller(&rt, &group, &mut callers, 1);
-    check_named(&rt, &group, &mut two, None);
-    let old = lead(&rt, &group, one, 1, id(1, 1));
-    check_named(&rt, &group, &mut two, Some(id(1, 1)));
-    forget_call(&rt, &group, &mut two, id(1, 1), Hit::Closed);
-    let new = lead(&rt, &group, three, 1, id(3, 1));
-    check_named(&rt, &group, &mut two, Some(id(3, 1)));
-    // The newer call stays open for those who come.
-    forget_call(&rt, &group, &mut two, id(1, 1), Hit::Missed);
-    let ticket = join(&rt, &group, four, 1, id(3, 1), id(4, 1));
-    hand_out(&rt, &group, new, 8, 1);
-    ready(&rt, &group, ticket, 1, 8, 1);
-    check_named(&rt, &group, &mut two, Some(id(3, 1)));
-    forget_call(&rt, &group, &mut two, id(3, 1), Hit::Cleared);
-    check_named(&rt, &group, &mut two, None);
-    forget_call(&rt, &group, &mut two, id(3, 1), Hit::Missed);
-    finish(&rt, &group, old, 7);
+    let (rt, group, callers) = (&rt, &group, &mut callers);
+    let four = next_caller(rt, group, callers, 4);
+    let three = next_caller(rt, group, callers, 3);
+    let mut two = next_caller(rt, group, callers, 2);
+    let one = next_caller(rt, group, callers, 1);
+    check_named(rt, group, &mut two, None);
+    let old = lead(rt, group, one, 1, id(1, 1));
+    check_named(rt, group, &mut two, Some(id(1, 1)));
+    forget_call(rt, group, &mut two, id(1, 1), Hit::Closed);
+    let new = lead(rt, group, three, 1, id(3, 1));
+    check_named(rt, group, &mut two, Some(id(3, 1)));
+    forget_newer_call(rt, group, two, new, four);
+    finish(rt, group, old, 7);
     Ok(())
 }
 
@@ -73,22 +87,15 @@ fn forgotten_call_by_name(rt: HostRuntime) -> Result<(), Fail> {
 #[test]
 fn missed_call_stays_new(rt: HostRuntime) -> Result<(), Fail> {
     let (group, mut callers) = Group::<Outcome>::new(rt.alloc(), 1, 2, 1)?;
-    let two = next_caller(&rt, &group, &mut callers, 2);
-    let mut one = next_caller(&rt, &group, &mut callers, 1);
-    forget_call(&rt, &group, &mut one, id(2, 1), Hit::Missed);
-    forget_call(
-        &rt,
-        &group,
-        &mut one,
-        id(65_535, 4_294_967_295),
-        Hit::Missed,
-    );
-    forget_call(&rt, &group, &mut one, id(0, 0), Hit::Missed);
-    let flight = lead(&rt, &group, two, 1, id(2, 1));
-    forget_call(&rt, &group, &mut one, id(2, 2), Hit::Missed);
-    forget_call(&rt, &group, &mut one, id(1, 1), Hit::Missed);
-    let ticket = join(&rt, &group, one, 1, id(2, 1), id(1, 1));
-    hand_out(&rt, &group, flight, 7, 1);
-    ready(&rt, &group, ticket, 1, 7, 1);
+    let (rt, group, callers) = (&rt, &group, &mut callers);
+    let two = next_caller(rt, group, callers, 2);
+    let mut one = next_caller(rt, group, callers, 1);
+    forget_call(rt, group, &mut one, id(2, 1), Hit::Missed);
+    forget_call(rt, group, &mut one, id(65_535, 4_294_967_295), Hit::Missed);
+    forget_call(rt, group, &mut one, id(0, 0), Hit::Missed);
+    let flight = lead(rt, group, two, 1, id(2, 1));
+    forget_call(rt, group, &mut one, id(2, 2), Hit::Missed);
+    forget_call(rt, group, &mut one, id(1, 1), Hit::Missed);
+    share_call(rt, group, flight, one, 1, id(2, 1), id(1, 1), 7);
     Ok(())
 }

@@ -3,56 +3,118 @@
 ghost use Rattle.std.specs.Prelude.{◌≡◌, All};
 ghost use Rattle.sf_group.specs.Same.{IsPlaceOf};
 
-use crate::calls::{Outcome, finish, id, join, lead, next_caller};
-use sf_group::{Caller, Finished, Group, Polled};
+use crate::calls::{Outcome, finish, id, join, lead, next_caller, settle, take};
+use sf_group::{Caller, Flight, Group, Letter};
 use std::process::Abort;
 use std::test::Fail;
+
+// Another of this letter.
+fn copy(
+    rt: &impl Abort,
+    group: &Group<Outcome>,
+    letter: &mut Letter<Outcome>,
+    whose: &str,
+) -> Letter<Outcome>
+    requires { letter.old.group ≡ group.now }
+    ensures letter { letter.new.group ≡ group.now }
+    ensures copy { result.group ≡ group.now }
+{
+    match group.copy(letter) {
+        Ok(copy) => copy,
+        Err(_) => panic!(rt; "{whose} copy is refused"),
+    }
+}
+
+// A copy of the letter is of so many joiners, and of the value 7.
+fn check_copy(
+    rt: &impl Abort,
+    group: &Group<Outcome>,
+    letter: &mut Letter<Outcome>,
+    joiners: u32,
+    whose: &str,
+)
+    requires { letter.old.group ≡ group.now }
+{
+    let copy = copy(rt, group, letter, whose);
+    let (joined, value) = (copy.joiners(), copy.value().0);
+    assert!(rt;
+        joined == joiners && value == 7,
+        "{whose} copy has {joined} joiners of {value}"
+    );
+}
+
+// The copy is of call 1.1 of place 1, which nobody joined.
+fn check_lone(rt: &impl Abort, copy: &Letter<Outcome>) {
+    assert!(rt;
+        copy.call() == id(1, 1) && copy.place() == 1,
+        "a copy of another letter"
+    );
+    assert!(rt; copy.joiners() == 0, "a copy with joiners");
+}
+
+// A copy of the letter, of the lone call 1.1, has the value 7. The caller learns what both show.
+fn check_parts(
+    rt: &impl Abort,
+    group: &Group<Outcome>,
+    mut letter: Letter<Outcome>,
+    caller: &mut Caller<Outcome>,
+)
+    requires letter { letter.group ≡ group.now }
+    requires caller { caller.old.group ≡ group.now }
+{
+    let copy = copy(rt, group, &mut letter, "its");
+    check_lone(rt, &copy);
+    let mut note = letter.note(group);
+    group.learn(caller, &mut note);
+    let (value, mut shown) = copy.into_parts();
+    assert!(rt; value.0 == 7, "a copy of another value");
+    group.learn(caller, &mut shown);
+}
+
+// Two callers and a leader tell each other what they have seen.
+fn tell_all(
+    group: &Group<Outcome>,
+    flight: &mut Flight<Outcome>,
+    two: &mut Caller<Outcome>,
+    mut three: Caller<Outcome>,
+)
+    requires leader { flight.old.group ≡ group.now }
+    requires two { two.old.group ≡ group.now }
+    requires three { three.group ≡ group.now }
+    ensures leader { flight.new.group ≡ group.now }
+    ensures two { two.new.group ≡ group.now }
+{
+    let mut note = group.tell(two);
+    let mut again = group.again(&mut note);
+    group.learn(&mut three, &mut again);
+    flight.learn(group, &mut note);
+    group.meet(two, &mut three);
+}
 
 #[test]
 fn notes_are_told_and_learnt(rt: HostRuntime) -> Result<(), Fail> {
     let (group, mut callers) = Group::<Outcome>::new(rt.alloc(), 1, 3, 1)?;
+    let (rt, group, callers) = (&rt, &group, &mut callers);
     assert!(rt; group.places() == 1, "it has another number of places");
-    let mut three = next_caller(&rt, &group, &mut callers, 3);
-    let mut two = next_caller(&rt, &group, &mut callers, 2);
-    let one = next_caller(&rt, &group, &mut callers, 1);
-    let mut flight = lead(&rt, &group, one, 1, id(1, 1));
-    let mut note = group.tell(&mut two);
-    let mut again = group.again(&mut note);
-    group.learn(&mut three, &mut again);
-    flight.learn(&group, &mut note);
-    group.meet(&mut two, &mut three);
-    finish(&rt, &group, flight, 7);
-    lead(&rt, &group, two, 1, id(2, 1)).abandon();
+    let three = next_caller(rt, group, callers, 3);
+    let mut two = next_caller(rt, group, callers, 2);
+    let one = next_caller(rt, group, callers, 1);
+    let mut flight = lead(rt, group, one, 1, id(1, 1));
+    tell_all(group, &mut flight, &mut two, three);
+    finish(rt, group, flight, 7);
+    lead(rt, group, two, 1, id(2, 1)).abandon();
     Ok(())
 }
 
 #[test]
 fn letter_is_copied(rt: HostRuntime) -> Result<(), Fail> {
     let (group, mut callers) = Group::<Outcome>::new(rt.alloc(), 1, 2, 1)?;
-    let mut two = next_caller(&rt, &group, &mut callers, 2);
-    let one = next_caller(&rt, &group, &mut callers, 1);
-    let flight = lead(&rt, &group, one, 1, id(1, 1));
-    match group.finish(flight, Outcome(7)) {
-        Finished::Done(_leader, mut letter) => {
-            let Ok(copy) = group.copy(&mut letter) else {
-                panic!(rt; "its copy is refused")
-            };
-            assert!(rt;
-                copy.call() == id(1, 1) && copy.place() == 1,
-                "a copy of another letter"
-            );
-            assert!(rt; copy.joiners() == 0, "a copy with joiners");
-            let mut note = letter.note(&group);
-            group.learn(&mut two, &mut note);
-            let (value, mut shown) = copy.into_parts();
-            assert!(rt; value.0 == 7, "a copy of another value");
-            group.learn(&mut two, &mut shown);
-        }
-        Finished::Held(settled) => {
-            settled.abandon();
-            panic!(rt; "it is held")
-        }
-    }
+    let (rt, group, callers) = (&rt, &group, &mut callers);
+    let mut two = next_caller(rt, group, callers, 2);
+    let one = next_caller(rt, group, callers, 1);
+    let flight = lead(rt, group, one, 1, id(1, 1));
+    let (_, letter) = settle(rt, group, flight, 7);
+    check_parts(rt, group, letter, &mut two);
     Ok(())
 }
 
@@ -60,40 +122,15 @@ fn letter_is_copied(rt: HostRuntime) -> Result<(), Fail> {
 #[test]
 fn shared_letters_are_copied(rt: HostRuntime) -> Result<(), Fail> {
     let (group, mut callers) = Group::<Outcome>::new(rt.alloc(), 1, 2, 1)?;
-    let two = next_caller(&rt, &group, &mut callers, 2);
-    let one = next_caller(&rt, &group, &mut callers, 1);
-    let flight = lead(&rt, &group, one, 1, id(1, 1));
-    let ticket = join(&rt, &group, two, 1, id(1, 1), id(2, 1));
-    match group.finish(flight, Outcome(7)) {
-        Finished::Done(_leader, mut letter) => {
-            let Ok(copy) = group.copy(&mut letter) else {
-                panic!(rt; "the leader's copy is refused")
-            };
-            assert!(rt;
-                copy.joiners() == 1 && copy.value().0 == 7,
-                "another letter"
-            );
-        }
-        Finished::Held(settled) => {
-            settled.abandon();
-            panic!(rt; "it is held")
-        }
-    }
-    match group.poll(ticket) {
-        Polled::Ready(_caller, mut letter) => {
-            let Ok(copy) = group.copy(&mut letter) else {
-                panic!(rt; "the joiner's copy is refused")
-            };
-            assert!(rt;
-                copy.joiners() == 1 && copy.value().0 == 7,
-                "another letter"
-            );
-        }
-        Polled::Pending(ticket) => {
-            ticket.abandon();
-            panic!(rt; "it is pending")
-        }
-    }
+    let (rt, group, callers) = (&rt, &group, &mut callers);
+    let two = next_caller(rt, group, callers, 2);
+    let one = next_caller(rt, group, callers, 1);
+    let flight = lead(rt, group, one, 1, id(1, 1));
+    let ticket = join(rt, group, two, 1, id(1, 1), id(2, 1));
+    let (_, mut letter) = settle(rt, group, flight, 7);
+    check_copy(rt, group, &mut letter, 1, "the leader's");
+    let (_, mut letter) = take(rt, group, ticket);
+    check_copy(rt, group, &mut letter, 1, "the joiner's");
     Ok(())
 }
 
@@ -116,21 +153,7 @@ fn letter_of_most_joiners_is_copied(rt: HostRuntime) -> Result<(), Fail> {
     let last = next_caller(&rt, &group, &mut callers, 65_535);
     let flight = lead(&rt, &group, last, 1, id(65_535, 1));
     join_all(&rt, &group, &mut callers);
-    match group.finish(flight, Outcome(7)) {
-        Finished::Done(_leader, mut letter) => {
-            let Ok(copy) = group.copy(&mut letter) else {
-                panic!(rt; "its copy is refused")
-            };
-            let (joiners, value) = (copy.joiners(), copy.value().0);
-            assert!(rt;
-                joiners == 65_534 && value == 7,
-                "{joiners} joiners of {value}"
-            );
-        }
-        Finished::Held(settled) => {
-            settled.abandon();
-            panic!(rt; "it is held")
-        }
-    }
+    let (_, mut letter) = settle(&rt, &group, flight, 7);
+    check_copy(&rt, &group, &mut letter, 65_534, "its");
     Ok(())
 }

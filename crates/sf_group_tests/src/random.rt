@@ -164,6 +164,42 @@ struct Met {
     outdated: u32,
 }
 
+impl Met {
+    fn nothing() -> Met {
+        Met {
+            joined: 0,
+            led_chans: 0,
+            joined_chans: 0,
+            closed: 0,
+            held: 0,
+            pending: 0,
+            spent: 0,
+            current: 0,
+            outdated: 0,
+        }
+    }
+
+    fn check(self, rt: &impl Abort) {
+        check_met(
+            rt,
+            self.joined >= 50 && self.closed >= 20,
+            "joins or Forgets",
+        );
+        check_met(
+            rt,
+            self.led_chans >= 20 && self.joined_chans >= 5,
+            "channels",
+        );
+        check_met(rt, self.held >= 50 && self.pending >= 50, "late letters");
+        check_met(rt, self.spent >= 50, "that are spent");
+        check_met(rt, self.current >= 50 && self.outdated >= 50, "questions");
+    }
+}
+
+fn check_met(rt: &impl Abort, enough: bool, what: &str) {
+    assert!(rt; enough, "few {what}");
+}
+
 // Numbers that look random, by a linear congruence.
 #[derive(Drop)]
 struct Draws(u64);
@@ -284,98 +320,208 @@ impl<'a> Play<'a> {
         self.draws.below(PLACES) + 1
     }
 
+    // It leads.
+    fn push_leading(&mut self, flight: Flight<Scarce>) -> Result<(), Fail>
+        requires { flight.group ≡ self.old.group.now }
+    {
+        self.leading.push(Leading { flight })?;
+        Ok(())
+    }
+
+    // It waits for its letter, since this asking.
+    fn push_waiting(&mut self, ticket: Ticket<Scarce>, since: u32) -> Result<(), Fail>
+        requires { ticket.group ≡ self.old.group.now }
+    {
+        self.waiting.push(Waiting {
+            ticket,
+            since,
+            due: false,
+        })?;
+        Ok(())
+    }
+
     fn ask(&mut self, rt: &impl Abort) -> Result<(), Fail> {
         let place = self.place();
-        let Some(caller) = any_free(&mut self.draws, &mut self.free, self.group) else {
-            return Ok(());
-        };
+        match any_free(&mut self.draws, &mut self.free, self.group) {
+            Some(caller) => self.ask_by(rt, caller, place),
+            None => Ok(()),
+        }
+    }
+
+    fn ask_by(&mut self, rt: &impl Abort, caller: Caller<Scarce>, place: u32) -> Result<(), Fail>
+        requires own { caller.group ≡ self.old.group.now }
+        requires place { IsPlaceOf self.old.group.now place }
+    {
         let number = caller.number();
         assert!(rt; self.told.has_caller(number), "another number");
         let said = self.told.ask(number, place);
         match self.group.begin(caller, place, 1) {
-            Ok(Begun::Lead(flight)) => {
-                let same = said == Ok(Asked::Lead(flight.call())) && flight.place() == place;
-                self.leading.push(Leading { flight })?;
-                assert!(rt; same, "another lead");
-            }
-            Ok(Begun::Join(ticket)) => {
-                let same = said == Ok(Asked::Join(ticket.call()));
-                self.met.joined = self.met.joined.wrapping_add(1);
-                self.asked = self.asked.wrapping_add(1);
-                let since = self.asked;
-                let waiting = Waiting {
-                    ticket,
-                    since,
-                    due: false,
-                };
-                self.waiting.push(waiting)?;
-                assert!(rt; same, "another join");
-            }
-            Err(NotBegun::Spent(caller)) => {
-                self.met.spent = self.met.spent.wrapping_add(1);
-                self.free.push(caller)?;
-                assert!(rt; said == Err(ModelRefusal::Spent(number)), "it is spent");
-            }
+            Ok(Begun::Lead(flight)) => self.led(rt, flight, said, place),
+            Ok(Begun::Join(ticket)) => self.joined(rt, ticket, said),
+            Err(NotBegun::Spent(caller)) => self.spent(rt, caller, said),
             Err(NotBegun::Busy(_, _)) => panic!(rt; "it is busy with nobody else"),
         }
+    }
+
+    fn led(
+        &mut self,
+        rt: &impl Abort,
+        flight: Flight<Scarce>,
+        said: Result<Asked, ModelRefusal>,
+        place: u32,
+    ) -> Result<(), Fail>
+        requires { flight.group ≡ self.old.group.now }
+    {
+        let same = said == Ok(Asked::Lead(flight.call())) && flight.place() == place;
+        self.push_leading(flight)?;
+        assert!(rt; same, "another lead");
+        Ok(())
+    }
+
+    fn joined(
+        &mut self,
+        rt: &impl Abort,
+        ticket: Ticket<Scarce>,
+        said: Result<Asked, ModelRefusal>,
+    ) -> Result<(), Fail>
+        requires { ticket.group ≡ self.old.group.now }
+    {
+        let same = said == Ok(Asked::Join(ticket.call()));
+        self.met.joined = self.met.joined.wrapping_add(1);
+        self.asked = self.asked.wrapping_add(1);
+        self.push_waiting(ticket, self.asked)?;
+        assert!(rt; same, "another join");
+        Ok(())
+    }
+
+    fn spent(
+        &mut self,
+        rt: &impl Abort,
+        caller: Caller<Scarce>,
+        said: Result<Asked, ModelRefusal>,
+    ) -> Result<(), Fail>
+        requires { caller.group ≡ self.old.group.now }
+    {
+        let same = said == Err(ModelRefusal::Spent(caller.number()));
+        self.met.spent = self.met.spent.wrapping_add(1);
+        self.free.push(caller)?;
+        assert!(rt; same, "it is spent");
         Ok(())
     }
 
     fn ask_chan(&mut self, rt: &impl Abort) -> Result<(), Fail> {
         let place = self.place();
-        let Some(caller) = any_free(&mut self.draws, &mut self.free, self.group) else {
-            return Ok(());
-        };
-        let Some(second) = any_free(&mut self.draws, &mut self.free, self.group) else {
-            self.free.push(caller)?;
-            return Ok(());
-        };
-        let number = caller.number();
-        let second_number = second.number();
+        match any_free(&mut self.draws, &mut self.free, self.group) {
+            Some(caller) => self.ask_chan_by(rt, caller, place),
+            None => Ok(()),
+        }
+    }
+
+    fn ask_chan_by(
+        &mut self,
+        rt: &impl Abort,
+        caller: Caller<Scarce>,
+        place: u32,
+    ) -> Result<(), Fail>
+        requires own { caller.group ≡ self.old.group.now }
+        requires place { IsPlaceOf self.old.group.now place }
+    {
+        match any_free(&mut self.draws, &mut self.free, self.group) {
+            Some(second) => self.ask_chan_by_two(rt, caller, second, place),
+            None => {
+                self.free.push(caller)?;
+                Ok(())
+            }
+        }
+    }
+
+    fn ask_chan_by_two(
+        &mut self,
+        rt: &impl Abort,
+        caller: Caller<Scarce>,
+        second: Caller<Scarce>,
+        place: u32,
+    ) -> Result<(), Fail>
+        requires caller { caller.group ≡ self.old.group.now }
+        requires second { second.group ≡ self.old.group.now }
+        requires place { IsPlaceOf self.old.group.now place }
+    {
+        let (number, second_number) = (caller.number(), second.number());
         let both = self.told.has_caller(number) && self.told.has_caller(second_number);
         assert!(rt; both, "other numbers");
         let said = self.told.ask_chan(number, second_number, place);
         match self.group.begin_chan(caller, second, place, 1) {
-            Ok(ChanBegun::Led(flight, ticket)) => {
-                let same = said == Ok(ChanAsked::Led(flight.call(), ticket.member()))
-                    && flight.place() == place
-                    && ticket.call() == flight.call();
-                self.met.led_chans = self.met.led_chans.wrapping_add(1);
-                self.asked = self.asked.wrapping_add(1);
-                let since = 0;
-                let waiting = Waiting {
-                    ticket,
-                    since,
-                    due: false,
-                };
-                self.leading.push(Leading { flight })?;
-                self.waiting.push(waiting)?;
-                assert!(rt; same, "another lead with a channel");
-            }
+            Ok(ChanBegun::Led(flight, ticket)) => self.led_chan(rt, flight, ticket, said, place),
             Ok(ChanBegun::Joined(ticket, caller)) => {
-                let same = said == Ok(ChanAsked::Joined(ticket.call()))
-                    && ticket.member().caller == second_number
-                    && caller.number() == number;
-                self.met.joined_chans = self.met.joined_chans.wrapping_add(1);
-                self.asked = self.asked.wrapping_add(1);
-                let since = self.asked;
-                let waiting = Waiting {
-                    ticket,
-                    since,
-                    due: false,
-                };
-                self.free.push(caller)?;
-                self.waiting.push(waiting)?;
-                assert!(rt; same, "another join of a second");
+                let same = ticket.member().caller == second_number && caller.number() == number;
+                self.joined_chan(rt, ticket, caller, said, same)
             }
-            Err(NotBegun::Spent((caller, second))) => {
-                self.free.push(caller)?;
-                self.free.push(second)?;
-                let same = matches!(said, Err(ModelRefusal::Spent(_)));
-                assert!(rt; same, "one of two is spent");
-            }
+            Err(NotBegun::Spent((caller, second))) => self.spent_chan(rt, caller, second, said),
             Err(NotBegun::Busy(_, _)) => panic!(rt; "two are busy with nobody else"),
         }
+    }
+
+    // It leads, and the second holds its own channel, which is served last.
+    fn led_chan(
+        &mut self,
+        rt: &impl Abort,
+        flight: Flight<Scarce>,
+        ticket: Ticket<Scarce>,
+        said: Result<ChanAsked, ModelRefusal>,
+        place: u32,
+    ) -> Result<(), Fail>
+        requires flight { flight.group ≡ self.old.group.now }
+        requires ticket { ticket.group ≡ self.old.group.now }
+    {
+        let (call, joined, member) = (flight.call(), ticket.call(), ticket.member());
+        let same_place = flight.place() == place;
+        let same = said == Ok(ChanAsked::Led(call, member)) && same_place && joined == call;
+        self.met.led_chans = self.met.led_chans.wrapping_add(1);
+        self.asked = self.asked.wrapping_add(1);
+        let leading = self.leading.push(Leading { flight });
+        self.push_waiting(ticket, 0)?;
+        leading?;
+        assert!(rt; same, "another lead with a channel");
+        Ok(())
+    }
+
+    // The second joined, and the caller is free again.
+    fn joined_chan(
+        &mut self,
+        rt: &impl Abort,
+        ticket: Ticket<Scarce>,
+        caller: Caller<Scarce>,
+        said: Result<ChanAsked, ModelRefusal>,
+        same_callers: bool,
+    ) -> Result<(), Fail>
+        requires ticket { ticket.group ≡ self.old.group.now }
+        requires caller { caller.group ≡ self.old.group.now }
+    {
+        let same = said == Ok(ChanAsked::Joined(ticket.call())) && same_callers;
+        self.met.joined_chans = self.met.joined_chans.wrapping_add(1);
+        self.asked = self.asked.wrapping_add(1);
+        let free = self.free.push(caller);
+        self.push_waiting(ticket, self.asked)?;
+        free?;
+        assert!(rt; same, "another join of a second");
+        Ok(())
+    }
+
+    fn spent_chan(
+        &mut self,
+        rt: &impl Abort,
+        caller: Caller<Scarce>,
+        second: Caller<Scarce>,
+        said: Result<ChanAsked, ModelRefusal>,
+    ) -> Result<(), Fail>
+        requires caller { caller.group ≡ self.old.group.now }
+        requires second { second.group ≡ self.old.group.now }
+    {
+        let free = self.free.push(caller);
+        self.free.push(second)?;
+        free?;
+        let same = matches!(said, Err(ModelRefusal::Spent(_)));
+        assert!(rt; same, "one of two is spent");
         Ok(())
     }
 
@@ -433,10 +579,8 @@ impl<'a> Play<'a> {
     {
         let (done, _) = self.deliver(expected.call, refused);
         check_letter(rt, &letter, expected);
-        self.free.push(caller)?;
-        self.letters.push(letter)?;
         assert!(rt; done, "it is done too early");
-        Ok(())
+        self.push_free(caller, letter)
     }
 
     // Letters are owed still.
@@ -465,35 +609,33 @@ impl<'a> Play<'a> {
             return Ok(());
         };
         let flight = leading.into_flight();
-        let call = flight.call();
-        let place = flight.place();
         let number = self.draws.below(1_000_000);
         let refused = self.draws.below(8);
-        if !self.told.has_caller(call.caller) {
-            flight.abandon();
-            panic!(rt; "another leader")
+        let expected = self.expect(rt, flight.call(), flight.place(), number);
+        let value = Scarce {
+            number,
+            refused: Cell::new(refused),
+        };
+        match self.group.finish(flight, value) {
+            Finished::Done(caller, letter) => self.done(rt, caller, letter, expected, refused),
+            Finished::Held(settled) => self.held(rt, settled, expected, refused),
         }
+    }
+
+    // What the letters of the call are to say, once its leader settles it with the number.
+    fn expect(&mut self, rt: &impl Abort, call: CallId, place: u32, number: u32) -> Expected
+        ensures { self.new.group.now ≡ self.old.group.now }
+    {
+        assert!(rt; self.told.has_caller(call.caller), "another leader");
         let Ok((settled, joiners)) = self.told.settle(call.caller, Plain(number)) else {
-            flight.abandon();
             panic!(rt; "it is not leading")
         };
-        let finished = self.group.finish(
-            flight,
-            Scarce {
-                number,
-                refused: Cell::new(refused),
-            },
-        );
-        let expected = Expected {
+        assert!(rt; settled == call, "it leads another call");
+        Expected {
             call: settled,
             place,
             number,
             joiners,
-        };
-        assert!(rt; settled == call, "it leads another call");
-        match finished {
-            Finished::Done(caller, letter) => self.done(rt, caller, letter, expected, refused),
-            Finished::Held(settled) => self.held(rt, settled, expected, refused),
         }
     }
 
@@ -513,40 +655,66 @@ impl<'a> Play<'a> {
         let Some(waiting) = any_waiting(&mut self.draws, &mut self.waiting, self.group) else {
             return Ok(());
         };
-        let since = waiting.since;
-        let due = waiting.due;
+        let (since, due) = (waiting.since, waiting.due);
         let ticket = waiting.into_ticket();
+        let member = ticket.member();
         let call = ticket.call();
-        let number = ticket.member().caller;
         match self.group.poll(ticket) {
             Polled::Ready(caller, letter) => {
-                assert!(rt; self.told.has_caller(number), "another member");
-                let Ok(Taken::Got(of, Plain(value), joiners)) = self.told.take(number) else {
-                    panic!(rt; "there is no letter")
-                };
-                check_letter(
-                    rt,
-                    &letter,
-                    Expected {
-                        call: of,
-                        place: letter.place(),
-                        number: value,
-                        joiners,
-                    },
-                );
-                assert!(rt;
-                    due && of == call && caller.number() == number,
-                    "a letter too early"
-                );
-                self.free.push(caller)?;
-                self.letters.push(letter)?;
+                let same = due && caller.number() == member.caller;
+                assert!(rt; same, "a letter too early");
+                self.took(rt, caller, letter, call)
             }
             Polled::Pending(ticket) => {
-                self.met.pending = self.met.pending.wrapping_add(1);
-                self.waiting.push(Waiting { ticket, since, due })?;
                 assert!(rt; !due, "a letter is lost");
+                self.met.pending = self.met.pending.wrapping_add(1);
+                self.push_waiting(ticket, since)
             }
         }
+    }
+
+    // The caller has the letter of this call.
+    fn took(
+        &mut self,
+        rt: &impl Abort,
+        caller: Caller<Scarce>,
+        letter: Letter<Scarce>,
+        call: CallId,
+    ) -> Result<(), Fail>
+        requires caller { caller.group ≡ self.old.group.now }
+        requires letter { letter.group ≡ self.old.group.now }
+    {
+        let place = letter.place();
+        let expected = self.take(rt, caller.number(), place);
+        check_letter(rt, &letter, expected);
+        assert!(rt; expected.call == call, "a letter too early");
+        self.push_free(caller, letter)
+    }
+
+    // What the letter that this caller takes on the place is to say.
+    fn take(&mut self, rt: &impl Abort, number: u32, place: u32) -> Expected
+        ensures { self.new.group.now ≡ self.old.group.now }
+    {
+        assert!(rt; self.told.has_caller(number), "another member");
+        match self.told.take(number) {
+            Ok(Taken::Got(call, Plain(number), joiners)) => Expected {
+                call,
+                place,
+                number,
+                joiners,
+            },
+            _ => panic!(rt; "there is no letter"),
+        }
+    }
+
+    // It is free again, and has its letter.
+    fn push_free(&mut self, caller: Caller<Scarce>, letter: Letter<Scarce>) -> Result<(), Fail>
+        requires caller { caller.group ≡ self.old.group.now }
+        requires letter { letter.group ≡ self.old.group.now }
+    {
+        let free = self.free.push(caller);
+        self.letters.push(letter)?;
+        free?;
         Ok(())
     }
 
@@ -556,19 +724,23 @@ impl<'a> Play<'a> {
             return Ok(());
         };
         let number = caller.number();
+        let forgotten = self.group.forget(&mut caller, place, 1);
+        self.free.push(caller)?;
+        match forgotten {
+            Ok(forgotten) => self.check_forgotten(rt, number, place, forgotten),
+            Err(_) => panic!(rt; "another Forget"),
+        }
+        Ok(())
+    }
+
+    // The sequential group forgets likewise.
+    fn check_forgotten(&mut self, rt: &impl Abort, number: u32, place: u32, forgotten: Forgotten) {
         assert!(rt; self.told.has_caller(number), "another forgetter");
         let said = self.told.forget(number, place);
-        let forgotten = self.group.forget(&mut caller, place, 1);
-        if matches!(forgotten, Ok(Forgotten::Closed(_))) {
+        assert!(rt; said == Ok(forgotten), "another Forget");
+        if matches!(forgotten, Forgotten::Closed(_)) {
             self.met.closed = self.met.closed.wrapping_add(1);
         }
-        self.free.push(caller)?;
-        let same = match (said, forgotten) {
-            (Ok(said), Ok(forgotten)) => said == forgotten,
-            _ => false,
-        };
-        assert!(rt; same, "another Forget");
-        Ok(())
     }
 
     // One tells another what it has seen.
@@ -587,24 +759,53 @@ impl<'a> Play<'a> {
 
     // Whether the call of the last letter is current; if it is not, the letter is let go.
     fn question(&mut self, rt: &impl Abort) -> Result<(), Fail> {
-        let Some(mut letter) = self.letters.pop() else {
-            return Ok(());
-        };
-        let Some(mut caller) = any_free(&mut self.draws, &mut self.free, self.group) else {
-            self.letters.push(letter)?;
-            return Ok(());
-        };
-        let current = question(self.group, &mut caller, &mut letter);
-        let said = self.told.is_current(&letter.place(), letter.call());
-        self.free.push(caller)?;
-        assert!(rt; current == said, "another answer to a question");
-        if !current {
-            self.met.outdated = self.met.outdated.wrapping_add(1);
-            return Ok(());
+        match self.letters.pop() {
+            Some(letter) => self.question_of(rt, letter),
+            None => Ok(()),
         }
-        self.met.current = self.met.current.wrapping_add(1);
-        self.letters.push(letter)?;
+    }
+
+    fn question_of(&mut self, rt: &impl Abort, letter: Letter<Scarce>) -> Result<(), Fail>
+        requires { letter.group ≡ self.old.group.now }
+    {
+        match any_free(&mut self.draws, &mut self.free, self.group) {
+            Some(caller) => self.question_by(rt, caller, letter),
+            None => {
+                self.letters.push(letter)?;
+                Ok(())
+            }
+        }
+    }
+
+    fn question_by(
+        &mut self,
+        rt: &impl Abort,
+        mut caller: Caller<Scarce>,
+        mut letter: Letter<Scarce>,
+    ) -> Result<(), Fail>
+        requires caller { caller.group ≡ self.old.group.now }
+        requires letter { letter.group ≡ self.old.group.now }
+    {
+        let current = question(self.group, &mut caller, &mut letter);
+        self.check_current(rt, letter.place(), letter.call(), current);
+        if current {
+            return self.push_free(caller, letter);
+        }
+        self.free.push(caller)?;
         Ok(())
+    }
+
+    // The call was said to be current on the place, or not to be.
+    fn check_current(&mut self, rt: &impl Abort, place: u32, call: CallId, current: bool)
+        ensures { self.new.group.now ≡ self.old.group.now }
+    {
+        let said = self.told.is_current(&place, call);
+        assert!(rt; current == said, "another answer to a question");
+        if current {
+            self.met.current = self.met.current.wrapping_add(1);
+        } else {
+            self.met.outdated = self.met.outdated.wrapping_add(1);
+        }
     }
 
     fn call_any(&mut self, rt: &impl Abort) -> Result<(), Fail> {
@@ -631,6 +832,17 @@ impl<'a> Play<'a> {
         }
         Ok(())
     }
+
+    // Each kind of call is met often enough, and each caller is free at the end.
+    fn play(&mut self, rt: &impl Abort) -> Result<(), Fail> {
+        for _ in 0..CALLS {
+            self.call_any(rt)?;
+        }
+        self.end_all(rt)?;
+        assert!(rt; self.free.len() == CALLERS as usize, "a caller is lost");
+        self.met.check(rt);
+        Ok(())
+    }
 }
 
 #[test]
@@ -648,34 +860,7 @@ fn calls_at_random(rt: HostRuntime) -> Result<(), Fail> {
         owing: Vec::new(alloc),
         letters: Vec::new(alloc),
         asked: 0,
-        met: Met {
-            joined: 0,
-            led_chans: 0,
-            joined_chans: 0,
-            closed: 0,
-            held: 0,
-            pending: 0,
-            spent: 0,
-            current: 0,
-            outdated: 0,
-        },
+        met: Met::nothing(),
     };
-    for _ in 0..CALLS {
-        play.call_any(&rt)?;
-    }
-    play.end_all(&rt)?;
-    assert!(rt; play.free.len() == CALLERS as usize, "a caller is lost");
-    let met = play.met;
-    assert!(rt;
-        met.joined >= 50 && met.closed >= 20,
-        "few joins or Forgets"
-    );
-    assert!(rt;
-        met.led_chans >= 20 && met.joined_chans >= 5,
-        "few channels"
-    );
-    assert!(rt; met.held >= 50 && met.pending >= 50, "few letters are late");
-    assert!(rt; met.spent >= 50, "few are spent");
-    assert!(rt; met.current >= 50 && met.outdated >= 50, "few questions");
-    Ok(())
+    play.play(&rt)
 }

@@ -1,23 +1,36 @@
 //! Worked rows over words.
+ghost use Rattle.std.specs.Prelude.{◌≡◌};
 
 use crate::calls::{
     Outcome, finish, forget, hand_out, hold, id, join, lead, next_caller, pending, ready, spend,
 };
-use sf_group::{Finished, Group};
+use sf_group::{Finished, Group, Settled};
+use std::process::Abort;
 use std::test::Fail;
+
+// The delivery goes on, and letters are owed still.
+fn hold_again(rt: &impl Abort, group: &Group<Outcome>, settled: Settled<Outcome>)
+    requires { settled.group ≡ group.now }
+{
+    match group.go_on(settled) {
+        Finished::Held(settled) => settled.abandon(),
+        Finished::Done(..) => panic!(rt; "it is done"),
+    }
+}
 
 #[test]
 fn forget_then_lead_again(rt: HostRuntime) -> Result<(), Fail> {
     let (group, mut callers) = Group::<Outcome>::new(rt.alloc(), 1, 3, 1)?;
-    let three = next_caller(&rt, &group, &mut callers, 3);
-    let mut two = next_caller(&rt, &group, &mut callers, 2);
-    let one = next_caller(&rt, &group, &mut callers, 1);
-    let old = lead(&rt, &group, one, 1, id(1, 1));
-    forget(&rt, &group, &mut two, 1, Some(id(1, 1)));
-    let new = lead(&rt, &group, three, 1, id(3, 1));
-    let one = finish(&rt, &group, old, 7);
-    finish(&rt, &group, new, 8);
-    let again = lead(&rt, &group, one, 1, id(1, 2));
+    let (rt, group, callers) = (&rt, &group, &mut callers);
+    let three = next_caller(rt, group, callers, 3);
+    let mut two = next_caller(rt, group, callers, 2);
+    let one = next_caller(rt, group, callers, 1);
+    let old = lead(rt, group, one, 1, id(1, 1));
+    forget(rt, group, &mut two, 1, Some(id(1, 1)));
+    let new = lead(rt, group, three, 1, id(3, 1));
+    let one = finish(rt, group, old, 7);
+    finish(rt, group, new, 8);
+    let again = lead(rt, group, one, 1, id(1, 2));
     again.abandon();
     Ok(())
 }
@@ -47,22 +60,20 @@ fn last_generation_is_spent(rt: HostRuntime) -> Result<(), Fail> {
 #[test]
 fn refused_copies_hold_the_delivery(rt: HostRuntime) -> Result<(), Fail> {
     let (group, mut callers) = Group::<Outcome>::new(rt.alloc(), 1, 4, 1)?;
-    let mut four = next_caller(&rt, &group, &mut callers, 4);
-    let three = next_caller(&rt, &group, &mut callers, 3);
-    let two = next_caller(&rt, &group, &mut callers, 2);
-    let one = next_caller(&rt, &group, &mut callers, 1);
-    let flight = lead(&rt, &group, one, 1, id(1, 1));
-    let second = join(&rt, &group, two, 1, id(1, 1), id(2, 1));
-    let third = join(&rt, &group, three, 1, id(1, 1), id(3, 1));
-    let settled = hold(&rt, &group, flight, 100);
-    match group.go_on(settled) {
-        Finished::Held(settled) => settled.abandon(),
-        Finished::Done(..) => panic!(rt; "it is done"),
-    }
-    pending(&rt, &group, second).abandon();
-    pending(&rt, &group, third).abandon();
-    forget(&rt, &group, &mut four, 1, None);
-    lead(&rt, &group, four, 1, id(4, 1)).abandon();
+    let (rt, group, callers) = (&rt, &group, &mut callers);
+    let mut four = next_caller(rt, group, callers, 4);
+    let three = next_caller(rt, group, callers, 3);
+    let two = next_caller(rt, group, callers, 2);
+    let one = next_caller(rt, group, callers, 1);
+    let flight = lead(rt, group, one, 1, id(1, 1));
+    let second = join(rt, group, two, 1, id(1, 1), id(2, 1));
+    let third = join(rt, group, three, 1, id(1, 1), id(3, 1));
+    let settled = hold(rt, group, flight, 100);
+    hold_again(rt, group, settled);
+    pending(rt, group, second).abandon();
+    pending(rt, group, third).abandon();
+    forget(rt, group, &mut four, 1, None);
+    lead(rt, group, four, 1, id(4, 1)).abandon();
     Ok(())
 }
 
@@ -70,16 +81,17 @@ fn refused_copies_hold_the_delivery(rt: HostRuntime) -> Result<(), Fail> {
 #[test]
 fn forgotten_call_is_delivered(rt: HostRuntime) -> Result<(), Fail> {
     let (group, mut callers) = Group::<Outcome>::new(rt.alloc(), 1, 3, 1)?;
-    let mut three = next_caller(&rt, &group, &mut callers, 3);
-    let two = next_caller(&rt, &group, &mut callers, 2);
-    let one = next_caller(&rt, &group, &mut callers, 1);
-    let flight = lead(&rt, &group, one, 1, id(1, 1));
-    let ticket = join(&rt, &group, two, 1, id(1, 1), id(2, 1));
-    forget(&rt, &group, &mut three, 1, Some(id(1, 1)));
-    let new = lead(&rt, &group, three, 1, id(3, 1));
-    hand_out(&rt, &group, flight, 7, 1);
-    let two = ready(&rt, &group, ticket, 1, 7, 1);
-    let ticket = join(&rt, &group, two, 1, id(3, 1), id(2, 2));
+    let (rt, group, callers) = (&rt, &group, &mut callers);
+    let mut three = next_caller(rt, group, callers, 3);
+    let two = next_caller(rt, group, callers, 2);
+    let one = next_caller(rt, group, callers, 1);
+    let flight = lead(rt, group, one, 1, id(1, 1));
+    let ticket = join(rt, group, two, 1, id(1, 1), id(2, 1));
+    forget(rt, group, &mut three, 1, Some(id(1, 1)));
+    let new = lead(rt, group, three, 1, id(3, 1));
+    hand_out(rt, group, flight, 7, 1);
+    let two = ready(rt, group, ticket, 1, 7, 1);
+    let ticket = join(rt, group, two, 1, id(3, 1), id(2, 2));
     ticket.abandon();
     new.abandon();
     Ok(())

@@ -27,6 +27,16 @@ struct Tally {
     gave_up: u32,
 }
 
+impl Tally {
+    fn count(&mut self, end: End) {
+        match end {
+            End::Led => self.led = self.led.wrapping_add(1),
+            End::Joined => self.joined = self.joined.wrapping_add(1),
+            End::GaveUp => self.gave_up = self.gave_up.wrapping_add(1),
+        }
+    }
+}
+
 // A caller asks, with one try each time, until it leads or joins; at most 1,000,000 times.
 fn ask(group: &Group<Outcome>, mut caller: Caller<Outcome>) -> End
     requires own { caller.group ≡ group.now }
@@ -53,6 +63,18 @@ fn ask(group: &Group<Outcome>, mut caller: Caller<Outcome>) -> End
     End::GaveUp
 }
 
+// The last caller of the list asks.
+fn ask_last(group: &Group<Outcome>, callers: &mut Vec<Caller<Outcome>>) -> Option<End>
+    requires own { All (λ c. c.group ≡ group.now) callers.old.items }
+    requires place { IsPlaceOf group.now 1 }
+    ensures { All (λ c. c.group ≡ group.now) callers.new.items }
+{
+    match callers.pop() {
+        Some(caller) => Some(ask(group, caller)),
+        None => None,
+    }
+}
+
 #[derive(Drop)]
 struct Team<'a> {
     group: &'a Group<Outcome>,
@@ -70,17 +92,33 @@ impl Team<'_> {
             gave_up: 0,
         };
         for _ in 0..EACH {
-            let Some(caller) = callers.pop() else {
-                break;
-            };
-            match ask(group, caller) {
-                End::Led => tally.led = tally.led.wrapping_add(1),
-                End::Joined => tally.joined = tally.joined.wrapping_add(1),
-                End::GaveUp => tally.gave_up = tally.gave_up.wrapping_add(1),
+            match ask_last(group, &mut callers) {
+                Some(end) => tally.count(end),
+                None => break,
             }
         }
         tally
     }
+}
+
+// The next caller, for a team.
+fn move_one(
+    rt: &impl Abort,
+    group: &Group<Outcome>,
+    list: &mut Vec<Caller<Outcome>>,
+    callers: &mut Vec<Caller<Outcome>>,
+) -> Result<(), Fail>
+    requires list { All (λ c. c.group ≡ group.now) list.old.items }
+    requires callers { All (λ c. c.group ≡ group.now) callers.old.items }
+    ensures list { All (λ c. c.group ≡ group.now) list.new.items }
+    ensures callers { All (λ c. c.group ≡ group.now) callers.new.items }
+{
+    let _ = group;
+    let Some(caller) = list.pop() else {
+        panic!(rt; "no more callers")
+    };
+    callers.push(caller)?;
+    Ok(())
 }
 
 // A team of the next callers.
@@ -96,12 +134,60 @@ fn next_team<'a>(
 {
     let mut callers = Vec::new(alloc);
     for _ in 0..EACH {
-        let Some(caller) = list.pop() else {
-            panic!(rt; "no more callers")
-        };
-        callers.push(caller)?;
+        move_one(rt, group, list, &mut callers)?;
     }
     Ok(Team { group, callers })
+}
+
+// The next two teams.
+fn two_teams<'a>(
+    rt: &impl Abort,
+    alloc: Global,
+    group: &'a Group<Outcome>,
+    list: &mut Vec<Caller<Outcome>>,
+) -> Result<(Team<'a>, Team<'a>), Fail>
+    requires own { All (λ c. c.group ≡ group.now) list.old.items }
+    requires place { IsPlaceOf group.now 1 }
+    ensures { All (λ c. c.group ≡ group.now) list.new.items }
+{
+    let one = next_team(rt, alloc, group, list)?;
+    let two = next_team(rt, alloc, group, list)?;
+    Ok((one, two))
+}
+
+// The next four.
+fn four_teams<'a>(
+    rt: &impl Abort,
+    alloc: Global,
+    group: &'a Group<Outcome>,
+    list: &mut Vec<Caller<Outcome>>,
+) -> Result<((Team<'a>, Team<'a>), (Team<'a>, Team<'a>)), Fail>
+    requires own { All (λ c. c.group ≡ group.now) list.old.items }
+    requires place { IsPlaceOf group.now 1 }
+    ensures { All (λ c. c.group ≡ group.now) list.new.items }
+{
+    let first = two_teams(rt, alloc, group, list)?;
+    let last = two_teams(rt, alloc, group, list)?;
+    Ok((first, last))
+}
+
+// How many askings of a team led or joined, of which none gave up.
+fn count_ended(rt: &impl Abort, tally: Tally) -> u32 {
+    let Tally {
+        led,
+        joined,
+        gave_up,
+    } = tally;
+    assert!(rt; gave_up == 0, "{gave_up} askings gave up");
+    led.wrapping_add(joined)
+}
+
+// Each asking of the four teams led or joined.
+fn check_ended(rt: &impl Abort, one: Tally, two: Tally, three: Tally, four: Tally) {
+    let half = count_ended(rt, one).wrapping_add(count_ended(rt, two));
+    let other = count_ended(rt, three).wrapping_add(count_ended(rt, four));
+    let ended = half.wrapping_add(other);
+    assert!(rt; ended == 1000, "{ended} askings ended");
 }
 
 // Each asking led or joined, and no call is left open.
@@ -109,26 +195,13 @@ fn next_team<'a>(
 fn four_threads_on_one_place(rt: HostRuntime) -> Result<(), Fail> {
     let (group, mut list) = Group::<Outcome>::new(rt.alloc(), 1, 1001, 1)?;
     let last = next_caller(&rt, &group, &mut list, 1001);
-    let one = next_team(&rt, rt.alloc(), &group, &mut list)?;
-    let two = next_team(&rt, rt.alloc(), &group, &mut list)?;
-    let three = next_team(&rt, rt.alloc(), &group, &mut list)?;
-    let four = next_team(&rt, rt.alloc(), &group, &mut list)?;
+    let ((one, two), (three, four)) = four_teams(&rt, rt.alloc(), &group, &mut list)?;
     let ((one, two), (three, four)) = join(
         &rt,
         || join(&rt, || one.work(), || two.work()),
         || join(&rt, || three.work(), || four.work()),
     );
-    let mut ended: u32 = 0;
-    for tally in [one, two, three, four] {
-        let Tally {
-            led,
-            joined,
-            gave_up,
-        } = tally;
-        assert!(rt; gave_up == 0, "{gave_up} askings gave up");
-        ended = ended.wrapping_add(led).wrapping_add(joined);
-    }
-    assert!(rt; ended == 1000, "{ended} askings ended");
+    check_ended(&rt, one, two, three, four);
     lead(&rt, &group, last, 1, id(1001, 1)).abandon();
     Ok(())
 }

@@ -123,18 +123,18 @@ impl<'a> Leader<'a> {
 #[test]
 fn row_three_two_threads(rt: HostRuntime) -> Result<(), Fail> {
     let (group, mut callers) = Group::<Outcome>::new(rt.alloc(), 1, 2, 1)?;
-    let two = next_caller(&rt, &group, &mut callers, 2);
-    let one = next_caller(&rt, &group, &mut callers, 1);
-    let flight = lead(&rt, &group, one, 1, id(1, 1));
-    let joiner = join_call(&rt, &group, two, id(2, 1));
+    let (rt, group, callers) = (&rt, &group, &mut callers);
+    let two = next_caller(rt, group, callers, 2);
+    let one = next_caller(rt, group, callers, 1);
+    let flight = lead(rt, group, one, 1, id(1, 1));
+    let joiner = join_call(rt, group, two, id(2, 1));
     let leader = Leader {
-        group: &group,
+        group: group,
         flight,
     };
-    let (led, joined) = thread::join(&rt, || leader.finish(7), || joiner.poll_often());
-    for got in [led, joined] {
-        check_got(&rt, got, 1);
-    }
+    let (led, joined) = thread::join(rt, || leader.finish(7), || joiner.poll_often());
+    check_got(rt, led, 1);
+    check_got(rt, joined, 1);
     Ok(())
 }
 
@@ -155,24 +155,26 @@ fn check_got(rt: &impl Abort, got: Option<Got>, joiners: u32) {
 #[test]
 fn three_joiners_on_threads(rt: HostRuntime) -> Result<(), Fail> {
     let (group, mut callers) = Group::<Outcome>::new(rt.alloc(), 1, 4, 1)?;
-    let four = next_caller(&rt, &group, &mut callers, 4);
-    let three = next_caller(&rt, &group, &mut callers, 3);
-    let two = next_caller(&rt, &group, &mut callers, 2);
-    let one = next_caller(&rt, &group, &mut callers, 1);
+    let (rt, group, callers) = (&rt, &group, &mut callers);
+    let four = next_caller(rt, group, callers, 4);
+    let three = next_caller(rt, group, callers, 3);
+    let two = next_caller(rt, group, callers, 2);
+    let one = next_caller(rt, group, callers, 1);
     let leader = Leader {
-        group: &group,
-        flight: lead(&rt, &group, one, 1, id(1, 1)),
+        group: group,
+        flight: lead(rt, group, one, 1, id(1, 1)),
     };
-    let second = join_call(&rt, &group, two, id(2, 1));
-    let third = join_call(&rt, &group, three, id(3, 1));
-    let fourth = join_call(&rt, &group, four, id(4, 1));
+    let second = join_call(rt, group, two, id(2, 1));
+    let third = join_call(rt, group, three, id(3, 1));
+    let fourth = join_call(rt, group, four, id(4, 1));
     let ((led, second), (third, fourth)) = thread::join(
-        &rt,
-        || thread::join(&rt, || leader.finish(7), || second.poll_often()),
-        || thread::join(&rt, || third.poll_often(), || fourth.poll_often()),
+        rt,
+        || thread::join(rt, || leader.finish(7), || second.poll_often()),
+        || thread::join(rt, || third.poll_often(), || fourth.poll_often()),
     );
-    for got in [led, second, third, fourth] {
-        check_got(&rt, got, 3);
-    }
+    check_got(rt, led, 3);
+    check_got(rt, second, 3);
+    check_got(rt, third, 3);
+    check_got(rt, fourth, 3);
     Ok(())
 }
