@@ -1,7 +1,9 @@
 //! What the caches keep within their limit.
 
+ghost use Rattle.std.specs.Prelude.{◌≡◌};
+
 use sf_caches::{Caches, Which};
-use std::alloc::AllocError;
+use std::alloc::{AllocError, Global};
 use std::process::Abort;
 
 fn assert_bytes(rt: &impl Abort, caches: &Caches<u8>, main: u128, hot: u128) {
@@ -21,6 +23,14 @@ fn assert_items(rt: &impl Abort, caches: &Caches<u8>, which: Which, items: usize
     assert!(rt; dropped == evictions, "{dropped} evictions");
 }
 
+// Whether a look finds the place.
+fn assert_looked_up(rt: &impl Abort, caches: &mut Caches<u8>, which: Which, place: u32, due: bool)
+    ensures { caches.new.places ≡ caches.old.places }
+{
+    let is_there = caches.look(which, place).is_some();
+    assert!(rt; is_there == due, "it is there: {is_there}");
+}
+
 #[test]
 fn caches_trim_hot_then_main(rt: HostRuntime) -> Result<(), AllocError> {
     let mut caches: Caches<u8> = Caches::new(rt.alloc(), 10, 3)?;
@@ -30,8 +40,8 @@ fn caches_trim_hot_then_main(rt: HostRuntime) -> Result<(), AllocError> {
     // Hot weighs 4: both weigh 14, more than 10, and 4 is more than an eighth of 10.
     caches.put(Which::Hot, 3, 1, 3, 0)?;
     assert_bytes(&rt, &caches, 10, 0);
-    assert!(rt; caches.look(Which::Hot, 3).is_none());
-    assert!(rt; caches.look(Which::Main, 1).is_some());
+    assert_looked_up(&rt, &mut caches, Which::Hot, 3, false);
+    assert_looked_up(&rt, &mut caches, Which::Main, 1, true);
     assert_items(&rt, &caches, Which::Main, 2, 0);
     assert_items(&rt, &caches, Which::Hot, 0, 1);
     caches.remove(Which::Main, 1);
@@ -57,26 +67,48 @@ fn nothing_is_kept_without_a_limit(rt: HostRuntime) -> Result<(), AllocError> {
     Ok(())
 }
 
+// Whether a peek finds the place.
+fn assert_peeked(
+    rt: &impl Abort,
+    caches: &Caches<u8>,
+    which: Which,
+    place: u32,
+    due: bool,
+    otherwise: &str,
+) {
+    let is_there = caches.peek(which, place).is_some();
+    assert!(rt; is_there == due, "{otherwise}");
+}
+
+// The item of this place in main.
+fn assert_item(rt: &impl Abort, caches: &Caches<u8>, place: u32, due: u8) {
+    let peeked = caches.peek(Which::Main, place).copied();
+    assert!(rt; peeked == Some(due), "another item");
+}
+
+// Of two entries the first is peeked at, and looked at or not; a third drops the older one.
+fn drop_the_oldest(rt: &impl Abort, alloc: Global, is_looked_at: bool) -> Result<(), AllocError> {
+    let mut caches: Caches<u8> = Caches::new(alloc, 8, 3)?;
+    caches.put(Which::Main, 1, 1, 3, 7)?;
+    caches.put(Which::Main, 2, 1, 3, 8)?;
+    assert_item(rt, &caches, 1, 7);
+    assert_peeked(rt, &caches, Which::Hot, 1, false, "it is hot");
+    if is_looked_at {
+        assert_looked_up(rt, &mut caches, Which::Main, 1, true);
+    }
+    caches.put(Which::Main, 3, 1, 3, 9)?;
+    let otherwise = "the first is kept otherwise";
+    assert_peeked(rt, &caches, Which::Main, 1, is_looked_at, otherwise);
+    let otherwise = "the second is kept otherwise";
+    assert_peeked(rt, &caches, Which::Main, 2, !is_looked_at, otherwise);
+    Ok(())
+}
+
 /// A peek reads an entry and leaves it the oldest, where a look makes it the newest.
 #[test]
 fn peeked_entry_stays_the_oldest(rt: HostRuntime) -> Result<(), AllocError> {
-    for is_looked_at in [false, true] {
-        let mut caches: Caches<u8> = Caches::new(rt.alloc(), 8, 3)?;
-        caches.put(Which::Main, 1, 1, 3, 7)?;
-        caches.put(Which::Main, 2, 1, 3, 8)?;
-        let peeked = caches.peek(Which::Main, 1).copied();
-        assert!(rt; peeked == Some(7), "another item");
-        assert!(rt; caches.peek(Which::Hot, 1).is_none(), "it is hot");
-        if is_looked_at {
-            assert!(rt; caches.look(Which::Main, 1).is_some(), "it is gone");
-        }
-        caches.put(Which::Main, 3, 1, 3, 9)?;
-        let is_kept = caches.peek(Which::Main, 1).is_some();
-        assert!(rt; is_kept == is_looked_at, "the first is kept otherwise");
-        let second = caches.peek(Which::Main, 2).is_some();
-        assert!(rt; second != is_looked_at, "the second is kept otherwise");
-    }
-    Ok(())
+    drop_the_oldest(&rt, rt.alloc(), false)?;
+    drop_the_oldest(&rt, rt.alloc(), true)
 }
 
 #[test]

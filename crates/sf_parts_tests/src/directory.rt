@@ -2,7 +2,7 @@
 
 ghost use Rattle.std.specs.Prelude.{◌≡◌};
 
-use sf_dir::{Desk, Directory, Refusal};
+use sf_dir::{Desk, Directory, Place, Refusal};
 use std::alloc::Global;
 use std::process::Abort;
 use std::test::Fail;
@@ -16,19 +16,43 @@ fn assert_refused(rt: &impl Abort, directory: &Directory, desk: &mut Desk, key: 
     assert!(rt; refusal == Some(due), "a key of {} bytes", key.len());
 }
 
+fn place_of<'d>(
+    rt: &impl Abort,
+    directory: &'d Directory,
+    desk: &mut Desk,
+    key: &[u8],
+    otherwise: &str,
+) -> Place<'d>
+    requires { desk.old.directory ≡ directory.now }
+    ensures desk { desk.new.directory ≡ directory.now }
+    ensures place { result.directory ≡ directory.now }
+{
+    let Ok(place) = directory.resolve(desk, key) else {
+        panic!(rt; "{otherwise}")
+    };
+    place
+}
+
+// Both are the only place of their directory.
+fn assert_same(rt: &impl Abort, mut place: Place<'_>, mut same: Place<'_>)
+    requires { place.directory ≡ same.directory }
+{
+    assert!(rt; place.number().number() == 1 && same.number() == place.number());
+    same.agree(&mut place);
+    let again = place.again();
+    assert!(rt; again.number() == same.number());
+}
+
 // Of one place: a key gets it, another does not, one too long is refused as such, and the first key keeps it.
 fn fill_one_place(rt: &impl Abort, alloc: Global, key: &[u8], other: &[u8]) -> Result<(), Fail> {
     let (directory, mut desks) = Directory::new(alloc, 1, 250, 1, 0, 0)?;
     let mut desk = desks.pop().ok_or("no desk")?;
     assert!(rt; directory.place_count() == 1 && desk.number() == 1 && desks.is_empty());
-    let mut place = directory.resolve(&mut desk, key).map_err(|_| "no place")?;
+    let place = place_of(rt, &directory, &mut desk, key, "no place");
     assert_refused(rt, &directory, &mut desk, other, Refusal::Full);
     assert_refused(rt, &directory, &mut desk, &[7; 251], Refusal::KeyTooLong);
-    let mut same = directory.resolve(&mut desk, key).map_err(|_| "place lost")?;
-    assert!(rt; place.number().number() == 1 && same.number() == place.number());
-    same.agree(&mut place);
-    let again = place.again();
-    assert!(rt; again.number() == same.number());
+    let same = place_of(rt, &directory, &mut desk, key, "place lost");
+    assert_same(rt, place, same);
     Ok(())
 }
 
@@ -47,10 +71,11 @@ struct Round {
     numbers: [u32; KEYS],
 }
 
-fn resolve_all(directory: &Directory, mut desk: Desk, bytes: &[u8; KEYS], backwards: bool) -> Round
+fn resolve_all(directory: &Directory, mut desk: Desk, backwards: bool) -> Round
     requires { desk.directory ≡ directory.now }
     ensures { result.desk.directory ≡ directory.now }
 {
+    let bytes = [b'k'; KEYS];
     let mut numbers = [0; KEYS];
     for step in 0..KEYS {
         let index = if backwards { KEYS - 1 - step } else { step };
@@ -67,7 +92,6 @@ fn resolve_on_two<R: Threads + Sync>(
     directory: &Directory,
     one: Desk,
     two: Desk,
-    bytes: &[u8; KEYS],
 ) -> (Round, Round)
     requires one { one.directory ≡ directory.now }
     requires two { two.directory ≡ directory.now }
@@ -76,8 +100,8 @@ fn resolve_on_two<R: Threads + Sync>(
 {
     join(
         rt,
-        move || resolve_all(directory, one, bytes, false),
-        move || resolve_all(directory, two, bytes, true),
+        move || resolve_all(directory, one, false),
+        move || resolve_all(directory, two, true),
     )
 }
 
@@ -94,13 +118,11 @@ fn assert_agree(rt: &impl Abort, first: &[u32; KEYS], second: &[u32; KEYS]) {
     }
 }
 
-#[test]
-fn desks_agree(rt: HostRuntime) -> Result<(), Fail> {
-    let bytes = [b'k'; KEYS];
-    let (directory, mut desks) = Directory::new(rt.alloc(), 100, 100, 2, 7, 11)?;
-    let two = desks.pop().ok_or("no second desk")?;
-    let one = desks.pop().ok_or("no first desk")?;
-    let (forwards, backwards) = resolve_on_two(&rt, &directory, one, two, &bytes);
+// Both found the same places, and no room for another key.
+fn check_rounds(rt: &impl Abort, directory: &Directory, forwards: Round, backwards: Round)
+    requires forwards { forwards.desk.directory ≡ directory.now }
+    requires backwards { backwards.desk.directory ≡ directory.now }
+{
     let Round {
         desk: mut one,
         numbers: first,
@@ -110,8 +132,17 @@ fn desks_agree(rt: HostRuntime) -> Result<(), Fail> {
         numbers: second,
     } = backwards;
     directory.meet(&mut one, &mut two);
-    assert_agree(&rt, &first, &second);
-    assert_refused(&rt, &directory, &mut one, b"another", Refusal::Full);
-    assert_refused(&rt, &directory, &mut two, b"another", Refusal::Full);
+    assert_agree(rt, &first, &second);
+    assert_refused(rt, directory, &mut one, b"another", Refusal::Full);
+    assert_refused(rt, directory, &mut two, b"another", Refusal::Full);
+}
+
+#[test]
+fn desks_agree(rt: HostRuntime) -> Result<(), Fail> {
+    let (directory, mut desks) = Directory::new(rt.alloc(), 100, 100, 2, 7, 11)?;
+    let two = desks.pop().ok_or("no second desk")?;
+    let one = desks.pop().ok_or("no first desk")?;
+    let (forwards, backwards) = resolve_on_two(&rt, &directory, one, two);
+    check_rounds(&rt, &directory, forwards, backwards);
     Ok(())
 }

@@ -1,12 +1,20 @@
 //! The sequential group: each call once with ample memory, and the last generation.
 
+ghost use Rattle.std.specs.Prelude.{◌≡◌};
+ghost use Rattle.sf_history.specs.Limits.{IsCallWithin};
+ghost use Rattle.sf_history.specs.State.{IsCaller};
+
 use sf_history::{
     Asked, CallId, ChanAsked, Event, Forgotten, History, Hit, ModelRefusal, SeqGroup, Share, Taken,
     laws, walk,
 };
 use sf_text::{Outcome, Text};
 use std::alloc::Global;
+use std::process::Abort;
 use std::test::Fail;
+
+/// A group of texts.
+type TextGroup = SeqGroup<Text, Outcome>;
 
 const LAST: u32 = 4_294_967_295;
 
@@ -18,102 +26,269 @@ fn id(caller: u32, generation: u32) -> CallId {
     CallId { caller, generation }
 }
 
+// The caller asks for the key `k`, which comes to this.
+fn asks(
+    rt: &impl Abort,
+    alloc: Global,
+    group: &mut TextGroup,
+    caller: u32,
+    due: Result<Asked, ModelRefusal>,
+    otherwise: &str,
+) -> Result<(), Fail>
+    requires { IsCaller group.old caller }
+    ensures { group.new.callers ≡ group.old.callers }
+{
+    let asked = group.ask(caller, text(alloc, "k")?);
+    assert!(rt; asked == due, "{otherwise}");
+    Ok(())
+}
+
+// The caller asks for it with a second, which comes to this.
+fn asks_with_second(
+    rt: &impl Abort,
+    alloc: Global,
+    group: &mut TextGroup,
+    caller: u32,
+    second: u32,
+    due: Result<ChanAsked, ModelRefusal>,
+    otherwise: &str,
+) -> Result<(), Fail>
+    requires caller { IsCaller group.old caller }
+    requires second { IsCaller group.old second }
+    ensures { group.new.callers ≡ group.old.callers }
+{
+    let asked = group.ask_chan(caller, second, text(alloc, "k")?);
+    assert!(rt; asked == due, "{otherwise}");
+    Ok(())
+}
+
+// The caller settles this call, which so many joined.
+fn settles(
+    rt: &impl Abort,
+    group: &mut TextGroup,
+    caller: u32,
+    value: Outcome,
+    call: CallId,
+    joiners: u32,
+)
+    requires { IsCaller group.old caller }
+    ensures { group.new.callers ≡ group.old.callers }
+{
+    let settled = group.settle(caller, value);
+    assert!(rt; settled == Ok((call, joiners)), "it settles otherwise");
+}
+
+// The caller forgets the key `k`, which comes to this.
+fn forgets(
+    rt: &impl Abort,
+    alloc: Global,
+    group: &mut TextGroup,
+    caller: u32,
+    due: Forgotten,
+    otherwise: &str,
+) -> Result<(), Fail>
+    requires { IsCaller group.old caller }
+    ensures { group.new.callers ≡ group.old.callers }
+{
+    let forgotten = group.forget(caller, text(alloc, "k")?)?;
+    assert!(rt; forgotten == due, "{otherwise}");
+    Ok(())
+}
+
+// Caller 2 forgets this call of the key, which finds this there.
+fn finds(
+    rt: &impl Abort,
+    alloc: Global,
+    group: &mut TextGroup,
+    key: &str,
+    call: CallId,
+    due: Hit,
+    there: &str,
+) -> Result<(), Fail>
+    requires caller { IsCaller group.old 2 }
+    requires call { IsCallWithin call }
+    ensures { group.new.callers ≡ group.old.callers }
+{
+    let hit = group.forget_call(2, text(alloc, key)?, call)?;
+    assert!(rt; hit == due, "{hit} {there}");
+    Ok(())
+}
+
+fn takes(
+    rt: &impl Abort,
+    group: &mut TextGroup,
+    caller: u32,
+    due: Result<Taken<Outcome>, ModelRefusal>,
+    otherwise: &str,
+)
+    requires { IsCaller group.old caller }
+    ensures { group.new.callers ≡ group.old.callers }
+{
+    let taken = group.take(caller);
+    assert!(rt; taken == due, "{otherwise}");
+}
+
+// Whether this call is the current one of the key `k`.
+fn is_current(
+    rt: &impl Abort,
+    alloc: Global,
+    group: &TextGroup,
+    call: CallId,
+    due: bool,
+    otherwise: &str,
+) -> Result<(), Fail> {
+    let key = text(alloc, "k")?;
+    assert!(rt; group.is_current(&key, call) == due, "{otherwise}");
+    Ok(())
+}
+
+fn has_events(rt: &impl Abort, group: &TextGroup, due: usize) {
+    let events = group.history().len();
+    assert!(rt; events == due, "{events} events in place of {due}");
+}
+
+// Caller 1 has no generation left, to ask or to be a second.
+fn asks_though_spent(rt: &impl Abort, alloc: Global, group: &mut TextGroup) -> Result<(), Fail>
+    requires { group.old.callers ≡ 3 }
+    ensures { group.new.callers ≡ group.old.callers }
+{
+    let spent = ModelRefusal::Spent(1);
+    let otherwise = "it asks though it is spent";
+    asks(rt, alloc, group, 1, Err(spent), otherwise)?;
+    let otherwise = "it asks with a second though it is spent";
+    asks_with_second(rt, alloc, group, 1, 2, Err(spent), otherwise)?;
+    let otherwise = "it is a second though it is spent";
+    asks_with_second(rt, alloc, group, 2, 1, Err(spent), otherwise)?;
+    Ok(())
+}
+
 #[test]
 fn last_generation_is_spent(rt: HostRuntime) -> Result<(), Fail> {
     let alloc = rt.alloc();
-    let mut group: SeqGroup<Text, Outcome> = SeqGroup::new(alloc, 3, LAST);
-    let asked = group.ask(1, text(alloc, "k")?)?;
-    assert!(rt; asked == Asked::Lead(id(1, LAST)), "it leads no last call");
-    let settled = group.settle(1, Ok(text(alloc, "v")?));
-    assert!(rt; settled == Ok((id(1, LAST), 0)), "it settles otherwise");
-    let asked = group.ask(1, text(alloc, "k")?);
-    assert!(rt;
-        asked == Err(ModelRefusal::Spent(1)),
-        "it asks though it is spent"
-    );
-    let asked = group.ask_chan(1, 2, text(alloc, "k")?);
-    assert!(rt;
-        asked == Err(ModelRefusal::Spent(1)),
-        "it asks with a second though it is spent"
-    );
-    let asked = group.ask_chan(2, 1, text(alloc, "k")?);
-    assert!(rt;
-        asked == Err(ModelRefusal::Spent(1)),
-        "it is a second though it is spent"
-    );
-    let forgotten = group.forget(1, text(alloc, "k")?)?;
-    assert!(rt; forgotten == Forgotten::Idle, "the key is not idle");
-    let events = group.history().len();
-    assert!(rt; events == 4, "{events} events in place of 4");
+    let mut group = TextGroup::new(alloc, 3, LAST);
+    let led = Ok(Asked::Lead(id(1, LAST)));
+    asks(&rt, alloc, &mut group, 1, led, "it leads no last call")?;
+    settles(&rt, &mut group, 1, Ok(text(alloc, "v")?), id(1, LAST), 0);
+    asks_though_spent(&rt, alloc, &mut group)?;
+    let idle = Forgotten::Idle;
+    forgets(&rt, alloc, &mut group, 1, idle, "the key is not idle")?;
+    has_events(&rt, &group, 4);
     Ok(())
 }
 
 #[test]
 fn a_channel_is_led_and_joined(rt: HostRuntime) -> Result<(), Fail> {
     let alloc = rt.alloc();
-    let mut group: SeqGroup<Text, Outcome> = SeqGroup::new(alloc, 65_535, 1);
-    let led = group.ask_chan(1, 2, text(alloc, "k")?)?;
-    assert!(rt;
-        led == ChanAsked::Led(id(1, 1), id(2, 1)),
-        "it leads otherwise"
-    );
-    let joined = group.ask_chan(3, 4, text(alloc, "k")?)?;
-    assert!(rt;
-        joined == ChanAsked::Joined(id(1, 1)),
-        "the second joins otherwise"
-    );
-    let asked = group.ask(3, text(alloc, "k")?)?;
-    assert!(rt;
-        asked == Asked::Join(id(1, 1)),
-        "who stayed free does not join"
-    );
-    let taken = group.take(4)?;
-    assert!(rt;
-        taken == Taken::Pending(id(1, 1)),
-        "a letter is there before the settle"
-    );
+    let mut group = TextGroup::new(alloc, 65_535, 1);
+    let led = Ok(ChanAsked::Led(id(1, 1), id(2, 1)));
+    asks_with_second(&rt, alloc, &mut group, 1, 2, led, "it leads otherwise")?;
+    let joined = Ok(ChanAsked::Joined(id(1, 1)));
+    let otherwise = "the second joins otherwise";
+    asks_with_second(&rt, alloc, &mut group, 3, 4, joined, otherwise)?;
+    let joined = Ok(Asked::Join(id(1, 1)));
+    let otherwise = "who stayed free does not join";
+    asks(&rt, alloc, &mut group, 3, joined, otherwise)?;
+    let pending = Ok(Taken::Pending(id(1, 1)));
+    let otherwise = "a letter is there before the settle";
+    takes(&rt, &mut group, 4, pending, otherwise);
     assert!(rt; group.has_caller(65_535), "the last caller is none");
     assert!(rt; !group.has_caller(65_536), "a caller too many");
+    Ok(())
+}
+
+// The call of caller 1, which another joined, ends with an error, and caller 2 takes its letter once.
+fn answers_second(
+    rt: &impl Abort,
+    alloc: Global,
+    group: &mut TextGroup,
+    call: CallId,
+) -> Result<(), Fail>
+    requires { group.old.callers ≡ 5 }
+{
+    settles(rt, group, 1, Err(text(alloc, "down")?), call, 1);
+    let letter = Taken::Got(call, Err(text(alloc, "down")?), 1);
+    takes(rt, group, 2, Ok(letter), "another letter");
+    let nothing = Err(ModelRefusal::NothingAsked(2));
+    takes(rt, group, 2, nothing, "a letter is taken twice");
     Ok(())
 }
 
 #[test]
 fn a_forgotten_call_is_still_answered(rt: HostRuntime) -> Result<(), Fail> {
     let alloc = rt.alloc();
-    let mut group: SeqGroup<Text, Outcome> = SeqGroup::new(alloc, 5, 1);
-    let key = text(alloc, "k")?;
+    let mut group = TextGroup::new(alloc, 5, 1);
+    let call = id(1, 1);
     group.ask_chan(1, 2, text(alloc, "k")?)?;
     group.ask(3, text(alloc, "k")?)?;
+    let otherwise = "an open call is not current";
+    is_current(&rt, alloc, &group, call, true, otherwise)?;
+    let closed = Forgotten::Closed(call);
+    forgets(
+        &rt,
+        alloc,
+        &mut group,
+        5,
+        closed,
+        "the Forget closes nothing",
+    )?;
+    let otherwise = "a forgotten call is current";
+    is_current(&rt, alloc, &group, call, false, otherwise)?;
+    answers_second(&rt, alloc, &mut group, call)
+}
+
+// A newer call of the key is led: a Forget of the call before misses that, and its leader may not forget.
+fn misses_beside_the_newer(
+    rt: &impl Abort,
+    alloc: Global,
+    group: &mut TextGroup,
+    before: CallId,
+    newer: CallId,
+) -> Result<(), Fail>
+    requires callers { group.old.callers ≡ 5 }
+    requires call { IsCallWithin before }
+    ensures { group.new.callers ≡ group.old.callers }
+{
+    group.ask(3, text(alloc, "k")?)?;
+    let there = "where a newer one is open";
+    finds(rt, alloc, group, "k", before, Hit::Missed, there)?;
+    let refused = group.forget_call(3, text(alloc, "k")?, before);
     assert!(rt;
-        group.is_current(&key, id(1, 1)),
-        "an open call is not current"
+        refused == Err(ModelRefusal::NotFree(3)),
+        "a leader forgets"
     );
-    let forgotten = group.forget(5, text(alloc, "k")?)?;
-    assert!(rt;
-        forgotten == Forgotten::Closed(id(1, 1)),
-        "the Forget closes nothing"
-    );
-    assert!(rt;
-        !group.is_current(&key, id(1, 1)),
-        "a forgotten call is current"
-    );
-    let settled = group.settle(1, Err(text(alloc, "down")?));
-    assert!(rt; settled == Ok((id(1, 1), 1)), "it settles otherwise");
-    let letter = Taken::Got(id(1, 1), Err(text(alloc, "down")?), 1);
-    assert!(rt; group.take(2)? == letter, "another letter");
-    let again = group.take(2);
-    assert!(rt;
-        again == Err(ModelRefusal::NothingAsked(2)),
-        "a letter is taken twice"
-    );
-    Ok(())
+    let otherwise = "the newer call is not current";
+    is_current(rt, alloc, group, newer, true, otherwise)
+}
+
+// The newer call of the key is settled: a Forget of it clears it, and is found to do so before.
+fn clears_the_newer(
+    rt: &impl Abort,
+    alloc: Global,
+    group: &mut TextGroup,
+    newer: CallId,
+) -> Result<(), Fail>
+    requires caller { IsCaller group.old 2 }
+    requires call { IsCallWithin newer }
+{
+    let found = walk::hit(group.history().events(), &text(alloc, "k")?, newer);
+    assert!(rt; found == Hit::Cleared, "{found} is found");
+    finds(
+        rt,
+        alloc,
+        group,
+        "k",
+        newer,
+        Hit::Cleared,
+        "where it is settled",
+    )?;
+    let otherwise = "a forgotten call is current";
+    is_current(rt, alloc, group, newer, false, otherwise)
 }
 
 #[test]
 fn one_call_is_forgotten(rt: HostRuntime) -> Result<(), Fail> {
     let alloc = rt.alloc();
-    let mut group: SeqGroup<Text, Outcome> = SeqGroup::new(alloc, 5, 1);
-    let key = text(alloc, "k")?;
+    let mut group = TextGroup::new(alloc, 5, 1);
     let (caller, generation) = (1, 1);
     let one = CallId { caller, generation };
     let three = CallId {
@@ -121,35 +296,13 @@ fn one_call_is_forgotten(rt: HostRuntime) -> Result<(), Fail> {
         generation,
     };
     group.ask(1, text(alloc, "k")?)?;
-    let hit = group.forget_call(2, text(alloc, "j")?, one)?;
-    assert!(rt; hit == Hit::Missed, "{hit} at another key");
-    let hit = group.forget_call(2, text(alloc, "k")?, one)?;
-    assert!(rt; hit == Hit::Closed, "{hit} where it is open");
-    group.ask(3, text(alloc, "k")?)?;
-    let hit = group.forget_call(2, text(alloc, "k")?, one)?;
-    assert!(rt; hit == Hit::Missed, "{hit} where a newer one is open");
-    let refused = group.forget_call(3, text(alloc, "k")?, one);
-    assert!(rt;
-        refused == Err(ModelRefusal::NotFree(3)),
-        "a leader forgets"
-    );
-    assert!(rt;
-        group.is_current(&key, three),
-        "the newer call is not current"
-    );
-    group
-        .settle(3, Ok(text(alloc, "v")?))
-        .map_err(|(refusal, _)| refusal)?;
-    let found = walk::hit(group.history().events(), &key, three);
-    assert!(rt; found == Hit::Cleared, "{found} is found");
-    let hit = group.forget_call(2, text(alloc, "k")?, three)?;
-    assert!(rt; hit == Hit::Cleared, "{hit} where it is settled");
-    assert!(rt;
-        !group.is_current(&key, three),
-        "a forgotten call is current"
-    );
-    let events = group.history().len();
-    assert!(rt; events == 8, "{events} events in place of 8");
+    let (closed, missed) = (Hit::Closed, Hit::Missed);
+    finds(&rt, alloc, &mut group, "j", one, missed, "at another key")?;
+    finds(&rt, alloc, &mut group, "k", one, closed, "where it is open")?;
+    misses_beside_the_newer(&rt, alloc, &mut group, one, three)?;
+    settles(&rt, &mut group, 3, Ok(text(alloc, "v")?), three, 0);
+    clears_the_newer(&rt, alloc, &mut group, three)?;
+    has_events(&rt, &group, 8);
     Ok(())
 }
 

@@ -237,19 +237,32 @@ fn assert_load(rt: &impl Abort, script: &mut Script, due: &str) {
     assert!(rt; said, "a local answer is not {due}");
 }
 
+const ROUND: &str = "peer: first
+local: second
+local: third
+peer: out of memory
+local: first
+peer: second
+peer: third
+local: out of memory
+";
+
+fn scripted(alloc: Global) -> Result<Script, AllocError> {
+    let (first, second) = (value("first"), value("second"));
+    let answers = vec![in alloc; first, second, failed("third"), Answer::Memory]?;
+    Ok(Script::new(answers))
+}
+
 #[test]
 fn scripts_go_round(rt: HostRuntime) -> Result<(), AllocError> {
-    let (first, second) = (value("first"), value("second"));
-    let answers = vec![in rt.alloc(); first, second, failed("third"), Answer::Memory]?;
-    let mut script = Script::new(answers);
-    assert_fetch(&rt, &mut script, "first");
-    assert_load(&rt, &mut script, "second");
-    assert_load(&rt, &mut script, "third");
-    assert_fetch(&rt, &mut script, "out of memory");
-    assert_load(&rt, &mut script, "first");
-    assert_fetch(&rt, &mut script, "second");
-    assert_fetch(&rt, &mut script, "third");
-    assert_load(&rt, &mut script, "out of memory");
+    let mut script = scripted(rt.alloc())?;
+    for row in ROUND.lines() {
+        match row.split_once(": ") {
+            Some(("peer", due)) => assert_fetch(&rt, &mut script, due),
+            Some(("local", due)) => assert_load(&rt, &mut script, due),
+            _ => panic!(rt; "{row} is neither"),
+        }
+    }
     assert!(rt; script.asked() == 8);
     Ok(())
 }

@@ -7,17 +7,37 @@ use std::alloc::{AllocError, Global};
 use std::process::Abort;
 use std::test::Fail;
 
-const LEAD: &str = "{\"e\":\"lead\",\"by\":1,\"k\":\"k\",\"c\":[1,1],\"own\":null}\n";
+/// The records that rows call by name.
+const RECORDS: &str = r#"lead {"e":"lead","by":1,"k":"k","c":[1,1],"own":null}
+newer {"e":"lead","by":4,"k":"k","c":[4,1],"own":null}
+enter {"e":"enter","by":2,"k":"k","c":[1,1],"m":[2,1]}
+enter_too {"e":"enter","by":3,"k":"k","c":[1,1],"m":[3,1]}
+enter_aside {"e":"enter","by":2,"k":"k","c":[1,2],"m":[2,1]}
+settle_none {"e":"settle","by":1,"c":[1,1],"ok":"v","joiners":0}
+settle_two {"e":"settle","by":1,"c":[1,1],"ok":"v","joiners":2}
+unmarked {"e":"settle","by":1,"c":[1,1],"ok":"v","shared":false}
+marked {"e":"settle","by":1,"c":[1,1],"ok":"v","shared":true}
+foreign {"e":"settle","by":2,"c":[1,1],"ok":"v","shared":false}
+error {"e":"settle","by":1,"c":[1,1],"err":"down","joiners":1}
+error_two {"e":"settle","by":1,"c":[1,1],"err":"down","joiners":2}
+marked_error {"e":"settle","by":1,"c":[1,1],"err":"down","shared":true}
+handed {"e":"handed","by":1,"c":[1,1]}
+idle {"e":"forget","by":3,"k":"k","closed":null}
+closed {"e":"forgetcall","by":3,"k":"k","c":[1,1],"hit":"closed"}
+cleared {"e":"forgetcall","by":3,"k":"k","c":[1,1],"hit":"cleared"}
+missed {"e":"forgetcall","by":3,"k":"k","c":[1,1],"hit":"missed"}
+"#;
 
-const ENTER: &str = "{\"e\":\"enter\",\"by\":2,\"k\":\"k\",\"c\":[1,1],\"m\":[2,1]}\n";
-
-const SETTLE_ERROR: &str =
-    "{\"e\":\"settle\",\"by\":1,\"c\":[1,1],\"err\":\"down\",\"joiners\":1}\n";
-
-const MARKED_ERROR: &str =
-    "{\"e\":\"settle\",\"by\":1,\"c\":[1,1],\"err\":\"down\",\"shared\":true}\n";
-
-const HANDED: &str = "{\"e\":\"handed\",\"by\":1,\"c\":[1,1]}\n";
+/// The record of this name.
+fn record(rt: &impl Abort, name: &str) -> &'static str {
+    for row in RECORDS.lines() {
+        let (called, record) = row.split_once(' ').unwrap_or((row, ""));
+        if called == name {
+            return record;
+        }
+    }
+    panic!(rt; "no record is called {name}")
+}
 
 /// What is said of these records after the format, by both checkers.
 fn answer(alloc: Global, text: &str) -> Result<String, AllocError> {
@@ -37,340 +57,278 @@ fn answer(alloc: Global, text: &str) -> Result<String, AllocError> {
     }
 }
 
-fn after_format(alloc: Global, format: u32, records: &[&str]) -> Result<String, AllocError> {
+/// The records of these names, after the format.
+fn after_format(
+    rt: &impl Abort,
+    alloc: Global,
+    format: u32,
+    names: &str,
+) -> Result<String, AllocError> {
     let mut text = format!(in alloc; "{{\"format\":{format}}}\n")?;
-    for record in records {
-        text.push_str(record)?;
+    for name in names.split(' ') {
+        text.push_str(record(rt, name))?;
+        text.push_str("\n")?;
     }
     Ok(text)
 }
 
-// These records, after the format, are answered so.
-fn assert_answer(
-    rt: &impl Abort,
-    alloc: Global,
-    format: u32,
-    records: &[&str],
-    due: &str,
-) -> Result<(), AllocError> {
-    let said = answer(alloc, after_format(alloc, format, records)?.as_str())?;
-    assert!(rt; said.as_str() == due, "{said}");
+// This text is answered so.
+fn assert_said(rt: &impl Abort, alloc: Global, text: &str, due: &str) -> Result<(), AllocError> {
+    let said = answer(alloc, text)?;
+    assert!(rt; said.as_str() == due, "{said} where {due} is due");
     Ok(())
+}
+
+// The records that a row names, after the format, are answered as it says: `lead closed: legal: 2 events`.
+fn assert_answer(rt: &impl Abort, alloc: Global, format: u32, row: &str) -> Result<(), AllocError> {
+    let (names, due) = row.split_once(": ").unwrap_or((row, ""));
+    let text = after_format(rt, alloc, format, names)?;
+    assert_said(rt, alloc, text.as_str(), due)
 }
 
 #[test]
 fn check_names_the_foreign_settle(rt: HostRuntime) -> Result<(), Fail> {
-    let foreign = "{\"e\":\"settle\",\"by\":2,\"c\":[1,1],\"ok\":\"v\",\"shared\":false}\n";
-    assert_answer(
-        &rt,
-        rt.alloc(),
-        1,
-        &[LEAD, foreign],
-        "event 2: settled by a caller that did not lead",
-    )?;
-    assert_answer(
-        &rt,
-        rt.alloc(),
-        1,
-        &[LEAD, "{\"e\":\"settle\",\"by\":2"],
-        "line 3: not a record",
-    )?;
-    assert_answer(&rt, rt.alloc(), 1, &[], "legal: 0 events")?;
-    let said = answer(rt.alloc(), "")?;
-    assert!(rt; said.as_str() == "line 1: not a record");
+    let alloc = rt.alloc();
+    let foreign = "lead foreign: event 2: settled by a caller that did not lead";
+    assert_answer(&rt, alloc, 1, foreign)?;
+    let mut cut = after_format(&rt, alloc, 1, "lead")?;
+    cut.push_str("{\"e\":\"settle\",\"by\":2")?;
+    assert_said(&rt, alloc, cut.as_str(), "line 3: not a record")?;
+    assert_said(&rt, alloc, "{\"format\":1}\n", "legal: 0 events")?;
+    assert_said(&rt, alloc, "", "line 1: not a record")?;
     Ok(())
 }
 
 #[test]
 fn wrong_shared_mark(rt: HostRuntime) -> Result<(), Fail> {
-    let shared = "{\"e\":\"settle\",\"by\":1,\"c\":[1,1],\"ok\":\"v\",\"shared\":true}\n";
-    assert_answer(
-        &rt,
-        rt.alloc(),
-        1,
-        &[LEAD, shared],
-        "event 2: number of joiners is wrong",
-    )?;
+    let row = "lead marked: event 2: number of joiners is wrong";
+    assert_answer(&rt, rt.alloc(), 1, row)?;
     Ok(())
 }
 
 #[test]
 fn idle_forget_beside_an_open_call(rt: HostRuntime) -> Result<(), Fail> {
-    let idle = "{\"e\":\"forget\",\"by\":3,\"k\":\"k\",\"closed\":null}\n";
-    assert_answer(
-        &rt,
-        rt.alloc(),
-        1,
-        &[LEAD, ENTER, idle],
-        "event 3: forget names another call",
-    )?;
+    let row = "lead enter idle: event 3: forget names another call";
+    assert_answer(&rt, rt.alloc(), 1, row)?;
     Ok(())
 }
 
 #[test]
 fn shared_error_history_is_legal(rt: HostRuntime) -> Result<(), Fail> {
-    assert_answer(
-        &rt,
-        rt.alloc(),
-        1,
-        &[LEAD, ENTER, MARKED_ERROR, HANDED],
-        "legal: 4 events",
-    )?;
+    let row = "lead enter marked_error handed: legal: 4 events";
+    assert_answer(&rt, rt.alloc(), 1, row)?;
     Ok(())
 }
+
+const COUNTS: &str = "lead enter error: legal: 3 events
+lead enter settle_two: event 3: number of joiners is wrong
+lead enter enter_too settle_two: legal: 4 events
+lead enter enter_too error: event 4: number of joiners is wrong
+";
 
 /// Both checkers look at the very number of joiners.
 #[test]
 fn joiner_counts_in_records(rt: HostRuntime) -> Result<(), Fail> {
-    let enter_too = "{\"e\":\"enter\",\"by\":3,\"k\":\"k\",\"c\":[1,1],\"m\":[3,1]}\n";
-    let settle_two = "{\"e\":\"settle\",\"by\":1,\"c\":[1,1],\"ok\":\"v\",\"joiners\":2}\n";
-    let rows: [(&[&str], &str); 4] = [
-        (&[LEAD, ENTER, SETTLE_ERROR], "legal: 3 events"),
-        (
-            &[LEAD, ENTER, settle_two],
-            "event 3: number of joiners is wrong",
-        ),
-        (&[LEAD, ENTER, enter_too, settle_two], "legal: 4 events"),
-        (
-            &[LEAD, ENTER, enter_too, SETTLE_ERROR],
-            "event 4: number of joiners is wrong",
-        ),
-    ];
-    for (records, due) in rows {
-        for format in [2, 3] {
-            assert_answer(&rt, rt.alloc(), format, records, due)?;
-        }
+    for row in COUNTS.lines() {
+        assert_answer(&rt, rt.alloc(), 2, row)?;
+        assert_answer(&rt, rt.alloc(), 3, row)?;
     }
     Ok(())
 }
 
-const CLOSED: &str = "{\"e\":\"forgetcall\",\"by\":3,\"k\":\"k\",\"c\":[1,1],\"hit\":\"closed\"}\n";
-
-const CLEARED: &str =
-    "{\"e\":\"forgetcall\",\"by\":3,\"k\":\"k\",\"c\":[1,1],\"hit\":\"cleared\"}\n";
-
-const MISSED: &str = "{\"e\":\"forgetcall\",\"by\":3,\"k\":\"k\",\"c\":[1,1],\"hit\":\"missed\"}\n";
+const HITS: &str = "missed lead enter: legal: 3 events
+cleared: event 1: hit is wrong
+lead enter closed error handed: legal: 5 events
+lead enter cleared: event 3: hit is wrong
+lead enter missed: event 3: hit is wrong
+lead closed newer missed: legal: 4 events
+lead closed newer closed: event 4: hit is wrong
+lead closed newer cleared: event 4: hit is wrong
+lead enter error cleared newer: legal: 5 events
+lead enter error closed: event 4: hit is wrong
+lead enter error newer cleared: event 5: hit is wrong
+lead enter error cleared cleared: event 5: hit is wrong
+";
 
 /// Both checkers look at what a Forget of one call found.
 #[test]
 fn hits_in_records(rt: HostRuntime) -> Result<(), Fail> {
-    let newer = "{\"e\":\"lead\",\"by\":4,\"k\":\"k\",\"c\":[4,1],\"own\":null}\n";
-    let rows: [(&[&str], &str); 12] = [
-        (&[MISSED, LEAD, ENTER], "legal: 3 events"),
-        (&[CLEARED], "event 1: hit is wrong"),
-        (
-            &[LEAD, ENTER, CLOSED, SETTLE_ERROR, HANDED],
-            "legal: 5 events",
-        ),
-        (&[LEAD, ENTER, CLEARED], "event 3: hit is wrong"),
-        (&[LEAD, ENTER, MISSED], "event 3: hit is wrong"),
-        (&[LEAD, CLOSED, newer, MISSED], "legal: 4 events"),
-        (&[LEAD, CLOSED, newer, CLOSED], "event 4: hit is wrong"),
-        (&[LEAD, CLOSED, newer, CLEARED], "event 4: hit is wrong"),
-        (
-            &[LEAD, ENTER, SETTLE_ERROR, CLEARED, newer],
-            "legal: 5 events",
-        ),
-        (
-            &[LEAD, ENTER, SETTLE_ERROR, CLOSED],
-            "event 4: hit is wrong",
-        ),
-        (
-            &[LEAD, ENTER, SETTLE_ERROR, newer, CLEARED],
-            "event 5: hit is wrong",
-        ),
-        (
-            &[LEAD, ENTER, SETTLE_ERROR, CLEARED, CLEARED],
-            "event 5: hit is wrong",
-        ),
-    ];
-    for (records, due) in rows {
-        assert_answer(&rt, rt.alloc(), 3, records, due)?;
+    for row in HITS.lines() {
+        assert_answer(&rt, rt.alloc(), 3, row)?;
     }
     Ok(())
 }
 
+const FORGETS_OF_ONE_CALL: &str = "lead closed handed: line 3: not a record
+lead cleared handed: line 3: not a record
+lead missed handed: line 3: not a record
+";
+
 #[test]
 fn second_format_has_no_forgetcall(rt: HostRuntime) -> Result<(), Fail> {
-    for hit in [CLOSED, CLEARED, MISSED] {
-        for format in [1, 2] {
-            let due = "line 3: not a record";
-            assert_answer(&rt, rt.alloc(), format, &[LEAD, hit, HANDED], due)?;
-        }
+    for row in FORGETS_OF_ONE_CALL.lines() {
+        assert_answer(&rt, rt.alloc(), 1, row)?;
+        assert_answer(&rt, rt.alloc(), 2, row)?;
     }
+    Ok(())
+}
+
+/// The text that is written for a text of records.
+fn rewritten(alloc: Global, text: &str) -> Result<String, Fail> {
+    let history = read(alloc, text.as_bytes())?;
+    Ok(write(alloc, &history)?)
+}
+
+// A text of records is written so.
+fn assert_rewritten(rt: &impl Abort, alloc: Global, text: &str, due: &str) -> Result<(), Fail> {
+    let written = rewritten(alloc, text)?;
+    assert!(rt; written.as_str() == due, "{written}");
     Ok(())
 }
 
 // Records of the first format are written so in the newest one.
-fn assert_written(
-    rt: &impl Abort,
-    alloc: Global,
-    records: &[&str],
-    due: &[&str],
-) -> Result<(), Fail> {
-    let history = read(alloc, after_format(alloc, 1, records)?.as_bytes())?;
-    let written = write(alloc, &history)?;
-    let due = after_format(alloc, 3, due)?;
-    assert!(rt; written.as_str() == due.as_str(), "{written}");
-    Ok(())
+fn assert_written(rt: &impl Abort, alloc: Global, names: &str, due: &str) -> Result<(), Fail> {
+    let text = after_format(rt, alloc, 1, names)?;
+    let due = after_format(rt, alloc, 3, due)?;
+    assert_rewritten(rt, alloc, text.as_str(), due.as_str())
 }
 
 /// What a mark of the first format stands for is written in the newest one.
 #[test]
 fn first_format_is_still_read(rt: HostRuntime) -> Result<(), Fail> {
     let alloc = rt.alloc();
-    let unmarked = "{\"e\":\"settle\",\"by\":1,\"c\":[1,1],\"ok\":\"v\",\"shared\":false}\n";
-    let none = "{\"e\":\"settle\",\"by\":1,\"c\":[1,1],\"ok\":\"v\",\"joiners\":0}\n";
-    assert_written(&rt, alloc, &[LEAD, ENTER, unmarked], &[LEAD, ENTER, none])?;
-    assert_written(&rt, alloc, &[LEAD, MARKED_ERROR], &[LEAD, SETTLE_ERROR])?;
+    assert_written(&rt, alloc, "lead enter unmarked", "lead enter settle_none")?;
+    assert_written(&rt, alloc, "lead marked_error", "lead error")?;
     // Enters are counted also where they may not follow; those on other calls, or after the settle, are not.
-    let aside = "{\"e\":\"enter\",\"by\":2,\"k\":\"k\",\"c\":[1,2],\"m\":[2,1]}\n";
-    let two = "{\"e\":\"settle\",\"by\":1,\"c\":[1,1],\"err\":\"down\",\"joiners\":2}\n";
-    assert_written(
-        &rt,
-        alloc,
-        &[ENTER, aside, MARKED_ERROR],
-        &[ENTER, aside, SETTLE_ERROR],
-    )?;
-    assert_written(
-        &rt,
-        alloc,
-        &[MARKED_ERROR, ENTER, ENTER, MARKED_ERROR],
-        &[SETTLE_ERROR, ENTER, ENTER, two],
-    )
+    let marked = "enter enter_aside marked_error";
+    assert_written(&rt, alloc, marked, "enter enter_aside error")?;
+    let marked = "marked_error enter enter marked_error";
+    assert_written(&rt, alloc, marked, "error enter enter error_two")
 }
 
 #[test]
 fn written_records_read_back(rt: HostRuntime) -> Result<(), Fail> {
     let alloc = rt.alloc();
-    let text = after_format(
-        alloc,
-        3,
-        &[MISSED, LEAD, ENTER, CLOSED, SETTLE_ERROR, HANDED, CLEARED],
-    )?;
-    let history = read(alloc, text.as_bytes())?;
-    let written = write(alloc, &history)?;
+    let names = "missed lead enter closed error handed cleared";
+    let text = after_format(&rt, alloc, 3, names)?;
+    let written = rewritten(alloc, text.as_str())?;
     assert!(rt; written.as_str() == text.as_str(), "{written}");
     let again = read(alloc, written.as_bytes())?;
     assert!(rt; again.len() == 7);
-    assert!(rt; write(alloc, &again)?.as_str() == text.as_str());
-    Ok(())
+    assert_rewritten(&rt, alloc, written.as_str(), text.as_str())
 }
 
 /// Names in any order, white space, escapes, a name written twice, and the greatest numbers.
 #[test]
 fn other_spellings_of_records(rt: HostRuntime) -> Result<(), Fail> {
-    let alloc = rt.alloc();
     let text =
         " {\t\"format\" : 1 } \r\n{\"own\":[65535,4294967295],\"k\":\"\\u00e9\\n\",\"by\":9,\"c\":[1,1],\"by\":1,\"e\":\"lead\"}";
-    let history = read(alloc, text.as_bytes())?;
     let line =
         "{\"format\":3}\n{\"e\":\"lead\",\"by\":1,\"k\":\"é\\n\",\"c\":[1,1],\"own\":[65535,4294967295]}\n";
-    assert!(rt; write(alloc, &history)?.as_str() == line);
+    assert_rewritten(&rt, rt.alloc(), text, line)?;
     let text =
         "{\"format\":3}\n{\"hit\":\"lost\", \"c\":[65535,4294967295],\"k\":\"\",\"by\":65535,\"e\":\"forgetcall\",\"hit\":\"\\u006dissed\"}";
-    let history = read(alloc, text.as_bytes())?;
     let line =
         "{\"format\":3}\n{\"e\":\"forgetcall\",\"by\":65535,\"k\":\"\",\"c\":[65535,4294967295],\"hit\":\"missed\"}\n";
-    assert!(rt; write(alloc, &history)?.as_str() == line);
+    assert_rewritten(&rt, rt.alloc(), text, line)
+}
+
+/// What is no record, beside the empty line and a space.
+const BAD_RECORDS: &str = r#"[]
+{"e":"handed","by":0,"c":[1,1]}
+{"e":"handed","by":65536,"c":[1,1]}
+{"e":"handed","by":1.0,"c":[1,1]}
+{"e":"handed","by":1,"c":[1,4294967296]}
+{"e":"handed","by":1,"c":[1,1,1]}
+{"e":"handed","by":1,"c":[1,1],"k":null}
+{"e":"handed","by":1}
+{"e":"handled","by":1,"c":[1,1]}
+{"e":"settle","by":1,"c":[1,1],"ok":"v","err":"v","shared":true}
+{"e":"settle","by":1,"c":[1,1],"ok":"v","err":"v","joiners":1}
+{"e":"settle","by":1,"c":[1,1],"shared":true}
+{"e":"settle","by":1,"c":[1,1],"joiners":1}
+{"e":"forget","by":1,"k":"k"}
+{"e":"forgetcall","by":1,"k":"k","c":[1,1]}
+{"e":"forgetcall","by":1,"k":"k","c":null,"hit":"missed"}
+{"e":"forgetcall","by":1,"k":"k","c":[1,1],"hit":"idle"}
+{"e":"forgetcall","by":1,"c":[1,1],"hit":"missed"}
+{"e":"forgetcall","by":1,"k":"k","c":[1,1],"hit":"missed","closed":null}
+"#;
+
+/// What is no format, beside the empty line.
+const BAD_FORMATS: &str = r#"{"format":4}
+{"format":9}
+{"format":0}
+{"format":"1"}
+{"format":1,"more":null}
+{}
+"#;
+
+// This line is no record in any format.
+fn assert_no_record(rt: &impl Abort, alloc: Global, line: &str) -> Result<(), AllocError> {
+    let handed = record(rt, "handed");
+    for format in [1, 2, 3] {
+        let text = format!(in alloc; "{{\"format\":{format}}}\n{line}\n{handed}\n")?;
+        assert_said(rt, alloc, text.as_str(), "line 2: not a record")?;
+    }
     Ok(())
 }
 
-/// What is no record, and what is no format.
+fn assert_no_format(rt: &impl Abort, alloc: Global, line: &str) -> Result<(), AllocError> {
+    assert_said(rt, alloc, line, "line 1: not a record")
+}
+
+// A byte that no text has.
+fn assert_no_text(rt: &impl Abort, alloc: Global) {
+    let said = read(alloc, b"{\"format\":1}\n\xff");
+    assert!(rt; matches!(said, Err(RecordRefusal::BadRecord(2))));
+}
+
 #[test]
 fn bad_records(rt: HostRuntime) -> Result<(), Fail> {
     let alloc = rt.alloc();
-    for record in [
-        "",
-        " ",
-        "[]",
-        "{\"e\":\"handed\",\"by\":0,\"c\":[1,1]}",
-        "{\"e\":\"handed\",\"by\":65536,\"c\":[1,1]}",
-        "{\"e\":\"handed\",\"by\":1.0,\"c\":[1,1]}",
-        "{\"e\":\"handed\",\"by\":1,\"c\":[1,4294967296]}",
-        "{\"e\":\"handed\",\"by\":1,\"c\":[1,1,1]}",
-        "{\"e\":\"handed\",\"by\":1,\"c\":[1,1],\"k\":null}",
-        "{\"e\":\"handed\",\"by\":1}",
-        "{\"e\":\"handled\",\"by\":1,\"c\":[1,1]}",
-        "{\"e\":\"settle\",\"by\":1,\"c\":[1,1],\"ok\":\"v\",\"err\":\"v\",\"shared\":true}",
-        "{\"e\":\"settle\",\"by\":1,\"c\":[1,1],\"ok\":\"v\",\"err\":\"v\",\"joiners\":1}",
-        "{\"e\":\"settle\",\"by\":1,\"c\":[1,1],\"shared\":true}",
-        "{\"e\":\"settle\",\"by\":1,\"c\":[1,1],\"joiners\":1}",
-        "{\"e\":\"forget\",\"by\":1,\"k\":\"k\"}",
-        "{\"e\":\"forgetcall\",\"by\":1,\"k\":\"k\",\"c\":[1,1]}",
-        "{\"e\":\"forgetcall\",\"by\":1,\"k\":\"k\",\"c\":null,\"hit\":\"missed\"}",
-        "{\"e\":\"forgetcall\",\"by\":1,\"k\":\"k\",\"c\":[1,1],\"hit\":\"idle\"}",
-        "{\"e\":\"forgetcall\",\"by\":1,\"c\":[1,1],\"hit\":\"missed\"}",
-        "{\"e\":\"forgetcall\",\"by\":1,\"k\":\"k\",\"c\":[1,1],\"hit\":\"missed\",\"closed\":null}",
-    ] {
-        for format in [1, 2, 3] {
-            assert_answer(
-                &rt,
-                alloc,
-                format,
-                &[record, "\n", HANDED],
-                "line 2: not a record",
-            )?;
-        }
+    assert_no_record(&rt, alloc, "")?;
+    assert_no_record(&rt, alloc, " ")?;
+    for line in BAD_RECORDS.lines() {
+        assert_no_record(&rt, alloc, line)?;
     }
-    for first in [
-        "\n",
-        "{\"format\":4}",
-        "{\"format\":9}",
-        "{\"format\":0}",
-        "{\"format\":\"1\"}",
-        "{\"format\":1,\"more\":null}",
-        "{}",
-    ] {
-        let said = answer(alloc, first)?;
-        assert!(rt; said.as_str() == "line 1: not a record", "{first}");
+    assert_no_format(&rt, alloc, "\n")?;
+    for line in BAD_FORMATS.lines() {
+        assert_no_format(&rt, alloc, line)?;
     }
-    assert!(rt;
-        matches!(
-            read(alloc, b"{\"format\":1}\n\xff"),
-            Err(RecordRefusal::BadRecord(2))
-        )
-    );
+    assert_no_text(&rt, alloc);
     Ok(())
+}
+
+fn assert_legal(rt: &impl Abort, history: &History<u32, ()>, due: usize) {
+    let events = history.len();
+    assert!(rt; check(history) == Verdict::Legal, "it is illegal");
+    assert!(rt; events == due, "{events} events");
+}
+
+fn assert_illegal(rt: &impl Abort, history: &History<u32, ()>, due: u64) {
+    match check(history) {
+        Verdict::Legal => panic!(rt; "legal"),
+        Verdict::Illegal { index, .. } => assert!(rt; index == due, "event {index}"),
+    }
 }
 
 /// The checker at keys and values of other types.
 #[test]
 fn numbers_as_keys(rt: HostRuntime) -> Result<(), Fail> {
-    let call = CallId {
-        caller: 1,
-        generation: 7,
-    };
+    let call = call(1, 7);
     let mut history: History<u32, ()> = History::new(rt.alloc());
-    assert!(rt; check(&history) == Verdict::Legal);
-    history.push(Event::Lead {
-        by: 1,
-        key: 5,
-        call,
-        own: None,
-    })?;
-    history.push(Event::Settle {
-        by: 1,
-        call,
-        result: (),
-        joiners: 0,
-    })?;
-    assert!(rt; check(&history) == Verdict::Legal);
-    history.push(Event::Forget {
-        by: 2,
-        key: 5,
-        closed: Some(call),
-    })?;
-    let Verdict::Illegal { index, .. } = check(&history) else {
-        return Err(Fail::new("legal"));
-    };
-    assert!(rt; index == 3, "event {index}");
+    assert_legal(&rt, &history, 0);
+    history.push(lead(5, call))?;
+    history.push(settle(call, 0))?;
+    assert_legal(&rt, &history, 2);
+    history.push(forget(2, 5, Some(call)))?;
+    assert_illegal(&rt, &history, 3);
     let mut events = history.into_vec();
     drop(events.pop());
     events.push(forget_call(2, 5, call, Hit::Cleared))?;
     events.push(forget_call(2, 5, call, Hit::Missed))?;
-    let history = History::from_vec(events);
-    assert!(rt; check(&history) == Verdict::Legal && history.len() == 4);
+    assert_legal(&rt, &History::from_vec(events), 4);
     Ok(())
 }
 
@@ -429,6 +387,10 @@ fn handed(by: u32, call: CallId) -> Event<u32, ()> {
     Event::Handed { by, call }
 }
 
+fn forget(by: u32, key: u32, closed: Option<CallId>) -> Event<u32, ()> {
+    Event::Forget { by, key, closed }
+}
+
 fn forget_call(by: u32, key: u32, call: CallId, hit: Hit) -> Event<u32, ()> {
     Event::ForgetCall { by, key, call, hit }
 }
@@ -450,16 +412,8 @@ fn are_events(rt: &impl Abort, history: &History<u32, ()>, due: &[[u32; 4]]) {
 fn logs_merge_by_keys_and_calls(rt: HostRuntime) -> Result<(), Fail> {
     let alloc = rt.alloc();
     let (one, two) = (call(1, 1), call(2, 2));
-    let idle = Event::Forget {
-        by: 1,
-        key: 5,
-        closed: None,
-    };
-    let closed = Event::Forget {
-        by: 3,
-        key: 7,
-        closed: Some(one),
-    };
+    let idle = forget(1, 5, None);
+    let closed = forget(3, 7, Some(one));
     let first = vec![in alloc; handed(1, one), settle(one, 1), lead(7, one), idle]?;
     let second = vec![in alloc; lead(5, two), enter(7, one, call(2, 1)), handed(2, two)]?;
     let third = vec![in alloc; handed(3, call(9, 9)), closed]?;
@@ -485,16 +439,8 @@ fn logs_merge_by_keys_and_calls(rt: HostRuntime) -> Result<(), Fail> {
 fn forgets_of_one_call_are_merged(rt: HostRuntime) -> Result<(), Fail> {
     let alloc = rt.alloc();
     let (one, two) = (call(1, 1), call(2, 2));
-    let idle = Event::Forget {
-        by: 1,
-        key: 5,
-        closed: None,
-    };
-    let closed = Event::Forget {
-        by: 3,
-        key: 7,
-        closed: Some(one),
-    };
+    let idle = forget(1, 5, None);
+    let closed = forget(3, 7, Some(one));
     let missed = forget_call(1, 5, call(8, 8), Hit::Missed);
     let first = vec![in alloc; handed(1, one), settle(one, 1), lead(7, one), missed, idle]?;
     let cleared_handed = forget_call(2, 7, one, Hit::Cleared);
@@ -531,16 +477,9 @@ fn forgets_of_one_call_are_merged(rt: HostRuntime) -> Result<(), Fail> {
     Ok(())
 }
 
-/// What a group did is legal once its logs are merged.
-#[test]
-fn merged_logs_of_a_group_are_legal(rt: HostRuntime) -> Result<(), Fail> {
-    let alloc = rt.alloc();
-    let one = call(1, 1);
-    let first = vec![in alloc; lead(7, one), settle(one, 1), handed(1, one)]?;
-    let second = vec![in alloc; enter(7, one, call(2, 1))]?;
-    let merged = merge(alloc, vec![in alloc; second, first]?)?;
-    assert!(rt; merged.len() == 4 && check(&merged) == Verdict::Legal);
-    let three = call(3, 1);
+// A call is forgotten, and a newer one once it is settled.
+fn assert_forgets_are_legal(rt: &impl Abort, alloc: Global) -> Result<(), Fail> {
+    let (one, three) = (call(1, 1), call(3, 1));
     let first = vec![in alloc; lead(7, one), settle(one, 0), handed(1, one)]?;
     let second = vec![in alloc;
         forget_call(2, 7, one, Hit::Closed),
@@ -549,7 +488,20 @@ fn merged_logs_of_a_group_are_legal(rt: HostRuntime) -> Result<(), Fail> {
     ]?;
     let third = vec![in alloc; lead(7, three), settle(three, 0), handed(3, three)]?;
     let merged = merge(alloc, vec![in alloc; third, second, first]?)?;
-    assert!(rt; merged.len() == 9 && check(&merged) == Verdict::Legal);
+    assert_legal(rt, &merged, 9);
+    Ok(())
+}
+
+/// What a group did is legal once its logs are merged.
+#[test]
+fn merged_logs_of_a_group_are_legal(rt: HostRuntime) -> Result<(), Fail> {
+    let alloc = rt.alloc();
+    let one = call(1, 1);
+    let first = vec![in alloc; lead(7, one), settle(one, 1), handed(1, one)]?;
+    let second = vec![in alloc; enter(7, one, call(2, 1))]?;
+    let merged = merge(alloc, vec![in alloc; second, first]?)?;
+    assert_legal(&rt, &merged, 4);
+    assert_forgets_are_legal(&rt, alloc)?;
     let no_logs: Vec<Vec<Event<u32, ()>>> = Vec::new(alloc);
     assert!(rt; merge(alloc, no_logs)?.is_empty());
     Ok(())

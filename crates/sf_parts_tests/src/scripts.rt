@@ -8,25 +8,29 @@ use std::test::Fail;
 #[test]
 fn commands_are_obeyed_in_turn(rt: HostRuntime) -> Result<(), Fail> {
     let alloc = rt.alloc();
-    let mut group: SeqGroup<Text, Outcome> = SeqGroup::new(alloc, 65_535, 1);
+    let asked = Text::copied(alloc, "k")?;
+    let forgotten = Text::copied(alloc, "k")?;
+    let forgotten_of = Text::copied(alloc, "k")?;
+    let call = CallId {
+        caller: 7,
+        generation: 1,
+    };
     let commands = [
         Command::Ask {
             caller: 7,
-            key: Text::copied(alloc, "k")?,
+            key: asked,
         },
         Command::Forget {
             caller: 8,
-            key: Text::copied(alloc, "k")?,
+            key: forgotten,
         },
         Command::ForgetCall {
             caller: 9,
-            key: Text::copied(alloc, "k")?,
-            call: CallId {
-                caller: 7,
-                generation: 1,
-            },
+            key: forgotten_of,
+            call,
         },
     ];
+    let mut group: SeqGroup<Text, Outcome> = SeqGroup::new(alloc, 65_535, 1);
     let lines = obey_all(alloc, &mut group, &commands)?;
     assert!(rt;
         lines.as_str() == "7 lead 7.1\n8 forgot 7.1\n9 missed 7.1\n",

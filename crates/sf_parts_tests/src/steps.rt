@@ -39,6 +39,33 @@ fn prints(
     Ok(())
 }
 
+/// Makes steps, and compares what each prints: below a line `step CALLER` stands what is due.
+fn all_print(
+    rt: &impl Abort,
+    alloc: Global,
+    world: &mut World<Outcome>,
+    steps: &str,
+) -> Result<(), Fail> {
+    for made in steps.split("step ").skip(1) {
+        let (caller, due) = made.split_once('\n').unwrap_or((made, ""));
+        let caller = caller.parse::<u32>().map_err(|_| "no caller")?;
+        prints(rt, alloc, world, caller, due)?;
+    }
+    Ok(())
+}
+
+/// Both look, and the first leads.
+const LEADS: &str = "step 1
+1 look 1 0
+step 2
+2 look 1 0
+step 1
+1 ready 1.1 open
+step 1
+1 lead 1 1.1 yes
+= lead 1 1.1
+";
+
 #[test]
 fn worlds_step(rt: HostRuntime) -> Result<(), Fail> {
     let alloc = rt.alloc();
@@ -47,16 +74,7 @@ fn worlds_step(rt: HostRuntime) -> Result<(), Fail> {
     assert!(rt; !world.may_start(1, &Op::Ask { place: 2 }));
     start(&rt, &mut world, 1, Op::Ask { place: 1 });
     start(&rt, &mut world, 2, Op::Ask { place: 1 });
-    prints(&rt, alloc, &mut world, 1, "1 look 1 0\n")?;
-    prints(&rt, alloc, &mut world, 2, "2 look 1 0\n")?;
-    prints(&rt, alloc, &mut world, 1, "1 ready 1.1 open\n")?;
-    prints(
-        &rt,
-        alloc,
-        &mut world,
-        1,
-        "1 lead 1 1.1 yes\n= lead 1 1.1\n",
-    )?;
+    all_print(&rt, alloc, &mut world, LEADS)?;
     assert!(rt; !world.may_step(1));
     prints(&rt, alloc, &mut world, 2, "2 ready 2.1 open\n")?;
     assert!(rt; !world.may_leave(2));
@@ -65,6 +83,34 @@ fn worlds_step(rt: HostRuntime) -> Result<(), Fail> {
     start(&rt, &mut world, 2, Op::Forget { place: 1 });
     Ok(())
 }
+
+const LEADS_WITH_A_CHANNEL: &str = "step 1
+1 look 1 0
+step 1
+2 ready 2.1 listed
+step 1
+1 ready 1.1 open
+step 1
+1 lead 1 1.1 yes
+= lead 1 1.1 own=2.1
+";
+
+const JOINS_BETWEEN: &str = "step 3
+3 look 1 1.1
+step 3
+3 peek 1.1 open own 0
+step 5
+5 look 1 1.1
+step 5
+5 peek 1.1 open own 0
+step 5
+5 ready 5.1 listed
+step 5
+5 link 0
+step 5
+5 enter 1.1 yes
+= enter 1 1.1 5.1
+";
 
 /// Caller 1 leads with caller 2 as its own channel, and caller 5 joins between the peek and the enter of a chan.
 fn leads_with_a_channel(
@@ -76,22 +122,25 @@ fn leads_with_a_channel(
     start(rt, world, 1, Op::Chan { second, place });
     assert!(rt; !world.may_step(2));
     assert!(rt; !world.may_start(2, &Op::Ask { place }));
-    prints(rt, alloc, world, 1, "1 look 1 0\n")?;
-    prints(rt, alloc, world, 1, "2 ready 2.1 listed\n")?;
-    prints(rt, alloc, world, 1, "1 ready 1.1 open\n")?;
-    let led = "1 lead 1 1.1 yes\n= lead 1 1.1 own=2.1\n";
-    prints(rt, alloc, world, 1, led)?;
+    all_print(rt, alloc, world, LEADS_WITH_A_CHANNEL)?;
     let second = 4;
     start(rt, world, 3, Op::Chan { second, place });
     start(rt, world, 5, Op::Ask { place });
-    prints(rt, alloc, world, 3, "3 look 1 1.1\n")?;
-    prints(rt, alloc, world, 3, "3 peek 1.1 open own 0\n")?;
-    prints(rt, alloc, world, 5, "5 look 1 1.1\n")?;
-    prints(rt, alloc, world, 5, "5 peek 1.1 open own 0\n")?;
-    prints(rt, alloc, world, 5, "5 ready 5.1 listed\n")?;
-    prints(rt, alloc, world, 5, "5 link 0\n")?;
-    prints(rt, alloc, world, 5, "5 enter 1.1 yes\n= enter 1 1.1 5.1\n")
+    all_print(rt, alloc, world, JOINS_BETWEEN)
 }
+
+const ENTERS_AFTER_THE_OTHER: &str = "step 3
+3 look 1 1.1
+step 3
+3 peek 1.1 open own 5
+step 3
+4 ready 4.1 listed
+step 3
+4 link 5
+step 3
+4 enter 1.1 yes
+= enter 1 1.1 4.1
+";
 
 /// The chan of caller 3 comes too late to enter, is left, and enters at its second try.
 fn enters_at_the_second_try(
@@ -107,11 +156,7 @@ fn enters_at_the_second_try(
     assert!(rt; world.may_start(4, &Op::Ask { place: 1 }));
     let second = 4;
     start(rt, world, 3, Op::Chan { second, place: 1 });
-    prints(rt, alloc, world, 3, "3 look 1 1.1\n")?;
-    prints(rt, alloc, world, 3, "3 peek 1.1 open own 5\n")?;
-    prints(rt, alloc, world, 3, "4 ready 4.1 listed\n")?;
-    prints(rt, alloc, world, 3, "4 link 5\n")?;
-    prints(rt, alloc, world, 3, "4 enter 1.1 yes\n= enter 1 1.1 4.1\n")
+    all_print(rt, alloc, world, ENTERS_AFTER_THE_OTHER)
 }
 
 #[test]
@@ -128,6 +173,27 @@ fn chans_join_and_are_left(rt: HostRuntime) -> Result<(), Fail> {
     Ok(())
 }
 
+/// Its members are followed once to count them, and once to serve them.
+const SETTLES: &str = "step 1
+1 peek 1.1 open own 5
+step 1
+1 close 1.1 done yes
+= settle 1.1 v joiners=1
+step 1
+1 follow 5 0
+step 1
+1 follow 5 0
+step 1
+1 peek 5.1 listed 0
+step 1
+1 deliver 5.1
+step 1
+1 peek 2.1 listed 0
+step 1
+1 deliver 2.1
+= handed 1.1
+";
+
 /// Caller 1 settles its call with `v`, and delivers a letter to each member, and to its own channel.
 fn settles_and_delivers(
     rt: &impl Abort,
@@ -136,16 +202,7 @@ fn settles_and_delivers(
 ) -> Result<(), Fail> {
     let result = Ok(Text::copied(alloc, "v")?);
     start(rt, world, 1, Op::Settle { result });
-    prints(rt, alloc, world, 1, "1 peek 1.1 open own 5\n")?;
-    let closed = "1 close 1.1 done yes\n= settle 1.1 v joiners=1\n";
-    prints(rt, alloc, world, 1, closed)?;
-    // Once to count its members, and once to serve them.
-    prints(rt, alloc, world, 1, "1 follow 5 0\n")?;
-    prints(rt, alloc, world, 1, "1 follow 5 0\n")?;
-    prints(rt, alloc, world, 1, "1 peek 5.1 listed 0\n")?;
-    prints(rt, alloc, world, 1, "1 deliver 5.1\n")?;
-    prints(rt, alloc, world, 1, "1 peek 2.1 listed 0\n")?;
-    prints(rt, alloc, world, 1, "1 deliver 2.1\n= handed 1.1\n")
+    all_print(rt, alloc, world, SETTLES)
 }
 
 #[test]
@@ -174,6 +231,45 @@ fn idle_forget_clears_a_settled_call(rt: HostRuntime) -> Result<(), Fail> {
     Ok(())
 }
 
+const LEADS_ALONE: &str = "step 1
+1 look 1 0
+step 1
+1 ready 1.1 open
+step 1
+1 lead 1 1.1 yes
+= lead 1 1.1
+";
+
+const FORGET_AT_ONCE: &str = "step 2
+2 look 1 1.1
+step 2
+2 peek 1.1 open 0
+step 3
+3 look 1 1.1
+step 3
+3 peek 1.1 open 0
+step 3
+3 close 1.1 forgot yes
+= forgetcall 1 1.1 closed
+";
+
+/// Callers 2 and 3 forget one call: the close of caller 2 fails, and it leaves.
+fn two_forget_one_call(
+    rt: &impl Abort,
+    alloc: Global,
+    world: &mut World<Outcome>,
+    place: u32,
+    call: CallId,
+) -> Result<(), Fail> {
+    start(rt, world, 2, Op::ForgetCall { place, call });
+    start(rt, world, 3, Op::ForgetCall { place, call });
+    all_print(rt, alloc, world, FORGET_AT_ONCE)?;
+    assert!(rt; !world.may_leave(2) && !world.may_leave(3));
+    prints(rt, alloc, world, 2, "2 close 1.1 forgot no\n")?;
+    leave(rt, world, 2);
+    prints(rt, alloc, world, 3, "3 clear 1 1.1 yes\n")
+}
+
 /// Two callers forget one call: the one whose close fails leaves, and finds it cleared then.
 #[test]
 fn one_call_is_forgotten(rt: HostRuntime) -> Result<(), Fail> {
@@ -185,25 +281,11 @@ fn one_call_is_forgotten(rt: HostRuntime) -> Result<(), Fail> {
         generation: 1,
     };
     start(&rt, &mut world, 1, Op::Ask { place });
-    prints(&rt, alloc, &mut world, 1, "1 look 1 0\n")?;
-    prints(&rt, alloc, &mut world, 1, "1 ready 1.1 open\n")?;
-    let led = "1 lead 1 1.1 yes\n= lead 1 1.1\n";
-    prints(&rt, alloc, &mut world, 1, led)?;
+    all_print(&rt, alloc, &mut world, LEADS_ALONE)?;
     assert!(rt; !world.may_start(1, &Op::Named { place }));
     assert!(rt; !world.may_start(2, &Op::Named { place: 2 }));
     assert!(rt; !world.may_start(1, &Op::ForgetCall { place, call }));
-    start(&rt, &mut world, 2, Op::ForgetCall { place, call });
-    start(&rt, &mut world, 3, Op::ForgetCall { place, call });
-    prints(&rt, alloc, &mut world, 2, "2 look 1 1.1\n")?;
-    prints(&rt, alloc, &mut world, 2, "2 peek 1.1 open 0\n")?;
-    prints(&rt, alloc, &mut world, 3, "3 look 1 1.1\n")?;
-    prints(&rt, alloc, &mut world, 3, "3 peek 1.1 open 0\n")?;
-    let closed = "3 close 1.1 forgot yes\n= forgetcall 1 1.1 closed\n";
-    prints(&rt, alloc, &mut world, 3, closed)?;
-    assert!(rt; !world.may_leave(2) && !world.may_leave(3));
-    prints(&rt, alloc, &mut world, 2, "2 close 1.1 forgot no\n")?;
-    leave(&rt, &mut world, 2);
-    prints(&rt, alloc, &mut world, 3, "3 clear 1 1.1 yes\n")?;
+    two_forget_one_call(&rt, alloc, &mut world, place, call)?;
     start(&rt, &mut world, 2, Op::Named { place });
     prints(&rt, alloc, &mut world, 2, "2 look 1 1.1 cleared\n")?;
     start(&rt, &mut world, 2, Op::ForgetCall { place, call });
