@@ -1,6 +1,6 @@
 //! Calls of a fill beside gets and reloads, and letters that getters keep near.
 
-use crate::rows::{SETTING, check};
+use crate::rows::{SETTING, comes_to};
 use crate::steps::Step;
 use crate::steps::Step::{
     BytesPresent, ForgetAll, Get, GetKey, GetPresent, Put, Reload, Remove, Repeat, Stats,
@@ -20,13 +20,12 @@ fn put_is_got(rt: HostRuntime) -> Result<(), Fail> {
         steps: [&STEPS, &[Get("a")], &[]],
         ..SETTING
     };
-    let outcome = try_out(&rt, rt.alloc(), setting)?;
     let first = "a v=true 1.1 root=1.1 joiners=0\n\
         put a settled 1.2 of 1 w=true\n\
         a v=false 1.2 root=1.2 joiners=0\n";
     let second = "a v=false 1.2 root=1.2 joiners=0\n";
-    check(&rt, &outcome, [first, second], [4, 2, 2, 2, 0, 0, 2, 0]);
-    Ok(())
+    let counted = [4, 2, 2, 2, 0, 0, 2, 0];
+    comes_to(&rt, rt.alloc(), setting, [first, second], counted)
 }
 
 #[test]
@@ -44,7 +43,6 @@ fn removed_key_is_loaded_again(rt: HostRuntime) -> Result<(), Fail> {
         steps: [&STEPS, &[], &[]],
         ..SETTING
     };
-    let outcome = try_out(&rt, rt.alloc(), setting)?;
     let said = "a v=true 1.1 root=1.1 joiners=0\n\
         b v=true 1.2 root=1.2 joiners=0\n\
         4 bytes, 2 items, 0 evictions\n\
@@ -53,8 +51,8 @@ fn removed_key_is_loaded_again(rt: HostRuntime) -> Result<(), Fail> {
         a v=true 1.3 root=1.3 joiners=0\n\
         b v=true 1.2 root=1.2 joiners=0\n\
         remove abcde false\n";
-    check(&rt, &outcome, [said, ""], [4, 1, 3, 3, 0, 0, 3, 0]);
-    Ok(())
+    let counted = [4, 1, 3, 3, 0, 0, 3, 0];
+    comes_to(&rt, rt.alloc(), setting, [said, ""], counted)
 }
 
 #[test]
@@ -64,7 +62,6 @@ fn all_is_forgotten(rt: HostRuntime) -> Result<(), Fail> {
         steps: [&STEPS, &[], &[]],
         ..SETTING
     };
-    let outcome = try_out(&rt, rt.alloc(), setting)?;
     let said = "a v=true 1.1 root=1.1 joiners=0\n\
         b v=true 1.2 root=1.2 joiners=0\n\
         forget all true\n\
@@ -72,57 +69,43 @@ fn all_is_forgotten(rt: HostRuntime) -> Result<(), Fail> {
         0 bytes, 0 items, 0 evictions\n\
         a v=true 1.3 root=1.3 joiners=0\n\
         b v=true 1.4 root=1.4 joiners=0\n";
-    check(&rt, &outcome, [said, ""], [4, 0, 4, 4, 0, 0, 4, 0]);
-    Ok(())
+    let counted = [4, 0, 4, 4, 0, 0, 4, 0];
+    comes_to(&rt, rt.alloc(), setting, [said, ""], counted)
 }
 
 // Main has room for one key, so the second one takes the first out of it. Its letter is near by then, and answers.
 #[test]
 fn near_letter_answers_what_was_dropped(rt: HostRuntime) -> Result<(), Fail> {
     const STEPS: [Step; 5] = [Get("a"), Get("a"), Get("b"), Stats, Get("a")];
-    let said = "a v=true 1.1 root=1.1 joiners=0\n\
-        a v=true 1.1 root=1.1 joiners=0\n\
-        b v=true 1.2 root=1.2 joiners=0\n\
-        2 bytes, 1 items, 1 evictions\n\
-        0 bytes, 0 items, 0 evictions\n";
     let near = Setting {
         steps: [&STEPS, &[], &[]],
         limit: 2,
         near: 8,
         ..SETTING
     };
-    let outcome = try_out(&rt, rt.alloc(), near)?;
-    let again = outcome.said[0].as_str().strip_prefix(said);
-    assert!(rt;
-        again == Some("a v=true 1.1 root=1.1 joiners=0\n"),
-        "not near"
-    );
+    let said = "a v=true 1.1 root=1.1 joiners=0\n\
+        a v=true 1.1 root=1.1 joiners=0\n\
+        b v=true 1.2 root=1.2 joiners=0\n\
+        2 bytes, 1 items, 1 evictions\n\
+        0 bytes, 0 items, 0 evictions\n\
+        a v=true 1.1 root=1.1 joiners=0\n";
+    comes_to(&rt, rt.alloc(), near, [said, ""], [4, 2, 2, 2, 0, 0, 2, 0])?;
     let none = Setting { near: 0, ..near };
-    let outcome = try_out(&rt, rt.alloc(), none)?;
-    let again = outcome.said[0].as_str().strip_prefix(said);
-    assert!(rt;
-        again == Some("a v=true 1.3 root=1.3 joiners=0\n"),
-        "not loaded again"
-    );
-    Ok(())
+    let said = "a v=true 1.1 root=1.1 joiners=0\n\
+        a v=true 1.1 root=1.1 joiners=0\n\
+        b v=true 1.2 root=1.2 joiners=0\n\
+        2 bytes, 1 items, 1 evictions\n\
+        0 bytes, 0 items, 0 evictions\n\
+        a v=true 1.3 root=1.3 joiners=0\n";
+    comes_to(&rt, rt.alloc(), none, [said, ""], [4, 1, 3, 3, 0, 0, 3, 0])
 }
 
 // After 63 hits of a near letter the caches are asked, which have dropped it by then.
 #[test]
 fn near_letter_goes_the_long_way(rt: HostRuntime) -> Result<(), Fail> {
     const STEPS: [Step; 4] = [Get("a"), Get("a"), Get("b"), Repeat("a", 64)];
-    let setting = Setting {
-        steps: [&STEPS, &[], &[]],
-        limit: 2,
-        near: 8,
-        ..SETTING
-    };
-    let outcome = try_out(&rt, rt.alloc(), setting)?;
-    let book = outcome.book;
-    assert!(rt;
-        book.gets == 67 && book.cache_hits == 64 && book.local_loads == 3,
-        "the book"
-    );
+    let counted = are_counted(&rt, rt.alloc(), 8, &STEPS, [67, 64, 3])?;
+    assert!(rt; counted, "the book");
     Ok(())
 }
 
@@ -204,7 +187,6 @@ fn reload_and_forget_all_reach_near_letters(rt: HostRuntime) -> Result<(), Fail>
         near: 8,
         ..SETTING
     };
-    let outcome = try_out(&rt, rt.alloc(), setting)?;
     let said = "a v=true 1.1 root=1.1 joiners=0\n\
         a v=true 1.1 root=1.1 joiners=0\n\
         reload a cleared 1.1\n\
@@ -213,8 +195,8 @@ fn reload_and_forget_all_reach_near_letters(rt: HostRuntime) -> Result<(), Fail>
         forget all true\n\
         a v=true 1.3 root=1.3 joiners=0\n\
         remove a true\n";
-    check(&rt, &outcome, [said, ""], [5, 2, 3, 3, 0, 0, 3, 0]);
-    Ok(())
+    let counted = [5, 2, 3, 3, 0, 0, 3, 0];
+    comes_to(&rt, rt.alloc(), setting, [said, ""], counted)
 }
 
 // Only a letter at hand is answered to who lends its getter, from a cache or from those near, and nothing is counted but that hit.
@@ -248,8 +230,8 @@ fn only_what_is_present_is_lent(rt: HostRuntime) -> Result<(), Fail> {
             steps: [&STEPS, &[], &[]],
             ..SETTING
         };
-        let outcome = try_out(&rt, rt.alloc(), setting)?;
-        check(&rt, &outcome, [said, ""], [3, 2, 1, 1, 0, 0, 1, 0]);
+        let counted = [3, 2, 1, 1, 0, 0, 1, 0];
+        comes_to(&rt, rt.alloc(), setting, [said, ""], counted)?;
     }
     Ok(())
 }
@@ -264,18 +246,16 @@ fn views_have_their_keys(rt: HostRuntime) -> Result<(), Fail> {
         steps: [&STEPS, &[], &[]],
         ..SETTING
     };
-    let outcome = try_out(&rt, rt.alloc(), open)?;
     let said = "a own=true\nb own=true\nb own=true\n";
-    check(&rt, &outcome, [said, ""], [3, 1, 2, 2, 0, 0, 2, 0]);
+    comes_to(&rt, rt.alloc(), open, [said, ""], [3, 1, 2, 2, 0, 0, 2, 0])?;
     let directory = Setting {
         places: 2,
         open: false,
         ..open
     };
-    let outcome = try_out(&rt, rt.alloc(), directory)?;
     let said = "a by its place\nb by its place\nb by its place\n";
-    check(&rt, &outcome, [said, ""], [3, 1, 2, 2, 0, 0, 2, 0]);
-    Ok(())
+    let counted = [3, 1, 2, 2, 0, 0, 2, 0];
+    comes_to(&rt, rt.alloc(), directory, [said, ""], counted)
 }
 
 // A key of 250 bytes.
@@ -301,8 +281,8 @@ fn long_key_is_kept(rt: HostRuntime) -> Result<(), Fail> {
             steps: [&STEPS, &[], &[]],
             ..SETTING
         };
-        let outcome = try_out(&rt, alloc, setting)?;
-        check(&rt, &outcome, [said.as_str(), ""], [2, 1, 1, 1, 0, 0, 1, 0]);
+        let counted = [2, 1, 1, 1, 0, 0, 1, 0];
+        comes_to(&rt, alloc, setting, [said.as_str(), ""], counted)?;
     }
     Ok(())
 }

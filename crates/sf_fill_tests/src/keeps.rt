@@ -1,9 +1,9 @@
 //! What the caches keep, within which limit, and what leaves them. A key and a value of one byte each weigh 2.
 
-use crate::rows::{SETTING, check};
+use crate::rows::{SETTING, comes_to};
 use crate::steps::Step;
 use crate::steps::Step::{Reload, Repeat, Stats};
-use crate::trial::{Gives, Setting, try_out};
+use crate::trial::{Gives, Setting};
 use std::test::Fail;
 
 /// What one getter does, what it says of main and hot, and what is counted.
@@ -123,8 +123,7 @@ fn caches_keep_within_their_limit(rt: HostRuntime) -> Result<(), Fail> {
             steps: [case.steps, &[], &[]],
             ..SETTING
         };
-        let outcome = try_out(&rt, rt.alloc(), setting)?;
-        check(&rt, &outcome, [case.said, ""], case.counted);
+        comes_to(&rt, rt.alloc(), setting, [case.said, ""], case.counted)?;
     }
     Ok(())
 }

@@ -196,6 +196,7 @@ fn with_space<'d, D: Naming + Send + Sync, R: Wait + Threads + Abort + Sync>(
     requires space { (space_of space ≡ D.space) × (places_in D.space ≤ LARGEST_PLACE) }
     requires desks { (vec_len desks ≡ 2) × AreDesksOf D.space desks.items }
 {
+    let loaders = vec![in alloc; loaders(alloc)?]?;
     let (group, callers) = Group::<FillValue<'d, D, AnyValue>>::new(
         alloc,
         space.place_count(),
@@ -219,13 +220,11 @@ fn with_space<'d, D: Naming + Send + Sync, R: Wait + Threads + Abort + Sync>(
     if !group.has(place) {
         panic!(rt; "the group has no such place")
     }
-    let mut sets = Vec::with_capacity(alloc, 1)?;
-    sets.push_reserved(loaders(alloc)?);
     let parts = FillParts {
         desks,
         group,
         callers,
-        loaders: sets,
+        loaders,
         ledgers: Ledgers::new(1),
     };
     play::<D, Brand, R>(rt, alloc, space, parts, caller, place, looks)

@@ -43,12 +43,28 @@ fn counters(totals: Totals) -> [u128; 8] {
     ]
 }
 
-pub fn check(rt: &impl Abort, outcome: &Outcome, said: [&str; 2], counted: [u128; 8]) {
+fn check(rt: &impl Abort, outcome: &Outcome, said: [&str; 2], counted: [u128; 8]) {
+    assert!(rt; !outcome.failed, "a wait was given up");
     for (is, wanted) in outcome.said.iter().zip(said.iter()) {
         assert!(rt; is.as_str() == *wanted, "{is}");
     }
     assert!(rt; counters(outcome.book) == counted, "the book");
     assert!(rt; counters(outcome.gathered) == counted, "what is gathered");
+}
+
+/// What comes of the setting: what the first two getters say, and what is counted.
+pub fn comes_to<R: Wait + Threads + Abort + Sync>(
+    rt: &R,
+    alloc: Global,
+    setting: Setting,
+    said: [&str; 2],
+    counted: [u128; 8],
+) -> Result<(), Fail>
+    requires { (1 ≤ setting.places) × (setting.places ≤ 8) × (setting.key_bytes ≤ 250) }
+{
+    let outcome = try_out(rt, alloc, setting)?;
+    check(rt, &outcome, said, counted);
+    Ok(())
 }
 
 #[test]
@@ -58,15 +74,14 @@ fn reload_makes_a_third_get_load_again(rt: HostRuntime) -> Result<(), Fail> {
         steps: [&STEPS, &[], &[]],
         ..SETTING
     };
-    let outcome = try_out(&rt, rt.alloc(), setting)?;
     let said = "a v=true 1.1 root=1.1 joiners=0\n\
         a v=true 1.1 root=1.1 joiners=0\n\
         reload a cleared 1.1\n\
         a v=true 1.2 root=1.2 joiners=0\n\
         lead 1 1.1; settle 1 1.1 0; handed 1 1.1; forgetcall 1 1.1 cleared; \
         lead 1 1.2; settle 1 1.2 0; handed 1 1.2; log\n";
-    check(&rt, &outcome, [said, ""], [3, 1, 2, 2, 0, 0, 2, 0]);
-    Ok(())
+    let counted = [3, 1, 2, 2, 0, 0, 2, 0];
+    comes_to(&rt, rt.alloc(), setting, [said, ""], counted)
 }
 
 // There is room for three events. What is taken is gone, and the room with it.
@@ -78,14 +93,13 @@ fn logs_have_room_for_three_events(rt: HostRuntime) -> Result<(), Fail> {
         steps: [&STEPS, &[], &[]],
         ..SETTING
     };
-    let outcome = try_out(&rt, rt.alloc(), setting)?;
     let said = "a v=true 1.1 root=1.1 joiners=0\n\
         reload a cleared 1.1\n\
         lead 1 1.1; settle 1 1.1 0; handed 1 1.1; log\n\
         a v=true 1.2 root=1.2 joiners=0\n\
         log\n";
-    check(&rt, &outcome, [said, ""], [2, 0, 2, 2, 0, 0, 2, 0]);
-    Ok(())
+    let counted = [2, 0, 2, 2, 0, 0, 2, 0];
+    comes_to(&rt, rt.alloc(), setting, [said, ""], counted)
 }
 
 #[test]
@@ -95,11 +109,10 @@ fn failed_peer_then_a_hit_for_the_second_getter(rt: HostRuntime) -> Result<(), F
         steps: [&[Get("a")], &[Get("a"), SettleUp], &[]],
         ..SETTING
     };
-    let outcome = try_out(&rt, rt.alloc(), setting)?;
     let first = "a v=true 1.1 root=1.1 joiners=0\n";
     let second = "a v=true 1.1 root=1.1 joiners=0\nowes=false settled=true\n";
-    check(&rt, &outcome, [first, second], [2, 1, 1, 1, 0, 1, 1, 0]);
-    Ok(())
+    let counted = [2, 1, 1, 1, 0, 1, 1, 0];
+    comes_to(&rt, rt.alloc(), setting, [first, second], counted)
 }
 
 #[test]
@@ -110,14 +123,8 @@ fn local_fault_is_answered_and_not_kept(rt: HostRuntime) -> Result<(), Fail> {
         ends: true,
         ..SETTING
     };
-    let outcome = try_out(&rt, rt.alloc(), setting)?;
-    check(
-        &rt,
-        &outcome,
-        ["a down\n", "a down\n"],
-        [2, 0, 2, 2, 0, 0, 0, 2],
-    );
-    Ok(())
+    let counted = [2, 0, 2, 2, 0, 0, 0, 2];
+    comes_to(&rt, rt.alloc(), setting, ["a down\n", "a down\n"], counted)
 }
 
 // The first draw is 0, so the peer's first value is kept; its second is not.
@@ -129,13 +136,12 @@ fn one_in_ten_of_the_peers_values(rt: HostRuntime) -> Result<(), Fail> {
         steps: [&STEPS, &[], &[]],
         ..SETTING
     };
-    let outcome = try_out(&rt, rt.alloc(), setting)?;
     let said = "a v=true 1.1 root=1.1 joiners=0\n\
         a v=true 1.1 root=1.1 joiners=0\n\
         b v=true 1.2 root=1.2 joiners=0\n\
         b v=true 1.3 root=1.3 joiners=0\n";
-    check(&rt, &outcome, [said, ""], [4, 1, 3, 3, 3, 0, 0, 0]);
-    Ok(())
+    let counted = [4, 1, 3, 3, 3, 0, 0, 0];
+    comes_to(&rt, rt.alloc(), setting, [said, ""], counted)
 }
 
 #[test]
@@ -147,14 +153,13 @@ fn refused_keys_and_no_room(rt: HostRuntime) -> Result<(), Fail> {
         steps: [&STEPS, &[], &[]],
         ..SETTING
     };
-    let outcome = try_out(&rt, rt.alloc(), setting)?;
     let said = "a v=true 1.1 root=1.1 joiners=0\n\
         b directory full\n\
         long! key too long\n\
         a v=true 1.2 root=1.2 joiners=0\n\
         reload b directory full\n";
-    check(&rt, &outcome, [said, ""], [4, 0, 2, 2, 0, 0, 2, 0]);
-    Ok(())
+    let counted = [4, 0, 2, 2, 0, 0, 2, 0];
+    comes_to(&rt, rt.alloc(), setting, [said, ""], counted)
 }
 
 // The load of `a` waits until a get of `b` was answered.
@@ -165,12 +170,10 @@ fn load_holds_no_lock(rt: HostRuntime) -> Result<(), Fail> {
         beside: true,
         ..SETTING
     };
-    let outcome = try_out(&rt, rt.alloc(), setting)?;
-    assert!(rt; !outcome.failed, "a wait was given up");
     let first = "a v=true 1.1 root=1.1 joiners=0\n";
     let second = "b v=true 2.1 root=2.1 joiners=0\n";
-    check(&rt, &outcome, [first, second], [2, 0, 2, 2, 0, 0, 2, 0]);
-    Ok(())
+    let counted = [2, 0, 2, 2, 0, 0, 2, 0];
+    comes_to(&rt, rt.alloc(), setting, [first, second], counted)
 }
 
 // The load of `a` waits until a reload of `a` has closed its call. What it gives isn't kept.
@@ -182,12 +185,10 @@ fn reload_during_load(rt: HostRuntime) -> Result<(), Fail> {
         beside: true,
         ..SETTING
     };
-    let outcome = try_out(&rt, rt.alloc(), setting)?;
-    assert!(rt; !outcome.failed, "a wait was given up");
     let first = "a v=true 1.1 root=1.1 joiners=0\n";
     let second = "reload a closed 1.1\na v=true 2.1 root=2.1 joiners=0\n";
-    check(&rt, &outcome, [first, second], [2, 0, 2, 2, 0, 0, 2, 0]);
-    Ok(())
+    let counted = [2, 0, 2, 2, 0, 0, 2, 0];
+    comes_to(&rt, rt.alloc(), setting, [first, second], counted)
 }
 
 // What a closed call gives does not take the place of a newer letter in the cache.
@@ -206,14 +207,12 @@ fn old_answer_leaves_the_newer_letter(rt: HostRuntime) -> Result<(), Fail> {
         beside: true,
         ..SETTING
     };
-    let outcome = try_out(&rt, rt.alloc(), setting)?;
-    assert!(rt; !outcome.failed, "a wait was given up");
     let first = "a v=true 1.1 root=1.1 joiners=0\n";
     let second = "reload a closed 1.1\n\
         a v=true 2.1 root=2.1 joiners=0\n\
         a v=true 2.1 root=2.1 joiners=0\n";
-    check(&rt, &outcome, [first, second], [3, 1, 2, 2, 0, 0, 2, 0]);
-    Ok(())
+    let counted = [3, 1, 2, 2, 0, 0, 2, 0];
+    comes_to(&rt, rt.alloc(), setting, [first, second], counted)
 }
 
 // Two keys share the only place of an open fill, and any key has one. Each get answers of its own key: what the other has left in
@@ -235,7 +234,6 @@ fn two_keys_on_one_place(rt: HostRuntime) -> Result<(), Fail> {
         steps: [&STEPS, &[], &[]],
         ..SETTING
     };
-    let outcome = try_out(&rt, rt.alloc(), setting)?;
     let said = "a v=true 1.1 root=1.1 joiners=0\n\
         a v=true 1.1 root=1.1 joiners=0\n\
         b v=true 1.2 root=1.2 joiners=0\n\
@@ -244,8 +242,8 @@ fn two_keys_on_one_place(rt: HostRuntime) -> Result<(), Fail> {
         reload b idle\n\
         lead 1 1.1; settle 1 1.1 0; handed 1 1.1; lead 1 1.2; settle 1 1.2 0; handed 1 1.2; \
         lead 1 1.3; settle 1 1.3 0; handed 1 1.3; forgetcall 1 1.3 cleared; log\n";
-    check(&rt, &outcome, [said, ""], [4, 1, 3, 3, 0, 0, 3, 0]);
-    Ok(())
+    let counted = [4, 1, 3, 3, 0, 0, 3, 0];
+    comes_to(&rt, rt.alloc(), setting, [said, ""], counted)
 }
 
 #[test]
