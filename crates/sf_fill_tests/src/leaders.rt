@@ -81,25 +81,46 @@ impl<'a, R: Wait> Body for SecondLook<'a, R> {
         requires new { All (IsNewGetter N.group 0) getters.items }
     {
         let SecondLook { rt, case } = self;
-        let mut getters = getters;
-        let Some(two) = getters.pop() else {
-            unreachable!()
-        };
-        let Some(one) = getters.pop() else {
-            unreachable!()
-        };
-        getters.destroy_empty();
+        let (one, two) = both(getters);
         let (one, _view) = fill.get(rt, one, b"a");
         one.end(rt, fill);
-        let mut leader = two.into_caller(rt, fill)?;
-        if !fill.group().has(1) {
-            return None;
-        }
-        if case.forgets {
-            let _ = forget_wait(rt, fill.group(), &mut leader, 1);
-        }
-        found_by(rt, fill, leader, case.key.as_bytes())
+        found_after(rt, fill, two.into_caller(rt, fill)?, case)
     }
+}
+
+// The call that the second look of a leader of place 1 finds, after a Forget or without one.
+fn found_after<'d, D: Naming, N: Naming, O: Origin, R: Wait>(
+    rt: &R,
+    fill: &Fill<'d, D, N, O>,
+    mut leader: Caller<FillValue<'d, D, O>>,
+    case: Case,
+) -> Option<CallId>
+    requires leader { leader.group ≡ N.group }
+{
+    if !fill.group().has(1) {
+        return None;
+    }
+    if case.forgets {
+        let _ = forget_wait(rt, fill.group(), &mut leader, 1);
+    }
+    found_by(rt, fill, leader, case.key.as_bytes())
+}
+
+/// The two getters of a fill.
+pub(crate) fn both<'d, D: Naming, N: Naming, O: Origin, L: Drop>(
+    getters: Vec<Getter<'d, D, N, O, L>>,
+) -> (Getter<'d, D, N, O, L>, Getter<'d, D, N, O, L>)
+    requires { vec_len getters ≡ 2 }
+{
+    let mut getters = getters;
+    let Some(two) = getters.pop() else {
+        unreachable!()
+    };
+    let Some(one) = getters.pop() else {
+        unreachable!()
+    };
+    getters.destroy_empty();
+    (one, two)
 }
 
 /// Loaders that answer `v`, with no peer.

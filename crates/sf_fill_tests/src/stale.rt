@@ -3,10 +3,11 @@
 ghost use Rattle.std.specs.Prelude.{◌≡◌, All, vec_len};
 ghost use Rattle.sf_door.specs.Opened.{IsNewGetter};
 
+use crate::leaders::both;
 use bytes::{ByteStr, Bytes};
 use sf_door::{Body, FillSizes, Keys, Places, with_fill};
-use sf_fill::{Fill, Getter, Naming, Which};
-use sf_group::Memory;
+use sf_fill::{Fill, FillValue, Getter, Naming, Which};
+use sf_group::{Caller, Memory};
 use sf_loaders::scripted::{Answer, FixedPicker, RoundChance, Script};
 use sf_loaders::{LoadPath, Loaders, Origin};
 use sf_wait::forget_wait;
@@ -43,24 +44,28 @@ impl<'a, R: Wait> Body for Stale<'a, R> {
         requires new { All (IsNewGetter N.group 0) getters.items }
     {
         let rt = self.rt;
-        let mut getters = getters;
-        let Some(two) = getters.pop() else {
-            unreachable!()
-        };
-        let Some(one) = getters.pop() else {
-            unreachable!()
-        };
-        getters.destroy_empty();
+        let (one, two) = both(getters);
         let (one, _view) = fill.get(rt, one, b"a");
         let kept = fill.cache_stats(rt, Which::Main).items;
-        if let Some(mut caller) = two.into_caller(rt, fill) {
-            if fill.group().has(1) {
-                let _ = forget_wait(rt, fill.group(), &mut caller, 1);
-            }
+        if let Some(caller) = two.into_caller(rt, fill) {
+            forget_place(rt, fill, caller);
         }
         let (one, _fault) = fill.get(rt, one, b"a");
         one.end(rt, fill);
         [kept, fill.cache_stats(rt, Which::Main).items]
+    }
+}
+
+// The caller forgets place 1, behind the fill's back.
+fn forget_place<'d, D: Naming, N: Naming, O: Origin, R: Wait>(
+    rt: &R,
+    fill: &Fill<'d, D, N, O>,
+    mut caller: Caller<FillValue<'d, D, O>>,
+)
+    requires own { caller.group ≡ N.group }
+{
+    if fill.group().has(1) {
+        let _ = forget_wait(rt, fill.group(), &mut caller, 1);
     }
 }
 

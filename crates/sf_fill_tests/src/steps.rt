@@ -338,6 +338,87 @@ fn change<'d, D: Naming, N: Naming, O: Origin, L>(
     getter
 }
 
+// Gets the key, and says what is answered.
+fn get<'d, D: Naming, N: Naming, O: Origin, L: LoadPath<Origin = O>>(
+    rt: &impl Wait,
+    fill: &Fill<'d, D, N, O>,
+    getter: Getter<'d, D, N, O, L>,
+    key: &str,
+    said: &mut String,
+) -> Getter<'d, D, N, O, L> {
+    let (getter, answer) = fill.get(rt, getter, key.as_bytes());
+    say_view(said, key, &answer);
+    getter
+}
+
+// Gets the key so often, and says nothing.
+fn repeat<'d, D: Naming, N: Naming, O: Origin, L: LoadPath<Origin = O>>(
+    rt: &impl Wait,
+    fill: &Fill<'d, D, N, O>,
+    getter: Getter<'d, D, N, O, L>,
+    key: &str,
+    gets: u32,
+) -> Getter<'d, D, N, O, L> {
+    let mut getter = getter;
+    for _ in 0..gets {
+        let (back, _answer) = fill.get(rt, getter, key.as_bytes());
+        getter = back;
+    }
+    getter
+}
+
+// Takes the key out of the caches, and says whether it has a place.
+fn remove<'d, D: Naming, N: Naming, O: Origin, L>(
+    rt: &impl Wait,
+    fill: &Fill<'d, D, N, O>,
+    getter: &mut Getter<'d, D, N, O, L>,
+    key: &str,
+    said: &mut String,
+) {
+    let removed = fill.remove(rt, getter, key.as_bytes()).is_ok();
+    let _ = write!(said, "remove {key} {removed}\n");
+}
+
+// The getter once its step is made, and says what comes of it.
+fn make<'d, D: Naming, N: Naming, O: Origin, L: LoadPath<Origin = O>>(
+    rt: &impl Wait,
+    fill: &Fill<'d, D, N, O>,
+    mut getter: Getter<'d, D, N, O, L>,
+    step: Step,
+    flags: &Flags,
+    said: &mut String,
+) -> Getter<'d, D, N, O, L>
+    requires { IsOpenOrigin O.loaded }
+{
+    match step {
+        Step::Get(key) => return get(rt, fill, getter, key, said),
+        Step::GetPresent(key) => {
+            let answer = fill.get_if_present(rt, &mut getter, key.as_bytes());
+            say_present(said, key, answer);
+        }
+        Step::BytesPresent(key) => {
+            let answer = fill.get_bytes_if_present(rt, &mut getter, key.as_bytes());
+            say_bytes(said, key, answer);
+        }
+        Step::GetKey(key) => return get_key(rt, fill, getter, key, said),
+        Step::Reload(key) => return reload(rt, fill, getter, key, said),
+        Step::Put(key, value) => return put(rt, fill, getter, key, value, said),
+        Step::Remove(key) => remove(rt, fill, &mut getter, key, said),
+        Step::ForgetAll => return forget_all(rt, fill, getter, said),
+        Step::Repeat(key, gets) => return repeat(rt, fill, getter, key, gets),
+        Step::Stats => say_stats(rt, said, fill),
+        Step::SettleUp => return settle_up(fill, getter, said),
+        Step::TakeLog => say_events(said, getter.take_log().as_slice()),
+        Step::AwaitLoad => flags.wait_for(&flags.loading),
+        Step::TellAnswered => flags.answered.store(true, Ordering::SeqCst),
+        Step::TellGot => flags.got.store(true, Ordering::SeqCst),
+        Step::AwaitGot => flags.wait_for(&flags.got),
+        Step::Read(gets) => return read(rt, fill, getter, flags, gets, said),
+        Step::Change(versions) => return change(rt, fill, getter, flags, versions),
+    }
+    getter
+}
+
 /// The getter when its steps are made, and what it says of them.
 pub fn run<'d, D: Naming, N: Naming, O: Origin, L: LoadPath<Origin = O>>(
     rt: &impl Wait,
@@ -352,44 +433,7 @@ pub fn run<'d, D: Naming, N: Naming, O: Origin, L: LoadPath<Origin = O>>(
     let mut getter = getter;
     let mut said = String::new(alloc);
     for step in steps {
-        match *step {
-            Step::Get(key) => {
-                let (back, answer) = fill.get(rt, getter, key.as_bytes());
-                say_view(&mut said, key, &answer);
-                getter = back;
-            }
-            Step::GetPresent(key) => {
-                let answer = fill.get_if_present(rt, &mut getter, key.as_bytes());
-                say_present(&mut said, key, answer);
-            }
-            Step::BytesPresent(key) => {
-                let answer = fill.get_bytes_if_present(rt, &mut getter, key.as_bytes());
-                say_bytes(&mut said, key, answer);
-            }
-            Step::GetKey(key) => getter = get_key(rt, fill, getter, key, &mut said),
-            Step::Reload(key) => getter = reload(rt, fill, getter, key, &mut said),
-            Step::Put(key, value) => getter = put(rt, fill, getter, key, value, &mut said),
-            Step::Remove(key) => {
-                let removed = fill.remove(rt, &mut getter, key.as_bytes()).is_ok();
-                let _ = write!(&mut said, "remove {key} {removed}\n");
-            }
-            Step::ForgetAll => getter = forget_all(rt, fill, getter, &mut said),
-            Step::Repeat(key, gets) => {
-                for _ in 0..gets {
-                    let (back, _answer) = fill.get(rt, getter, key.as_bytes());
-                    getter = back;
-                }
-            }
-            Step::Stats => say_stats(rt, &mut said, fill),
-            Step::SettleUp => getter = settle_up(fill, getter, &mut said),
-            Step::TakeLog => say_events(&mut said, getter.take_log().as_slice()),
-            Step::AwaitLoad => flags.wait_for(&flags.loading),
-            Step::TellAnswered => flags.answered.store(true, Ordering::SeqCst),
-            Step::TellGot => flags.got.store(true, Ordering::SeqCst),
-            Step::AwaitGot => flags.wait_for(&flags.got),
-            Step::Read(gets) => getter = read(rt, fill, getter, flags, gets, &mut said),
-            Step::Change(versions) => getter = change(rt, fill, getter, flags, versions),
-        }
+        getter = make(rt, fill, getter, *step, flags, &mut said);
     }
     (getter, said)
 }
