@@ -9,11 +9,11 @@ returns-in-Ok-clause-begun g c = begun_after c.args.caller c.loop.asking c.args.
 
 pub returns-in-Err-Spent-clause-spent : goal.returns-in-Err-Spent-clause-spent
 returns-in-Err-Spent-clause-spent g c =
-    let refused = subst (λ r. HasNotBegun c.loop.asking c.args.place 1 r) c.in-Err-Spent.field-0-is c.in-Err-Spent.ensures.refused in
+    let refused = subst (λ r. HasNotBegun c.loop.asking c.args.place _ r) c.in-Err-Spent.field-0-is c.in-Err-Spent.ensures.refused in
     spent_before c.args.caller c.loop.asking c.in-Err-Spent.back c.loop.invariant.2 c.loop.invariant.3 refused
 
 pub loop-preserved : goal.loop-preserved
 loop-preserved g c =
-    let refused = subst (λ r. HasNotBegun c.loop.asking c.args.place 1 r) c.in-Err-Busy.field-0-is c.in-Err-Busy.ensures.refused in
+    let refused = subst (λ r. HasNotBegun c.loop.asking c.args.place _ r) c.in-Err-Busy.field-0-is c.in-Err-Busy.ensures.refused in
     let still = busy_before c.args.caller c.loop.asking c.in-Err-Busy.back c.loop.invariant.2 refused.0.unspent refused.0.nothing in
     (tt, tt, still.0, still.1)
