@@ -13,7 +13,7 @@ use sf_group::{
 use std::sync::Wait;
 
 // How often a form tries before it begins again: more than once, since to begin again takes a tenth of a do by four threads on one
-// key, and so few times that its tests meet it.
+// key.
 const TRIES: u32 = 4;
 
 /// The caller asks for the place: it leads a new call where the place has no open one, and else joins that. Refused is a
