@@ -104,8 +104,18 @@ fn near_letter_answers_what_was_dropped(rt: HostRuntime) -> Result<(), Fail> {
 #[test]
 fn near_letter_goes_the_long_way(rt: HostRuntime) -> Result<(), Fail> {
     const STEPS: [Step; 4] = [Get("a"), Get("a"), Get("b"), Repeat("a", 64)];
-    let counted = are_counted(&rt, rt.alloc(), 8, &STEPS, [67, 64, 3])?;
-    assert!(rt; counted, "the book");
+    let setting = Setting {
+        steps: [&STEPS, &[], &[]],
+        limit: 2,
+        near: 8,
+        ..SETTING
+    };
+    let outcome = try_out(&rt, rt.alloc(), setting)?;
+    let book = outcome.book;
+    assert!(rt;
+        book.gets == 67 && book.cache_hits == 64 && book.local_loads == 3,
+        "the book"
+    );
     Ok(())
 }
 

@@ -8,7 +8,8 @@ use sf_group::{
     Begun, CallId, Caller, ChanBegun, Finished, Fit, Flight, Forgotten, Group, Letter, NotBegun,
     Polled, Settled, Share, Ticket,
 };
-use sf_history::{Asked, ChanAsked, Memory, ModelRefusal, SeqGroup, Taken};
+use sf_history::Memory;
+use sf_sequential::{Asked, ChanAsked, ModelRefusal, SeqGroup, Taken};
 use std::alloc::{AllocError, Global};
 use std::cell::Cell;
 use std::process::Abort;

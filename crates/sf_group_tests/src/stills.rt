@@ -73,58 +73,19 @@ fn ask_of_the_open_call(
     ensures leader { flight.new.group ≡ group.now }
     ensures joiner { ticket.new.group ≡ group.now }
 {
-    leader_is_told(
-        rt,
-        group,
-        flight,
-        1,
-        id(1, 1),
-        true,
-        "its leader finds it outdated",
-    );
-    joiner_is_told(
-        rt,
-        group,
-        ticket,
-        id(1, 1),
-        true,
-        "who joined it finds it outdated",
-    );
-    leader_is_told(
-        rt,
-        group,
-        flight,
-        2,
-        id(1, 1),
-        false,
-        "it is current on another place",
-    );
-    leader_is_told(
-        rt,
-        group,
-        flight,
-        1,
-        id(1, 2),
-        false,
-        "its leader's next call is current",
-    );
-    joiner_is_told(
-        rt,
-        group,
-        ticket,
-        id(2, 1),
-        false,
-        "the number of a member is a call's",
-    );
+    let text = "its leader finds it outdated";
+    leader_is_told(rt, group, flight, 1, id(1, 1), true, text);
+    let text = "who joined it finds it outdated";
+    joiner_is_told(rt, group, ticket, id(1, 1), true, text);
+    let text = "it is current on another place";
+    leader_is_told(rt, group, flight, 2, id(1, 1), false, text);
+    let text = "its leader's next call is current";
+    leader_is_told(rt, group, flight, 1, id(1, 2), false, text);
+    let text = "the number of a member is a call's";
+    joiner_is_told(rt, group, ticket, id(2, 1), false, text);
     joiner_is_told(rt, group, ticket, id(0, 1), false, "caller 0 leads a call");
-    joiner_is_told(
-        rt,
-        group,
-        ticket,
-        id(4, 1),
-        false,
-        "a caller that is not of the group leads a call",
-    );
+    let text = "a caller that is not of the group leads a call";
+    joiner_is_told(rt, group, ticket, id(4, 1), false, text);
 }
 
 // Call 1.1 of place 1 is settled, and the caller 3 forgets it; then the caller 2 leads anew.
@@ -140,40 +101,16 @@ fn ask_of_the_forgotten_call(
     requires three { three.group ≡ group.now }
     requires place { IsPlaceOf group.now 1 }
 {
-    is_told(
-        rt,
-        group,
-        &mut two,
-        id(1, 1),
-        true,
-        "the settled call is outdated",
-    );
+    let text = "the settled call is outdated";
+    is_told(rt, group, &mut two, id(1, 1), true, text);
     forget(rt, group, &mut three, 1, None);
-    is_told(
-        rt,
-        group,
-        &mut one,
-        id(1, 1),
-        false,
-        "a forgotten call is current",
-    );
+    let text = "a forgotten call is current";
+    is_told(rt, group, &mut one, id(1, 1), false, text);
     let flight = lead(rt, group, two, 1, id(2, 2));
-    is_told(
-        rt,
-        group,
-        &mut one,
-        id(2, 2),
-        true,
-        "the newer call is not current",
-    );
-    is_told(
-        rt,
-        group,
-        &mut one,
-        id(1, 1),
-        false,
-        "an older call is current",
-    );
+    let text = "the newer call is not current";
+    is_told(rt, group, &mut one, id(2, 2), true, text);
+    let text = "an older call is current";
+    is_told(rt, group, &mut one, id(1, 1), false, text);
     flight.abandon();
 }
 

@@ -3,6 +3,3 @@ mod LastLeads
 pub mod Currents
 pub mod Settling
 pub mod Members
-pub mod Kept
-pub mod Joiners
-pub mod KeptByCalls

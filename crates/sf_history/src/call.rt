@@ -14,13 +14,6 @@ pub struct CallId {
     pub generation: u32,
 }
 
-/// What a caller waits for: the call, and the member that the caller is of it.
-#[derive(Clone, Copy)]
-pub struct Ticket {
-    pub call: CallId,
-    pub member: CallId,
-}
-
 impl fmt::Display for CallId {
     ghost use Rattle.std.specs.Prelude.{Some};
     ghost use Rattle.sf_history.specs.Calls.{call_text};

@@ -10,6 +10,15 @@ use std::alloc::{AllocFailed, Global};
 use std::fmt;
 use std::marker::Model;
 
+/// What a Forget came to.
+#[derive(Clone, Copy, PartialEq, Eq)]
+pub enum Forgotten {
+    /// It closed this open call.
+    Closed(CallId),
+    /// The key had no open call.
+    Idle,
+}
+
 /// What a Forget of one call found.
 #[derive(Clone, Copy, PartialEq, Eq)]
 pub enum Hit {
@@ -163,13 +172,7 @@ impl<K, V> History<K, V> {
     }
 
     /// Adds the Settle of a call and its Handed, both or neither. Where memory for them is refused, the value comes back.
-    pub(crate) fn push_settled(
-        &mut self,
-        by: u32,
-        call: CallId,
-        value: V,
-        joiners: u32,
-    ) -> Result<(), V>
+    pub fn push_settled(&mut self, by: u32, call: CallId, value: V, joiners: u32) -> Result<(), V>
         ensures ok { OnOk result
             (self.new ≡ self.old ++ Settle by call value joiners ∷ Handed by call ∷ []) }
         ensures refused { IfErr result (λ back. back ≡ value) }
@@ -191,7 +194,7 @@ impl<K, V> History<K, V> {
     }
 
     /// Another value equal to the one that the call was settled with, if it is settled.
-    pub(crate) fn share_result(&mut self, settled: CallId) -> Result<Option<V>, Memory>
+    pub fn share_result(&mut self, settled: CallId) -> Result<Option<V>, Memory>
     where
         V: Share,
         ensures shared { IfOk result (λ found. found ≡ result_of self.old settled) }

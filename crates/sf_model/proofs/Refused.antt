@@ -1,8 +1,8 @@
 -- refusals, passed on
 use Rattle.std.proofs.Common.{◌≡◌, ◌≢◌, ℕ, List, ◌++◌, Result, Ok, Err, sym, ◌∙◌, ap}
-use Rattle.sf_history.specs.declared.refusal.ModelRefusal.{ModelRefusal}
-use Rattle.sf_history.specs.declared.refusal.ModelRefusal.TheVariants.{Memory}
-use Rattle.sf_history.specs.Sequential.{IsRefusal, replied}
+use Rattle.sf_sequential.specs.declared.refusal.ModelRefusal.{ModelRefusal}
+use Rattle.sf_sequential.specs.declared.refusal.ModelRefusal.TheVariants.{Memory}
+use Rattle.sf_sequential.specs.Sequential.{IsRefusal, replied}
 use Rattle.sf_model.specs.ScriptText.{Script, after_line}
 
 -- a call's refusal is its command's

@@ -1,10 +1,10 @@
 pub use Rattle.sf_history.specs.Calls
-pub use Rattle.sf_history.specs.CauseText
+pub use Rattle.sf_sequential.specs.CauseText
 pub use Rattle.sf_history.specs.History
 pub use Rattle.sf_history.specs.Legal
 pub use Rattle.sf_history.specs.LastLead
-pub use Rattle.sf_history.specs.State
-pub use Rattle.sf_history.specs.Sequential
+pub use Rattle.sf_sequential.specs.State
+pub use Rattle.sf_sequential.specs.Sequential
 pub use Rattle.sf_text.specs.Texts
 pub use Rattle.sf_text.specs.Words
 pub mod RefusalText

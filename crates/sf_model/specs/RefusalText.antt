@@ -1,6 +1,6 @@
 -- the one line that a refused script prints
 use Rattle.std.specs.Prelude.{ℕ, List, ◌++◌, codes, decimal}
-use Rattle.sf_history.specs.CauseText.{cause_text}
+use Rattle.sf_sequential.specs.CauseText.{cause_text}
 use Rattle.sf_model.specs.declared.refusal.ScriptRefusal.{ScriptRefusal}
 use Rattle.sf_model.specs.declared.refusal.ScriptRefusal.TheVariants.{BadLine, Refused, OutOfMemory}
 

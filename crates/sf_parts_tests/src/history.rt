@@ -2,12 +2,10 @@
 
 ghost use Rattle.std.specs.Prelude.{◌≡◌};
 ghost use Rattle.sf_history.specs.Limits.{IsCallWithin};
-ghost use Rattle.sf_history.specs.State.{IsCaller};
+ghost use Rattle.sf_sequential.specs.State.{IsCaller};
 
-use sf_history::{
-    Asked, CallId, ChanAsked, Event, Forgotten, History, Hit, ModelRefusal, SeqGroup, Share, Taken,
-    laws, walk,
-};
+use sf_history::{CallId, Event, Forgotten, History, Hit, Share, laws};
+use sf_sequential::{Asked, ChanAsked, ModelRefusal, SeqGroup, Taken, walk};
 use sf_text::{Outcome, Text};
 use std::alloc::Global;
 use std::process::Abort;

@@ -1,7 +1,8 @@
 //! Commands obeyed in turn, and whole inputs and answers.
 
-use sf_history::{CallId, Command, SeqGroup};
+use sf_history::CallId;
 use sf_model::obey_all;
+use sf_sequential::{Command, SeqGroup};
 use sf_text::{Outcome, Text, read_all, write_all};
 use std::test::Fail;
 

@@ -1,7 +1,7 @@
 -- a refused asking is a refused command, and the line of an asking with a channel comes last
 use Rattle.std.proofs.Common.{rules, ◌≡◌, ℕ, List, Err, subst}
 use Rattle.sf_text.specs.Texts.{same_text}
-use Rattle.sf_history.specs.Sequential.{IsRefusal, ask_of, ask_chan_of}
+use Rattle.sf_sequential.specs.Sequential.{IsRefusal, ask_of, ask_chan_of}
 use Rattle.sf_model.specs.ScriptText.{line_of, asked_text, chan_asked_text}
 use Rattle.sf_model.proofs.Refused.{refused_line, obeyed_line}
 use Rattle.sf_model.proofs.script.obey.Goals as goal

@@ -1,5 +1,5 @@
 use Rattle.std.proofs.Common.{◌≡◌, ◌≤◌, ◌+◌, ◌∙◌, [], ◌∷◌, None, Some, sym, ap, subst}
-use Rattle.sf_history.specs.declared.command.Forgotten.TheVariants as forgotten
+use Rattle.sf_history.specs.declared.event.Forgotten.TheVariants as forgotten
 use Rattle.sf_history.specs.declared.event.Event.TheVariants as event
 use Rattle.sf_schedules.specs.declared.operation.Stage.TheVariants as stage
 use Rattle.sf_calls.specs.declared.sizes.Sizes.{Sizes}

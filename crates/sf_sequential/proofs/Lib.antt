@@ -1,0 +1,4 @@
+mod Standing
+mod Kept
+mod Joiners
+mod KeptByCalls

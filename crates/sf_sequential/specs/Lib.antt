@@ -1,0 +1,3 @@
+pub mod CauseText
+pub mod State
+pub mod Sequential
