@@ -6,12 +6,12 @@ use Rattle.sf_model.specs.declared.refusal.ScriptRefusal.TheVariants as script
 use Rattle.sf_model.specs.declared.refusal.ScriptRefusal.{ScriptRefusal}
 use Rattle.sf_model.specs.RefusalText as script_text
 use Rattle.sf_model.specs.ScriptText.{IsAnswerText, IsDue}
-use Rattle.sf_steps.specs.declared.texts.refusal.ScheduleRefusal.{ScheduleRefusal}
-use Rattle.sf_steps.specs.Played.{IsRefusalOf}
-use Rattle.sf_steps.specs.TraceText as trace_text
+use Rattle.sf_plays.specs.declared.refusal.ScheduleRefusal.{ScheduleRefusal}
+use Rattle.sf_plays.specs.Played.{IsRefusalOf}
+use Rattle.sf_plays.specs.TraceText as trace_text
 use Rattle.std.specs.Io.KnownBytes.{Appends}
 use Rattle.std.specs.Str.Lines.{lines}
-use Rattle.sf_steps.specs.declared.texts.refusal.ScheduleRefusal.TheVariants as schedule
+use Rattle.sf_plays.specs.declared.refusal.ScheduleRefusal.TheVariants as schedule
 use Rattle.sf_engines.specs.declared.checking.Checked.TheVariants as checked
 use Rattle.sf_engines.specs.declared.ending.Ending.{Ending}
 use Rattle.sf_engines.specs.declared.ending.Ending.TheVariants.{Answered, Refused}

@@ -2,9 +2,9 @@
 use Rattle.std.proofs.Common.{◌≡◌, List, [], ◌∷◌, ◌++◌, refl, ap}
 use Rattle.std.specs.List.{flat_map}
 use Rattle.sf_history.specs.declared.event.Event.{Event}
-use Rattle.sf_steps.specs.declared.machine.trace.Step.{Step}
-use Rattle.sf_steps.specs.Played.{events_in}
-use Rattle.sf_steps.specs.TraceText.{Outcome}
+use Rattle.sf_steps.specs.declared.trace.Step.{Step}
+use Rattle.sf_plays.specs.Played.{events_in}
+use Rattle.sf_plays.specs.TraceText.{Outcome}
 
 pub flat_events : (steps : List (Step Outcome)) → flat_map (λ s. s.events.items) steps ≡ events_in steps
 flat_events [] = refl

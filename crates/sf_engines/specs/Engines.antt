@@ -4,9 +4,9 @@ use Rattle.std.specs.Str.Lines.{lines}
 use Rattle.sf_model.specs.declared.refusal.ScriptRefusal.{ScriptRefusal}
 use Rattle.sf_model.specs.RefusalText.{refusal_text}
 use Rattle.sf_model.specs.ScriptText.{IsReplyText, IsDue}
-use Rattle.sf_steps.specs.declared.texts.refusal.ScheduleRefusal.{ScheduleRefusal}
-use Rattle.sf_steps.specs.Played.{IsRefusalOf}
-use Rattle.sf_steps.specs.TraceText as trace_texts
+use Rattle.sf_plays.specs.declared.refusal.ScheduleRefusal.{ScheduleRefusal}
+use Rattle.sf_plays.specs.Played.{IsRefusalOf}
+use Rattle.sf_plays.specs.TraceText as trace_texts
 use Rattle.sf_engines.specs.declared.checking.Checked.{Checked}
 use Rattle.sf_engines.specs.Checking.{IsCheckOf, checked_text, ending_of}
 use Rattle.sf_engines.specs.Playing.{IsTraceText, HasPicture}

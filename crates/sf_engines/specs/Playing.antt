@@ -1,9 +1,9 @@
 -- what `sfctl steps` answers
 use Rattle.std.specs.Prelude.{◌≡◌, ℕ, List}
 use Rattle.std.specs.Str.Lines.{lines}
-use Rattle.sf_steps.specs.declared.machine.trace.Step.{Step}
-use Rattle.sf_steps.specs.Played.{IsTraceOf}
-use Rattle.sf_steps.specs.TraceText.{Outcome, trace_text}
+use Rattle.sf_steps.specs.declared.trace.Step.{Step}
+use Rattle.sf_plays.specs.Played.{IsTraceOf}
+use Rattle.sf_plays.specs.TraceText.{Outcome, trace_text}
 
 -- the text that the steps of a schedule print
 abbrev pub IsTraceText : List ℕ → List ℕ → Type 0

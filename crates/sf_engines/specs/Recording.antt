@@ -6,9 +6,9 @@ use Rattle.sf_text.specs.Texts.{same_text}
 use Rattle.sf_model.specs.ScriptText.{Script, IsRunOf}
 use Rattle.sf_replay.specs.TextKeys.{with_text_keys}
 use Rattle.sf_replay.specs.Written.{history_text}
-use Rattle.sf_steps.specs.declared.machine.trace.Step.{Step}
-use Rattle.sf_steps.specs.Played.{IsTraceOf, events_in}
-use Rattle.sf_steps.specs.TraceText.{Outcome}
+use Rattle.sf_steps.specs.declared.trace.Step.{Step}
+use Rattle.sf_plays.specs.Played.{IsTraceOf, events_in}
+use Rattle.sf_plays.specs.TraceText.{Outcome}
 
 -- the records of the history of the group that a script leaves, which is legal
 abbrev pub IsScriptRecords : List ℕ → List ℕ → Type 0

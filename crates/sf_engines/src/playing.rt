@@ -2,11 +2,11 @@
 
 ghost use Rattle.std.specs.Prelude.{IfOk, IfErr, string_bytes};
 ghost use Rattle.std.specs.Str.Lines.{lines};
-ghost use Rattle.sf_steps.specs.Played.{IsRefusalOf};
+ghost use Rattle.sf_plays.specs.Played.{IsRefusalOf};
 ghost use Rattle.sf_engines.specs.Playing.{IsTraceText, HasPicture};
 
 use sf_pictures::draw;
-use sf_steps::{ScheduleRefusal, play, trace_text};
+use sf_plays::{ScheduleRefusal, play, trace_text};
 use std::alloc::Global;
 
 /// What the steps of a schedule print.

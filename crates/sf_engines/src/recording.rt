@@ -4,13 +4,14 @@ ghost use Rattle.std.specs.Prelude.{◌≡◌, IfOk, IfErr, string_bytes};
 ghost use Rattle.std.specs.List.{flat_map};
 ghost use Rattle.std.specs.Str.Lines.{lines};
 ghost use Rattle.sf_model.specs.ScriptText.{IsDue};
-ghost use Rattle.sf_steps.specs.Played.{IsRefusalOf};
+ghost use Rattle.sf_plays.specs.Played.{IsRefusalOf};
 ghost use Rattle.sf_engines.specs.Recording.{IsScriptRecords, IsScheduleRecords};
 
 use sf_history::{Event, Memory};
 use sf_model::{ScriptRefusal, obey_script};
+use sf_plays::{ScheduleRefusal, play};
 use sf_replay::{with_text_keys, write};
-use sf_steps::{ScheduleRefusal, Step, play};
+use sf_steps::Step;
 use sf_text::Outcome;
 use sf_words::PlaceNo;
 use std::alloc::Global;

@@ -2,7 +2,7 @@
 
 use crate::hints::{Hint, index};
 use sf_history::Memory;
-use sf_steps::{ScheduleRefusal, play};
+use sf_plays::{ScheduleRefusal, play};
 use sf_text::{call, is_token, lines, number, words};
 use std::alloc::{AllocError, Global};
 

@@ -1,7 +1,8 @@
 //! The world step by step, and a schedule that is played.
 
 use sf_history::CallId;
-use sf_steps::{Op, ScheduleRefusal, Step, World, laws, play, step_text, trace_text};
+use sf_plays::{ScheduleRefusal, play, step_text, trace_text};
+use sf_steps::{Op, Step, World, laws};
 use sf_text::{Outcome, Text};
 use std::alloc::Global;
 use std::process::Abort;

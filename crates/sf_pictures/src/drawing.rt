@@ -4,7 +4,8 @@ use crate::arrows::{Arrow, arrows, exchange};
 use crate::layout::{Layout, middle};
 use crate::marks::{Kind, path, step_box, text};
 use sf_history::Memory;
-use sf_steps::{Act, Step, Trace, step_text};
+use sf_plays::{Trace, step_text};
+use sf_steps::{Act, Step};
 use sf_text::Outcome;
 use std::alloc::Global;
 

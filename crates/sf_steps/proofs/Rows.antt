@@ -12,7 +12,7 @@ use Rattle.sf_schedules.specs.declared.operation.Stage.{Stage}
 use Rattle.sf_schedules.specs.declared.operation.Stage.TheVariants.{Free}
 use Rattle.sf_schedules.specs.Stages.{is_asking, second_in, first_in}
 use Rattle.sf_steps.specs.Rows.{first_row, row_at, IsLawful, ArePaired}
-use Rattle.sf_steps.specs.declared.machine.caller_row.CallerRow.{CallerRow}
+use Rattle.sf_steps.specs.declared.caller_row.CallerRow.{CallerRow}
 use Rattle.sf_schedules.specs.World.{World, is_open_with, with_call, with_next, with_cell, with_stage, with_used}
 use Rattle.sf_lists.specs.Functions.{put}
 use Rattle.sf_steps.specs.Running.{of_rows}

@@ -11,8 +11,8 @@ use Rattle.sf_schedules.specs.declared.operation.ForgetStep.{ForgetStep}
 use Rattle.sf_schedules.specs.declared.operation.ForgetStep.TheVariants as forget
 use Rattle.sf_schedules.specs.declared.operation.CurrentStep.{CurrentStep}
 use Rattle.sf_schedules.specs.declared.operation.CurrentStep.TheVariants as current
-use Rattle.sf_steps.specs.declared.machine.trace.Act.{Act}
-use Rattle.sf_steps.specs.declared.machine.trace.Act.TheVariants.{Look, Peek, Ready, Lead, Link, Enter, Close, Clear, Follow, Deliver, Collect}
+use Rattle.sf_steps.specs.declared.trace.Act.{Act}
+use Rattle.sf_steps.specs.declared.trace.Act.TheVariants.{Look, Peek, Ready, Lead, Link, Enter, Close, Clear, Follow, Deliver, Collect}
 use Rattle.sf_schedules.specs.World.{World, next_id, key_of, same_key, is_open_with, is_full}
 use Rattle.sf_schedules.specs.Askings.{joiner}
 

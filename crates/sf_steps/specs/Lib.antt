@@ -10,9 +10,5 @@ pub use Rattle.sf_schedules.specs.Laws
 pub use Rattle.sf_schedules.specs.Stages
 pub mod Settling
 pub mod Acts
-pub mod TraceText
-pub mod ScheduleText
-pub mod Played
-pub mod PlayerState
 pub mod Rows
 pub mod Running

@@ -4,7 +4,7 @@ use Rattle.sf_words.specs.declared.call_word.CallState.TheVariants as word
 use Rattle.sf_schedules.specs.declared.operation.Stage.{Stage}
 use Rattle.sf_schedules.specs.declared.operation.Stage.TheVariants as stage
 use Rattle.sf_schedules.specs.Stages.{field_of, top_in, place_in, is_asking, second_in, first_in, AreWithin}
-use Rattle.sf_steps.specs.declared.machine.caller_row.CallerRow.{CallerRow}
+use Rattle.sf_steps.specs.declared.caller_row.CallerRow.{CallerRow}
 use Rattle.sf_words.specs.declared.limits.TheConstants.{LARGEST_GENERATION}
 
 module _ {V : Type 0} where

@@ -2,10 +2,10 @@
 use Rattle.std.specs.Prelude.{◌≡◌, ℕ, List, slice_index_or}
 use Rattle.sf_words.specs.declared.key_word.KeyState.{KeyState}
 use Rattle.sf_words.specs.declared.key_word.KeyState.TheVariants.{Never}
-use Rattle.sf_steps.specs.declared.machine.world.World.{World as Running}
+use Rattle.sf_steps.specs.declared.world.World.{World as Running}
 use Rattle.sf_schedules.specs.World.{World}
 use Rattle.sf_schedules.specs.Schedules.{Setting}
-use Rattle.sf_steps.specs.declared.machine.caller_row.CallerRow.{CallerRow}
+use Rattle.sf_steps.specs.declared.caller_row.CallerRow.{CallerRow}
 use Rattle.sf_steps.specs.Rows.{row_at}
 
 -- so many callers, and words, cells, generations and stages, each at the number of its place or caller

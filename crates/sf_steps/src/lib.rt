@@ -1,14 +1,22 @@
 //! The step core: the machine of words and cells on which callers ask, settle, forget, poll and question by single
 //! atomic steps.
-//!
-//! `machine` holds the running world and its steps; `texts` reads schedules, plays them on it, and prints traces.
 #![tactic(auto)]
 
-mod machine;
-mod texts;
+mod allowed;
+mod asking;
+mod caller_row;
+mod delivering;
+mod events;
+mod forgetting;
+mod joining;
+mod questions;
+mod settling;
+mod stepping;
+mod trace;
+mod world;
 
-pub use machine::{Act, Step, World};
 pub use sf_schedules::{
     AskStep, CurrentStep, ForgetStep, Letter, Op, SettleStep, Stage, Turn, laws,
 };
-pub use texts::{ScheduleLine, ScheduleRefusal, Trace, play, step_text, trace_text};
+pub use trace::{Act, Step};
+pub use world::World;

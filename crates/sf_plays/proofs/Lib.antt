@@ -1,0 +1,4 @@
+pub mod Playing
+mod AfterTurns
+mod Lines
+mod Ascii

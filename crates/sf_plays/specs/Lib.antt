@@ -1,0 +1,4 @@
+pub mod TraceText
+pub mod ScheduleText
+pub mod Played
+pub mod PlayerState

@@ -1,6 +1,0 @@
-use Rattle.std.proofs.Common.{◌≡◌, ◌++◌, drop, string_bytes}
-use Rattle.sf_steps.specs.TraceText.{events_text}
-use Rattle.sf_steps.proofs.texts.printing.events.Given as goal
-
-abbrev pub invariant-loop-one : goal.invariant-loop-one
-invariant-loop-one l = string_bytes l.lines ++ events_text (drop l.one-index l.added) ≡ events_text l.added

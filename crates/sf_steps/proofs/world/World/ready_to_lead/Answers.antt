@@ -1,0 +1,8 @@
+use Rattle.std.proofs.Common.{ℕ, ◌∙◌, ap}
+use Rattle.sf_schedules.specs.declared.operation.Stage.{Stage}
+use Rattle.sf_schedules.specs.declared.operation.AskStep.TheVariants as ask
+use Rattle.sf_steps.proofs.world.World.ready_to_lead.Goals as goal
+
+pub asks_on-requires-clause-asks : goal.asks_on-requires-clause-asks
+asks_on-requires-clause-asks g c =
+    (ask.ReadyLead c.args.seen c.args.forgot, ap (λ (row : ℕ → Stage g.row.V.Denot). row c.args.caller) c.set_call.ensures.stages ∙ c.requires.asks)
