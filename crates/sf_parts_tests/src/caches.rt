@@ -1,10 +1,19 @@
 //! What the caches keep within their limit.
 
-ghost use Rattle.std.specs.Prelude.{◌≡◌};
+ghost use Rattle.std.specs.Prelude.{◌≡◌, ◌≤◌};
 
 use sf_caches::{Caches, Which};
 use std::alloc::{AllocError, Global};
 use std::process::Abort;
+
+// The item is put at a place of a cache, with a key of one byte and a value of so many.
+fn put(rt: &impl Abort, caches: &mut Caches<u8>, which: Which, place: u32, bytes: usize, item: u8)
+    requires { (1 ≤ place) × (place ≤ caches.old.places) }
+    ensures { caches.new.places ≡ caches.old.places }
+{
+    let put = caches.put(which, place, 1, bytes, item);
+    assert!(rt; put.is_ok(), "no memory");
+}
 
 fn assert_bytes(rt: &impl Abort, caches: &Caches<u8>, main: u128, hot: u128) {
     let (main_bytes, hot_bytes) = (
@@ -34,11 +43,11 @@ fn assert_looked_up(rt: &impl Abort, caches: &mut Caches<u8>, which: Which, plac
 #[test]
 fn caches_trim_hot_then_main(rt: HostRuntime) -> Result<(), AllocError> {
     let mut caches: Caches<u8> = Caches::new(rt.alloc(), 10, 3)?;
-    caches.put(Which::Main, 1, 1, 4, 0)?;
-    caches.put(Which::Main, 2, 1, 4, 0)?;
+    put(&rt, &mut caches, Which::Main, 1, 4, 0);
+    put(&rt, &mut caches, Which::Main, 2, 4, 0);
     assert_bytes(&rt, &caches, 10, 0);
     // Hot weighs 4: both weigh 14, more than 10, and 4 is more than an eighth of 10.
-    caches.put(Which::Hot, 3, 1, 3, 0)?;
+    put(&rt, &mut caches, Which::Hot, 3, 3, 0);
     assert_bytes(&rt, &caches, 10, 0);
     assert_looked_up(&rt, &mut caches, Which::Hot, 3, false);
     assert_looked_up(&rt, &mut caches, Which::Main, 1, true);
@@ -52,19 +61,25 @@ fn caches_trim_hot_then_main(rt: HostRuntime) -> Result<(), AllocError> {
 #[test]
 fn main_is_trimmed_where_hot_is_empty(rt: HostRuntime) -> Result<(), AllocError> {
     let mut caches: Caches<u8> = Caches::new(rt.alloc(), 4, 1)?;
-    caches.put(Which::Main, 1, 1, 4, 0)?;
+    put(&rt, &mut caches, Which::Main, 1, 4, 0);
     assert_bytes(&rt, &caches, 0, 0);
+    Ok(())
+}
+
+// An entry of no bytes is not kept within this limit.
+fn assert_not_kept(rt: &impl Abort, alloc: Global, limit: i64) -> Result<(), AllocError> {
+    let mut caches: Caches<u8> = Caches::new(alloc, limit, 1)?;
+    let put = caches.put(Which::Main, 1, 0, 0, 0);
+    let kept = caches.look(Which::Main, 1).is_some();
+    assert!(rt; put.is_ok() && !kept, "kept at {limit}");
     Ok(())
 }
 
 #[test]
 fn nothing_is_kept_without_a_limit(rt: HostRuntime) -> Result<(), AllocError> {
-    for limit in [0, -1, i64::MIN] {
-        let mut caches: Caches<u8> = Caches::new(rt.alloc(), limit, 1)?;
-        caches.put(Which::Main, 1, 0, 0, 0)?;
-        assert!(rt; caches.look(Which::Main, 1).is_none(), "kept at {limit}");
-    }
-    Ok(())
+    assert_not_kept(&rt, rt.alloc(), 0)?;
+    assert_not_kept(&rt, rt.alloc(), -1)?;
+    assert_not_kept(&rt, rt.alloc(), i64::MIN)
 }
 
 // Whether a peek finds the place.
@@ -89,14 +104,14 @@ fn assert_item(rt: &impl Abort, caches: &Caches<u8>, place: u32, due: u8) {
 // Of two entries the first is peeked at, and looked at or not; a third drops the older one.
 fn drop_the_oldest(rt: &impl Abort, alloc: Global, is_looked_at: bool) -> Result<(), AllocError> {
     let mut caches: Caches<u8> = Caches::new(alloc, 8, 3)?;
-    caches.put(Which::Main, 1, 1, 3, 7)?;
-    caches.put(Which::Main, 2, 1, 3, 8)?;
+    put(rt, &mut caches, Which::Main, 1, 3, 7);
+    put(rt, &mut caches, Which::Main, 2, 3, 8);
     assert_item(rt, &caches, 1, 7);
     assert_peeked(rt, &caches, Which::Hot, 1, false, "it is hot");
     if is_looked_at {
         assert_looked_up(rt, &mut caches, Which::Main, 1, true);
     }
-    caches.put(Which::Main, 3, 1, 3, 9)?;
+    put(rt, &mut caches, Which::Main, 3, 3, 9);
     let otherwise = "the first is kept otherwise";
     assert_peeked(rt, &caches, Which::Main, 1, is_looked_at, otherwise);
     let otherwise = "the second is kept otherwise";
@@ -111,18 +126,25 @@ fn peeked_entry_stays_the_oldest(rt: HostRuntime) -> Result<(), AllocError> {
     drop_the_oldest(&rt, rt.alloc(), true)
 }
 
+// Looks at place 1 of main, where this item is, and writes another over it.
+fn write_over(rt: &impl Abort, caches: &mut Caches<u8>, due: u8, other: u8)
+    ensures { caches.new.places ≡ caches.old.places }
+{
+    let Some(item) = caches.look(Which::Main, 1) else {
+        panic!(rt; "it is not there")
+    };
+    assert!(rt; *item == due, "another item");
+    *item = other;
+}
+
 #[test]
 fn replaced_entry_weighs_no_more(rt: HostRuntime) -> Result<(), AllocError> {
     let mut caches: Caches<u8> = Caches::new(rt.alloc(), 10, 2)?;
-    caches.put(Which::Main, 1, 1, 4, 7)?;
-    caches.put(Which::Main, 1, 1, 2, 8)?;
+    put(&rt, &mut caches, Which::Main, 1, 4, 7);
+    put(&rt, &mut caches, Which::Main, 1, 2, 8);
     assert_bytes(&rt, &caches, 3, 0);
-    if let Some(item) = caches.look(Which::Main, 1) {
-        assert!(rt; *item == 8);
-        *item = 9;
-    }
-    let written = caches.look(Which::Main, 1).map(|item| *item);
-    assert!(rt; written == Some(9));
+    write_over(&rt, &mut caches, 8, 9);
+    write_over(&rt, &mut caches, 9, 9);
     caches.remove(Which::Main, 1);
     assert_bytes(&rt, &caches, 0, 0);
     Ok(())

@@ -2,10 +2,9 @@
 
 ghost use Rattle.std.specs.Prelude.{◌≡◌};
 
-use sf_dir::{Desk, Directory, Place, Refusal};
+use sf_dir::{Desk, Directory, Memory, Place, Refusal};
 use std::alloc::Global;
 use std::process::Abort;
-use std::test::Fail;
 use std::thread::{Threads, join};
 
 fn assert_refused(rt: &impl Abort, directory: &Directory, desk: &mut Desk, key: &[u8], due: Refusal)
@@ -43,21 +42,30 @@ fn assert_same(rt: &impl Abort, mut place: Place<'_>, mut same: Place<'_>)
     assert!(rt; again.number() == same.number());
 }
 
-// Of one place: a key gets it, another does not, one too long is refused as such, and the first key keeps it.
-fn fill_one_place(rt: &impl Abort, alloc: Global, key: &[u8], other: &[u8]) -> Result<(), Fail> {
-    let (directory, mut desks) = Directory::new(alloc, 1, 250, 1, 0, 0)?;
-    let mut desk = desks.pop().ok_or("no desk")?;
-    assert!(rt; directory.place_count() == 1 && desk.number() == 1 && desks.is_empty());
-    let place = place_of(rt, &directory, &mut desk, key, "no place");
-    assert_refused(rt, &directory, &mut desk, other, Refusal::Full);
-    assert_refused(rt, &directory, &mut desk, &[7; 251], Refusal::KeyTooLong);
-    let same = place_of(rt, &directory, &mut desk, key, "place lost");
+// A key gets the only place, another does not, one too long is refused as such, and the first key keeps it.
+fn fill_up(rt: &impl Abort, directory: &Directory, mut desk: Desk, key: &[u8], other: &[u8])
+    requires { desk.directory ≡ directory.now }
+{
+    let place = place_of(rt, directory, &mut desk, key, "no place");
+    assert_refused(rt, directory, &mut desk, other, Refusal::Full);
+    assert_refused(rt, directory, &mut desk, &[7; 251], Refusal::KeyTooLong);
+    let same = place_of(rt, directory, &mut desk, key, "place lost");
     assert_same(rt, place, same);
+}
+
+// The directory of one place and one desk is filled up.
+fn fill_one_place(rt: &impl Abort, alloc: Global, key: &[u8], other: &[u8]) -> Result<(), Memory> {
+    let (directory, mut desks) = Directory::new(alloc, 1, 250, 1, 0, 0)?;
+    let Some(desk) = desks.pop() else {
+        panic!(rt; "no desk")
+    };
+    assert!(rt; directory.place_count() == 1 && desk.number() == 1 && desks.is_empty());
+    fill_up(rt, &directory, desk, key, other);
     Ok(())
 }
 
 #[test]
-fn key_lengths_and_a_full_directory(rt: HostRuntime) -> Result<(), Fail> {
+fn key_lengths_and_a_full_directory(rt: HostRuntime) -> Result<(), Memory> {
     let long = [7u8; 250];
     fill_one_place(&rt, rt.alloc(), b"", &long)?;
     fill_one_place(&rt, rt.alloc(), &long, b"")
@@ -138,10 +146,11 @@ fn check_rounds(rt: &impl Abort, directory: &Directory, forwards: Round, backwar
 }
 
 #[test]
-fn desks_agree(rt: HostRuntime) -> Result<(), Fail> {
+fn desks_agree(rt: HostRuntime) -> Result<(), Memory> {
     let (directory, mut desks) = Directory::new(rt.alloc(), 100, 100, 2, 7, 11)?;
-    let two = desks.pop().ok_or("no second desk")?;
-    let one = desks.pop().ok_or("no first desk")?;
+    let (Some(two), Some(one)) = (desks.pop(), desks.pop()) else {
+        panic!(rt; "no two desks")
+    };
     let (forwards, backwards) = resolve_on_two(&rt, &directory, one, two);
     check_rounds(&rt, &directory, forwards, backwards);
     Ok(())
