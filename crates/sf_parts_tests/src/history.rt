@@ -7,17 +7,19 @@ ghost use Rattle.sf_sequential.specs.State.{IsCaller};
 use sf_history::{CallId, Event, Forgotten, History, Hit, Share, laws};
 use sf_sequential::{Asked, ChanAsked, ModelRefusal, SeqGroup, Taken, walk};
 use sf_text::{Outcome, Text};
-use std::alloc::Global;
+use std::alloc::{AllocError, Global};
 use std::process::Abort;
-use std::test::Fail;
 
 /// A group of texts.
 type TextGroup = SeqGroup<Text, Outcome>;
 
 const LAST: u32 = 4_294_967_295;
 
-fn text(alloc: Global, text: &str) -> Result<Text, Fail> {
-    Ok(Text::copied(alloc, text)?)
+fn text(rt: &impl Abort, alloc: Global, text: &str) -> Text {
+    let Ok(text) = Text::copied(alloc, text) else {
+        panic!(rt; "no memory")
+    };
+    text
 }
 
 fn id(caller: u32, generation: u32) -> CallId {
@@ -32,13 +34,12 @@ fn asks(
     caller: u32,
     due: Result<Asked, ModelRefusal>,
     otherwise: &str,
-) -> Result<(), Fail>
+)
     requires { IsCaller group.old caller }
     ensures { group.new.callers ≡ group.old.callers }
 {
-    let asked = group.ask(caller, text(alloc, "k")?);
+    let asked = group.ask(caller, text(rt, alloc, "k"));
     assert!(rt; asked == due, "{otherwise}");
-    Ok(())
 }
 
 // The caller asks for it with a second, which comes to this.
@@ -50,14 +51,13 @@ fn asks_with_second(
     second: u32,
     due: Result<ChanAsked, ModelRefusal>,
     otherwise: &str,
-) -> Result<(), Fail>
+)
     requires caller { IsCaller group.old caller }
     requires second { IsCaller group.old second }
     ensures { group.new.callers ≡ group.old.callers }
 {
-    let asked = group.ask_chan(caller, second, text(alloc, "k")?);
+    let asked = group.ask_chan(caller, second, text(rt, alloc, "k"));
     assert!(rt; asked == due, "{otherwise}");
-    Ok(())
 }
 
 // The caller settles this call, which so many joined.
@@ -72,8 +72,8 @@ fn settles(
     requires { IsCaller group.old caller }
     ensures { group.new.callers ≡ group.old.callers }
 {
-    let settled = group.settle(caller, value);
-    assert!(rt; settled == Ok((call, joiners)), "it settles otherwise");
+    let settled = group.settle(caller, value).ok();
+    assert!(rt; settled == Some((call, joiners)), "it settles otherwise");
 }
 
 // The caller forgets the key `k`, which comes to this.
@@ -84,13 +84,12 @@ fn forgets(
     caller: u32,
     due: Forgotten,
     otherwise: &str,
-) -> Result<(), Fail>
+)
     requires { IsCaller group.old caller }
     ensures { group.new.callers ≡ group.old.callers }
 {
-    let forgotten = group.forget(caller, text(alloc, "k")?)?;
-    assert!(rt; forgotten == due, "{otherwise}");
-    Ok(())
+    let forgotten = group.forget(caller, text(rt, alloc, "k"));
+    assert!(rt; forgotten == Ok(due), "{otherwise}");
 }
 
 // Caller 2 forgets this call of the key, which finds this there.
@@ -102,14 +101,13 @@ fn finds(
     call: CallId,
     due: Hit,
     there: &str,
-) -> Result<(), Fail>
+)
     requires caller { IsCaller group.old 2 }
     requires call { IsCallWithin call }
     ensures { group.new.callers ≡ group.old.callers }
 {
-    let hit = group.forget_call(2, text(alloc, key)?, call)?;
-    assert!(rt; hit == due, "{hit} {there}");
-    Ok(())
+    let hit = group.forget_call(2, text(rt, alloc, key), call);
+    assert!(rt; hit == Ok(due), "it is found otherwise {there}");
 }
 
 fn takes(
@@ -134,104 +132,90 @@ fn is_current(
     call: CallId,
     due: bool,
     otherwise: &str,
-) -> Result<(), Fail> {
-    let key = text(alloc, "k")?;
+) {
+    let key = text(rt, alloc, "k");
     assert!(rt; group.is_current(&key, call) == due, "{otherwise}");
-    Ok(())
 }
 
 fn has_events(rt: &impl Abort, group: &TextGroup, due: usize) {
-    let events = group.history().len();
-    assert!(rt; events == due, "{events} events in place of {due}");
+    assert!(rt; group.history().len() == due, "not {due} events");
 }
 
 // Caller 1 has no generation left, to ask or to be a second.
-fn asks_though_spent(rt: &impl Abort, alloc: Global, group: &mut TextGroup) -> Result<(), Fail>
+fn asks_though_spent(rt: &impl Abort, alloc: Global, group: &mut TextGroup)
     requires { group.old.callers ≡ 3 }
     ensures { group.new.callers ≡ group.old.callers }
 {
     let spent = ModelRefusal::Spent(1);
     let otherwise = "it asks though it is spent";
-    asks(rt, alloc, group, 1, Err(spent), otherwise)?;
+    asks(rt, alloc, group, 1, Err(spent), otherwise);
     let otherwise = "it asks with a second though it is spent";
-    asks_with_second(rt, alloc, group, 1, 2, Err(spent), otherwise)?;
+    asks_with_second(rt, alloc, group, 1, 2, Err(spent), otherwise);
     let otherwise = "it is a second though it is spent";
-    asks_with_second(rt, alloc, group, 2, 1, Err(spent), otherwise)?;
-    Ok(())
+    asks_with_second(rt, alloc, group, 2, 1, Err(spent), otherwise);
 }
 
 #[test]
-fn last_generation_is_spent(rt: HostRuntime) -> Result<(), Fail> {
+fn last_generation_is_spent(rt: HostRuntime) {
     let alloc = rt.alloc();
     let mut group = TextGroup::new(alloc, 3, LAST);
     let led = Ok(Asked::Lead(id(1, LAST)));
-    asks(&rt, alloc, &mut group, 1, led, "it leads no last call")?;
-    settles(&rt, &mut group, 1, Ok(text(alloc, "v")?), id(1, LAST), 0);
-    asks_though_spent(&rt, alloc, &mut group)?;
+    asks(&rt, alloc, &mut group, 1, led, "it leads no last call");
+    let value = Ok(text(&rt, alloc, "v"));
+    settles(&rt, &mut group, 1, value, id(1, LAST), 0);
+    asks_though_spent(&rt, alloc, &mut group);
     let idle = Forgotten::Idle;
-    forgets(&rt, alloc, &mut group, 1, idle, "the key is not idle")?;
+    forgets(&rt, alloc, &mut group, 1, idle, "the key is not idle");
     has_events(&rt, &group, 4);
-    Ok(())
 }
 
 #[test]
-fn a_channel_is_led_and_joined(rt: HostRuntime) -> Result<(), Fail> {
+fn a_channel_is_led_and_joined(rt: HostRuntime) {
     let alloc = rt.alloc();
     let mut group = TextGroup::new(alloc, 65_535, 1);
     let led = Ok(ChanAsked::Led(id(1, 1), id(2, 1)));
-    asks_with_second(&rt, alloc, &mut group, 1, 2, led, "it leads otherwise")?;
+    asks_with_second(&rt, alloc, &mut group, 1, 2, led, "it leads otherwise");
     let joined = Ok(ChanAsked::Joined(id(1, 1)));
     let otherwise = "the second joins otherwise";
-    asks_with_second(&rt, alloc, &mut group, 3, 4, joined, otherwise)?;
+    asks_with_second(&rt, alloc, &mut group, 3, 4, joined, otherwise);
     let joined = Ok(Asked::Join(id(1, 1)));
     let otherwise = "who stayed free does not join";
-    asks(&rt, alloc, &mut group, 3, joined, otherwise)?;
+    asks(&rt, alloc, &mut group, 3, joined, otherwise);
     let pending = Ok(Taken::Pending(id(1, 1)));
     let otherwise = "a letter is there before the settle";
     takes(&rt, &mut group, 4, pending, otherwise);
     assert!(rt; group.has_caller(65_535), "the last caller is none");
     assert!(rt; !group.has_caller(65_536), "a caller too many");
-    Ok(())
 }
 
 // The call of caller 1, which another joined, ends with an error, and caller 2 takes its letter once.
-fn answers_second(
-    rt: &impl Abort,
-    alloc: Global,
-    group: &mut TextGroup,
-    call: CallId,
-) -> Result<(), Fail>
+fn answers_second(rt: &impl Abort, alloc: Global, group: &mut TextGroup, call: CallId)
     requires { group.old.callers ≡ 5 }
 {
-    settles(rt, group, 1, Err(text(alloc, "down")?), call, 1);
-    let letter = Taken::Got(call, Err(text(alloc, "down")?), 1);
+    settles(rt, group, 1, Err(text(rt, alloc, "down")), call, 1);
+    let letter = Taken::Got(call, Err(text(rt, alloc, "down")), 1);
     takes(rt, group, 2, Ok(letter), "another letter");
     let nothing = Err(ModelRefusal::NothingAsked(2));
     takes(rt, group, 2, nothing, "a letter is taken twice");
-    Ok(())
 }
 
 #[test]
-fn a_forgotten_call_is_still_answered(rt: HostRuntime) -> Result<(), Fail> {
+fn a_forgotten_call_is_still_answered(rt: HostRuntime) {
     let alloc = rt.alloc();
     let mut group = TextGroup::new(alloc, 5, 1);
     let call = id(1, 1);
-    group.ask_chan(1, 2, text(alloc, "k")?)?;
-    group.ask(3, text(alloc, "k")?)?;
+    let led = Ok(ChanAsked::Led(call, id(2, 1)));
+    asks_with_second(&rt, alloc, &mut group, 1, 2, led, "it does not lead");
+    let joined = Ok(Asked::Join(call));
+    asks(&rt, alloc, &mut group, 3, joined, "it does not join");
     let otherwise = "an open call is not current";
-    is_current(&rt, alloc, &group, call, true, otherwise)?;
+    is_current(&rt, alloc, &group, call, true, otherwise);
     let closed = Forgotten::Closed(call);
-    forgets(
-        &rt,
-        alloc,
-        &mut group,
-        5,
-        closed,
-        "the Forget closes nothing",
-    )?;
+    let otherwise = "the Forget closes nothing";
+    forgets(&rt, alloc, &mut group, 5, closed, otherwise);
     let otherwise = "a forgotten call is current";
-    is_current(&rt, alloc, &group, call, false, otherwise)?;
-    answers_second(&rt, alloc, &mut group, call)
+    is_current(&rt, alloc, &group, call, false, otherwise);
+    answers_second(&rt, alloc, &mut group, call);
 }
 
 // A newer call of the key is led: a Forget of the call before misses that, and its leader may not forget.
@@ -241,50 +225,39 @@ fn misses_beside_the_newer(
     group: &mut TextGroup,
     before: CallId,
     newer: CallId,
-) -> Result<(), Fail>
+)
     requires callers { group.old.callers ≡ 5 }
     requires call { IsCallWithin before }
     ensures { group.new.callers ≡ group.old.callers }
 {
-    group.ask(3, text(alloc, "k")?)?;
+    let led = Ok(Asked::Lead(newer));
+    asks(rt, alloc, group, 3, led, "no newer call is led");
     let there = "where a newer one is open";
-    finds(rt, alloc, group, "k", before, Hit::Missed, there)?;
-    let refused = group.forget_call(3, text(alloc, "k")?, before);
+    finds(rt, alloc, group, "k", before, Hit::Missed, there);
+    let refused = group.forget_call(3, text(rt, alloc, "k"), before);
     assert!(rt;
         refused == Err(ModelRefusal::NotFree(3)),
         "a leader forgets"
     );
     let otherwise = "the newer call is not current";
-    is_current(rt, alloc, group, newer, true, otherwise)
+    is_current(rt, alloc, group, newer, true, otherwise);
 }
 
 // The newer call of the key is settled: a Forget of it clears it, and is found to do so before.
-fn clears_the_newer(
-    rt: &impl Abort,
-    alloc: Global,
-    group: &mut TextGroup,
-    newer: CallId,
-) -> Result<(), Fail>
+fn clears_the_newer(rt: &impl Abort, alloc: Global, group: &mut TextGroup, newer: CallId)
     requires caller { IsCaller group.old 2 }
     requires call { IsCallWithin newer }
 {
-    let found = walk::hit(group.history().events(), &text(alloc, "k")?, newer);
+    let found = walk::hit(group.history().events(), &text(rt, alloc, "k"), newer);
     assert!(rt; found == Hit::Cleared, "{found} is found");
-    finds(
-        rt,
-        alloc,
-        group,
-        "k",
-        newer,
-        Hit::Cleared,
-        "where it is settled",
-    )?;
+    let there = "where it is settled";
+    finds(rt, alloc, group, "k", newer, Hit::Cleared, there);
     let otherwise = "a forgotten call is current";
-    is_current(rt, alloc, group, newer, false, otherwise)
+    is_current(rt, alloc, group, newer, false, otherwise);
 }
 
 #[test]
-fn one_call_is_forgotten(rt: HostRuntime) -> Result<(), Fail> {
+fn one_call_is_forgotten(rt: HostRuntime) {
     let alloc = rt.alloc();
     let mut group = TextGroup::new(alloc, 5, 1);
     let (caller, generation) = (1, 1);
@@ -293,15 +266,15 @@ fn one_call_is_forgotten(rt: HostRuntime) -> Result<(), Fail> {
         caller: 3,
         generation,
     };
-    group.ask(1, text(alloc, "k")?)?;
+    let led = Ok(Asked::Lead(one));
+    asks(&rt, alloc, &mut group, 1, led, "it does not lead");
     let (closed, missed) = (Hit::Closed, Hit::Missed);
-    finds(&rt, alloc, &mut group, "j", one, missed, "at another key")?;
-    finds(&rt, alloc, &mut group, "k", one, closed, "where it is open")?;
-    misses_beside_the_newer(&rt, alloc, &mut group, one, three)?;
-    settles(&rt, &mut group, 3, Ok(text(alloc, "v")?), three, 0);
-    clears_the_newer(&rt, alloc, &mut group, three)?;
+    finds(&rt, alloc, &mut group, "j", one, missed, "at another key");
+    finds(&rt, alloc, &mut group, "k", one, closed, "where it is open");
+    misses_beside_the_newer(&rt, alloc, &mut group, one, three);
+    settles(&rt, &mut group, 3, Ok(text(&rt, alloc, "v")), three, 0);
+    clears_the_newer(&rt, alloc, &mut group, three);
     has_events(&rt, &group, 8);
-    Ok(())
 }
 
 #[test]
@@ -314,38 +287,54 @@ fn laws_of_histories(_rt: HostRuntime) {
     laws::open_call_is_current::<Text, Outcome>();
 }
 
-#[test]
-fn values_are_shared(rt: HostRuntime) -> Result<(), Fail> {
-    let alloc = rt.alloc();
-    let mut value: Outcome = Ok(text(alloc, "v")?);
-    assert!(rt; value.share()? == Ok(text(alloc, "v")?), "another value");
-    assert!(rt; ().share()? == (), "another unit");
-    Ok(())
+// Whether a copy of the value is this text.
+fn is_shared(value: &mut Outcome, due: &str) -> bool {
+    match value.share() {
+        Ok(Ok(text)) => text.as_str() == due,
+        _ => false,
+    }
 }
 
 #[test]
-fn histories_keep_their_events(rt: HostRuntime) -> Result<(), Fail> {
-    let call = id(1, 1);
-    let mut events: Vec<Event<u32, u32>> = Vec::new(rt.alloc());
-    events.push(Event::Handed { by: 1, call })?;
-    let mut history = History::from_vec(events);
-    history.push(Event::Forget {
+fn values_are_shared(rt: HostRuntime) {
+    let alloc = rt.alloc();
+    let mut value: Outcome = Ok(text(&rt, alloc, "v"));
+    let is_same = is_shared(&mut value, "v");
+    assert!(rt; is_same, "another value");
+    assert!(rt; ().share() == Ok(()), "another unit");
+}
+
+fn handed() -> Event<u32, u32> {
+    Event::Handed {
+        by: 1,
+        call: id(1, 1),
+    }
+}
+
+fn forgotten() -> Event<u32, u32> {
+    Event::Forget {
         by: 2,
         key: 5,
         closed: None,
-    })?;
+    }
+}
+
+fn assert_event(rt: &impl Abort, event: Option<&Event<u32, u32>>, due: Event<u32, u32>) {
+    assert!(rt; event == Some(&due), "another event");
+}
+
+fn assert_two_events(rt: &impl Abort, history: &History<u32, u32>) {
     assert!(rt; history.len() == 2, "an event is lost");
     assert!(rt; !history.is_empty(), "it is empty");
+}
+
+#[test]
+fn histories_keep_their_events(rt: HostRuntime) -> Result<(), AllocError> {
+    let mut history = History::from_vec(vec![in rt.alloc(); handed()]?);
+    history.push(forgotten())?;
+    assert_two_events(&rt, &history);
     let events = history.into_vec();
-    let forget = Event::Forget {
-        by: 2,
-        key: 5,
-        closed: None,
-    };
-    assert!(rt;
-        events[0] == Event::Handed { by: 1, call },
-        "another first event"
-    );
-    assert!(rt; events[1] == forget, "another last event");
+    assert_event(&rt, events.get(0), handed());
+    assert_event(&rt, events.get(1), forgotten());
     Ok(())
 }
