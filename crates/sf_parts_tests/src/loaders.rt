@@ -17,41 +17,86 @@ const CALL: CallId = CallId {
     generation: 1,
 };
 
-/// What a run answered and counted, how often picker, peer and local getter were asked, and the first draw after it.
-#[derive(Drop)]
-struct Run {
-    result: Result<(Bytes, Source), LocalFault>,
+/// What is due of a run: its value and who gave it, or why there is none, and the peer's fault; what it counts; and how often
+/// picker, peer and local getter are asked.
+#[derive(Clone, Copy)]
+struct Due {
+    answer: &'static str,
     counts: Counts,
     asked: [u64; 3],
-    next_draw: u32,
-    peer_fault: Option<PeerFault>,
+}
+
+type ScriptLoaders = Loaders<FixedPicker, Script, Script, RoundChance>;
+
+fn script(alloc: Global, answer: Answer) -> Result<Script, AllocError> {
+    Ok(Script::new(vec![in alloc; answer]?))
+}
+
+fn write_result(
+    text: &mut String,
+    given: &Result<(Bytes, Source), LocalFault>,
+) -> Result<(), AllocError> {
+    match given {
+        Ok((value, source)) => {
+            let value = str::from_utf8(value.as_slice()).unwrap_or("no text");
+            let source = match source {
+                Source::Peer => "peer",
+                Source::Local => "local getter",
+            };
+            write!(text, "{value} of the {source}")
+        }
+        Err(fault) => write!(text, "{fault}"),
+    }
+}
+
+fn write_peer_fault(text: &mut String, fault: &Option<PeerFault>) -> Result<(), AllocError> {
+    match fault {
+        Some(fault) => write!(text, "; peer: {fault}"),
+        None => Ok(()),
+    }
+}
+
+fn assert_answer(
+    rt: &impl Abort,
+    alloc: Global,
+    given: &Result<(Bytes, Source), LocalFault>,
+    fault: &Option<PeerFault>,
+    due: &str,
+) -> Result<(), AllocError> {
+    let mut text = String::new(alloc);
+    write_result(&mut text, given)?;
+    write_peer_fault(&mut text, fault)?;
+    assert!(rt; text.as_str() == due, "{text}");
+    Ok(())
+}
+
+// So often are the loaders asked, and nothing is drawn.
+fn assert_asked(rt: &impl Abort, loaders: &mut ScriptLoaders, due: [u64; 3]) {
+    let (picker, peer, local) = (
+        loaders.picker.asked,
+        loaders.peer.asked(),
+        loaders.local.asked(),
+    );
+    assert!(rt; [picker, peer, local] == due, "asked otherwise");
+    assert!(rt; loaders.chance.draw() == 0, "a load draws");
 }
 
 /// One run of the load path over a picker, a peer and a local getter of one answer each.
-fn run_once(
+fn assert_run(
+    rt: &impl Abort,
     alloc: Global,
     picked: Option<u32>,
     fetched: Answer,
     loaded: Answer,
-) -> Result<Run, AllocError> {
-    let mut loaders = Loaders::new(
-        FixedPicker::new(picked),
-        Script::new(vec![in alloc; fetched]?),
-        Script::new(vec![in alloc; loaded]?),
-        RoundChance::default(),
-    );
+    due: Due,
+) -> Result<(), AllocError> {
+    let (peer, local) = (script(alloc, fetched)?, script(alloc, loaded)?);
+    let picker = FixedPicker::new(picked);
+    let mut loaders = Loaders::new(picker, peer, local, RoundChance::default());
     let (result, counts) = load_once(&mut loaders, b"k", CALL);
-    Ok(Run {
-        result,
-        counts,
-        asked: [
-            loaders.picker.asked,
-            loaders.peer.asked(),
-            loaders.local.asked(),
-        ],
-        next_draw: loaders.chance.draw(),
-        peer_fault: loaders.peer_fault,
-    })
+    assert!(rt; counts == due.counts, "other counts");
+    assert_asked(rt, &mut loaders, due.asked);
+    assert_answer(rt, alloc, &result, &loaders.peer_fault, due.answer)
 }
 
 fn value(text: &'static str) -> Answer {
@@ -62,98 +107,88 @@ fn failed(text: &'static str) -> Answer {
     Answer::Failed(ByteStr::from(text))
 }
 
-fn assert_value(rt: &impl Abort, run: &Run, text: &str, source: Source) {
-    let Ok((value, from)) = &run.result else {
-        panic!(rt; "no value, where {text} is due")
-    };
-    assert!(rt;
-        value.as_slice() == text.as_bytes(),
-        "another value than {text}"
-    );
-    assert!(rt; *from == source, "{text} comes from elsewhere");
-}
-
-// Where a load counts so, its loaders were asked so often, and nothing was drawn.
-fn assert_counts(rt: &impl Abort, run: &Run, counts: Counts, asked: [u64; 3]) {
-    assert!(rt; run.counts == counts, "other counts");
-    let [picker, peer, local] = run.asked;
-    assert!(rt;
-        run.asked == asked,
-        "asked {picker}, {peer} and {local} times"
-    );
-    assert!(rt; run.next_draw == 0, "a load draws");
-}
-
 #[test]
 fn local_value_without_a_peer(rt: HostRuntime) -> Result<(), AllocError> {
-    let run = run_once(rt.alloc(), None, value("p"), value("v"))?;
-    assert_value(&rt, &run, "v", Source::Local);
     let counts = Counts {
         loads_deduped: 1,
         local_loads: 1,
         ..Counts::default()
     };
-    assert_counts(&rt, &run, counts, [1, 0, 1]);
-    Ok(())
+    let due = Due {
+        answer: "v of the local getter",
+        counts,
+        asked: [1, 0, 1],
+    };
+    assert_run(&rt, rt.alloc(), None, value("p"), value("v"), due)
 }
 
 #[test]
 fn peer_value(rt: HostRuntime) -> Result<(), AllocError> {
-    let run = run_once(rt.alloc(), Some(0), value("p"), value("v"))?;
-    assert_value(&rt, &run, "p", Source::Peer);
-    assert!(rt; run.peer_fault.is_none(), "a fault of the peer");
     let counts = Counts {
         loads_deduped: 1,
         peer_loads: 1,
         ..Counts::default()
     };
-    assert_counts(&rt, &run, counts, [1, 1, 0]);
-    Ok(())
+    let due = Due {
+        answer: "p of the peer",
+        counts,
+        asked: [1, 1, 0],
+    };
+    assert_run(&rt, rt.alloc(), Some(0), value("p"), value("v"), due)
 }
 
 #[test]
 fn peer_and_local_fail(rt: HostRuntime) -> Result<(), AllocError> {
-    let run = run_once(rt.alloc(), Some(0), failed("away"), failed("down"))?;
-    assert!(rt; matches!(&run.result, Err(LocalFault::Failed(text)) if text.as_str() == "down"));
-    assert!(rt;
-        matches!(&run.peer_fault, Some(PeerFault::Failed(text)) if text.as_str() == "away"),
-        "the peer's fault is lost"
-    );
     let counts = Counts {
         loads_deduped: 1,
         peer_errors: 1,
         local_load_errors: 1,
         ..Counts::default()
     };
-    assert_counts(&rt, &run, counts, [1, 1, 1]);
-    Ok(())
+    let due = Due {
+        answer: "down; peer: away",
+        counts,
+        asked: [1, 1, 1],
+    };
+    assert_run(
+        &rt,
+        rt.alloc(),
+        Some(0),
+        failed("away"),
+        failed("down"),
+        due,
+    )
 }
 
 #[test]
 fn want_of_memory_at_the_peer_falls_through(rt: HostRuntime) -> Result<(), AllocError> {
-    let run = run_once(rt.alloc(), Some(0), Answer::Memory, value("v"))?;
-    assert_value(&rt, &run, "v", Source::Local);
     let counts = Counts {
         loads_deduped: 1,
         peer_errors: 1,
         local_loads: 1,
         ..Counts::default()
     };
-    assert_counts(&rt, &run, counts, [1, 1, 1]);
-    Ok(())
+    let due = Due {
+        answer: "v of the local getter; peer: out of memory",
+        counts,
+        asked: [1, 1, 1],
+    };
+    assert_run(&rt, rt.alloc(), Some(0), Answer::Memory, value("v"), due)
 }
 
 #[test]
 fn want_of_memory_at_the_local_getter_is_the_result(rt: HostRuntime) -> Result<(), AllocError> {
-    let run = run_once(rt.alloc(), None, value("p"), Answer::Memory)?;
-    assert!(rt; matches!(&run.result, Err(LocalFault::Memory)));
     let counts = Counts {
         loads_deduped: 1,
         local_load_errors: 1,
         ..Counts::default()
     };
-    assert_counts(&rt, &run, counts, [1, 0, 1]);
-    Ok(())
+    let due = Due {
+        answer: "out of memory",
+        counts,
+        asked: [1, 0, 1],
+    };
+    assert_run(&rt, rt.alloc(), None, value("p"), Answer::Memory, due)
 }
 
 /// The origin at which each key is its own value.
@@ -206,15 +241,17 @@ fn echoed(alloc: Global, picked: Option<u32>, key: &[u8]) -> Result<(Bytes, Sour
     load_once(&mut loaders, key, CALL).0
 }
 
+fn assert_echoed(rt: &impl Abort, alloc: Global, picked: Option<u32>, due: Source) {
+    let Ok((value, source)) = echoed(alloc, picked, b"key") else {
+        panic!(rt; "no value")
+    };
+    assert!(rt; value.as_slice() == b"key".as_slice() && source == due);
+}
+
 #[test]
 fn values_are_those_of_their_origin(rt: HostRuntime) {
-    let alloc = rt.alloc();
-    for (picked, source) in [(Some(3), Source::Peer), (None, Source::Local)] {
-        let Ok((value, from)) = echoed(alloc, picked, b"key") else {
-            panic!(rt; "no value")
-        };
-        assert!(rt; value.as_slice() == b"key".as_slice() && from == source);
-    }
+    assert_echoed(&rt, rt.alloc(), Some(3), Source::Peer);
+    assert_echoed(&rt, rt.alloc(), None, Source::Local);
 }
 
 // The script's next answer as a peer: the text of a value or of a fault.
@@ -237,6 +274,16 @@ fn assert_load(rt: &impl Abort, script: &mut Script, due: &str) {
     assert!(rt; said, "a local answer is not {due}");
 }
 
+// The script's next answer to whom the row names.
+fn assert_next(rt: &impl Abort, script: &mut Script, row: &str) {
+    let (whom, due) = row.split_once(": ").unwrap_or((row, ""));
+    if whom == "peer" {
+        assert_fetch(rt, script, due);
+    } else {
+        assert_load(rt, script, due);
+    }
+}
+
 const ROUND: &str = "peer: first
 local: second
 local: third
@@ -257,11 +304,7 @@ fn scripted(alloc: Global) -> Result<Script, AllocError> {
 fn scripts_go_round(rt: HostRuntime) -> Result<(), AllocError> {
     let mut script = scripted(rt.alloc())?;
     for row in ROUND.lines() {
-        match row.split_once(": ") {
-            Some(("peer", due)) => assert_fetch(&rt, &mut script, due),
-            Some(("local", due)) => assert_load(&rt, &mut script, due),
-            _ => panic!(rt; "{row} is neither"),
-        }
+        assert_next(&rt, &mut script, row);
     }
     assert!(rt; script.asked() == 8);
     Ok(())
