@@ -7,15 +7,28 @@ use sf_words::{
 use std::alloc::AllocError;
 use std::process::Abort;
 
+fn reads_call(number: u64, says: CallState) -> bool {
+    match unpack_call(number) {
+        Some(word) => word.state() == says,
+        None => false,
+    }
+}
+
+fn writes_call(number: u64, says: CallState) -> bool {
+    match CallWord::new(says) {
+        Some(word) => pack_call(word) == number,
+        None => false,
+    }
+}
+
 // The number is that of the word that says this.
 fn assert_call(rt: &impl Abort, number: u64, says: CallState) {
-    let read = unpack_call(number).map(CallWord::state);
-    assert!(rt; read == Some(says), "another word is read from {number}");
-    let written = match CallWord::new(says) {
-        Some(word) => pack_call(word),
-        None => u64::MAX,
-    };
-    assert!(rt; written == number, "{written} is written for {number}");
+    assert!(rt; reads_call(number, says), "{number} is read otherwise");
+    assert!(rt; writes_call(number, says), "{number} is written otherwise");
+}
+
+fn assert_no_call(rt: &impl Abort, number: u64) {
+    assert!(rt; unpack_call(number).is_none(), "{number} is read");
 }
 
 #[test]
@@ -49,28 +62,37 @@ fn words_of_the_layout(rt: HostRuntime) {
 /// Tags 6 and 0, generation 0, bit 20, caller 65,536; tags 4 and 5 with an own channel or a top.
 #[test]
 fn numbers_of_no_call_word(rt: HostRuntime) {
-    for number in [
-        0x0000_0001_6000_0000,
-        0x0000_0001_0000_0000,
-        0x0000_0000_1000_0000,
-        0x0000_0001_1010_0000,
-        0x0000_0001_1001_0000,
-        0x0000_0001_4800_0000,
-        0x0000_0001_5000_0002,
-    ] {
-        assert!(rt; unpack_call(number).is_none(), "{number} is read");
+    assert_no_call(&rt, 0x0000_0001_6000_0000);
+    assert_no_call(&rt, 0x0000_0001_0000_0000);
+    assert_no_call(&rt, 0x0000_0000_1000_0000);
+    assert_no_call(&rt, 0x0000_0001_1010_0000);
+    assert_no_call(&rt, 0x0000_0001_1001_0000);
+    assert_no_call(&rt, 0x0000_0001_4800_0000);
+    assert_no_call(&rt, 0x0000_0001_5000_0002);
+}
+
+fn reads_key(number: u64, says: KeyState) -> bool {
+    match unpack_key(number) {
+        Some(word) => word.state() == says,
+        None => false,
+    }
+}
+
+fn writes_key(number: u64, says: KeyState) -> bool {
+    match KeyWord::new(says) {
+        Some(word) => pack_key(word) == number,
+        None => false,
     }
 }
 
 // The number is that of the word that says this.
 fn assert_key(rt: &impl Abort, number: u64, says: KeyState) {
-    let read = unpack_key(number).map(KeyWord::state);
-    assert!(rt; read == Some(says), "another word is read from {number}");
-    let written = match KeyWord::new(says) {
-        Some(word) => pack_key(word),
-        None => u64::MAX,
-    };
-    assert!(rt; written == number, "{written} is written for {number}");
+    assert!(rt; reads_key(number, says), "{number} is read otherwise");
+    assert!(rt; writes_key(number, says), "{number} is written otherwise");
+}
+
+fn assert_no_key(rt: &impl Abort, number: u64) {
+    assert!(rt; unpack_key(number).is_none(), "{number} is read");
 }
 
 #[test]
@@ -93,25 +115,34 @@ fn key_words_of_the_layout(rt: HostRuntime) {
 /// Caller 0, generation 0, bit 20, caller 65,536.
 #[test]
 fn numbers_of_no_key_word(rt: HostRuntime) {
-    for number in [
-        0x0000_0001_0000_0000,
-        0x0000_0000_0000_0001,
-        0x0000_0001_0010_0001,
-        0x0000_0001_0001_0000,
-    ] {
-        assert!(rt; unpack_key(number).is_none(), "{number} is read");
+    assert_no_key(&rt, 0x0000_0001_0000_0000);
+    assert_no_key(&rt, 0x0000_0000_0000_0001);
+    assert_no_key(&rt, 0x0000_0001_0010_0001);
+    assert_no_key(&rt, 0x0000_0001_0001_0000);
+}
+
+fn reads_next(number: u64, says: Option<u32>) -> bool {
+    match unpack_next(number) {
+        Some(word) => word.next() == says,
+        None => false,
+    }
+}
+
+fn writes_next(number: u64, says: Option<u32>) -> bool {
+    match NextWord::new(says) {
+        Some(word) => pack_next(word) == number,
+        None => false,
     }
 }
 
 // The number is that of the word that says this.
 fn assert_next(rt: &impl Abort, number: u64, says: Option<u32>) {
-    let read = unpack_next(number).map(NextWord::next);
-    assert!(rt; read == Some(says), "another word is read from {number}");
-    let written = match NextWord::new(says) {
-        Some(word) => pack_next(word),
-        None => u64::MAX,
-    };
-    assert!(rt; written == number, "{written} is written for {number}");
+    assert!(rt; reads_next(number, says), "{number} is read otherwise");
+    assert!(rt; writes_next(number, says), "{number} is written otherwise");
+}
+
+fn assert_no_next(rt: &impl Abort, number: u64) {
+    assert!(rt; unpack_next(number).is_none(), "{number} is read");
 }
 
 /// Beside them, as no next words: caller 65,536, bit 20, bit 32.
@@ -120,9 +151,9 @@ fn next_words_of_the_layout(rt: HostRuntime) {
     assert_next(&rt, 0, None);
     assert_next(&rt, 2, Some(2));
     assert_next(&rt, 0xffff, Some(LARGEST_CALLER));
-    for number in [0x1_0000, 0x10_0000, 0x1_0000_0000] {
-        assert!(rt; unpack_next(number).is_none(), "{number} is read");
-    }
+    assert_no_next(&rt, 0x1_0000);
+    assert_no_next(&rt, 0x10_0000);
+    assert_no_next(&rt, 0x1_0000_0000);
 }
 
 #[test]
