@@ -1,5 +1,5 @@
 //! Tests of the parts: the sequential group, scripts, words, the machine of schedules, the directory,
-//! the caches, the loaders, and records.
+//! the caches, the counters, the loaders, and records.
 //!
 //! They stand apart from the crates that they test, since a crate with tests is proved twice.
 #![tactic(auto)]
@@ -7,9 +7,9 @@
 #[cfg(test)]
 mod caches;
 #[cfg(test)]
-mod directory;
+mod counters;
 #[cfg(test)]
-mod fill;
+mod directory;
 #[cfg(test)]
 mod history;
 #[cfg(test)]

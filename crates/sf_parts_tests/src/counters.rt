@@ -3,7 +3,7 @@
 ghost use Rattle.std.specs.Prelude.{◌≡◌, ◌-◌, ◌<◌, ◌^◌};
 ghost use Rattle.sf_counters.specs.Totals.{AreNamed, IsOfOneGet};
 
-use sf_fill::{Accounts, GetCounts, Ledgers, Naming, Tallies, Totals};
+use sf_counters::{Accounts, GetCounts, Ledgers, Naming, Tallies, Totals};
 use sf_loaders::Counts;
 use std::marker::Brand;
 use std::process::Abort;
