@@ -1,9 +1,9 @@
 //! Two threads that ask for one place with one try each time, until one of them meets the other.
-ghost use Rattle.std.specs.Prelude.{◌≡◌, IfSome};
-ghost use Rattle.sf_group.specs.Same.{IsPlaceOf};
 
-use crate::calls::{Outcome, next_caller};
-use sf_group::{Begun, Caller, Finished, Flight, Group, NotBegun, Polled, Ticket};
+use crate::commands::Command;
+use crate::player::{Player, seat};
+use crate::value::Value;
+use sf_group::Group;
 use std::process::Abort;
 use std::sync::atomic::{AtomicBool, Ordering};
 use std::test::Fail;
@@ -20,80 +20,44 @@ enum Ended {
     Wrong,
 }
 
-#[derive(Drop)]
-struct Asker<'a> {
-    group: &'a Group<Outcome>,
-    caller: Caller<Outcome>,
-    met: &'a AtomicBool,
-    ghost own: { caller.group ≡ group.now },
-    ghost placed: { IsPlaceOf group.now 1 },
-}
-
-// The caller, once its letter is there.
-fn take(group: &Group<Outcome>, mut ticket: Ticket<Outcome>) -> Option<Caller<Outcome>>
-    requires { ticket.group ≡ group.now }
-    ensures { IfSome result (λ c. c.group ≡ group.now) }
-{
+// The caller is free again once its letter is there, or its call is settled.
+fn is_free(player: &mut Player, caller: u32, verb: &str) -> bool {
     for _ in 0..10_000_000 {
-        match group.poll(ticket) {
-            Polled::Ready(caller, _) => return Some(caller),
-            Polled::Pending(back) => ticket = back,
+        match player.obey(Command::new(verb, caller)).did {
+            "settled" | "got" => return true,
+            "waits for" => thread::yield_now(),
+            _ => return false,
         }
-        thread::yield_now();
     }
-    ticket.abandon();
-    None
+    false
 }
 
-// The caller, once its call is settled.
-fn settle(group: &Group<Outcome>, flight: Flight<Outcome>) -> Option<Caller<Outcome>>
-    requires { flight.group ≡ group.now }
-    ensures { IfSome result (λ c. c.group ≡ group.now) }
-{
-    match group.finish(flight, Outcome(7)) {
-        Finished::Done(back, _) => Some(back),
-        Finished::Held(settled) => {
-            settled.abandon();
-            None
+fn ask(player: Player, met: &AtomicBool) -> Ended {
+    let mut player = player;
+    let caller = player.last();
+    for _ in 0..10_000_000 {
+        if met.load(Ordering::SeqCst) {
+            return Ended::Others;
+        }
+        let reply = player.obey(Command::new("ask", caller));
+        let free = match reply.did {
+            "leads" => is_free(&mut player, caller, "settle"),
+            "joins" => is_free(&mut player, caller, "poll"),
+            "is busy" if reply.number == Some(1) && reply.caller == caller => return Ended::Busy,
+            _ => false,
+        };
+        if !free {
+            return Ended::Wrong;
         }
     }
+    Ended::Wrong
 }
 
-impl<'a> Asker<'a> {
-    // The other stops where this one has ended.
-    fn work(self) -> Ended {
-        let met = self.met;
-        let ended = self.ask();
-        met.store(true, Ordering::SeqCst);
-        ended
-    }
-
-    fn ask(self) -> Ended {
-        let Self { group, caller, met } = self;
-        let number = caller.number();
-        let mut caller = caller;
-        for _ in 0..10_000_000 {
-            if met.load(Ordering::SeqCst) {
-                return Ended::Others;
-            }
-            let back = match group.begin(caller, 1, 1) {
-                Ok(Begun::Lead(flight)) => settle(group, flight),
-                Ok(Begun::Join(ticket)) => take(group, ticket),
-                Err(NotBegun::Busy(tries, back)) => {
-                    if tries == 1 && back.number() == number {
-                        return Ended::Busy;
-                    }
-                    None
-                }
-                Err(NotBegun::Spent(_)) => None,
-            };
-            let Some(back) = back else {
-                return Ended::Wrong;
-            };
-            caller = back;
-        }
-        Ended::Wrong
-    }
+// The other stops where this one has ended.
+fn work(player: Player, met: &AtomicBool) -> Ended {
+    let ended = ask(player, met);
+    met.store(true, Ordering::SeqCst);
+    ended
 }
 
 // One is busy at least, and the other is not wrong.
@@ -107,19 +71,12 @@ fn check_ended(rt: &impl Abort, one: Ended, two: Ended) {
 
 #[test]
 fn one_try_is_busy_beside_another(rt: HostRuntime) -> Result<(), Fail> {
-    let (group, mut callers) = Group::<Outcome>::new(rt.alloc(), 1, 2, 1)?;
+    let alloc = rt.alloc();
+    let (group, mut list) = Group::<Value>::new(alloc, 1, 2, 1)?;
     let met = AtomicBool::new(false);
-    let two = Asker {
-        group: &group,
-        caller: next_caller(&rt, &group, &mut callers, 2),
-        met: &met,
-    };
-    let one = Asker {
-        group: &group,
-        caller: next_caller(&rt, &group, &mut callers, 1),
-        met: &met,
-    };
-    let (one, two) = thread::join(&rt, || one.work(), || two.work());
+    let two = seat(alloc, &group, &mut list, 1)?;
+    let one = seat(alloc, &group, &mut list, 1)?;
+    let (one, two) = thread::join(&rt, || work(one, &met), || work(two, &met));
     check_ended(&rt, one, two);
     Ok(())
 }

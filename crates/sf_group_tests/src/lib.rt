@@ -4,32 +4,28 @@
 #![tactic(auto)]
 
 #[cfg(test)]
-mod afters;
-#[cfg(test)]
 mod busy;
 #[cfg(test)]
-mod calls;
-#[cfg(test)]
-mod chans;
-#[cfg(test)]
-mod currents;
-#[cfg(test)]
-mod error_values;
-#[cfg(test)]
-mod going_on;
-#[cfg(test)]
-mod named;
+mod commands;
 #[cfg(test)]
 mod notes;
 #[cfg(test)]
+mod player;
+#[cfg(test)]
+mod questions;
+#[cfg(test)]
 mod random;
+#[cfg(test)]
+mod replies;
 #[cfg(test)]
 mod rows;
 #[cfg(test)]
 mod rows_over_words;
 #[cfg(test)]
+mod seats;
+#[cfg(test)]
 mod sharing;
 #[cfg(test)]
-mod stills;
-#[cfg(test)]
 mod two_threads;
+#[cfg(test)]
+mod value;

@@ -1,133 +1,118 @@
 //! The worked scripts of askings, settles and takings, over words.
-ghost use Rattle.std.specs.Prelude.{◌≡◌, All};
-ghost use Rattle.sf_group.specs.Same.{IsPlaceOf};
 
-use crate::calls::{
-    Outcome, finish, forget, hand_out, id, join, lead, next_caller, pending, ready, share_call,
-};
-use crate::chans::{join_chan, lead_chan};
-use sf_group::{Caller, Group};
-use std::process::Abort;
+use crate::player::play;
 use std::test::Fail;
 
 #[test]
 fn lone_lead_is_not_shared(rt: HostRuntime) -> Result<(), Fail> {
-    let (group, mut callers) = Group::<Outcome>::new(rt.alloc(), 1, 1, 1)?;
-    let one = next_caller(&rt, &group, &mut callers, 1);
-    let flight = lead(&rt, &group, one, 1, id(1, 1));
-    hand_out(&rt, &group, flight, 7, 0);
-    Ok(())
+    let script = "ask 1 on 1: 1 leads 1.1 on 1
+settle 1 with 7: 1 settled 1.1 on 1 with 7 joiners=0
+";
+    play(&rt, rt.alloc(), 1, 1, 1, script)
 }
 
+// The cells are used again.
 #[test]
 fn joiner_gets_the_shared_value(rt: HostRuntime) -> Result<(), Fail> {
-    let (group, mut callers) = Group::<Outcome>::new(rt.alloc(), 1, 2, 1)?;
-    let (rt, group, callers) = (&rt, &group, &mut callers);
-    let two = next_caller(rt, group, callers, 2);
-    let one = next_caller(rt, group, callers, 1);
-    let flight = lead(rt, group, one, 1, id(1, 1));
-    let ticket = join(rt, group, two, 1, id(1, 1), id(2, 1));
-    let ticket = pending(rt, group, ticket);
-    let one = hand_out(rt, group, flight, 7, 1);
-    let two = ready(rt, group, ticket, 1, 7, 1);
-    // The cells are used again.
-    let flight = lead(rt, group, two, 1, id(2, 2));
-    let (two, one) = share_call(rt, group, flight, one, 1, id(2, 2), id(1, 2), 8);
-    let flight = lead(rt, group, one, 1, id(1, 3));
-    share_call(rt, group, flight, two, 1, id(1, 3), id(2, 3), 9);
-    Ok(())
+    let script = "ask 1 on 1: 1 leads 1.1 on 1
+ask 2 on 1: 2 joins 1.1 as 2.1
+poll 2: 2 waits for 1.1 as 2.1
+settle 1 with 7: 1 settled 1.1 on 1 with 7 joiners=1
+poll 2: 2 got 1.1 on 1 with 7 joiners=1
+ask 2 on 1: 2 leads 2.2 on 1
+ask 1 on 1: 1 joins 2.2 as 1.2
+settle 2 with 8: 2 settled 2.2 on 1 with 8 joiners=1
+poll 1: 1 got 2.2 on 1 with 8 joiners=1
+ask 1 on 1: 1 leads 1.3 on 1
+ask 2 on 1: 2 joins 1.3 as 2.3
+settle 1 with 9: 1 settled 1.3 on 1 with 9 joiners=1
+poll 2: 2 got 1.3 on 1 with 9 joiners=1
+";
+    play(&rt, rt.alloc(), 1, 2, 1, script)
 }
 
 // The last to join is the first whose letter is there.
 #[test]
 fn each_joiner_gets_the_value(rt: HostRuntime) -> Result<(), Fail> {
-    let (group, mut callers) = Group::<Outcome>::new(rt.alloc(), 2, 5, 1)?;
-    each_of_five(&rt, &group, &mut callers);
-    Ok(())
-}
-
-// Three join the call of the caller 1 on place 1; then that caller joins the one of the caller 5 on place 2.
-fn each_of_five(rt: &impl Abort, group: &Group<Outcome>, callers: &mut Vec<Caller<Outcome>>)
-    requires own { All (λ c. c.group ≡ group.now) callers.old.items }
-    requires first { IsPlaceOf group.now 1 }
-    requires second { IsPlaceOf group.now 2 }
-{
-    let five = next_caller(rt, group, callers, 5);
-    let four = next_caller(rt, group, callers, 4);
-    let three = next_caller(rt, group, callers, 3);
-    let two = next_caller(rt, group, callers, 2);
-    let one = next_caller(rt, group, callers, 1);
-    let apart = lead(rt, group, five, 2, id(5, 1));
-    let flight = lead(rt, group, one, 1, id(1, 1));
-    let second = join(rt, group, two, 1, id(1, 1), id(2, 1));
-    let third = join(rt, group, three, 1, id(1, 1), id(3, 1));
-    let fourth = join(rt, group, four, 1, id(1, 1), id(4, 1));
-    let one = hand_out(rt, group, flight, 13, 3);
-    let two = ready(rt, group, second, 1, 13, 3);
-    lead(rt, group, two, 1, id(2, 2)).abandon();
-    ready(rt, group, fourth, 1, 13, 3);
-    ready(rt, group, third, 1, 13, 3);
-    share_call(rt, group, apart, one, 2, id(5, 1), id(1, 2), 14);
+    let script = "ask 5 on 2: 5 leads 5.1 on 2
+ask 1 on 1: 1 leads 1.1 on 1
+ask 2 on 1: 2 joins 1.1 as 2.1
+ask 3 on 1: 3 joins 1.1 as 3.1
+ask 4 on 1: 4 joins 1.1 as 4.1
+settle 1 with 13: 1 settled 1.1 on 1 with 13 joiners=3
+poll 2: 2 got 1.1 on 1 with 13 joiners=3
+ask 2 on 1: 2 leads 2.2 on 1
+poll 4: 4 got 1.1 on 1 with 13 joiners=3
+poll 3: 3 got 1.1 on 1 with 13 joiners=3
+ask 1 on 2: 1 joins 5.1 as 1.2
+settle 5 with 14: 5 settled 5.1 on 2 with 14 joiners=1
+poll 1: 1 got 5.1 on 2 with 14 joiners=1
+";
+    play(&rt, rt.alloc(), 2, 5, 1, script)
 }
 
 #[test]
 fn forget_parts_old_and_new_callers(rt: HostRuntime) -> Result<(), Fail> {
-    let (group, mut callers) = Group::<Outcome>::new(rt.alloc(), 1, 4, 1)?;
-    let (rt, group, callers) = (&rt, &group, &mut callers);
-    let four = next_caller(rt, group, callers, 4);
-    let mut three = next_caller(rt, group, callers, 3);
-    let two = next_caller(rt, group, callers, 2);
-    let one = next_caller(rt, group, callers, 1);
-    let old = lead(rt, group, one, 1, id(1, 1));
-    let ticket = join(rt, group, two, 1, id(1, 1), id(2, 1));
-    forget(rt, group, &mut three, 1, Some(id(1, 1)));
-    let new = lead(rt, group, four, 1, id(4, 1));
-    hand_out(rt, group, old, 7, 1);
-    ready(rt, group, ticket, 1, 7, 1);
-    finish(rt, group, new, 8);
-    Ok(())
+    let script = "ask 1 on 1: 1 leads 1.1 on 1
+ask 2 on 1: 2 joins 1.1 as 2.1
+forget 3 on 1: 3 forgot 1.1
+ask 4 on 1: 4 leads 4.1 on 1
+settle 1 with 7: 1 settled 1.1 on 1 with 7 joiners=1
+poll 2: 2 got 1.1 on 1 with 7 joiners=1
+settle 4 with 8: 4 settled 4.1 on 1 with 8 joiners=0
+";
+    play(&rt, rt.alloc(), 1, 4, 1, script)
 }
 
 #[test]
 fn late_settle_leaves_the_newer_call(rt: HostRuntime) -> Result<(), Fail> {
-    let (group, mut callers) = Group::<Outcome>::new(rt.alloc(), 1, 4, 1)?;
-    let (rt, group, callers) = (&rt, &group, &mut callers);
-    let four = next_caller(rt, group, callers, 4);
-    let three = next_caller(rt, group, callers, 3);
-    let mut two = next_caller(rt, group, callers, 2);
-    let one = next_caller(rt, group, callers, 1);
-    let old = lead(rt, group, one, 1, id(1, 1));
-    forget(rt, group, &mut two, 1, Some(id(1, 1)));
-    let new = lead(rt, group, three, 1, id(3, 1));
-    finish(rt, group, old, 7);
-    share_call(rt, group, new, four, 1, id(3, 1), id(4, 1), 8);
-    Ok(())
+    let script = "ask 1 on 1: 1 leads 1.1 on 1
+forget 2 on 1: 2 forgot 1.1
+ask 3 on 1: 3 leads 3.1 on 1
+settle 1 with 7: 1 settled 1.1 on 1 with 7 joiners=0
+ask 4 on 1: 4 joins 3.1 as 4.1
+settle 3 with 8: 3 settled 3.1 on 1 with 8 joiners=1
+poll 4: 4 got 3.1 on 1 with 8 joiners=1
+";
+    play(&rt, rt.alloc(), 1, 4, 1, script)
 }
 
 #[test]
 fn own_channel_is_not_shared(rt: HostRuntime) -> Result<(), Fail> {
-    let (group, mut callers) = Group::<Outcome>::new(rt.alloc(), 1, 2, 1)?;
-    let (rt, group, callers) = (&rt, &group, &mut callers);
-    let two = next_caller(rt, group, callers, 2);
-    let one = next_caller(rt, group, callers, 1);
-    let (flight, ticket) = lead_chan(rt, group, one, two, id(1, 1), id(2, 1));
-    hand_out(rt, group, flight, 7, 0);
-    ready(rt, group, ticket, 1, 7, 0);
-    Ok(())
+    let script = "chan 1 and 2 on 1: 1 leads with a channel 1.1 as 2.1 on 1
+settle 1 with 7: 1 settled 1.1 on 1 with 7 joiners=0
+poll 2: 2 got 1.1 on 1 with 7 joiners=0
+";
+    play(&rt, rt.alloc(), 1, 2, 1, script)
 }
 
 #[test]
 fn later_channel_is_shared(rt: HostRuntime) -> Result<(), Fail> {
-    let (group, mut callers) = Group::<Outcome>::new(rt.alloc(), 1, 4, 1)?;
-    let (rt, group, callers) = (&rt, &group, &mut callers);
-    let four = next_caller(rt, group, callers, 4);
-    let three = next_caller(rt, group, callers, 3);
-    let two = next_caller(rt, group, callers, 2);
-    let one = next_caller(rt, group, callers, 1);
-    let (flight, own) = lead_chan(rt, group, one, two, id(1, 1), id(2, 1));
-    let (later, _three) = join_chan(rt, group, three, four, id(1, 1), id(4, 1));
-    hand_out(rt, group, flight, 7, 1);
-    ready(rt, group, later, 1, 7, 1);
-    ready(rt, group, own, 1, 7, 1);
-    Ok(())
+    let script = "chan 1 and 2 on 1: 1 leads with a channel 1.1 as 2.1 on 1
+chan 3 and 4 on 1: 3 sends a channel to 1.1 as 4.1
+settle 1 with 7: 1 settled 1.1 on 1 with 7 joiners=1
+poll 4: 4 got 1.1 on 1 with 7 joiners=1
+poll 2: 2 got 1.1 on 1 with 7 joiners=1
+";
+    play(&rt, rt.alloc(), 1, 4, 1, script)
+}
+
+#[test]
+fn own_and_later_channel(rt: HostRuntime) -> Result<(), Fail> {
+    let script = "chan 1 and 2 on 1: 1 leads with a channel 1.1 as 2.1 on 1
+chan 3 and 4 on 1: 3 sends a channel to 1.1 as 4.1
+forget 3 on 1: 3 forgot 1.1
+ask 3 on 1: 3 leads 3.1 on 1
+";
+    play(&rt, rt.alloc(), 1, 4, 1, script)
+}
+
+#[test]
+fn second_caller_spent(rt: HostRuntime) -> Result<(), Fail> {
+    let script = "ask 2 on 2: 2 leads 2.4294967295 on 2
+settle 2 with 7: 2 settled 2.4294967295 on 2 with 7 joiners=0
+chan 1 and 2 on 1: 1 is spent with 2
+ask 1 on 1: 1 leads 1.4294967295 on 1
+";
+    play(&rt, rt.alloc(), 2, 2, 4_294_967_295, script)
 }
