@@ -9,42 +9,49 @@ use std::test::Fail;
 use std::thread::Threads;
 use std::time::Clock;
 
-// What the words ask for, after the subcommand's name.
-fn line(alloc: Global, words: &[&str]) -> Result<Option<DriveLine>, AllocError> {
+// What the words ask for, of which the subcommand's name is the first.
+fn line(alloc: Global, words: &str) -> Result<Option<DriveLine>, AllocError> {
     let mut list = Vec::new(alloc);
-    list.push(String::from_str(alloc, "drive")?)?;
-    for word in words {
+    for word in words.split(' ') {
         list.push(String::from_str(alloc, word)?)?;
     }
     Ok(drive_line(alloc, list.as_slice()).ok())
 }
 
-fn check_line(
-    rt: &impl Abort,
-    alloc: Global,
-    words: &[&str],
-    wanted: Option<[u32; 3]>,
-) -> Result<(), AllocError> {
-    let is = match line(alloc, words)? {
-        Some(line) => Some([line.threads, line.keys, line.gets]),
-        None => None,
-    };
-    assert!(rt; is == wanted, "{} words", words.len());
+// What the words ask for: how many threads, keys and gets.
+fn asked(alloc: Global, words: &str) -> Result<String, Fail> {
+    Ok(match line(alloc, words)? {
+        Some(line) => {
+            let (threads, keys, gets) = (line.threads, line.keys, line.gets);
+            format!(in alloc; "{threads} {keys} {gets}")?
+        }
+        None => String::from_str(alloc, "refused")?,
+    })
+}
+
+fn check_line(rt: &impl Abort, alloc: Global, row: &str) -> Result<(), Fail> {
+    let (words, wanted) = row.split_once(": ").unwrap_or((row, ""));
+    let is = asked(alloc, words)?;
+    assert!(rt; is.as_str() == wanted, "{words}: {is}");
     Ok(())
 }
 
+/// Lines, and the threads, keys and gets that each asks for.
+const LINES: &str = "drive: 4 8 100
+drive --threads 64 --keys 1000 --gets 100000: 64 1000 100000
+drive --threads 65: refused
+drive --threads 0: refused
+drive --keys 1001: refused
+drive --gets 100001: refused
+drive --threads 2 --threads 2: refused
+drive --help: refused
+";
+
 #[test]
 fn drive_lines(rt: HostRuntime) -> Result<(), Fail> {
-    let alloc = rt.alloc();
-    check_line(&rt, alloc, &[], Some([4, 8, 100]))?;
-    let greatest = ["--threads", "64", "--keys", "1000", "--gets", "100000"];
-    check_line(&rt, alloc, &greatest, Some([64, 1000, 100_000]))?;
-    check_line(&rt, alloc, &["--threads", "65"], None)?;
-    check_line(&rt, alloc, &["--threads", "0"], None)?;
-    check_line(&rt, alloc, &["--keys", "1001"], None)?;
-    check_line(&rt, alloc, &["--gets", "100001"], None)?;
-    check_line(&rt, alloc, &["--threads", "2", "--threads", "2"], None)?;
-    check_line(&rt, alloc, &["--help"], None)?;
+    for row in LINES.lines() {
+        check_line(&rt, rt.alloc(), row)?;
+    }
     Ok(())
 }
 
@@ -52,7 +59,7 @@ fn drive_lines(rt: HostRuntime) -> Result<(), Fail> {
 fn check_drive<R: Abort + Wait + Threads + Clock + Eprint + Sync>(
     rt: &R,
     alloc: Global,
-    words: &[&str],
+    words: &str,
     wanted: &str,
 ) -> Result<(), Fail> {
     let Some(line) = line(alloc, words)? else {
@@ -70,31 +77,31 @@ fn check_drive<R: Abort + Wait + Threads + Clock + Eprint + Sync>(
 #[test]
 fn drive_prints_its_four_lines(rt: HostRuntime) -> Result<(), Fail> {
     let alloc = rt.alloc();
-    let one = ["--threads", "1", "--keys", "1", "--gets", "10"];
+    let one = "drive --threads 1 --keys 1 --gets 10";
     let lines = "gets 10\nanswers 10\ntotals equal\nhistory legal\n";
-    check_drive(&rt, alloc, &one, lines)?;
-    let four = ["--threads", "4", "--keys", "8", "--gets", "100"];
+    check_drive(&rt, alloc, one, lines)?;
+    let four = "drive --threads 4 --keys 8 --gets 100";
     let lines = "gets 400\nanswers 400\ntotals equal\nhistory legal\n";
-    check_drive(&rt, alloc, &four, lines)
+    check_drive(&rt, alloc, four, lines)
 }
 
 // The second get is a hit, which adds no event.
 #[test]
 fn drive_prints_its_history(rt: HostRuntime) -> Result<(), Fail> {
-    let words = ["--threads", "1", "--keys", "1", "--gets", "2", "--history"];
+    let words = "drive --threads 1 --keys 1 --gets 2 --history";
     let records = "{\"format\":3}
 {\"e\":\"lead\",\"by\":1,\"k\":\"1\",\"c\":[1,1],\"own\":null}
 {\"e\":\"settle\",\"by\":1,\"c\":[1,1],\"ok\":\"\",\"joiners\":0}
 {\"e\":\"handed\",\"by\":1,\"c\":[1,1]}
 ";
-    check_drive(&rt, rt.alloc(), &words, records)
+    check_drive(&rt, rt.alloc(), words, records)
 }
 
 // Two keys by turns, each loaded once; the tenth get is of the second one, and its reload clears its call. The first one has place 1
 // by the hash of its bytes.
 #[test]
 fn drive_of_one_thread_is_known(rt: HostRuntime) -> Result<(), Fail> {
-    let words = ["--threads", "1", "--keys", "2", "--gets", "10", "--history"];
+    let words = "drive --threads 1 --keys 2 --gets 10 --history";
     let records = "{\"format\":3}
 {\"e\":\"lead\",\"by\":1,\"k\":\"1\",\"c\":[1,1],\"own\":null}
 {\"e\":\"settle\",\"by\":1,\"c\":[1,1],\"ok\":\"\",\"joiners\":0}
@@ -104,15 +111,15 @@ fn drive_of_one_thread_is_known(rt: HostRuntime) -> Result<(), Fail> {
 {\"e\":\"handed\",\"by\":1,\"c\":[1,2]}
 {\"e\":\"forgetcall\",\"by\":1,\"k\":\"2\",\"c\":[1,2],\"hit\":\"cleared\"}
 ";
-    check_drive(&rt, rt.alloc(), &words, records)
+    check_drive(&rt, rt.alloc(), words, records)
 }
 
 // With as many keys as this the caches drop entries.
 #[test]
 fn drive_over_many_keys(rt: HostRuntime) -> Result<(), Fail> {
-    let many = ["--threads", "2", "--keys", "1000", "--gets", "300"];
+    let many = "drive --threads 2 --keys 1000 --gets 300";
     let lines = "gets 600\nanswers 600\ntotals equal\nhistory legal\n";
-    check_drive(&rt, rt.alloc(), &many, lines)
+    check_drive(&rt, rt.alloc(), many, lines)
 }
 
 #[test]

@@ -64,6 +64,15 @@ impl Flags {
         }
     }
 
+    /// The flag of this name.
+    pub fn named(&self, name: &str) -> &AtomicBool {
+        match name {
+            "loading" => &self.loading,
+            "answered" => &self.answered,
+            _ => &self.got,
+        }
+    }
+
     /// Looks at the flag until it is set, 1,000,000 times at most; a wait that is given up is noted.
     pub fn wait_for(&self, flag: &AtomicBool) {
         for _ in 0..1_000_000 {

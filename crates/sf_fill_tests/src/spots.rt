@@ -1,9 +1,35 @@
 //! Where keys have their places, by a directory and by a hash.
+ghost use Rattle.std.specs.Prelude.{◌≤◌};
+ghost use Rattle.sf_words.specs.declared.limits.TheConstants.{LARGEST_PLACE};
+ghost use Rattle.sf_spots.specs.Spaces.{IsDeskOf, places_in, space_of};
 
 use sf_dir::Refusal;
 use sf_keys::Places;
-use sf_spots::{KeyDesk, KeySpace, hash_desks, open_directory};
+use sf_spots::{KeyDesk, KeySpace, Spot, hash_desks, open_directory};
+use std::process::Abort;
 use std::test::Fail;
+
+// The spot's place, and whether it may be of the key.
+fn assert_spot(rt: &impl Abort, spot: &Spot<'_>, number: u32, key: &[u8], may_be: bool) {
+    let is = spot.number().number();
+    assert!(rt; is == number, "the place is {is}");
+    assert!(rt; spot.is_of(key) == may_be, "of another key: {may_be}");
+}
+
+fn assert_refused(
+    rt: &impl Abort,
+    space: &KeySpace<'_>,
+    desk: &mut KeyDesk,
+    key: &[u8],
+    due: Refusal,
+)
+    requires desk { IsDeskOf (space_of space.now) desk.old }
+    requires few { places_in (space_of space.now) ≤ LARGEST_PLACE }
+    ensures { IsDeskOf (space_of space.now) desk.new }
+{
+    let refusal = space.find(desk, key).err();
+    assert!(rt; refusal == Some(due), "a key of {} bytes", key.len());
+}
 
 // A place of a directory is one key's, so nothing is compared.
 #[test]
@@ -12,27 +38,18 @@ fn spots_of_a_directory(rt: HostRuntime) -> Result<(), Fail> {
     let (directory, mut desks) = open_directory(alloc, 1, 4, 1, 7, 11)?;
     let mut desk = desks.pop().ok_or("no desk")?;
     let space = KeySpace::Directory(&directory);
-    assert!(rt; space.place_count() == 1 && desks.is_empty(), "the sizes");
+    assert!(rt; space.place_count() == 1, "the places");
+    assert!(rt; desks.is_empty(), "the desks");
     let mut at = space.find(&mut desk, b"a").map_err(|_| "refused")?;
     let mut spot = at.spot(alloc, b"a")?;
     let again = spot.again()?;
-    assert!(rt;
-        at.number().number() == 1 && spot.number().number() == 1,
-        "the place"
-    );
-    assert!(rt; again.number().number() == 1, "another one's place");
-    assert!(rt;
-        spot.is_of(b"a") && spot.is_of(b"b"),
-        "it may be of each key of its place"
-    );
+    assert!(rt; at.number().number() == 1, "the place");
+    assert_spot(&rt, &spot, 1, b"a", true);
+    assert_spot(&rt, &spot, 1, b"b", true);
+    assert_spot(&rt, &again, 1, b"a", true);
     spot.agree(&mut at, b"a");
-    let full = space.find(&mut desk, b"b").err();
-    assert!(rt; matches!(full, Some(Refusal::Full)), "another key has room");
-    let long = space.find(&mut desk, b"12345").err();
-    assert!(rt;
-        matches!(long, Some(Refusal::KeyTooLong)),
-        "a long key has room"
-    );
+    assert_refused(&rt, &space, &mut desk, b"b", Refusal::Full);
+    assert_refused(&rt, &space, &mut desk, b"12345", Refusal::KeyTooLong);
     Ok(())
 }
 
@@ -57,14 +74,9 @@ fn spots_by_a_hash(rt: HostRuntime) -> Result<(), Fail> {
     let again = spot.again()?;
     let number = places.of(key);
     assert!(rt; at.number().number() == number, "the place");
-    assert!(rt;
-        spot.number().number() == number && again.number().number() == number,
-        "a spot's"
-    );
-    assert!(rt;
-        spot.is_of(key) && again.is_of(key) && !spot.is_of(b"b"),
-        "another key"
-    );
+    assert_spot(&rt, &spot, number, key, true);
+    assert_spot(&rt, &again, number, key, true);
+    assert_spot(&rt, &spot, number, b"b", false);
     spot.agree(&mut at, key);
     Ok(())
 }

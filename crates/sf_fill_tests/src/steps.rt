@@ -8,56 +8,110 @@ use sf_fill::{Fill, Forgot, Getter, LoadFault, Naming, Put, View, Which};
 use sf_group::Event;
 use sf_loaders::{LoadPath, Origin};
 use sf_words::PlaceNo;
-use std::alloc::Global;
 use std::fmt::Write;
 use std::sync::Wait;
 use std::sync::atomic::Ordering;
 use std::thread::yield_now;
 
-/// One step of a getter.
+/// What a getter does in a step.
 #[derive(Clone, Copy)]
-pub enum Step {
+pub enum Verb {
     /// Gets the key.
-    Get(&'static str),
+    Get,
     /// Gets the key if a letter of it is at hand.
-    GetPresent(&'static str),
+    GetPresent,
     /// Gets the key's bytes alone if a letter of it is at hand.
-    BytesPresent(&'static str),
+    GetBytes,
     /// Gets the key, and says the key of what is answered.
-    GetKey(&'static str),
+    GetKey,
+    /// Gets a key so often, as `3 a`, and says nothing.
+    Repeat,
     /// Reloads the key.
-    Reload(&'static str),
-    /// Puts the value under the key.
-    Put(&'static str, &'static str),
+    Reload,
+    /// Puts the value `w` under the key.
+    Put,
     /// Takes the key out of the caches.
-    Remove(&'static str),
+    Remove,
     /// Forgets all places.
     ForgetAll,
-    /// Gets the key so often, and says nothing.
-    Repeat(&'static str, u32),
-    /// Says what the caches hold.
+    /// Says what the caches hold, main before hot.
     Stats,
     /// Settles up.
     SettleUp,
     /// Hands out its log.
     TakeLog,
-    /// Waits until the other loads.
-    AwaitLoad,
-    /// Tells the other that it was answered.
-    TellAnswered,
-    /// Tells the other that it was answered first.
-    TellGot,
-    /// Waits until the other was answered first.
-    AwaitGot,
-    /// Gets the keys `a` and `b` in turn, so often, and says how many of its answers were old: of a version before one whose
+    /// Waits until another getter has told this.
+    Await,
+    /// Tells the others this.
+    Tell,
+    /// Gets the keys `a` and `b` in turn, often, and says how many of its answers were old: of a version before one whose
     /// reload had returned when the get began.
-    Read(u32),
-    /// Changes the sources of `a` and `b` in turn, so often, and reloads the key each time.
-    Change(u8),
+    Read,
+    /// Changes the sources of `a` and `b` in turn, often, and reloads the key each time.
+    Change,
+    /// There is no such step.
+    Unknown,
+}
+
+/// A step of a getter.
+#[derive(Clone, Copy)]
+pub struct Step<'t> {
+    pub does: Verb,
+    /// The key that it is about, or what else stands after its verb.
+    pub key: &'t str,
 }
 
 /// The keys whose sources change.
 const KEYS: [&str; 2] = ["a", "b"];
+
+/// How often a getter reads them, each.
+const READS: u32 = 1_000;
+
+/// How often their sources change, each.
+const CHANGES: u8 = 250;
+
+fn verb_of(word: &str) -> Verb {
+    match word {
+        "get" => Verb::Get,
+        "get-present" => Verb::GetPresent,
+        "get-bytes" => Verb::GetBytes,
+        "get-key" => Verb::GetKey,
+        "repeat" => Verb::Repeat,
+        "reload" => Verb::Reload,
+        "put" => Verb::Put,
+        "remove" => Verb::Remove,
+        "forget-all" => Verb::ForgetAll,
+        "stats" => Verb::Stats,
+        "settle-up" => Verb::SettleUp,
+        "take-log" => Verb::TakeLog,
+        "await" => Verb::Await,
+        "tell" => Verb::Tell,
+        "read" => Verb::Read,
+        "change" => Verb::Change,
+        _ => Verb::Unknown,
+    }
+}
+
+/// The script of a getter of this number, and what getters tell each other.
+#[derive(Clone, Copy)]
+pub struct Steps<'t> {
+    pub number: &'t str,
+    pub script: &'t str,
+    pub flags: &'t Flags,
+}
+
+// The step of a script's line, if it is one of this getter.
+fn step_of<'t>(line: &'t str, getter: &str) -> Option<Step<'t>> {
+    let (number, step) = line.split_once(' ')?;
+    if number != getter {
+        return None;
+    }
+    let (verb, key) = step.split_once(' ').unwrap_or((step, ""));
+    Some(Step {
+        does: verb_of(verb),
+        key,
+    })
+}
 
 // What a get answers: the bytes, the call and how many joined it. Where memory is refused, the text is short.
 fn say_view<'d, D: Naming, O: Origin>(
@@ -130,18 +184,17 @@ fn get_key<'d, D: Naming, N: Naming, O: Origin, L: LoadPath<Origin = O>>(
     getter
 }
 
-// Puts the value, and says what that came to, with the bytes of its view.
+// Puts `w`, and says what that came to, with the bytes of its view.
 fn put<'d, D: Naming, N: Naming, O: Origin, L: LoadPath<Origin = O>>(
     rt: &impl Wait,
     fill: &Fill<'d, D, N, O>,
     getter: Getter<'d, D, N, O, L>,
     key: &str,
-    value: &'static str,
     said: &mut String,
 ) -> Getter<'d, D, N, O, L>
     requires { IsOpenOrigin O.loaded }
 {
-    let (getter, answer) = fill.put(rt, getter, key.as_bytes(), Bytes::from(value));
+    let (getter, answer) = fill.put(rt, getter, key.as_bytes(), Bytes::from("w"));
     let _ = match answer {
         Ok(Put::Settled(view)) => {
             let call = view.call();
@@ -160,20 +213,20 @@ fn put<'d, D: Naming, N: Naming, O: Origin, L: LoadPath<Origin = O>>(
     getter
 }
 
-// What both caches hold.
+// What a cache holds.
 fn say_stats<'d, D: Naming, N: Naming, O: Origin>(
     rt: &impl Wait,
-    said: &mut String,
     fill: &Fill<'d, D, N, O>,
+    which: Which,
+    name: &str,
+    said: &mut String,
 ) {
-    for which in [Which::Main, Which::Hot] {
-        let stats = fill.cache_stats(rt, which);
-        let (bytes, items, evictions) = (stats.bytes, stats.items, stats.evictions);
-        let _ = write!(
-            said,
-            "{bytes} bytes, {items} items, {evictions} evictions\n"
-        );
-    }
+    let stats = fill.cache_stats(rt, which);
+    let (bytes, items, evictions) = (stats.bytes, stats.items, stats.evictions);
+    let _ = write!(
+        said,
+        "{name} {bytes} bytes, {items} items, {evictions} evictions\n"
+    );
 }
 
 // Reloads the key, and says what that forgot.
@@ -224,19 +277,19 @@ fn settle_up<'d, D: Naming, N: Naming, O: Origin, L>(
 fn say_events(said: &mut String, log: &[Event<PlaceNo, ()>]) {
     for event in log {
         let _ = match event {
-            Event::Lead { by, call, .. } => write!(said, "lead {by} {call}; "),
-            Event::Enter { by, member, .. } => write!(said, "enter {by} {member}; "),
-            Event::Forget { by, .. } => write!(said, "forget {by}; "),
+            Event::Lead { by, call, .. } => write!(said, "lead {by} {call}\n"),
+            Event::Enter { by, member, .. } => write!(said, "enter {by} {member}\n"),
+            Event::Forget { by, .. } => write!(said, "forget {by}\n"),
             Event::ForgetCall { by, call, hit, .. } => {
-                write!(said, "forgetcall {by} {call} {hit}; ")
+                write!(said, "forgetcall {by} {call} {hit}\n")
             }
             Event::Settle {
                 by,
                 call,
                 joiners,
                 ..
-            } => write!(said, "settle {by} {call} {joiners}; "),
-            Event::Handed { by, call } => write!(said, "handed {by} {call}; "),
+            } => write!(said, "settle {by} {call} {joiners}\n"),
+            Event::Handed { by, call } => write!(said, "handed {by} {call}\n"),
         };
     }
     let _ = said.push_str("log\n");
@@ -286,18 +339,17 @@ fn get_bytes<'d, D: Naming, N: Naming, O: Origin, L: LoadPath<Origin = O>>(
     (getter, bytes_of(answer))
 }
 
-// Gets so often, and says how many answers were old.
+// Gets often, and says how many answers were old.
 fn read<'d, D: Naming, N: Naming, O: Origin, L: LoadPath<Origin = O>>(
     rt: &impl Wait,
     fill: &Fill<'d, D, N, O>,
     getter: Getter<'d, D, N, O, L>,
     flags: &Flags,
-    gets: u32,
     said: &mut String,
 ) -> Getter<'d, D, N, O, L> {
     let mut getter = getter;
     let mut old = 0_u64;
-    for _ in 0..gets {
+    for _ in 0..READS {
         for key in KEYS {
             let version = flags
                 .versions(key.as_bytes())
@@ -314,16 +366,15 @@ fn read<'d, D: Naming, N: Naming, O: Origin, L: LoadPath<Origin = O>>(
     getter
 }
 
-// Changes the sources so often, and reloads.
+// Changes the sources often, and reloads.
 fn change<'d, D: Naming, N: Naming, O: Origin, L>(
     rt: &impl Wait,
     fill: &Fill<'d, D, N, O>,
     getter: Getter<'d, D, N, O, L>,
     flags: &Flags,
-    changes: u8,
 ) -> Getter<'d, D, N, O, L> {
     let mut getter = getter;
-    for version in 0..changes {
+    for version in 0..CHANGES {
         for key in KEYS {
             let versions = flags.versions(key.as_bytes());
             versions.source.store(version, Ordering::SeqCst);
@@ -351,14 +402,20 @@ fn get<'d, D: Naming, N: Naming, O: Origin, L: LoadPath<Origin = O>>(
     getter
 }
 
+// How often a key is to be got, and which one.
+fn times(key: &str) -> (u32, &str) {
+    let (gets, key) = key.split_once(' ').unwrap_or(("0", key));
+    (gets.parse::<u32>().unwrap_or(0), key)
+}
+
 // Gets the key so often, and says nothing.
 fn repeat<'d, D: Naming, N: Naming, O: Origin, L: LoadPath<Origin = O>>(
     rt: &impl Wait,
     fill: &Fill<'d, D, N, O>,
     getter: Getter<'d, D, N, O, L>,
     key: &str,
-    gets: u32,
 ) -> Getter<'d, D, N, O, L> {
+    let (gets, key) = times(key);
     let mut getter = getter;
     for _ in 0..gets {
         let (back, _answer) = fill.get(rt, getter, key.as_bytes());
@@ -379,44 +436,66 @@ fn remove<'d, D: Naming, N: Naming, O: Origin, L>(
     let _ = write!(said, "remove {key} {removed}\n");
 }
 
+// What the getter does and says in a step that leaves it free.
+fn look<'d, D: Naming, N: Naming, O: Origin, L: LoadPath<Origin = O>>(
+    rt: &impl Wait,
+    fill: &Fill<'d, D, N, O>,
+    getter: &mut Getter<'d, D, N, O, L>,
+    step: Step<'_>,
+    flags: &Flags,
+    said: &mut String,
+) {
+    let key = step.key;
+    match step.does {
+        Verb::GetPresent => {
+            let answer = fill.get_if_present(rt, getter, key.as_bytes());
+            say_present(said, key, answer);
+        }
+        Verb::GetBytes => {
+            let answer = fill.get_bytes_if_present(rt, getter, key.as_bytes());
+            say_bytes(said, key, answer);
+        }
+        Verb::Remove => remove(rt, fill, getter, key, said),
+        Verb::Stats => {
+            say_stats(rt, fill, Which::Main, "main", said);
+            say_stats(rt, fill, Which::Hot, "hot", said);
+        }
+        Verb::TakeLog => say_events(said, getter.take_log().as_slice()),
+        Verb::Await => flags.wait_for(flags.named(key)),
+        Verb::Tell => flags.named(key).store(true, Ordering::SeqCst),
+        _ => {
+            let _ = said.push_str("no such step\n");
+        }
+    }
+}
+
 // The getter once its step is made, and says what comes of it.
 fn make<'d, D: Naming, N: Naming, O: Origin, L: LoadPath<Origin = O>>(
     rt: &impl Wait,
     fill: &Fill<'d, D, N, O>,
     mut getter: Getter<'d, D, N, O, L>,
-    step: Step,
+    step: Step<'_>,
     flags: &Flags,
     said: &mut String,
 ) -> Getter<'d, D, N, O, L>
     requires { IsOpenOrigin O.loaded }
 {
-    match step {
-        Step::Get(key) => return get(rt, fill, getter, key, said),
-        Step::GetPresent(key) => {
-            let answer = fill.get_if_present(rt, &mut getter, key.as_bytes());
-            say_present(said, key, answer);
+    let key = step.key;
+    match step.does {
+        Verb::Get => get(rt, fill, getter, key, said),
+        Verb::GetKey => get_key(rt, fill, getter, key, said),
+        Verb::Repeat => repeat(rt, fill, getter, key),
+        Verb::Reload => reload(rt, fill, getter, key, said),
+        Verb::Put => put(rt, fill, getter, key, said),
+        Verb::ForgetAll => forget_all(rt, fill, getter, said),
+        Verb::SettleUp => settle_up(fill, getter, said),
+        Verb::Read => read(rt, fill, getter, flags, said),
+        Verb::Change => change(rt, fill, getter, flags),
+        _ => {
+            look(rt, fill, &mut getter, step, flags, said);
+            getter
         }
-        Step::BytesPresent(key) => {
-            let answer = fill.get_bytes_if_present(rt, &mut getter, key.as_bytes());
-            say_bytes(said, key, answer);
-        }
-        Step::GetKey(key) => return get_key(rt, fill, getter, key, said),
-        Step::Reload(key) => return reload(rt, fill, getter, key, said),
-        Step::Put(key, value) => return put(rt, fill, getter, key, value, said),
-        Step::Remove(key) => remove(rt, fill, &mut getter, key, said),
-        Step::ForgetAll => return forget_all(rt, fill, getter, said),
-        Step::Repeat(key, gets) => return repeat(rt, fill, getter, key, gets),
-        Step::Stats => say_stats(rt, said, fill),
-        Step::SettleUp => return settle_up(fill, getter, said),
-        Step::TakeLog => say_events(said, getter.take_log().as_slice()),
-        Step::AwaitLoad => flags.wait_for(&flags.loading),
-        Step::TellAnswered => flags.answered.store(true, Ordering::SeqCst),
-        Step::TellGot => flags.got.store(true, Ordering::SeqCst),
-        Step::AwaitGot => flags.wait_for(&flags.got),
-        Step::Read(gets) => return read(rt, fill, getter, flags, gets, said),
-        Step::Change(versions) => return change(rt, fill, getter, flags, versions),
     }
-    getter
 }
 
 /// The getter when its steps are made, and what it says of them.
@@ -424,16 +503,16 @@ pub fn run<'d, D: Naming, N: Naming, O: Origin, L: LoadPath<Origin = O>>(
     rt: &impl Wait,
     fill: &Fill<'d, D, N, O>,
     getter: Getter<'d, D, N, O, L>,
-    steps: &[Step],
-    flags: &Flags,
-    alloc: Global,
-) -> (Getter<'d, D, N, O, L>, String)
+    steps: Steps<'_>,
+    said: &mut String,
+) -> Getter<'d, D, N, O, L>
     requires { IsOpenOrigin O.loaded }
 {
     let mut getter = getter;
-    let mut said = String::new(alloc);
-    for step in steps {
-        getter = make(rt, fill, getter, *step, flags, &mut said);
+    for line in steps.script.lines() {
+        if let Some(step) = step_of(line, steps.number) {
+            getter = make(rt, fill, getter, step, steps.flags, said);
+        }
     }
-    (getter, said)
+    getter
 }

@@ -1,9 +1,43 @@
-//! A fill with two getters, from nothing.
-ghost use Rattle.std.specs.Prelude.{◌≡◌, ◌<◌, ◌≤◌, vec_len};
+//! Trials: a fill with three getters, made from a script, and what comes of it.
+//!
+//! A trial is a text of a script, a line `=` and what comes of the script. A line of the script begins with the number of a getter
+//! that makes the step, or it says something of the fill:
+//!
+//!     limit 2
+//!     1 get a
+//!     1 take-log
+//!     =
+//!     1 a v=true 1.1 root=1.1 joiners=0
+//!     1 lead 1 1.1
+//!     1 settle 1 1.1 0
+//!     1 handed 1 1.1
+//!     1 log
+//!     counted 1 0 1 1 0 0 1 0
+//!
+//! First comes what the getters say, all of the first getter's before the second's. Then the counters stand in their order: gets,
+//! cache hits, loads, loads deduped, peer loads, peer errors, local loads, local load errors.
+//!
+//! Of the fill a script may say:
+//!
+//!     places 8          how many places keys have
+//!     keys hashed       a hash says them, and no directory gives them
+//!     longest 4         the longest key of a directory, in bytes
+//!     limit 100         how many bytes of keys and values main and hot keep
+//!     near 0            how many letters each getter keeps near, within 100 bytes
+//!     log 64            how many events each getter can log
+//!     peer value        a peer gives the value `v`, or a `fault`; else there is no peer
+//!     local value       the local getter gives the value `v`, a `fault`, or the `version` of the key's source
+//!     getters beside    each getter makes its steps on a thread of its own, and not one getter after another
+//!     getters end       the getters end one by one, and are not gathered
+//!
+//! These numbers hold, and `local value`, where the script says nothing.
+ghost use Rattle.std.specs.Prelude.{◌≡◌, ◌<◌, ◌≤◌, IfOk, vec_len};
+ghost use Rattle.sf_words.specs.declared.limits.TheConstants.{LARGEST_PLACE};
+ghost use Rattle.sf_door.specs.Opened.{places_for};
 ghost use Rattle.sf_fill_tests.specs.Origins.{IsOpenOrigin};
 
 use crate::loaders::{Flags, TestLoaders, TestLocal};
-use crate::steps::{Step, run};
+use crate::steps::{Steps, run};
 use bytes::{ByteStr, Bytes};
 use sf_door::{DirectoryKeys, FillSizes, Keys, Places, Sizes, Team, with_team};
 use sf_fill::{Fill, Getter, Naming, Totals};
@@ -11,119 +45,177 @@ use sf_group::Memory;
 use sf_loaders::scripted::{Answer, FixedPicker, RoundChance, Script};
 use sf_loaders::{LoadPath, Loaders, Origin};
 use std::alloc::Global;
+use std::fmt::Write;
+use std::process::Abort;
 use std::sync::Wait;
 use std::sync::atomic::Ordering;
+use std::test::Fail;
 use std::thread::Threads;
-
-/// What a loader answers where there is one.
-#[derive(Clone, Copy)]
-pub enum Gives {
-    Absent,
-    Fault,
-    Value,
-    /// The version of the key's source, of a local getter.
-    Version,
-}
-
-/// A fill of as many places, and what its three getters do.
-#[derive(Clone, Copy)]
-pub struct Setting {
-    pub places: u32,
-    /// Whether keys have their places by a hash.
-    pub open: bool,
-    pub limit: i64,
-    /// How many letters each getter keeps near, within 100 bytes.
-    pub near: u32,
-    /// How many events each getter can log.
-    pub log: usize,
-    pub peer: Gives,
-    pub local: Gives,
-    /// The longest key, in bytes.
-    pub key_bytes: u32,
-    /// The first getter's steps, and then, or beside them, the second's and the third's.
-    pub steps: [&'static [Step]; 3],
-    pub beside: bool,
-    /// Whether the getters are ended, and not gathered.
-    pub ends: bool,
-}
 
 /// What the getters said, and what was counted.
 #[derive(Drop)]
 pub struct Outcome {
-    pub said: [String; 3],
+    pub said: String,
     pub book: Totals,
     pub gathered: Totals,
-    pub failed: bool,
 }
 
-/// What the getters of a setting do.
+// What the script says of the fill under this name, if it does.
+fn setting<'t>(script: &'t str, name: &str) -> Option<&'t str> {
+    for line in script.lines() {
+        if let Some((first, value)) = line.split_once(' ') {
+            if first == name {
+                return Some(value);
+            }
+        }
+    }
+    None
+}
+
+// Whether the script says this of the fill.
+fn says(script: &str, name: &str, value: &str) -> bool {
+    match setting(script, name) {
+        Some(said) => said == value,
+        None => false,
+    }
+}
+
+// The number that the script says under this name, of 250 at most.
+fn number(rt: &impl Abort, script: &str, name: &str, otherwise: u32) -> u32
+    ensures { result ≤ 250 }
+{
+    let number = match setting(script, name) {
+        Some(value) => value.parse::<u32>().unwrap_or(u32::MAX),
+        None => otherwise,
+    };
+    assert!(rt; number <= 250, "no number of {name}");
+    number
+}
+
+// How many bytes of keys and values main and hot keep.
+fn limit(rt: &impl Abort, script: &str) -> i64 {
+    let Some(value) = setting(script, "limit") else {
+        return 100;
+    };
+    let Ok(limit) = value.parse::<i64>() else {
+        panic!(rt; "no limit")
+    };
+    limit
+}
+
+// Where keys have their places.
+fn keys(rt: &impl Abort, script: &str) -> Keys
+    ensures { places_for result ≤ LARGEST_PLACE }
+{
+    let count = number(rt, script, "places", 8);
+    let key_bytes = number(rt, script, "longest", 4);
+    assert!(rt; count > 0, "no places");
+    if says(script, "keys", "hashed") {
+        return Keys::Hashed(Places {
+            count,
+            seed0: 0,
+            seed1: 0,
+        });
+    }
+    Keys::Directory(DirectoryKeys {
+        keys: count,
+        key_bytes,
+        seed0: 0,
+        seed1: 0,
+    })
+}
+
+// Each line after the getter's number.
+fn numbered(alloc: Global, number: &str, part: String) -> String {
+    let mut said = String::new(alloc);
+    for line in part.as_str().lines() {
+        let _ = write!(&mut said, "{number} {line}\n");
+    }
+    said
+}
+
+// The parts, one after another.
+fn joined(alloc: Global, parts: Vec<String>) -> String {
+    let mut said = String::new(alloc);
+    for part in parts {
+        let _ = said.push_str(part.as_str());
+    }
+    said
+}
+
+// What getters do by a script.
 #[derive(Drop)]
 struct Play<'a, R> {
     rt: &'a R,
     alloc: Global,
-    setting: Setting,
+    script: &'a str,
     flags: &'a Flags,
+    log: usize,
 }
 
 impl<'a, R: Wait> Play<'a, R> {
-    // What the getter of this index does, and says; then all that it counted is in the book.
+    // Whether the getters make their steps beside each other, and not one getter after another.
+    fn is_beside(&self) -> bool {
+        says(self.script, "getters", "beside")
+    }
+
+    // What the getter of this number does, and says; then all that it counted is in the book.
     fn turns<'d, D: Naming, N: Naming, O: Origin, L: LoadPath<Origin = O> + Drop>(
         &self,
         fill: &Fill<'d, D, N, O>,
         getter: Getter<'d, D, N, O, L>,
-        index: u32,
+        number: &str,
     ) -> (Getter<'d, D, N, O, L>, String)
         requires { IsOpenOrigin O.loaded }
     {
-        let [first, second, third] = self.setting.steps;
-        let steps = match index {
-            0 => first,
-            1 => second,
-            _ => third,
+        let mut part = String::new(self.alloc);
+        let steps = Steps {
+            number,
+            script: self.script,
+            flags: self.flags,
         };
-        let (mut getter, said) = run(self.rt, fill, getter, steps, self.flags, self.alloc);
+        let mut getter = run(self.rt, fill, getter, steps, &mut part);
         getter.enter(self.rt, fill);
-        (getter, said)
+        (getter, numbered(self.alloc, number, part))
     }
 
-    // The getters after the turns of all, and what they said: those that had none beside each other have them here, one getter
-    // after another.
+    // The getters after the turns of the first of them, which is the last one then.
+    fn next_turns<'d, D: Naming, N: Naming, O: Origin, L: LoadPath<Origin = O> + Drop>(
+        &self,
+        fill: &Fill<'d, D, N, O>,
+        getters: Vec<Getter<'d, D, N, O, L>>,
+        number: &str,
+        said: &mut String,
+    ) -> Vec<Getter<'d, D, N, O, L>>
+        requires origin { IsOpenOrigin O.loaded }
+        requires getters { vec_len getters ≡ 3 }
+        ensures { vec_len result ≡ 3 }
+    {
+        let mut getters = getters;
+        let getter = getters.remove(0);
+        let (getter, part) = self.turns(fill, getter, number);
+        getters.push_reserved(getter);
+        let _ = said.push_str(part.as_str());
+        getters
+    }
+
+    // The getters after the turns of all: those that had none beside each other have them here.
     fn all_turns<'d, D: Naming, N: Naming, O: Origin, L: LoadPath<Origin = O> + Drop>(
         &self,
         fill: &Fill<'d, D, N, O>,
         getters: Vec<Getter<'d, D, N, O, L>>,
-        parts: Vec<String>,
-    ) -> (Vec<Getter<'d, D, N, O, L>>, [String; 3])
+        said: &mut String,
+    ) -> Vec<Getter<'d, D, N, O, L>>
         requires origin { IsOpenOrigin O.loaded }
         requires getters { vec_len getters ≡ 3 }
-        requires parts { vec_len parts ≡ 3 }
-        ensures { vec_len result.0 ≡ 3 }
+        ensures { vec_len result ≡ 3 }
     {
-        let mut parts = parts;
-        let (Some(third), Some(second), Some(first)) = (parts.pop(), parts.pop(), parts.pop())
-        else {
-            unreachable!()
-        };
-        if self.setting.beside {
-            return (getters, [first, second, third]);
+        if self.is_beside() {
+            return getters;
         }
-        let mut getters = getters;
-        let Some(three) = getters.pop() else {
-            unreachable!()
-        };
-        let Some(two) = getters.pop() else {
-            unreachable!()
-        };
-        let Some(one) = getters.pop() else {
-            unreachable!()
-        };
-        let (one, first) = self.turns(fill, one, 0);
-        let (two, second) = self.turns(fill, two, 1);
-        let (three, third) = self.turns(fill, three, 2);
-        getters.push_reserved(one);
-        getters.push_reserved(two);
-        getters.push_reserved(three);
-        (getters, [first, second, third])
+        let getters = self.next_turns(fill, getters, "1", said);
+        let getters = self.next_turns(fill, getters, "2", said);
+        self.next_turns(fill, getters, "3", said)
     }
 
     // What the book says once the getters are spent: they end one by one, or are gathered.
@@ -135,7 +227,7 @@ impl<'a, R: Wait> Play<'a, R> {
         requires all { vec_len getters ≡ N.getters }
         requires some { 0 < vec_len getters }
     {
-        if !self.setting.ends {
+        if !says(self.script, "getters", "end") {
             return fill.gather(self.rt, getters);
         }
         let mut getters = getters;
@@ -157,7 +249,7 @@ impl<'a, R: Wait> Team for Play<'a, R> {
 
     ghost wants = { λ play getters loaded. (getters ≡ 3) × IsOpenOrigin loaded };
 
-    ghost room = { λ play. play.setting.log };
+    ghost room = { λ play. play.log };
 
     ghost gives = { λ play space group index getter part. ⊤ };
 
@@ -171,8 +263,8 @@ impl<'a, R: Wait> Team for Play<'a, R> {
     ) -> (Getter<'d, D, N, O, L>, String)
         requires wants { (N.getters ≡ 3) × IsOpenOrigin O.loaded }
     {
-        if self.setting.beside {
-            self.turns(fill, getter, index)
+        if self.is_beside() {
+            self.turns(fill, getter, number_of(index))
         } else {
             (getter, String::new(self.alloc))
         }
@@ -188,106 +280,205 @@ impl<'a, R: Wait> Team for Play<'a, R> {
         requires getters { vec_len getters ≡ N.getters }
         requires parts { vec_len parts ≡ N.getters }
     {
-        let (getters, said) = self.all_turns(fill, getters, parts);
+        let mut said = joined(self.alloc, parts);
+        let getters = self.all_turns(fill, getters, &mut said);
         let book = fill.book(self.rt);
         let gathered = self.spent(fill, getters);
         Outcome {
             said,
             book,
             gathered,
-            failed: false,
         }
     }
 }
 
-fn answers(alloc: Global, gives: Gives) -> Result<Script, Memory> {
-    let answer = match gives {
-        Gives::Value => Answer::Value(Bytes::from("v")),
-        Gives::Fault | Gives::Absent | Gives::Version => Answer::Failed(ByteStr::from("down")),
+// The number that the script has for the getter of this index.
+fn number_of(index: u32) -> &'static str {
+    match index {
+        0 => "1",
+        1 => "2",
+        _ => "3",
+    }
+}
+
+// The answers of a loader that gives a value, and else a fault.
+fn answers(alloc: Global, gives: &str) -> Result<Script, Memory> {
+    let answer = if gives == "value" {
+        Answer::Value(Bytes::from("v"))
+    } else {
+        Answer::Failed(ByteStr::from("down"))
     };
     Ok(Script::new(vec![in alloc; answer]?))
 }
 
+// The local getter that the script asks for; it waits until the second getter was answered, or not.
+fn local<'f>(
+    alloc: Global,
+    script: &str,
+    flags: &'f Flags,
+    waits: bool,
+) -> Result<TestLocal<'f>, Memory> {
+    let gives = setting(script, "local").unwrap_or("value");
+    if gives == "version" {
+        return Ok(TestLocal::Reads(alloc, flags));
+    }
+    let answers = answers(alloc, gives)?;
+    Ok(if waits {
+        TestLocal::Waits(answers, flags)
+    } else {
+        TestLocal::Plays(answers)
+    })
+}
+
 fn loaders<'f>(
     alloc: Global,
-    setting: Setting,
+    script: &str,
     flags: &'f Flags,
     waits: bool,
 ) -> Result<TestLoaders<'f>, Memory> {
-    let picked = match setting.peer {
-        Gives::Absent | Gives::Version => None,
-        Gives::Fault | Gives::Value => Some(0),
-    };
-    let script = answers(alloc, setting.local)?;
-    let local = match setting.local {
-        Gives::Version => TestLocal::Reads(alloc, flags),
-        _ if waits => TestLocal::Waits(script, flags),
-        _ => TestLocal::Plays(script),
-    };
+    let peer = setting(script, "peer").unwrap_or("absent");
+    let picked = if peer == "absent" { None } else { Some(0) };
     Ok(Loaders::new(
         FixedPicker::new(picked),
-        answers(alloc, setting.peer)?,
-        local,
+        answers(alloc, peer)?,
+        local(alloc, script, flags, waits)?,
         RoundChance::default(),
     ))
 }
 
-// What comes of the setting, but for waits that were given up.
-fn play_out<R: Wait + Threads + Sync>(
-    rt: &R,
+// The loaders of the three getters, of which the first one waits where they are beside each other.
+fn all_loaders<'f>(
     alloc: Global,
-    setting: Setting,
-    flags: &Flags,
-) -> Result<Outcome, Memory>
-    requires { (1 ≤ setting.places) × (setting.places ≤ 8) × (setting.key_bytes ≤ 250) }
+    script: &str,
+    flags: &'f Flags,
+    waits: bool,
+) -> Result<Vec<TestLoaders<'f>>, Memory>
+    ensures { IfOk result (λ sets. vec_len sets ≡ 3) }
 {
-    let keys = if setting.open {
-        Keys::Hashed(Places {
-            count: setting.places,
-            seed0: 0,
-            seed1: 0,
-        })
-    } else {
-        Keys::Directory(DirectoryKeys {
-            keys: setting.places,
-            key_bytes: setting.key_bytes,
-            seed0: 0,
-            seed1: 0,
-        })
-    };
-    let sizes = FillSizes {
-        keys,
+    let mut sets = Vec::with_capacity(alloc, 3)?;
+    sets.push_reserved(loaders(alloc, script, flags, waits)?);
+    sets.push_reserved(loaders(alloc, script, flags, false)?);
+    sets.push_reserved(loaders(alloc, script, flags, false)?);
+    Ok(sets)
+}
+
+// How large the fill is.
+fn sizes_of(rt: &impl Abort, script: &str) -> FillSizes
+    ensures { places_for result.keys ≤ LARGEST_PLACE }
+{
+    FillSizes {
+        keys: keys(rt, script),
         keeps: Sizes {
-            limit: setting.limit,
-            log: setting.log,
-            near: setting.near,
+            limit: limit(rt, script),
+            log: number(rt, script, "log", 64) as usize,
+            near: number(rt, script, "near", 0),
             near_limit: 100,
         },
         first_generation: 1,
-    };
-    let mut sets = Vec::with_capacity(alloc, 3)?;
-    sets.push_reserved(loaders(alloc, setting, flags, setting.beside)?);
-    sets.push_reserved(loaders(alloc, setting, flags, false)?);
-    sets.push_reserved(loaders(alloc, setting, flags, false)?);
+    }
+}
+
+// What comes of the script, but for waits that were given up.
+fn play_out<R: Wait + Threads + Abort + Sync>(
+    rt: &R,
+    alloc: Global,
+    script: &str,
+    flags: &Flags,
+) -> Result<Outcome, Memory> {
+    let sizes = sizes_of(rt, script);
     let play = Play {
         rt,
         alloc,
-        setting,
+        script,
         flags,
+        log: sizes.keeps.log,
     };
+    let sets = all_loaders(alloc, script, flags, play.is_beside())?;
     with_team(rt, alloc, sizes, sets, &play)
 }
 
-/// What comes of the setting.
-pub fn try_out<R: Wait + Threads + Sync>(
+/// What comes of the script.
+pub fn try_out<R: Wait + Threads + Abort + Sync>(
     rt: &R,
     alloc: Global,
-    setting: Setting,
-) -> Result<Outcome, Memory>
-    requires { (1 ≤ setting.places) × (setting.places ≤ 8) × (setting.key_bytes ≤ 250) }
-{
+    script: &str,
+) -> Result<Outcome, Memory> {
+    check_words(rt, script);
     let flags = Flags::new();
-    let mut outcome = play_out(rt, alloc, setting, &flags)?;
-    outcome.failed = flags.failed.load(Ordering::SeqCst);
+    let outcome = play_out(rt, alloc, script, &flags)?;
+    assert!(rt; !flags.failed.load(Ordering::SeqCst), "a wait was given up");
     Ok(outcome)
+}
+
+// The counters in their order.
+fn counters(totals: Totals) -> [u128; 8] {
+    [
+        totals.gets,
+        totals.cache_hits,
+        totals.loads,
+        totals.loads_deduped,
+        totals.peer_loads,
+        totals.peer_errors,
+        totals.local_loads,
+        totals.local_load_errors,
+    ]
+}
+
+fn add_counters(said: &mut String, totals: Totals) {
+    let _ = said.push_str("counted");
+    for count in counters(totals) {
+        let _ = write!(said, " {count}");
+    }
+}
+
+// Whether a line of a script begins with a word of scripts.
+fn is_known(line: &str) -> bool {
+    let (word, _) = line.split_once(' ').unwrap_or((line, ""));
+    matches!(
+        word,
+        "1" | "2"
+            | "3"
+            | "places"
+            | "keys"
+            | "longest"
+            | "limit"
+            | "near"
+            | "log"
+            | "peer"
+            | "local"
+            | "getters"
+    )
+}
+
+fn check_words(rt: &impl Abort, script: &str) {
+    for line in script.lines() {
+        assert!(rt; is_known(line), "{line}");
+    }
+}
+
+fn check(rt: &impl Abort, script: &str, outcome: Outcome, wanted: &str) {
+    let counted = counters(outcome.book);
+    assert!(rt; counters(outcome.gathered) == counted, "what is gathered");
+    let mut said = outcome.said;
+    add_counters(&mut said, outcome.book);
+    assert!(rt; said.as_str() == wanted, "{script}=\n{said}");
+}
+
+fn trial<R: Wait + Threads + Abort + Sync>(rt: &R, alloc: Global, text: &str) -> Result<(), Fail> {
+    let (script, wanted) = text.split_once("=\n").unwrap_or((text, ""));
+    let outcome = try_out(rt, alloc, script)?;
+    check(rt, script, outcome, wanted);
+    Ok(())
+}
+
+/// What comes of each of these trials is what stands there. An empty line stands between two of them.
+pub fn trials<R: Wait + Threads + Abort + Sync>(
+    rt: &R,
+    alloc: Global,
+    text: &str,
+) -> Result<(), Fail> {
+    for one in text.split("\n\n") {
+        trial(rt, alloc, one)?;
+    }
+    Ok(())
 }
