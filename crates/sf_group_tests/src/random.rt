@@ -147,7 +147,11 @@ impl<'a> Trial<'a> {
         if reply.did == "cannot" {
             return Ok(());
         }
-        self.done.push(reply.did)?;
+        let did = match (command.verb, reply.did) {
+            ("chan", "is spent") => "is spent, or its second",
+            (_, did) => did,
+        };
+        self.done.push(did)?;
         match command.verb {
             "ask" => self.check_asked(rt, command, reply),
             "chan" => self.check_chan(rt, command, reply),
