@@ -8,7 +8,7 @@ use crate::rounds::{Operation, Worker, measure, measure_one};
 use crate::table::{Case, Table};
 use sf_group::{
     Begun, Caller, Finished, Fit, Flight, Group, Letter, MOST_TRIES, Memory, NotBegun, Polled,
-    Share,
+    Share, Ticket,
 };
 use sf_wait::{DoFault, do_with};
 use std::alloc::Global;
@@ -85,6 +85,43 @@ fn settle(
     }
 }
 
+// Joins the open call.
+fn join(
+    group: &Group<Number>,
+    caller: Caller<Number>,
+    place: u32,
+) -> Result<Ticket<Number>, Fault>
+    requires own { caller.group ≡ group.now }
+    requires place { IsPlaceOf group.now place }
+    ensures { IfOk result (λ ticket. ticket.group ≡ group.now) }
+{
+    match group.begin(caller, place, MOST_TRIES) {
+        Ok(Begun::Join(ticket)) => Ok(ticket),
+        Ok(Begun::Lead(flight)) => {
+            flight.abandon();
+            Err(Fault::Refused)
+        }
+        Err(not_begun) => Err(refused(not_begun)),
+    }
+}
+
+// Takes the letter of the call, which is settled.
+fn collect(group: &Group<Number>, ticket: Ticket<Number>) -> Result<Caller<Number>, Fault>
+    requires { ticket.group ≡ group.now }
+    ensures { IfOk result (λ caller. caller.group ≡ group.now) }
+{
+    match group.poll(ticket) {
+        Polled::Ready(caller, letter) => {
+            drop(letter);
+            Ok(caller)
+        }
+        Polled::Pending(ticket) => {
+            ticket.abandon();
+            Err(Fault::Refused)
+        }
+    }
+}
+
 /// A caller that leads a call and settles it.
 #[derive(Drop)]
 struct Lead<'a>(Asker<'a>);
@@ -142,42 +179,27 @@ impl<'a> Operation for Join<'a> {
             place,
         } = self;
         let flight = lead_new(group, leader, place)?;
-        let ticket = match group.begin(joiner, place, MOST_TRIES) {
-            Ok(Begun::Join(ticket)) => ticket,
-            Ok(Begun::Lead(second)) => {
-                second.abandon();
+        let ticket = match join(group, joiner, place) {
+            Ok(ticket) => ticket,
+            Err(fault) => {
                 flight.abandon();
-                return Err(Fault::Refused);
-            }
-            Err(not_begun) => {
-                flight.abandon();
-                return Err(refused(not_begun));
+                return Err(fault);
             }
         };
-        let (leader, letter) = match group.finish(flight, Number(1)) {
-            Finished::Done(leader, letter) => (leader, letter),
-            Finished::Held(settled) => {
-                settled.abandon();
+        let leader = match settle(group, flight) {
+            Ok((leader, _)) => leader,
+            Err(fault) => {
                 ticket.abandon();
-                return Err(Fault::Memory);
+                return Err(fault);
             }
         };
-        drop(letter);
-        match group.poll(ticket) {
-            Polled::Ready(joiner, letter) => {
-                drop(letter);
-                Ok(Join {
-                    group,
-                    leader,
-                    joiner,
-                    place,
-                })
-            }
-            Polled::Pending(ticket) => {
-                ticket.abandon();
-                Err(Fault::Refused)
-            }
-        }
+        let joiner = collect(group, ticket)?;
+        Ok(Join {
+            group,
+            leader,
+            joiner,
+            place,
+        })
     }
 }
 
