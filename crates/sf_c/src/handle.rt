@@ -3,7 +3,7 @@ ghost use Rattle.std.specs.Prelude.{◌≡◌, Bool, true, false};
 ghost use Rattle.sf_c.specs.Owned.{Held, state_coded};
 
 use crate::loose::Loose;
-use crate::state::State;
+use sf_state::State;
 use std::alloc::Global;
 use std::marker::Model;
 use std::mem::replace;

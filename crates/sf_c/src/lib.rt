@@ -7,33 +7,26 @@
 //! `sf_learn`, whose two slots, or slot and note, have to be of one group.
 #![tactic(auto)]
 
-ghost use Rattle.std.specs.Prelude.{◌≡◌, ◌≢◌, ◌↔◌, ◌<◌, ◌≤◌, ◌⊎◌, true, false};
+ghost use Rattle.std.specs.Prelude.{◌≡◌, ◌≢◌, ◌↔◌, ◌⊎◌, true, false};
 ghost use Rattle.sf_calls.specs.Notes.{HasGrown};
-ghost use Rattle.sf_c.specs.Rows.{AreSizes, HasOpened, HasSplit, HasTakenBack, HasAskedKey, HasAskedChanKey, HasForgotKey, HasFinishedPart, HasGoneOnPart, HasPolledPart, HasQuestionedPart, HasToldPart, HasNotTold, HasLearntPart, HasGivenUp, HasCounted, HasCalled, HasNumbered, MarksOwn, HasGivenKey, KeepsGroup, KeepsLetter, KeepsKey, call_in};
+ghost use Rattle.sf_state.specs.Rows.{AreSizes, HasOpened, HasSplit, HasTakenBack, HasAskedKey, HasAskedChanKey, HasForgotKey, HasFinishedPart, HasGoneOnPart, HasPolledPart, HasQuestionedPart, HasToldPart, HasNotTold, HasLearntPart, HasGivenUp, HasCounted, HasCalled, HasNumbered, MarksOwn, HasGivenKey, KeepsGroup, KeepsLetter, KeepsKey, call_in};
 
-mod codes;
 mod handle;
-mod key;
 mod loose;
 mod note_handle;
 mod note_slot;
-mod note_state;
 mod one_call;
-mod part;
 mod slot;
 mod stamps;
-mod state;
-mod word;
 
-use codes::{BAD_NUMBER, DONE, NOT_OPEN, NOTHING_LEFT, WRONG_STATE};
 pub use handle::Handle;
 pub use note_handle::NoteHandle;
 pub use note_slot::NoteSlot;
 pub use one_call::{sf_forget_call, sf_named};
 use sf_group::{MOST_CALLERS, MOST_PLACES};
 pub use slot::Slot;
-pub use stamps::{Stamp, sf_is_still, sf_stamp};
-use state::State;
+use sf_state::{BAD_NUMBER, DONE, NOT_OPEN, NOTHING_LEFT, State, WRONG_STATE};
+pub use stamps::{sf_is_still, sf_stamp};
 use std::alloc::Global;
 
 // Whether a group may be so large.

@@ -4,11 +4,11 @@ use Rattle.std.specs.List.{enumerate_from, zip}
 use Rattle.sf_calls.specs.Tokens.{GroupValue, CallerValue}
 use Rattle.sf_calls.specs.Making.{IsNewCaller}
 use Rattle.sf_spots.specs.Spaces.{SpaceId}
-use Rattle.sf_fill.specs.declared.getter.Standing.TheVariants.{Free}
+use Rattle.sf_store.specs.declared.standing.Standing.TheVariants.{Free}
 use Rattle.sf_letters.specs.FillValue.{Filled}
 use Rattle.sf_fill.specs.GetterValue.{GetterValue, with_loaders}
 use Rattle.sf_counters.specs.Ledgers.{nothing_counted}
-use Rattle.sf_fill.specs.Logs.{empty_log}
+use Rattle.sf_store.specs.Logs.{empty_log}
 use Rattle.sf_door.specs.declared.sizes.Keys.{Keys}
 use Rattle.sf_door.specs.declared.sizes.Keys.TheVariants.{Directory, Hashed}
 

@@ -8,7 +8,7 @@ use Rattle.sf_letters.specs.FillValue.{Filled}
 use Rattle.sf_letters.specs.Answers.{GetAnswer}
 use Rattle.sf_fill.specs.GetterValue.{GetterValue}
 use Rattle.sf_letters.specs.declared.fault.LoadFault.{LoadFault}
-use Rattle.sf_fill.specs.declared.reload.Forgot.{Forgot}
+use Rattle.sf_store.specs.declared.forget.Forgot.{Forgot}
 use Rattle.sf_door.specs.Opened.{IsNewGetter, IsOfThreads, without_loaders}
 use Rattle.sf_drive.specs.declared.found.Found.{Found}
 use Rattle.sf_drive.specs.declared.jobs.Ended.{Ended}

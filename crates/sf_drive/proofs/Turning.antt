@@ -6,7 +6,7 @@ use Rattle.std.proofs.lemmas.List.Sums.{sum_by-append}
 use Rattle.sf_history.specs.declared.call.CallId.{CallId}
 use Rattle.sf_loaders.specs.declared.faults.LocalFault.{LocalFault}
 use Rattle.sf_letters.specs.declared.fault.LoadFault.{LoadFault}
-use Rattle.sf_fill.specs.declared.reload.Forgot.{Forgot}
+use Rattle.sf_store.specs.declared.forget.Forgot.{Forgot}
 use Rattle.sf_letters.specs.Answers.{GetAnswer, IsLoadedFor}
 use Rattle.sf_drive.specs.Values.{StatesValues, value_of}
 use mir.Val.{bool_byte}
@@ -15,15 +15,16 @@ use Rattle.sf_calls.specs.Tokens.{GroupValue}
 use Rattle.sf_calls.specs.Seen.{Grows, IsLawful}
 use Rattle.sf_calls.proofs.AddsAgain.{grows_again}
 use Rattle.sf_spots.specs.Spaces.{SpaceId}
-use Rattle.sf_fill.specs.declared.getter.Standing.{Standing}
+use Rattle.sf_store.specs.declared.standing.Standing.{Standing}
 use Rattle.sf_fill.specs.Counted.{askings_in, is_asking}
 use Rattle.sf_letters.specs.FillValue.{Filled}
 use Rattle.sf_fill.specs.Fresh.{HasAdded, IsReloading}
-use Rattle.sf_fill.specs.GetterValue.{GetterValue, number_of, seen_of, group_of}
-use Rattle.sf_fill.specs.Logs.{LogValue, logged_by}
+use Rattle.sf_fill.specs.GetterValue.{GetterValue}
+use Rattle.sf_store.specs.Standings.{number_of, seen_of, group_of}
+use Rattle.sf_store.specs.Logs.{LogValue, logged_by}
 use Rattle.sf_fill.specs.Owing.{HasSettledUp}
 use Rattle.sf_fill.specs.Reloads.{HasReloaded}
-use Rattle.sf_fill.proofs.Logging.{logged_append}
+use Rattle.sf_store.proofs.Logging.{logged_append}
 use Rattle.sf_drive.specs.declared.jobs.Ended.{Ended}
 use Rattle.sf_drive.specs.Jobs.{IsJob, IsLogOf, HasLoggedAll, HasReloadedWhere, IsGetOf, IsTurn, HasTakenTurns, key_name, turn_key, reloads_at}
 

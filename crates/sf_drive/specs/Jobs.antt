@@ -4,13 +4,14 @@ use Rattle.sf_history.specs.declared.event.Event.{Event}
 use Rattle.sf_calls.specs.Tokens.{GroupValue}
 use Rattle.sf_spots.specs.Spaces.{SpaceId}
 use Rattle.sf_letters.specs.declared.fault.LoadFault.{LoadFault}
-use Rattle.sf_fill.specs.declared.reload.Forgot.{Forgot}
+use Rattle.sf_store.specs.declared.forget.Forgot.{Forgot}
 use Rattle.sf_fill.specs.Counted.{IsCounted}
 use Rattle.sf_letters.specs.FillValue.{Filled}
 use Rattle.sf_fill.specs.Fresh.{HasAdded, IsFreshGet, IsReloading}
 use Rattle.sf_letters.specs.Answers.{GetAnswer}
-use Rattle.sf_fill.specs.GetterValue.{GetterValue, is_owing}
-use Rattle.sf_fill.specs.Logs.{logged_by, empty_log}
+use Rattle.sf_fill.specs.GetterValue.{GetterValue}
+use Rattle.sf_store.specs.Standings.{is_owing}
+use Rattle.sf_store.specs.Logs.{logged_by, empty_log}
 use Rattle.sf_fill.specs.Reloads.{HasReloaded}
 use Rattle.sf_door.specs.Opened.{IsNewGetter}
 use Rattle.sf_drive.specs.declared.jobs.Ended.{Ended}

@@ -13,16 +13,17 @@ use Rattle.sf_spots.specs.Spots.{place_at, spot_key}
 use Rattle.sf_counters.specs.declared.totals.Totals.{Totals}
 use Rattle.sf_letters.specs.declared.fault.LoadFault.{LoadFault}
 use Rattle.sf_letters.specs.declared.fault.LoadFault.TheVariants as fault
-use Rattle.sf_fill.specs.declared.getter.Standing.{Standing}
-use Rattle.sf_fill.specs.declared.getter.Standing.TheVariants.{Free}
+use Rattle.sf_store.specs.declared.standing.Standing.{Standing}
+use Rattle.sf_store.specs.declared.standing.Standing.TheVariants.{Free}
 use Rattle.sf_near.specs.Bytes.{AreBytesOf, FindsBytes}
 use Rattle.sf_fill.specs.Bytes.{BringsBytes, LooksForBytes, bytes_by, bytes_in}
 use Rattle.sf_letters.specs.FillValue.{Filled}
 use Rattle.sf_counters.specs.GetCounts.{hit_counts}
 use Rattle.sf_letters.specs.Answers.{GetAnswer, IsLoadedFor, answer_by}
-use Rattle.sf_fill.specs.GetterValue.{GetterValue, is_owing}
+use Rattle.sf_fill.specs.GetterValue.{GetterValue}
+use Rattle.sf_store.specs.Standings.{is_owing}
 use Rattle.sf_fill.specs.Hits.{IsAtHand, IsNoneAtHand, IsPresent, LooksAtHand, hit_answer}
-use Rattle.sf_fill.specs.Logs.{LogValue}
+use Rattle.sf_store.specs.Logs.{LogValue}
 use Rattle.sf_counters.specs.Totals.{with_counts}
 use Rattle.sf_fill.proofs.Once.{found_at_hand, looks_at_hand_on, present_fresh}
 

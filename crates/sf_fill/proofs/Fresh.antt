@@ -33,23 +33,27 @@ use Rattle.sf_spots.specs.Spaces.{SpaceId}
 use Rattle.sf_spots.specs.Spots.{IsInSpace, IsOther, spot_place}
 use Rattle.sf_letters.specs.declared.fault.LoadFault.{LoadFault}
 use Rattle.sf_letters.specs.declared.fault.LoadFault.TheVariants as fault
-use Rattle.sf_fill.specs.declared.reload.Forgot.{Forgot}
-use Rattle.sf_fill.specs.declared.reload.Forgot.TheVariants as forgot
-use Rattle.sf_fill.specs.declared.getter.Standing.{Standing}
-use Rattle.sf_fill.specs.declared.getter.Standing.TheVariants.{Free, Owing}
+use Rattle.sf_store.specs.declared.forget.Forgot.{Forgot}
+use Rattle.sf_store.specs.declared.forget.Forgot.TheVariants as forgot
+use Rattle.sf_store.specs.declared.standing.Standing.{Standing}
+use Rattle.sf_store.specs.declared.standing.Standing.TheVariants.{Free, Owing}
 use Rattle.sf_counters.specs.declared.totals.GetCounts.{GetCounts}
 use Rattle.sf_counters.specs.declared.totals.Totals.{Totals}
 use Rattle.sf_fill.specs.Counted.{has_asking, is_asking, askings_in, IsCounted}
 use Rattle.sf_letters.specs.FillValue.{Filled, FitsFill, fill_lasts}
 use Rattle.sf_counters.specs.GetCounts.{get_alone}
-use Rattle.sf_fill.specs.Found.{Found, Kept, Uncopied, Unmade, Spent, Joined, Led, HasFound, HasFoundFrom, HasMissed, HasRun, IsMiss, IsSource}
-use Rattle.sf_fill.specs.Fresh.{HasAdded, handed_by, delivered_by, IsFresh, IsAsking, IsAnswer, IsMissedEnter, AreMissed, IsUnanswered, forgot_by, IsOutdated, IsFreshGet, ForgetsOnce, IsReloading}
+use Rattle.sf_store.specs.Found.{Found, Kept, Uncopied, Unmade, Spent, Joined, Led, HasFound, HasFoundFrom, HasMissed, HasRun, IsMiss, IsSource}
+use Rattle.sf_fill.specs.Fresh.{HasAdded, handed_by, delivered_by, IsFresh, IsAsking, IsAnswer, IsMissedEnter, AreMissed, IsUnanswered, IsOutdated, IsFreshGet, ForgetsOnce, IsReloading}
+use Rattle.sf_store.specs.Forgets.{forgot_by}
 use Rattle.sf_letters.specs.Answers.{GetAnswer, refusal_of, answer_by}
-use Rattle.sf_fill.specs.Gets.{Reply, reply_of, IsFoundGet, GetsFrom, HasGot}
-use Rattle.sf_fill.specs.GetterValue.{GetterValue, IsOfGroup, number_of, group_of, seen_of, is_owing}
-use Rattle.sf_fill.specs.Logs.{logged_by}
+use Rattle.sf_fill.specs.Gets.{IsFoundGet, GetsFrom, HasGot}
+use Rattle.sf_store.specs.Replies.{Reply, reply_of}
+use Rattle.sf_fill.specs.GetterValue.{GetterValue}
+use Rattle.sf_store.specs.Standings.{IsOfGroup, number_of, group_of, seen_of, is_owing}
+use Rattle.sf_store.specs.Logs.{logged_by}
 use Rattle.sf_fill.specs.Owing.{HasDelivered}
-use Rattle.sf_fill.specs.Reloads.{HasForgotNamed, ForgetsNamed, ReloadsFrom, HasReloaded}
+use Rattle.sf_fill.specs.Reloads.{ReloadsFrom, HasReloaded}
+use Rattle.sf_store.specs.Forgets.{HasForgotNamed, ForgetsNamed}
 use Rattle.sf_calls.specs.Unforgotten.{IsUnforgotten}
 use Rattle.sf_letters.specs.Settled.{HasOnlyLooked, IsSettled}
 use Rattle.sf_letters.proofs.Looks.{looked_again, still_looked}

@@ -1,9 +1,7 @@
-pub mod Asks
 pub mod Crew
 pub mod Dealt
 pub mod Fresh
 pub mod Got
-pub mod Logging
 pub mod LogSteps
 pub mod Once
 pub mod Outdated

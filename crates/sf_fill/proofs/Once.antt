@@ -14,23 +14,26 @@ use Rattle.sf_counters.specs.declared.totals.GetCounts.{GetCounts}
 use Rattle.sf_counters.specs.declared.totals.Totals.{Totals}
 use Rattle.sf_letters.specs.declared.fault.LoadFault.{LoadFault}
 use Rattle.sf_letters.specs.declared.fault.LoadFault.TheVariants as fault
-use Rattle.sf_fill.specs.declared.getter.Standing.{Standing}
-use Rattle.sf_fill.specs.declared.getter.Standing.TheVariants.{Free, Owing}
+use Rattle.sf_store.specs.declared.standing.Standing.{Standing}
+use Rattle.sf_store.specs.declared.standing.Standing.TheVariants.{Free, Owing}
 use Rattle.sf_letters.specs.FillValue.{Filled}
 use Rattle.sf_counters.specs.GetCounts.{get_alone, hit_counts}
-use Rattle.sf_fill.specs.Found.{Found, HasFoundFrom, Kept, Uncopied}
+use Rattle.sf_store.specs.Found.{Found, HasFoundFrom, Kept, Uncopied}
 use Rattle.sf_fill.specs.Fresh.{IsFreshGet, delivered_by}
 use Rattle.sf_letters.specs.Answers.{GetAnswer, answer_in, refusal_of}
-use Rattle.sf_fill.specs.Gets.{GetsFrom, GetsOnce, HasAsked, HasGot, IsFoundGet, LooksFrom, Reply, reply_of}
+use Rattle.sf_fill.specs.Gets.{GetsFrom, GetsOnce, HasAsked, HasGot, IsFoundGet, LooksFrom}
+use Rattle.sf_store.specs.Replies.{Reply, reply_of}
 use Rattle.sf_fill.specs.Hits.{IsAbsent, IsAtHand, IsNoneAtHand, IsPresent, LooksAtHand, hit_answer}
-use Rattle.sf_fill.specs.GetterValue.{GetterValue, IsOfGroup, is_owing, number_of, seen_of}
-use Rattle.sf_fill.specs.Logs.{LogValue, HasLogged, logged_by}
+use Rattle.sf_fill.specs.GetterValue.{GetterValue}
+use Rattle.sf_store.specs.Standings.{IsOfGroup, is_owing, number_of, seen_of}
+use Rattle.sf_store.specs.Logs.{LogValue, HasLogged, logged_by}
 use Rattle.sf_fill.specs.Owing.{HasDelivered, HasSettledUp}
 use Rattle.sf_letters.specs.Settled.{HasLookedOn, HasOnlyLooked}
 use Rattle.sf_counters.specs.Totals.{with_counts}
 use Rattle.sf_fill.proofs.Fresh.{fresh, group_found}
-use Rattle.sf_fill.proofs.Logging.{logs_none}
-use Rattle.sf_fill.proofs.LogSteps.{logs_looked, logs_once}
+use Rattle.sf_store.proofs.Logging.{logs_none}
+use Rattle.sf_fill.proofs.LogSteps.{logs_once}
+use Rattle.sf_store.proofs.LogSteps.{logs_looked}
 use Rattle.sf_letters.proofs.Looks.{looked_again, looked_on, looked_twice, still_looked}
 
 module _ {E : Type 0} where

@@ -18,11 +18,11 @@ use Rattle.sf_calls.specs.Tokens.{CallerValue}
 use Rattle.sf_calls.specs.Seen.{StartsWith}
 use Rattle.sf_calls.proofs.AddsAgain.{starts_again}
 use Rattle.sf_calls.proofs.Moments.{current_unforgotten, first_added, legal_before}
-use Rattle.sf_fill.specs.declared.reload.Forgot.{Forgot}
-use Rattle.sf_fill.specs.declared.reload.Forgot.TheVariants as forgot
+use Rattle.sf_store.specs.declared.forget.Forgot.{Forgot}
+use Rattle.sf_store.specs.declared.forget.Forgot.TheVariants as forgot
 use Rattle.sf_letters.specs.FillValue.{Filled}
 use Rattle.sf_fill.specs.Fresh.{IsOutdated}
-use Rattle.sf_fill.specs.Reloads.{HasForgotNamed, ForgetsNamed}
+use Rattle.sf_store.specs.Forgets.{HasForgotNamed, ForgetsNamed}
 
 abbrev Seen : Type 0
 Seen = List (Event ℕ Filled)

@@ -7,7 +7,8 @@ use Rattle.sf_history.specs.History.{own_events}
 use Rattle.sf_calls.specs.Seen.{StartsWith}
 use Rattle.sf_letters.specs.FillValue.{Filled}
 use Rattle.sf_letters.specs.Answers.{GetAnswer}
-use Rattle.sf_fill.specs.GetterValue.{GetterValue, number_of, seen_of}
+use Rattle.sf_fill.specs.GetterValue.{GetterValue}
+use Rattle.sf_store.specs.Standings.{number_of, seen_of}
 
 module _ {V : Type 0} where
   -- the event asks: it leads a call, or joins one

@@ -2,8 +2,7 @@
 use Rattle.std.proofs.Common.{◌≡◌, ◌≢◌, ℕ, inl, inr, All, nat_eq, Bool, true, false, cond, not, ◌⊎◌, List, [], ◌∷◌, ◌++◌, Some, None, Result, Ok, Err}
 use Rattle.sf_history.specs.declared.call.CallId.{CallId}
 use Rattle.sf_history.specs.declared.event.Event.{Event}
-use Rattle.sf_history.specs.declared.event.Event.TheVariants.{Lead, Enter, ForgetCall, Settle, Handed}
-use Rattle.sf_history.specs.declared.event.Hit.TheVariants as hit
+use Rattle.sf_history.specs.declared.event.Event.TheVariants.{Lead, Enter, Settle, Handed}
 use Rattle.sf_history.specs.History.{current_call}
 use Rattle.sf_calls.specs.Tokens.{LetterValue}
 use Rattle.sf_calls.specs.Seen.{StartsWith, Stands, IsLawful, Grows}
@@ -13,15 +12,16 @@ use Rattle.sf_spots.specs.Spots.{IsOther, IsSpotOfKey, spot_place}
 use Rattle.sf_loaders.specs.declared.faults.LocalFault.TheVariants as local
 use Rattle.sf_letters.specs.declared.fault.LoadFault.{LoadFault}
 use Rattle.sf_letters.specs.declared.fault.LoadFault.TheVariants as fault
-use Rattle.sf_fill.specs.declared.reload.Forgot.{Forgot}
-use Rattle.sf_fill.specs.declared.reload.Forgot.TheVariants as forgot
-use Rattle.sf_fill.specs.declared.getter.Standing.{Standing}
-use Rattle.sf_fill.specs.declared.getter.Standing.TheVariants.{Free, Owing}
+use Rattle.sf_store.specs.declared.forget.Forgot.{Forgot}
+use Rattle.sf_store.specs.declared.standing.Standing.{Standing}
+use Rattle.sf_store.specs.declared.standing.Standing.TheVariants.{Free, Owing}
 use Rattle.sf_fill.specs.Counted.{askings_in}
 use Rattle.sf_letters.specs.FillValue.{Filled}
 use Rattle.sf_letters.specs.Answers.{GetAnswer}
-use Rattle.sf_fill.specs.Logs.{logged_by}
-use Rattle.sf_fill.specs.GetterValue.{GetterValue, number_of, group_of, seen_of, is_owing}
+use Rattle.sf_store.specs.Logs.{logged_by}
+use Rattle.sf_store.specs.Forgets.{forgot_by}
+use Rattle.sf_fill.specs.GetterValue.{GetterValue}
+use Rattle.sf_store.specs.Standings.{number_of, group_of, seen_of, is_owing}
 use Rattle.sf_calls.specs.Unforgotten.{IsUnforgotten}
 
 -- A caller that stays the same has seen more, in which it made these events, with a generation for each asking among them. All
@@ -92,13 +92,6 @@ IsUnanswered added (Err (fault.Local text)) = ⊥
 IsUnanswered added (Err fault.LeaderMemory) = ⊥
 IsUnanswered added (Err (fault.Refused refusal)) = added ≡ []
 IsUnanswered added (Err fault.Memory) = added ≡ []
-
--- what a reload adds that came to this: a Forget of the call that it names; where it names none, nothing
-abbrev pub forgot_by : ℕ → ℕ → Forgot → List (Event ℕ Filled)
-forgot_by by k (forgot.Closed c) = ForgetCall by k c hit.Closed ∷ []
-forgot_by by k (forgot.Cleared c) = ForgetCall by k c hit.Cleared ∷ []
-forgot_by by k (forgot.Missed c) = ForgetCall by k c hit.Missed ∷ []
-forgot_by by k forgot.Idle = []
 
 -- the call that was current in what had been seen is not current in what is seen then
 abbrev pub IsOutdated : ℕ → List (Event ℕ Filled) → List (Event ℕ Filled) → Type 0

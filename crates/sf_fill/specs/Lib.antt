@@ -1,8 +1,6 @@
-pub mod Logs
 pub mod GetterValue
 pub mod Made
 pub mod Owing
-pub mod Found
 pub mod Gets
 pub mod Hits
 pub mod Reloads

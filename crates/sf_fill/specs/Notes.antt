@@ -10,13 +10,14 @@ use Rattle.sf_calls.specs.Tokens.{NoteValue, LetterValue}
 use Rattle.sf_calls.specs.Seen.{StartsWith, Stands}
 use Rattle.sf_spots.specs.Spaces.{SpaceId}
 use Rattle.sf_spots.specs.Spots.{spot_place}
-use Rattle.sf_fill.specs.declared.reload.Forgot.{Forgot}
-use Rattle.sf_fill.specs.declared.reload.Forgot.TheVariants as forgot
+use Rattle.sf_store.specs.declared.forget.Forgot.{Forgot}
+use Rattle.sf_store.specs.declared.forget.Forgot.TheVariants as forgot
 use Rattle.sf_letters.specs.FillValue.{Filled}
 use Rattle.sf_fill.specs.Fresh.{HasAdded, IsFresh, IsForgetOf}
 use Rattle.sf_calls.specs.Unforgotten.{forgets}
 use Rattle.sf_fill.specs.Purges.{HasForgottenFirst}
-use Rattle.sf_fill.specs.GetterValue.{GetterValue, group_of, number_of, seen_of, is_owing}
+use Rattle.sf_fill.specs.GetterValue.{GetterValue}
+use Rattle.sf_store.specs.Standings.{group_of, number_of, seen_of, is_owing}
 
 module _ {L : Type 0} where
   -- the getter stays as it was, and the note shows what it has seen

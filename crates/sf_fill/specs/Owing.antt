@@ -3,8 +3,8 @@ use Rattle.std.specs.Prelude.{◌≡◌}
 use Rattle.sf_calls.specs.declared.outcomes.Finished.TheVariants.{Done, Held}
 use Rattle.sf_calls.specs.Tokens.{LetterValue}
 use Rattle.sf_calls.specs.Finishes.{HasGoneOn}
-use Rattle.sf_fill.specs.declared.getter.Standing.{Standing}
-use Rattle.sf_fill.specs.declared.getter.Standing.TheVariants.{Free, Owing}
+use Rattle.sf_store.specs.declared.standing.Standing.{Standing}
+use Rattle.sf_store.specs.declared.standing.Standing.TheVariants.{Free, Owing}
 use Rattle.sf_letters.specs.FillValue.{Filled, FitsFill}
 use Rattle.sf_fill.specs.GetterValue.{GetterValue}
 

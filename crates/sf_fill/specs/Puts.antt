@@ -8,7 +8,7 @@ use Rattle.sf_letters.specs.declared.fault.LoadFault.{LoadFault}
 use Rattle.sf_letters.specs.declared.fault.LoadFault.TheVariants as fault
 use Rattle.sf_fill.specs.declared.put.Put.{Put}
 use Rattle.sf_fill.specs.declared.put.Put.TheVariants.{Settled, Met}
-use Rattle.sf_fill.specs.declared.reload.Forgot.{Forgot}
+use Rattle.sf_store.specs.declared.forget.Forgot.{Forgot}
 use Rattle.sf_fill.specs.Counted.{IsCounted}
 use Rattle.sf_letters.specs.FillValue.{Filled}
 use Rattle.sf_fill.specs.Fresh.{IsFreshGet, IsReloading}

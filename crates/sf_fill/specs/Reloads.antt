@@ -1,10 +1,6 @@
 -- how reloads end
-use Rattle.std.specs.Prelude.{◌≡◌, ℕ, ◌⊎◌, List, Some, None, Result, Ok, Err}
-use Rattle.sf_history.specs.declared.call.CallId.{CallId}
-use Rattle.sf_history.specs.declared.event.Hit.{Hit}
-use Rattle.sf_history.specs.declared.event.Hit.TheVariants as hit
+use Rattle.std.specs.Prelude.{◌≡◌, ℕ, ◌⊎◌, List, Result, Ok, Err}
 use Rattle.sf_calls.specs.Tokens.{CallerValue}
-use Rattle.sf_calls.specs.Forgets.{HasForgotCall, HasNamed}
 use Rattle.sf_spots.specs.declared.key_space.KeyDesk.{KeyDesk}
 use Rattle.sf_spots.specs.declared.spot.Spot.{Spot}
 use Rattle.sf_spots.specs.Spaces.{SpaceId}
@@ -12,31 +8,14 @@ use Rattle.sf_spots.specs.Spots.{IsSpotOfKey, IsRefusedSpot, IsSeeingSpace, spot
 use Rattle.sf_dir.specs.declared.refusal.Refusal.{Refusal}
 use Rattle.sf_letters.specs.declared.fault.LoadFault.{LoadFault}
 use Rattle.sf_letters.specs.declared.fault.LoadFault.TheVariants as fault
-use Rattle.sf_fill.specs.declared.reload.Forgot.{Forgot}
-use Rattle.sf_fill.specs.declared.reload.Forgot.TheVariants as forgot
-use Rattle.sf_fill.specs.declared.getter.Standing.{Standing}
-use Rattle.sf_fill.specs.declared.getter.Standing.TheVariants.{Free, Owing}
+use Rattle.sf_store.specs.declared.forget.Forgot.{Forgot}
+use Rattle.sf_store.specs.declared.standing.Standing.{Standing}
+use Rattle.sf_store.specs.declared.standing.Standing.TheVariants.{Free, Owing}
 use Rattle.sf_letters.specs.FillValue.{Filled}
 use Rattle.sf_letters.specs.Answers.{refusal_of}
 use Rattle.sf_fill.specs.GetterValue.{GetterValue}
 use Rattle.sf_fill.specs.Owing.{HasSettledUp}
-
--- what a Forget of this call came to
-abbrev pub forgot_of : CallId → Hit → Forgot
-forgot_of c hit.Closed = forgot.Closed c
-forgot_of c hit.Cleared = forgot.Cleared c
-forgot_of c hit.Missed = forgot.Missed c
-
--- the caller found that the place names this call, and then made a Forget of that one
-abbrev pub HasForgotNamed : CallerValue Filled → ℕ → CallId → Hit → CallerValue Filled → Type 0
-HasForgotNamed c k x h d = (m : CallerValue Filled) × HasNamed c k (Some x) m × HasForgotCall m k x h d
-
--- the call that the place names is forgotten, and no other; where it names none, nothing is
-abbrev pub ForgetsNamed : CallerValue Filled → ℕ → Forgot → CallerValue Filled → Type 0
-ForgetsNamed c k (forgot.Closed x) d = HasForgotNamed c k x hit.Closed d
-ForgetsNamed c k (forgot.Cleared x) d = HasForgotNamed c k x hit.Cleared d
-ForgetsNamed c k (forgot.Missed x) d = HasForgotNamed c k x hit.Missed d
-ForgetsNamed c k forgot.Idle d = HasNamed c k None d
+use Rattle.sf_store.specs.Forgets.{ForgetsNamed}
 
 module _ (space : SpaceId) (key : List ℕ) where
   -- the key is refused, and nothing is forgotten

@@ -1,27 +1,31 @@
 //! Fills, and what lies under their lock.
-ghost use Rattle.std.specs.Prelude.{◌≡◌, ◌<◌, map, vec_len};
+ghost use Rattle.std.specs.Prelude.{◌≡◌, ◌<◌, IfErr, IfOk, IfSome, map, vec_len};
 ghost use Rattle.sf_counters.specs.Totals.{sums_of};
+ghost use Rattle.sf_dir.specs.declared.refusal.Refusal.{Refusal};
+ghost use Rattle.sf_letters.specs.Answers.{refusal_of};
+ghost use Rattle.sf_letters.specs.Settled.{CopiesFollowed};
+ghost use Rattle.sf_spots.specs.declared.spot.Spot.{Spot};
+ghost use Rattle.sf_spots.specs.Spots.{IsRefusedSpot, IsSpotOfKey, MayBe};
 ghost use Rattle.sf_fill.specs.GetterValue.{GetterValue};
 
 use crate::getter::Getter;
-use crate::locked::Locked;
-use sf_counters::{Accounts, AllParts, Naming, Totals};
-use sf_group::Group;
-use sf_letters::FillValue;
+use sf_caches::{CacheStats, Which};
+use sf_counters::{AllParts, Naming, Totals};
+use sf_group::{Flight, Group, Letter, Memory};
+use sf_letters::{FillValue, InCache, LoadFault, of_key};
 use sf_loaders::Origin;
 use sf_spots::KeySpace;
+use sf_store::Store;
 use std::alloc::Global;
 use std::marker::Model;
-use std::sync::{Mutex, Wait};
+use std::sync::Wait;
 
 /// Two caches of a group's answers, which getters fill: groupcache's `Group`. A lock is held to look, to put and to count,
 /// and never while a getter loads or waits for a letter.
 #[derive(Drop)]
 pub struct Fill<'d, D: Naming, N: Naming, O: Origin> {
     pub(crate) space: KeySpace<'d>,
-    pub(crate) group: Group<FillValue<'d, D, O>>,
-    pub(crate) locked: Mutex<Locked<'d, D, N, O>>,
-    pub(crate) limit: i64,
+    pub(crate) store: Store<'d, D, N, O>,
     pub(crate) alloc: Global,
 }
 
@@ -33,26 +37,26 @@ impl<'d, D: Naming, N: Naming, O: Origin> Model for Fill<'d, D, N, O> {
 
     ghost Value = { GroupValue };
 
-    ghost view = { λ f. f.group };
+    ghost view = { λ f. f.store };
 
     // Its group has the places of its key space.
-    ghost invariant = { λ f. (f.group ≡ N.group) × (space_of f.space ≡ N.space)
+    ghost invariant = { λ f. (f.store ≡ N.group) × (space_of f.space ≡ N.space)
         × (D.space ≡ N.space) × (N.group.sizes.places ≡ places_in N.space)
-        × (places_in N.space ≤ LARGEST_PLACE) × (f.limit ≡ N.limit) };
+        × (places_in N.space ≤ LARGEST_PLACE) };
 }
 
 impl<'d, D: Naming, N: Naming, O: Origin> Fill<'d, D, N, O> {
     /// What all getters have entered so far. A getter that runs has entered all that it counted but its last 63 gets at most; one
     /// that has ended, and one that was just told to `enter`, all.
     pub fn book<R: Wait>(&self, rt: &R) -> Totals {
-        self.locked.lock(rt).accounts.totals()
+        self.store.book(rt)
     }
 
     /// The group whose callers its getters are. Others of its callers may ask and forget beside them.
     pub fn group(&self) -> &Group<FillValue<'d, D, O>>
         ensures { result.now ≡ N.group }
     {
-        &self.group
+        self.store.group()
     }
 
     /// Spends all getters, and answers the book's numbers: for each counter, the sum of what they counted. All are as many
@@ -62,32 +66,81 @@ impl<'d, D: Naming, N: Naming, O: Origin> Fill<'d, D, N, O> {
         requires some { 0 < vec_len getters }
         ensures { result ≡ sums_of (map (λ (g : GetterValue L). g.counted) getters.entry.items) }
     {
-        let mut locked = self.locked.lock(rt);
-        let mut all = sum_up(&mut locked.accounts, getters);
-        locked.accounts.gathered(&mut all)
+        let mut all = self.sum_up(rt, getters);
+        self.store.gathered(rt, &mut all)
     }
-}
 
-// The parts of all these getters, which are spent. What they counted is all entered.
-fn sum_up<'d, D: Naming, N: Naming, O: Origin, L: Drop>(
-    accounts: &mut Accounts<N>,
-    getters: Vec<Getter<'d, D, N, O, L>>,
-) -> AllParts<N>
-    requires { 0 < vec_len getters }
-    ensures { result ≡ record {
-      parts = vec_len getters.entry;
-      counted = sums_of (map (λ (g : GetterValue L). g.counted) getters.entry.items);
-    } }
-{
-    let mut getters = getters;
-    let Some(last) = getters.pop() else {
-        unreachable!()
-    };
-    let mut all = accounts.end(last.into_tallies());
-    'rest: while let Some(getter) = getters.pop() {
-        let part = accounts.end(getter.into_tallies());
-        all.take(part);
+    // The parts of all these getters, which are spent. What they counted is all entered.
+    fn sum_up<R: Wait, L: Drop>(
+        &self,
+        rt: &R,
+        getters: Vec<Getter<'d, D, N, O, L>>,
+    ) -> AllParts<N>
+        requires { 0 < vec_len getters }
+        ensures { result ≡ record {
+          parts = vec_len getters.entry;
+          counted = sums_of (map (λ (g : GetterValue L). g.counted) getters.entry.items);
+        } }
+    {
+        let mut getters = getters;
+        let Some(last) = getters.pop() else {
+            unreachable!()
+        };
+        let mut all = self.store.end(rt, last.into_tallies());
+        'rest: while let Some(getter) = getters.pop() {
+            let part = self.store.end(rt, getter.into_tallies());
+            all.take(part);
+        }
+        getters.destroy_empty();
+        all
     }
-    getters.destroy_empty();
-    all
+
+    /// A copy of the letter of the key that a cache has of the call that the flight's follows, which was settled after the leader
+    /// had looked, or a refusal of memory for it: a leader's second look, for callers of the group that are no getters.
+    pub fn followed<R: Wait>(
+        &self,
+        rt: &R,
+        flight: &Flight<FillValue<'d, D, O>>,
+        key: &[u8],
+    ) -> Option<Result<Letter<FillValue<'d, D, O>>, Memory>>
+        requires { flight.now.group ≡ N.group }
+        ensures follows { IfSome result (λ found. CopiesFollowed flight.now found) }
+        ensures of_key { IfSome result (λ found.
+            IfOk found (λ letter. MayBe letter.value.spot key.now)) }
+    {
+        match self.store.second_look(rt, flight, key) {
+            Ok(InCache { copy, which: _ }) => Some(copy),
+            Err(_) => None,
+        }
+    }
+
+    /// Takes what the caches and this getter keep of the key out of them, without a Forget: the getter's next get of it asks the
+    /// group. A call that is open stays so, one that others have letters of stays current, and so do letters that they keep near.
+    pub fn remove<R: Wait, L>(
+        &self,
+        rt: &R,
+        getter: &mut Getter<'d, D, N, O, L>,
+        key: &[u8],
+    ) -> Result<(), LoadFault>
+        ensures found { IfOk result (λ _.
+            (spot : Spot) × IsSpotOfKey N.space key.now getter.old.desk getter.new.desk spot) }
+        ensures refused { IfErr result (λ fault.
+            (refusal : Refusal) × IsRefusedSpot N.space key.now getter.old.desk getter.new.desk
+            refusal × (fault ≡ refusal_of refusal)) }
+        ensures rest { getter.new ≡ record getter.old { desk = getter.new.desk } }
+    {
+        match self.space.find(&mut getter.desk, key) {
+            Ok(place) => {
+                getter.near.remove(place.number().number());
+                self.store.remove_key(rt, place.number().number(), key);
+                Ok(())
+            }
+            Err(refusal) => Err(of_key(refusal)),
+        }
+    }
+
+    /// What main or hot holds now.
+    pub fn cache_stats<R: Wait>(&self, rt: &R, which: Which) -> CacheStats {
+        self.store.cache_stats(rt, which)
+    }
 }

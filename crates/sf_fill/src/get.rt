@@ -1,47 +1,30 @@
 //! Gets.
 ghost use Rattle.std.specs.Prelude.{◌≡◌, ◌<◌, ◌-◌, ◌^◌, ◌⊎◌, Err, IfOk, IfSome, None, false, true};
 ghost use Rattle.sf_calls.specs.Same.{IsPlaceOf};
-ghost use Rattle.sf_calls.specs.Seen.{IsLawful};
-ghost use Rattle.sf_spots.specs.Spots.{IsInSpace, MayBe, place_at, spot_at, spot_key, spot_place};
+ghost use Rattle.sf_spots.specs.Spots.{IsInSpace, place_at, spot_at, spot_key};
 ghost use Rattle.sf_letters.specs.declared.fault.LoadFault.{LoadFault};
 ghost use Rattle.sf_letters.specs.declared.fault.GetRefusal.{GetRefusal};
-ghost use Rattle.sf_fill.specs.Found.{DrawsWithin, Led, HasFoundFrom, HasRunFrom, IfDone, found_by};
+ghost use Rattle.sf_store.specs.Found.{DrawsWithin, Led, found_by};
 ghost use Rattle.sf_fill.specs.Bytes.{BringsBytes, LooksForBytes};
 ghost use Rattle.sf_fill.specs.Counted.{IsCounted};
 ghost use Rattle.sf_fill.specs.Fresh.{IsFreshGet};
 ghost use Rattle.sf_letters.specs.Answers.{IsLoadedFor};
-ghost use Rattle.sf_fill.specs.Gets.{GetsOnce, HasAsked, HasGot, IsOfKey, IsOfPlace, LooksFrom, counts_of, reply_of};
+ghost use Rattle.sf_fill.specs.Gets.{GetsOnce, HasAsked, HasGot};
+ghost use Rattle.sf_store.specs.Replies.{IsOfKey, IsOfPlace, reply_of};
 ghost use Rattle.sf_fill.specs.Hits.{IsAbsent, IsPresent, LooksAtHand};
-ghost use Rattle.sf_fill.specs.GetterValue.{is_owing, number_of, seen_of};
-ghost use Rattle.sf_fill.specs.Logs.{HasLogged};
-ghost use Rattle.sf_letters.specs.Rooted.{IsRooted};
-ghost use Rattle.sf_counters.specs.Totals.{IsOfOneGet};
+ghost use Rattle.sf_store.specs.Standings.{is_owing, number_of, seen_of};
+ghost use Rattle.sf_store.specs.Logs.{HasLogged};
 
 use crate::fill::Fill;
-use crate::getter::{Getter, Standing};
-use crate::load::Sourced;
-use crate::log::Log;
+use crate::getter::Getter;
 use bytes::Bytes;
-use sf_calls::Fit;
 use sf_counters::{GetCounts, NO_RUN, Naming};
-use sf_group::{Begun, Caller, Event, Finished, Flight, Letter, Memory, Spent};
+use sf_group::{Finished, Memory, Spent};
 use sf_letters::{FillValue, GetRefusal, LoadFault, View, of_key, show};
 use sf_loaders::{LoadPath, Origin};
-use sf_spots::{KeyPlace, Spot};
-use sf_wait::{begin_wait, wait};
+use sf_spots::KeyPlace;
+use sf_store::{Asked, Standing};
 use std::sync::Wait;
-
-/// What it comes to that a free caller asks the group.
-pub(crate) enum Asked<V: Fit> {
-    /// Memory for the key was refused, and nothing was asked.
-    Unmade(Caller<V>),
-    /// The caller has no generation left to ask with.
-    Spent(Caller<V>),
-    /// The letter of the key's open call, which another led.
-    Joined(Caller<V>, Letter<V>),
-    /// The caller led a call and settled it; and what that counts.
-    Led(Finished<V>, GetCounts),
-}
 
 const GET_ALONE: GetCounts = GetCounts {
     gets: 1,
@@ -94,102 +77,6 @@ fn reply<'d, D: Naming, O: Origin>(
 }
 
 impl<'d, D: Naming, N: Naming, O: Origin> Fill<'d, D, N, O> {
-    // Asks the group: loads the key where the caller leads, and else waits for the letter. Where that is of another key, it asks
-    // again.
-    fn ask<R: Wait, L>(
-        &self,
-        rt: &R,
-        caller: Caller<FillValue<'d, D, O>>,
-        spot: Spot<'d>,
-        key: &[u8],
-        loaders: &mut L,
-        log: &mut Log,
-    ) -> Asked<FillValue<'d, D, O>>
-    where
-        L: LoadPath<Origin = O>,
-        requires caller { caller.group ≡ N.group }
-        requires spot { IsInSpace D.space spot × (spot_key spot ≡ key.now)
-            × IsPlaceOf N.group (spot_place spot) }
-        ensures found { HasFoundFrom N.space key.now (L.run_gives key.now)
-            (DrawsWithin N.limit L.draw_gives) spot.entry caller.entry loaders.old loaders.new
-            (found_by result) }
-        ensures logged { HasLogged caller.entry.number caller.entry.seen
-            (seen_of (reply_of (found_by result)).0) log.old log.new }
-        ensures of_place { IsOfPlace (spot_place spot.entry) (found_by result) }
-        ensures of_key { IsOfKey key.now (found_by result) }
-        ensures one { IsOfOneGet (counts_of (found_by result)) }
-    {
-        let number = spot.number();
-        let mut asking = caller;
-        for _ in rt.forever() {
-            match begin_wait(rt, &self.group, asking, number.number()) {
-                Ok(Begun::Lead(flight)) => {
-                    log.add(Event::Lead {
-                        by: flight.call().caller,
-                        key: number,
-                        call: flight.call(),
-                        own: None,
-                    });
-                    let (finished, counts) = self.lead(rt, flight, spot, key, loaders, log);
-                    return Asked::Led(finished, counts);
-                }
-                Ok(Begun::Join(ticket)) => {
-                    log.add(Event::Enter {
-                        by: ticket.member().caller,
-                        key: number,
-                        call: ticket.call(),
-                        member: ticket.member(),
-                    });
-                    let (caller, letter) = wait(rt, &self.group, ticket);
-                    if letter.value().is_of(key) {
-                        return Asked::Joined(caller, letter);
-                    }
-                    asking = caller;
-                }
-                Err(Spent { back }) => return Asked::Spent(back),
-            }
-        }
-        unreachable!()
-    }
-
-    // Settles the call that is led, with what its source gives.
-    fn lead<R: Wait, L>(
-        &self,
-        rt: &R,
-        flight: Flight<FillValue<'d, D, O>>,
-        spot: Spot<'d>,
-        key: &[u8],
-        loaders: &mut L,
-        log: &mut Log,
-    ) -> (Finished<FillValue<'d, D, O>>, GetCounts)
-    where
-        L: LoadPath<Origin = O>,
-        requires flight { (flight.group ≡ N.group) × IsLawful N.group.sizes flight.seen
-            × IsPlaceOf N.group flight.place }
-        requires own { flight.call.caller ≡ flight.number }
-        requires led { IsRooted flight.place flight.call flight.call flight.seen }
-        requires spot { IsInSpace D.space spot × (spot_key spot ≡ key.now)
-            × (spot_place spot ≡ flight.place) }
-        ensures run { HasRunFrom (L.run_gives key.now) (DrawsWithin N.limit L.draw_gives) spot.entry
-            flight.entry loaders.old loaders.new result.0 result.1 }
-        ensures logged { HasLogged flight.entry.number flight.entry.seen
-            (seen_of (reply_of (Led result.0 result.1)).0) log.old log.new }
-        ensures of_place { IfDone (λ letter. letter.place ≡ flight.entry.place) result.0 }
-        ensures of_key { IfDone (λ letter. MayBe letter.value.spot key.now) result.0 }
-        ensures one { IsOfOneGet result.1 }
-    {
-        let mut flight = flight;
-        let call = flight.call();
-        let Sourced {
-            value,
-            keep,
-            counts,
-        } = self.source(rt, &mut flight, spot, key, loaders);
-        let finished = self.settle(rt, flight, value, keep, key.len());
-        log.add_finished(call, &finished);
-        (finished, counts)
-    }
-
     // Asks the group for the key at the place, for a getter that owes nothing and found no letter.
     #[inline(never)]
     fn get_asking<R: Wait, L>(
@@ -229,11 +116,11 @@ impl<'d, D: Naming, N: Naming, O: Origin> Fill<'d, D, N, O> {
             }
         };
         let asked = match at.spot(self.alloc, key) {
-            Ok(spot) => self.ask(rt, caller, spot, key, &mut loaders, &mut log),
+            Ok(spot) => self.store.ask(rt, caller, spot, key, &mut loaders, &mut log),
             Err(_) => Asked::Unmade(caller),
         };
         let (standing, counts, answer) = reply(asked, at, key);
-        self.count(rt, &mut tallies, counts);
+        self.store.count(rt, &mut tallies, counts);
         let getter = Getter {
             desk,
             standing,
@@ -263,8 +150,8 @@ impl<'d, D: Naming, N: Naming, O: Origin> Fill<'d, D, N, O> {
         let Standing::Free(caller) = &mut getter.standing else {
             return None;
         };
-        let found = getter.near.look(&self.group, at, key, caller)?;
-        self.count_hit(rt, &mut getter.tallies);
+        let found = getter.near.look(self.store.group(), at, key, caller)?;
+        self.store.count_hit(rt, &mut getter.tallies);
         match found {
             Ok(view) => Some(Ok(view)),
             Err(_) => Some(Err(LoadFault::Memory)),
@@ -290,12 +177,12 @@ impl<'d, D: Naming, N: Naming, O: Origin> Fill<'d, D, N, O> {
             return None;
         };
         let place = at.number().number();
-        let found = self.look(rt, &mut getter.tallies, place, key, caller)?;
-        self.count_hit(rt, &mut getter.tallies);
+        let found = self.store.look(rt, &mut getter.tallies, place, key, caller)?;
+        self.store.count_hit(rt, &mut getter.tallies);
         match found {
             Ok(letter) => {
                 let mut letter = letter;
-                getter.near.keep(&self.group, key.len(), &mut letter);
+                getter.near.keep(self.store.group(), key.len(), &mut letter);
                 Some(show(letter, at, key))
             }
             Err(_) => Some(Err(LoadFault::Memory)),
@@ -344,8 +231,8 @@ impl<'d, D: Naming, N: Naming, O: Origin> Fill<'d, D, N, O> {
         let Standing::Free(caller) = &mut getter.standing else {
             return None;
         };
-        let found = getter.near.look_for_bytes(&self.group, at, key, caller)?;
-        self.count_hit(rt, &mut getter.tallies);
+        let found = getter.near.look_for_bytes(self.store.group(), at, key, caller)?;
+        self.store.count_hit(rt, &mut getter.tallies);
         match found {
             Ok(bytes) => Some(Ok(bytes)),
             Err(_) => Some(Err(LoadFault::Memory)),
@@ -396,13 +283,13 @@ impl<'d, D: Naming, N: Naming, O: Origin> Fill<'d, D, N, O> {
     {
         let mut getter = getter;
         if getter.owes() {
-            self.count(rt, &mut getter.tallies, GET_ALONE);
+            self.store.count(rt, &mut getter.tallies, GET_ALONE);
             return (getter, Err(LoadFault::Memory));
         }
         let mut at = match self.space.find(&mut getter.desk, key) {
             Ok(at) => at,
             Err(refusal) => {
-                self.count(rt, &mut getter.tallies, GET_ALONE);
+                self.store.count(rt, &mut getter.tallies, GET_ALONE);
                 return (getter, Err(of_key(refusal)));
             }
         };

@@ -1,63 +1,23 @@
 //! Getters: what they owe, and what they tell each other.
 ghost use Rattle.std.specs.Prelude.{IfSome, ◌≡◌, ◌↔◌, ◌-◌, ◌<◌, ◌^◌, IsTrue, false, is_ok, not};
-ghost use Rattle.sf_fill.specs.GetterValue.{IsOfGroup, free_caller, is_owing};
+ghost use Rattle.sf_store.specs.Standings.{IsOfGroup, free_caller, is_owing};
 ghost use Rattle.sf_fill.specs.Fresh.{HasAdded, delivered_by};
-ghost use Rattle.sf_fill.specs.Logs.{empty_log, logged_by};
+ghost use Rattle.sf_store.specs.Logs.{empty_log, logged_by};
 ghost use Rattle.sf_fill.specs.Owing.{HasDelivered, HasSettledUp};
 ghost use Rattle.sf_calls.specs.Notes.{HasGrown};
 ghost use Rattle.sf_fill.specs.Notes.{HasToldNote, HasLearntNote, NotesCarryPurges, NotesCarryReloads};
 
 use crate::fill::Fill;
-use crate::log::Log;
-use sf_calls::Fit;
 use sf_counters::{Naming, Tallies};
-use sf_group::{Caller, Event, Finished, Memory, Note, Settled};
+use sf_group::{Caller, Event, Finished, Memory, Note};
 use sf_letters::FillValue;
 use sf_loaders::Origin;
 use sf_near::Near;
 use sf_spots::KeyDesk;
+use sf_store::{Log, Standing};
 use sf_words::PlaceNo;
 use std::marker::Model;
 use std::sync::Wait;
-
-/// Where a getter's caller is: free, or owing letters of a call that it has settled.
-pub(crate) enum Standing<V: Fit> {
-    Free(Caller<V>),
-    Owing(Settled<V>),
-}
-
-impl<V: Fit> Standing<V> {
-    // Whether letters are owed.
-    pub(crate) fn is_owing(&self) -> bool
-        ensures { result ≡ is_owing self.now }
-    {
-        match self {
-            Standing::Free(_) => false,
-            Standing::Owing(_) => true,
-        }
-    }
-
-    // The caller, if it is free; what it owes else never comes.
-    fn into_caller(self) -> Option<Caller<V>>
-        ensures { result ≡ free_caller self }
-    {
-        match self {
-            Standing::Free(caller) => Some(caller),
-            Standing::Owing(settled) => {
-                settled.abandon();
-                None
-            }
-        }
-    }
-
-    // Spends the caller; what it owes never comes.
-    pub(crate) fn end(self) {
-        match self {
-            Standing::Free(caller) => drop(caller),
-            Standing::Owing(settled) => settled.abandon(),
-        }
-    }
-}
 
 /// One who gets keys of a fill, in one thread at a time. It has to be spent.
 pub struct Getter<'d, D: Naming, N: Naming, O: Origin, L> {
@@ -71,7 +31,8 @@ pub struct Getter<'d, D: Naming, N: Naming, O: Origin, L> {
 
 impl<'d, D: Naming, N: Naming, O: Origin, L> Model for Getter<'d, D, N, O, L> {
     ghost use Rattle.sf_spots.specs.Spaces.{IsDeskOf};
-    ghost use Rattle.sf_fill.specs.GetterValue.{GetterValue, IsOfGroup};
+    ghost use Rattle.sf_fill.specs.GetterValue.{GetterValue};
+    ghost use Rattle.sf_store.specs.Standings.{IsOfGroup};
 
     ghost Value = { GetterValue L };
 
@@ -139,7 +100,7 @@ impl<'d, D: Naming, N: Naming, O: Origin, L> Getter<'d, D, N, O, L> {
             log: _,
             near: _,
         } = self;
-        fill.enter(rt, &mut tallies);
+        fill.store.enter(rt, &mut tallies);
         standing.into_caller()
     }
 
@@ -147,7 +108,7 @@ impl<'d, D: Naming, N: Naming, O: Origin, L> Getter<'d, D, N, O, L> {
     pub fn enter<R: Wait>(&mut self, rt: &R, fill: &Fill<'d, D, N, O>)
         ensures { self.new ≡ self.old }
     {
-        fill.enter(rt, &mut self.tallies);
+        fill.store.enter(rt, &mut self.tallies);
     }
 
     /// Spends the getter, once all that it counted is entered in the fill's book; what it owes is abandoned.
@@ -156,7 +117,7 @@ impl<'d, D: Naming, N: Naming, O: Origin, L> Getter<'d, D, N, O, L> {
         L: Drop,
     {
         let mut tallies = self.into_tallies();
-        fill.enter(rt, &mut tallies);
+        fill.store.enter(rt, &mut tallies);
     }
 
     /// Spends the getter where there is no fill at hand: what it owes is abandoned, and so are its last 63 gets at most that are not
@@ -202,7 +163,7 @@ impl<'d, D: Naming, N: Naming, O: Origin> Fill<'d, D, N, O> {
     {
         match standing {
             Standing::Free(caller) => (Standing::Free(caller), Ok(())),
-            Standing::Owing(settled) => match self.group.go_on(settled) {
+            Standing::Owing(settled) => match self.store.group().go_on(settled) {
                 Finished::Done(caller, letter) => {
                     log.add(Event::Handed {
                         by: caller.number(),
@@ -254,9 +215,10 @@ impl<'d, D: Naming, N: Naming, O: Origin, L> Getter<'d, D, N, O, L> {
         ensures group { result.group ≡ N.group }
         ensures told { HasToldNote self.old self.new result }
     {
+        let group = fill.group();
         match &mut self.standing {
-            Standing::Free(caller) => fill.group.tell(caller),
-            Standing::Owing(settled) => settled.tell(&fill.group),
+            Standing::Free(caller) => group.tell(caller),
+            Standing::Owing(settled) => settled.tell(group),
         }
     }
 
@@ -267,9 +229,10 @@ impl<'d, D: Naming, N: Naming, O: Origin, L> Getter<'d, D, N, O, L> {
         ensures learnt { HasLearntNote self.old note.old.seen self.new }
         ensures note { HasGrown note.old note.new }
     {
+        let group = fill.group();
         match &mut self.standing {
-            Standing::Free(caller) => fill.group.learn(caller, note),
-            Standing::Owing(settled) => settled.learn(&fill.group, note),
+            Standing::Free(caller) => group.learn(caller, note),
+            Standing::Owing(settled) => settled.learn(group, note),
         }
     }
 }

@@ -5,14 +5,12 @@ ghost use Rattle.sf_caches.specs.Trimming.{no_entries, room_of};
 ghost use Rattle.sf_words.specs.declared.limits.TheConstants.{LARGEST_PLACE, LARGEST_CALLER};
 ghost use Rattle.sf_spots.specs.Spaces.{AreDesksOf, places_in, space_of};
 ghost use Rattle.sf_counters.specs.Ledgers.{nothing_counted};
-ghost use Rattle.sf_fill.specs.Logs.{empty_log};
+ghost use Rattle.sf_store.specs.Logs.{empty_log};
 ghost use Rattle.sf_fill.specs.Made.{AreOfGroup, AreParts, new_getters};
 ghost use Rattle.sf_counters.specs.Totals.{names_of};
 
 use crate::fill::Fill;
-use crate::getter::{Getter, Standing};
-use crate::locked::Locked;
-use crate::log::Log;
+use crate::getter::Getter;
 use crate::sizes::Sizes;
 use sf_counters::{Accounts, AllParts, Ledgers, Naming};
 use sf_group::{Caller, Group, Memory};
@@ -20,8 +18,8 @@ use sf_letters::{FillValue, Kept};
 use sf_loaders::Origin;
 use sf_near::Near;
 use sf_spots::{KeyDesk, KeySpace};
+use sf_store::{Log, Standing, Store};
 use std::alloc::Global;
-use std::sync::Mutex;
 
 /// What a fill is made of, which comes back where memory is refused.
 #[derive(Drop)]
@@ -220,12 +218,9 @@ impl<'d, D: Naming, N: Naming, O: Origin> Fill<'d, D, N, O> {
         } = rooms;
         let (accounts, all) = Accounts::open(ledgers, count as u64);
         let getters = getters_of(alloc, sizes, desks, callers, loaders, logs, all, list);
-        let locked = Mutex::new(Locked { kept, accounts });
         let fill = Fill {
             space,
-            group,
-            locked,
-            limit: sizes.limit,
+            store: Store::new(group, kept, sizes.limit, accounts),
             alloc,
         };
         Ok((fill, getters))

@@ -1,76 +1,24 @@
 //! Reloads.
-ghost use Rattle.std.specs.Prelude.{◌≡◌};
-ghost use Rattle.sf_fill.specs.Reloads.{forgot_of, ForgetsNamed, HasReloaded, ReloadsFrom};
-ghost use Rattle.sf_calls.specs.Same.{IsPlaceOf};
+ghost use Rattle.sf_fill.specs.Reloads.{HasReloaded, ReloadsFrom};
 ghost use Rattle.sf_spots.specs.Spaces.{IsDeskOf};
 ghost use Rattle.sf_fill.specs.Fresh.{IsReloading};
 ghost use Rattle.sf_fill.specs.Purges.{ForgetsAll};
-ghost use Rattle.sf_fill.specs.GetterValue.{IsOfGroup, number_of, seen_of};
-ghost use Rattle.sf_fill.specs.Logs.{HasLogged};
+ghost use Rattle.sf_store.specs.Standings.{IsOfGroup, number_of, seen_of};
+ghost use Rattle.sf_store.specs.Logs.{HasLogged};
 
 use crate::fill::Fill;
-use crate::getter::{Getter, Standing};
-use crate::log::Log;
+use crate::getter::Getter;
 use sf_counters::Naming;
-use sf_group::{Caller, Memory};
-use sf_history::{CallId, Hit};
+use sf_group::Memory;
 use sf_letters::{FillValue, LoadFault, of_key};
 use sf_loaders::Origin;
 use sf_near::Near;
 use sf_spots::KeyDesk;
-use sf_wait::forget_call_wait;
+use sf_store::{Forgot, Log, Standing};
 use sf_words::PlaceNo;
 use std::sync::Wait;
 
-/// What became of the call that a key named.
-#[derive(Clone, Copy)]
-pub enum Forgot {
-    /// It was open, and takes no more callers.
-    Closed(CallId),
-    /// It was settled and current, and is current no more.
-    Cleared(CallId),
-    /// It was not current any more.
-    Missed(CallId),
-    /// The key named no call.
-    Idle,
-}
-
-impl Forgot {
-    // What a Forget of this call came to.
-    pub(crate) fn of(call: CallId, hit: Hit) -> Forgot
-        ensures { result ≡ forgot_of call hit }
-    {
-        match hit {
-            Hit::Closed => Forgot::Closed(call),
-            Hit::Cleared => Forgot::Cleared(call),
-            Hit::Missed => Forgot::Missed(call),
-        }
-    }
-}
-
 impl<'d, D: Naming, N: Naming, O: Origin> Fill<'d, D, N, O> {
-    // Forgets the call that the place names, whose entries then leave both caches. The lock is held all the while: who leads a call
-    // that follows the named one has its second look before, so that its own call is named, or after, so that it finds nothing to
-    // take over, and loads.
-    fn forget_named<R: Wait>(
-        &self,
-        rt: &R,
-        caller: &mut Caller<FillValue<'d, D, O>>,
-        place: u32,
-    ) -> Forgot
-        requires caller { caller.old.group ≡ N.group }
-        requires place { IsPlaceOf N.group place }
-        ensures { ForgetsNamed caller.old place result caller.new }
-    {
-        let mut locked = self.locked.lock(rt);
-        let Some(call) = self.group.named(caller, place) else {
-            return Forgot::Idle;
-        };
-        let hit = forget_call_wait(rt, &self.group, caller, place, call);
-        locked.kept.remove_call(place, call);
-        Forgot::of(call, hit)
-    }
-
     // Forgets the call that the key names, unless the caller owes letters. The getter's own letter of its place leaves too.
     fn forget<R: Wait>(
         &self,
@@ -101,7 +49,7 @@ impl<'d, D: Naming, N: Naming, O: Origin> Fill<'d, D, N, O> {
             Ok(place) => {
                 let number = place.number();
                 near.remove(number.number());
-                let forgot = self.forget_named(rt, &mut caller, number.number());
+                let forgot = self.store.forget_named(rt, &mut caller, number.number());
                 log.add_forgot(caller.number(), number, forgot);
                 (Standing::Free(caller), Ok(forgot))
             }
@@ -167,7 +115,7 @@ impl<'d, D: Naming, N: Naming, O: Origin> Fill<'d, D, N, O> {
                 near.empty();
                 for index in 0..self.space.place_count() {
                     let place = PlaceNo::from_index(index as usize);
-                    let forgot = self.forget_named(rt, &mut caller, place.number());
+                    let forgot = self.store.forget_named(rt, &mut caller, place.number());
                     log.add_forgot(caller.number(), place, forgot);
                 }
                 (Standing::Free(caller), Ok(()))

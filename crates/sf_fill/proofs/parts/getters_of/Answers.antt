@@ -2,11 +2,11 @@ use Rattle.std.proofs.Common.{◌≡◌, ◌+◌, ap, ◌∙◌, arith, vec_len}
 use Rattle.sf_spots.specs.Spaces.{IsDeskOf}
 use Rattle.sf_calls.specs.Tokens.{CallerValue}
 use Rattle.sf_counters.specs.declared.totals.Totals.{Totals}
-use Rattle.sf_fill.specs.declared.getter.Standing.TheVariants.{Free}
+use Rattle.sf_store.specs.declared.standing.Standing.TheVariants.{Free}
 use Rattle.sf_letters.specs.FillValue.{Filled}
 use Rattle.sf_fill.specs.GetterValue.{GetterValue}
 use Rattle.sf_counters.specs.Ledgers.{nothing_counted}
-use Rattle.sf_fill.specs.Logs.{LogValue, empty_log}
+use Rattle.sf_store.specs.Logs.{LogValue, empty_log}
 use Rattle.sf_fill.proofs.Dealt.{dealt_more}
 use Rattle.sf_fill.proofs.Popped.{popped, last_is}
 use Rattle.sf_fill.proofs.parts.getters_of.Goals as goal

@@ -1,6 +1,6 @@
 use Rattle.std.proofs.Common.{ℕ, ap, ◌∙◌, subst, arith}
 use Rattle.sf_fill.specs.GetterValue.{GetterValue}
-use Rattle.sf_fill.specs.Logs.{empty_log}
+use Rattle.sf_store.specs.Logs.{empty_log}
 use Rattle.sf_drive.specs.Jobs.{HasTakenTurns}
 use Rattle.sf_drive.proofs.Turning.{turns_count, turns_on, right_counts, right_is_one, job_counts, job_logs}
 use Rattle.sf_drive.proofs.jobs.Crew.get_all.Goals as goal

@@ -1,0 +1,20 @@
+//! What a slot of the library for C holds, and its calls, each of which is answered by a code.
+//!
+//! `sf_c` is the library over it: it puts a state behind a pointer, and has the exports.
+#![tactic(auto)]
+
+mod codes;
+mod key;
+mod note_state;
+mod one_call;
+mod part;
+mod stamps;
+mod state;
+mod word;
+
+pub use codes::{
+    BAD_NUMBER, BUSY, CLEARED, DONE, NOT_OPEN, NOTHING_LEFT, OTHER, OTHERWISE, SPENT, WRONG_STATE,
+};
+pub use note_state::NoteState;
+pub use stamps::Stamp;
+pub use state::State;

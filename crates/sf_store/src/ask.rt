@@ -1,0 +1,123 @@
+//! Askings: a caller leads its key's call, or waits for the letter of the one that another leads.
+ghost use Rattle.std.specs.Prelude.{◌≡◌};
+ghost use Rattle.sf_calls.specs.Same.{IsPlaceOf};
+ghost use Rattle.sf_calls.specs.Seen.{IsLawful};
+ghost use Rattle.sf_counters.specs.Totals.{IsOfOneGet};
+ghost use Rattle.sf_letters.specs.Rooted.{IsRooted};
+ghost use Rattle.sf_spots.specs.Spots.{IsInSpace, MayBe, spot_key, spot_place};
+ghost use Rattle.sf_store.specs.Found.{DrawsWithin, HasFoundFrom, HasRunFrom, IfDone, Led, found_by};
+ghost use Rattle.sf_store.specs.Logs.{HasLogged};
+ghost use Rattle.sf_store.specs.Replies.{IsOfKey, IsOfPlace, counts_of, reply_of};
+ghost use Rattle.sf_store.specs.Standings.{seen_of};
+
+use crate::load::Sourced;
+use crate::log::Log;
+use crate::store::Store;
+use sf_calls::Fit;
+use sf_counters::{GetCounts, Naming};
+use sf_group::{Begun, Caller, Finished, Flight, Letter, Spent};
+use sf_letters::FillValue;
+use sf_loaders::{LoadPath, Origin};
+use sf_spots::Spot;
+use sf_wait::{begin_wait, wait};
+use std::sync::Wait;
+
+/// What it comes to that a free caller asks the group.
+pub enum Asked<V: Fit> {
+    /// Memory for the key was refused, and nothing was asked.
+    Unmade(Caller<V>),
+    /// The caller has no generation left to ask with.
+    Spent(Caller<V>),
+    /// The letter of the key's open call, which another led.
+    Joined(Caller<V>, Letter<V>),
+    /// The caller led a call and settled it; and what that counts.
+    Led(Finished<V>, GetCounts),
+}
+
+impl<'d, D: Naming, N: Naming, O: Origin> Store<'d, D, N, O> {
+    /// Asks the group: loads the key where the caller leads, and else waits for the letter. Where that is of another key, it asks
+    /// again.
+    pub fn ask<R: Wait, L>(
+        &self,
+        rt: &R,
+        caller: Caller<FillValue<'d, D, O>>,
+        spot: Spot<'d>,
+        key: &[u8],
+        loaders: &mut L,
+        log: &mut Log,
+    ) -> Asked<FillValue<'d, D, O>>
+    where
+        L: LoadPath<Origin = O>,
+        requires caller { caller.group ≡ N.group }
+        requires spot { IsInSpace D.space spot × (spot_key spot ≡ key.now)
+            × IsPlaceOf N.group (spot_place spot) }
+        ensures found { HasFoundFrom N.space key.now (L.run_gives key.now)
+            (DrawsWithin N.limit L.draw_gives) spot.entry caller.entry loaders.old loaders.new
+            (found_by result) }
+        ensures logged { HasLogged caller.entry.number caller.entry.seen
+            (seen_of (reply_of (found_by result)).0) log.old log.new }
+        ensures of_place { IsOfPlace (spot_place spot.entry) (found_by result) }
+        ensures of_key { IsOfKey key.now (found_by result) }
+        ensures one { IsOfOneGet (counts_of (found_by result)) }
+    {
+        let number = spot.number();
+        let mut asking = caller;
+        for _ in rt.forever() {
+            match begin_wait(rt, &self.group, asking, number.number()) {
+                Ok(Begun::Lead(flight)) => {
+                    log.add_lead(number, &flight);
+                    let (finished, counts) = self.lead(rt, flight, spot, key, loaders, log);
+                    return Asked::Led(finished, counts);
+                }
+                Ok(Begun::Join(ticket)) => {
+                    log.add_enter(number, &ticket);
+                    let (caller, letter) = wait(rt, &self.group, ticket);
+                    if letter.value().is_of(key) {
+                        return Asked::Joined(caller, letter);
+                    }
+                    asking = caller;
+                }
+                Err(Spent { back }) => return Asked::Spent(back),
+            }
+        }
+        unreachable!()
+    }
+
+    // Settles the call that is led, with what its source gives.
+    fn lead<R: Wait, L>(
+        &self,
+        rt: &R,
+        flight: Flight<FillValue<'d, D, O>>,
+        spot: Spot<'d>,
+        key: &[u8],
+        loaders: &mut L,
+        log: &mut Log,
+    ) -> (Finished<FillValue<'d, D, O>>, GetCounts)
+    where
+        L: LoadPath<Origin = O>,
+        requires flight { (flight.group ≡ N.group) × IsLawful N.group.sizes flight.seen
+            × IsPlaceOf N.group flight.place }
+        requires own { flight.call.caller ≡ flight.number }
+        requires led { IsRooted flight.place flight.call flight.call flight.seen }
+        requires spot { IsInSpace D.space spot × (spot_key spot ≡ key.now)
+            × (spot_place spot ≡ flight.place) }
+        ensures run { HasRunFrom (L.run_gives key.now) (DrawsWithin N.limit L.draw_gives) spot.entry
+            flight.entry loaders.old loaders.new result.0 result.1 }
+        ensures logged { HasLogged flight.entry.number flight.entry.seen
+            (seen_of (reply_of (Led result.0 result.1)).0) log.old log.new }
+        ensures of_place { IfDone (λ letter. letter.place ≡ flight.entry.place) result.0 }
+        ensures of_key { IfDone (λ letter. MayBe letter.value.spot key.now) result.0 }
+        ensures one { IsOfOneGet result.1 }
+    {
+        let mut flight = flight;
+        let call = flight.call();
+        let Sourced {
+            value,
+            keep,
+            counts,
+        } = self.source(rt, &mut flight, spot, key, loaders);
+        let finished = self.settle(rt, flight, value, keep, key.len());
+        log.add_finished(call, &finished);
+        (finished, counts)
+    }
+}

@@ -1,0 +1,114 @@
+//! Looks at what the caches keep, and puts, under the lock.
+ghost use Rattle.std.specs.Prelude.{◌≡◌, IfErr, IfOk, IfSome};
+ghost use Rattle.sf_calls.specs.Notes.{HasLent};
+ghost use Rattle.sf_calls.specs.Same.{HasNothing, IsPlaceOf};
+ghost use Rattle.sf_calls.specs.Seen.{IsLawful};
+ghost use Rattle.sf_letters.specs.Settled.{CopiesFollowed, HasLookedOn, IsSettled};
+ghost use Rattle.sf_spots.specs.Spots.{MayBe};
+
+use crate::store::Store;
+use sf_caches::Which;
+use sf_counters::{Naming, Tallies};
+use sf_group::{Caller, Flight, Letter, Memory};
+use sf_letters::{FillValue, InCache, Kept, Missed};
+use sf_loaders::Origin;
+use std::sync::Wait;
+
+impl<'d, D: Naming, N: Naming, O: Origin> Store<'d, D, N, O> {
+    /// A copy of the current letter that main, or else hot, has for the key at the place; entries of the key that are not
+    /// current are dropped. A limit that keeps nothing skips the look. What the getter counted is entered with it.
+    #[inline(never)]
+    pub fn look<R: Wait>(
+        &self,
+        rt: &R,
+        tallies: &mut Tallies<N>,
+        place: u32,
+        key: &[u8],
+        caller: &mut Caller<FillValue<'d, D, O>>,
+    ) -> Option<Result<Letter<FillValue<'d, D, O>>, Memory>>
+        requires { caller.old.group ≡ N.group }
+        ensures looked { HasLookedOn caller.old place result caller.new }
+        ensures of_key { IfSome result (λ found.
+            IfOk found (λ letter. MayBe letter.value.spot key.now)) }
+        ensures tallies { tallies.new ≡ tallies.old }
+    {
+        if self.limit <= 0 {
+            return None;
+        }
+        let mut locked = self.locked.lock(rt);
+        locked.accounts.enter(tallies);
+        locked.kept.look(&self.group, place, key, caller)
+    }
+
+    /// A copy of the letter of the key that main, or else hot, has of the call that the flight's follows; other entries stay.
+    pub fn second_look<R: Wait>(
+        &self,
+        rt: &R,
+        flight: &Flight<FillValue<'d, D, O>>,
+        key: &[u8],
+    ) -> Result<InCache<FillValue<'d, D, O>>, Missed>
+        requires { flight.now.group ≡ N.group }
+        ensures follows { IfOk result (λ found. CopiesFollowed flight.now found.copy) }
+        ensures of_key { IfOk result (λ found.
+            IfOk found.copy (λ letter. MayBe letter.value.spot key.now)) }
+        ensures call { IfErr result (λ missed. missed.call ≡ flight.now.call) }
+    {
+        let call = Kept::<'d, D, N, O>::to_find(self.limit, flight)?;
+        let mut locked = self.locked.lock(rt);
+        locked.kept.look_again(&self.group, flight, key, call)
+    }
+
+    // Puts a copy of the letter into a cache, if the caller is told that its call is current; where memory for it is refused, nothing
+    // is put. The letter's note may show more then.
+    pub(crate) fn put_letter<R: Wait>(
+        &self,
+        rt: &R,
+        which: Which,
+        key_len: usize,
+        value_len: usize,
+        caller: &mut Caller<FillValue<'d, D, O>>,
+        letter: &mut Letter<FillValue<'d, D, O>>,
+    )
+        requires place { IsPlaceOf N.group letter.old.place }
+        requires caller { (caller.old.group ≡ N.group) × IsLawful N.group.sizes caller.old.seen }
+        requires letter { (letter.old.group ≡ N.group) × IsSettled letter.old }
+        ensures caller { HasNothing caller.old caller.new }
+        ensures letter { HasLent letter.old letter.new }
+    {
+        if let Ok(copy) = self.group.copy(letter) {
+            self.put_copy(rt, which, key_len, value_len, caller, letter, copy);
+        }
+    }
+
+    // Puts the letter's copy into a cache, if the caller is told that its call is current. It asks under the lock, so that no letter
+    // comes back that a reload took out.
+    fn put_copy<R: Wait>(
+        &self,
+        rt: &R,
+        which: Which,
+        key_len: usize,
+        value_len: usize,
+        caller: &mut Caller<FillValue<'d, D, O>>,
+        letter: &mut Letter<FillValue<'d, D, O>>,
+        copy: Letter<FillValue<'d, D, O>>,
+    )
+        requires place { IsPlaceOf N.group letter.old.place }
+        requires caller { (caller.old.group ≡ N.group) × IsLawful N.group.sizes caller.old.seen }
+        requires letter { (letter.old.group ≡ N.group) × IsSettled letter.old }
+        requires copy { (copy.group ≡ N.group) × IsSettled copy }
+        ensures caller { HasNothing caller.old caller.new }
+        ensures letter { HasLent letter.old letter.new }
+    {
+        let place = letter.place();
+        let mut locked = self.locked.lock(rt);
+        if self.group.is_current(caller, letter) {
+            let _ = locked.kept.put(which, place, key_len, value_len, copy);
+        }
+    }
+
+    /// Takes what both caches keep of the key at the place out of them.
+    pub fn remove_key<R: Wait>(&self, rt: &R, place: u32, key: &[u8]) {
+        let mut locked = self.locked.lock(rt);
+        locked.kept.remove_key(place, key);
+    }
+}

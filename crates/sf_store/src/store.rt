@@ -1,0 +1,133 @@
+//! What the getters of a fill share, and what is counted under its lock.
+ghost use Rattle.std.specs.Prelude.{◌≡◌, ◌<◌, ◌^◌, ◌-◌};
+ghost use Rattle.sf_counters.specs.GetCounts.{hit_counts};
+ghost use Rattle.sf_counters.specs.Totals.{IsOfOneGet, with_counts};
+
+use sf_caches::{CacheStats, Which};
+use sf_counters::{Accounts, AllParts, GetCounts, Naming, Tallies, Totals};
+use sf_group::Group;
+use sf_letters::{FillValue, Kept};
+use sf_loaders::Origin;
+use std::marker::Model;
+use std::sync::{Mutex, Wait};
+
+/// How many gets a getter counts alone before it enters them.
+const MOST_PENDING: u64 = 64;
+
+/// What lies under the lock: the letters that are kept, and what all getters have counted.
+#[derive(Drop)]
+pub(crate) struct Locked<'d, D: Naming, N: Naming, O: Origin> {
+    pub(crate) kept: Kept<'d, D, N, O>,
+    pub(crate) accounts: Accounts<N>,
+}
+
+/// The group that the getters of a fill ask, and two caches of its answers. A lock is held to look, to put and to count, and
+/// never while a getter loads or waits for a letter.
+#[derive(Drop)]
+pub struct Store<'d, D: Naming, N: Naming, O: Origin> {
+    pub(crate) group: Group<FillValue<'d, D, O>>,
+    pub(crate) locked: Mutex<Locked<'d, D, N, O>>,
+    pub(crate) limit: i64,
+}
+
+impl<'d, D: Naming, N: Naming, O: Origin> Model for Store<'d, D, N, O> {
+    ghost use Rattle.std.specs.Prelude.{◌≡◌};
+    ghost use Rattle.sf_calls.specs.Tokens.{GroupValue};
+
+    ghost Value = { GroupValue };
+
+    ghost view = { λ s. s.group };
+
+    ghost invariant = { λ s. (s.group ≡ N.group) × (s.limit ≡ N.limit) × (D.space ≡ N.space) };
+}
+
+impl<'d, D: Naming, N: Naming, O: Origin> Store<'d, D, N, O> {
+    /// Over the group, empty caches that keep at most so many bytes of keys and values, and accounts in which nothing is entered.
+    pub fn new(
+        group: Group<FillValue<'d, D, O>>,
+        kept: Kept<'d, D, N, O>,
+        limit: i64,
+        accounts: Accounts<N>,
+    ) -> Store<'d, D, N, O>
+        requires group { group ≡ N.group }
+        requires limit { limit ≡ N.limit }
+        requires space { D.space ≡ N.space }
+        ensures { result ≡ group.entry }
+    {
+        Store {
+            group,
+            locked: Mutex::new(Locked { kept, accounts }),
+            limit,
+        }
+    }
+
+    /// The group whose callers the getters are.
+    #[inline(always)]
+    pub fn group(&self) -> &Group<FillValue<'d, D, O>>
+        ensures { result.now ≡ N.group }
+    {
+        &self.group
+    }
+
+    /// What is entered so far.
+    pub fn book<R: Wait>(&self, rt: &R) -> Totals {
+        self.locked.lock(rt).accounts.totals()
+    }
+
+    /// What main or hot holds now.
+    pub fn cache_stats<R: Wait>(&self, rt: &R, which: Which) -> CacheStats {
+        self.locked.lock(rt).kept.stats(which)
+    }
+
+    /// Counts a get in the getter's tallies, and enters what 64 gets counted that were not entered yet.
+    pub fn count<R: Wait>(&self, rt: &R, tallies: &mut Tallies<N>, counts: GetCounts)
+        requires room { tallies.old.gets < 2 ^ 64 - 1 }
+        requires one { IsOfOneGet counts }
+        ensures { tallies.new ≡ with_counts tallies.old counts }
+    {
+        tallies.count(counts);
+        self.enter_if_due(rt, tallies);
+    }
+
+    /// The same of a get that a letter at hand answered.
+    #[inline(always)]
+    pub fn count_hit<R: Wait>(&self, rt: &R, tallies: &mut Tallies<N>)
+        requires { tallies.old.gets < 2 ^ 64 - 1 }
+        ensures { tallies.new ≡ with_counts tallies.old hit_counts }
+    {
+        tallies.count_hit();
+        self.enter_if_due(rt, tallies);
+    }
+
+    // Enters what 64 gets counted that were not entered yet.
+    fn enter_if_due<R: Wait>(&self, rt: &R, tallies: &mut Tallies<N>)
+        ensures { tallies.new ≡ tallies.old }
+    {
+        if tallies.pending() >= MOST_PENDING {
+            self.enter(rt, tallies);
+        }
+    }
+
+    /// Enters what the getter has counted and not entered yet.
+    #[inline(never)]
+    pub fn enter<R: Wait>(&self, rt: &R, tallies: &mut Tallies<N>)
+        ensures { tallies.new ≡ tallies.old }
+    {
+        self.locked.lock(rt).accounts.enter(tallies);
+    }
+
+    /// Enters what the getter has counted, which counts no more: its part of what all counted.
+    pub fn end<R: Wait>(&self, rt: &R, tallies: Tallies<N>) -> AllParts<N>
+        ensures { result ≡ record { parts = 1; counted = tallies } }
+    {
+        self.locked.lock(rt).accounts.end(tallies)
+    }
+
+    /// What is entered, once the parts of all getters are at hand.
+    pub fn gathered<R: Wait>(&self, rt: &R, all: &mut AllParts<N>) -> Totals
+        requires { all.old.parts ≡ N.getters }
+        ensures { result ≡ all.old.counted }
+    {
+        self.locked.lock(rt).accounts.gathered(all)
+    }
+}
