@@ -1,23 +1,28 @@
 //! Jobs: as many as may be, each done once and behind its gate; one that is given up is not done.
-ghost use Rattle.std.specs.Prelude.{◌≡◌, All, IfOk, vec_len};
+ghost use Rattle.std.specs.Prelude.{◌≡◌, ◌≤◌, All, vec_capacity, vec_len};
 ghost use Rattle.sf_calls.specs.Same.{IsPlaceOf};
 
-use crate::outcome::{Outcome, next_caller};
-use sf_group::{Begun, Caller, Flight, Group};
+use crate::callers::{lead_chan, next_caller};
+use crate::seats::{Seat, say_letter};
+use crate::stage::Stage;
+use crate::value::Value;
+use sf_group::{Begun, Caller, Flight, Group, Memory};
 use sf_wait::{Gate, Job, Served, Unserved, Work, begin_wait, serve};
-use std::alloc::{AllocError, Global};
+use std::alloc::Global;
+use std::marker::Model;
 use std::process::Abort;
 use std::sync::Wait;
 use std::sync::atomic::{AtomicU32, Ordering};
 use std::test::Fail;
-use std::thread::{Threads, yield_now};
+use std::thread::{Threads, join, yield_now};
 
-// Whether the gate was passed, how many jobs ran, and how many of them before it was.
+// Whether the gate was passed, how many jobs ran, how many of them before it was, and how many are done.
 #[derive(Drop)]
 struct Counts {
     passed: AtomicU32,
     runs: AtomicU32,
     early: AtomicU32,
+    done: AtomicU32,
 }
 
 impl Counts {
@@ -26,26 +31,164 @@ impl Counts {
             passed: AtomicU32::new(passed),
             runs: AtomicU32::new(0),
             early: AtomicU32::new(0),
+            done: AtomicU32::new(0),
         }
+    }
+
+    // How many jobs are done, how many ran, and how many of them early.
+    fn numbers(&self) -> (u32, u32, u32) {
+        (
+            self.done.load(Ordering::SeqCst),
+            self.runs.load(Ordering::SeqCst),
+            self.early.load(Ordering::SeqCst),
+        )
     }
 }
 
-// Counts its runs, and those before its gate was passed.
+// Work that answers its number, and counts its runs, and those before its gate was passed.
 #[derive(Drop)]
-struct Marked<'a>(&'a Counts);
+struct Marked<'a>(&'a Counts, u32);
 
-impl Work<Outcome> for Marked<'_> {
+impl Work<Value> for Marked<'_> {
     ghost may_run = { λ _. Unit {0} };
 
     ghost answers = { λ _ _. Unit {0} };
 
-    fn run(self) -> Outcome {
+    fn run(self) -> Value {
         self.0.runs.fetch_add(1, Ordering::SeqCst);
         if self.0.passed.load(Ordering::SeqCst) == 0 {
             self.0.early.fetch_add(1, Ordering::SeqCst);
         }
-        Outcome(1)
+        Value::new(self.1, 0)
     }
+}
+
+// Jobs of the group, 1 to 64. Those that are never done are given up.
+struct Batch<'a> {
+    group: &'a Group<Value>,
+    counts: &'a Counts,
+    jobs: Vec<Job<Value, Marked<'a>>>,
+}
+
+impl<'a> Model for Batch<'a> {
+    ghost use Rattle.std.specs.Prelude.{◌≡◌, ◌≤◌, All, vec_len};
+
+    ghost Value = { Unit {0} };
+
+    ghost view = { λ _. tt };
+
+    ghost invariant = { λ b. All (λ job. job.flight.group ≡ b.group.now) b.jobs.items
+        × (1 ≤ vec_len b.jobs) × (vec_len b.jobs ≤ 64) };
+}
+
+fn abandon_all(mut jobs: Vec<Job<Value, Marked>>) {
+    while let Some(job) = jobs.pop() {
+        job.abandon();
+    }
+    jobs.destroy_empty();
+}
+
+impl<'a> Drop for Batch<'a> {
+    fn drop(self) {
+        let Batch {
+            group: _,
+            counts: _,
+            jobs,
+        } = self;
+        abandon_all(jobs);
+    }
+}
+
+// How the job ended.
+fn say_end(served: Served<Value, Marked>, counts: &Counts, said: &mut String) {
+    match served {
+        Served::Done(caller, letter) => {
+            counts.done.fetch_add(1, Ordering::SeqCst);
+            say_letter(said, caller.number(), "did", &letter, letter.place());
+        }
+        Served::Held(settled) => settled.abandon(),
+        Served::Left(job) => job.abandon(),
+    }
+    let _ = said.push_str("\n");
+}
+
+// How they ended, the last one first.
+fn say_ends(alloc: Global, served: Vec<Served<Value, Marked>>, counts: &Counts) -> String {
+    let mut list = served;
+    let mut said = String::new(alloc);
+    while let Some(one) = list.pop() {
+        say_end(one, counts, &mut said);
+    }
+    list.destroy_empty();
+    said
+}
+
+impl<'a> Batch<'a> {
+    // Serves the jobs. How they ended, the last one first.
+    fn serve<R: Abort + Threads + Wait + Sync>(
+        self,
+        rt: &R,
+        alloc: Global,
+        gate: &(impl Gate + Sync),
+    ) -> String {
+        let Self {
+            group,
+            counts,
+            jobs,
+        } = self;
+        match serve(rt, alloc, group, gate, jobs) {
+            Ok(list) => say_ends(alloc, list, counts),
+            Err(Unserved { back }) => {
+                abandon_all(back);
+                panic!(rt; "no memory")
+            }
+        }
+    }
+}
+
+// The last caller of the list leads a call of the place, and has this work.
+fn next_job<'a>(
+    rt: &(impl Abort + Wait),
+    group: &Group<Value>,
+    list: &mut Vec<Caller<Value>>,
+    place: u32,
+    work: Marked<'a>,
+) -> Job<Value, Marked<'a>>
+    requires own { All (λ c. c.group ≡ group.now) list.old.items }
+    requires place { IsPlaceOf group.now place }
+    ensures job { result.flight.group ≡ group.now }
+    ensures rest { All (λ c. c.group ≡ group.now) list.new.items }
+{
+    let caller = next_caller(rt, group, list);
+    match begin_wait(rt, group, caller, place) {
+        Ok(Begun::Lead(flight)) => Job::new(flight, work),
+        Ok(Begun::Join(ticket)) => {
+            ticket.abandon();
+            panic!(rt; "it joins")
+        }
+        Err(_) => panic!(rt; "it is spent"),
+    }
+}
+
+#[test]
+fn abandoned_job_is_not_done(rt: HostRuntime) -> Result<(), Fail> {
+    let (group, mut list) = Group::<Value>::new(rt.alloc(), 1, 1, 1)?;
+    let counts = Counts::new(1);
+    next_job(&rt, &group, &mut list, 1, Marked(&counts, 1)).abandon();
+    let runs = counts.runs.load(Ordering::SeqCst);
+    assert!(rt; runs == 0, "it ran {runs} times");
+    Ok(())
+}
+
+#[test]
+fn job_gives_its_parts(rt: HostRuntime) -> Result<(), Fail> {
+    let (group, mut list) = Group::<Value>::new(rt.alloc(), 1, 1, 1)?;
+    let counts = Counts::new(1);
+    let job = next_job(&rt, &group, &mut list, 1, Marked(&counts, 7));
+    let (flight, Marked(_, value)) = job.into_parts();
+    Job::new(flight, Marked(&counts, 8)).abandon();
+    assert!(rt; value == 7, "its work is {value}");
+    Ok(())
 }
 
 // Its first pass takes so long that a job that does not wait for it runs before.
@@ -61,127 +204,138 @@ impl Gate for Slow<'_> {
     }
 }
 
-fn lead(
-    rt: &(impl Abort + Wait),
-    group: &Group<Outcome>,
-    list: &mut Vec<Caller<Outcome>>,
-    place: u32,
-) -> Flight<Outcome>
-    requires own { All (λ c. c.group ≡ group.now) list.old.items }
-    requires place { IsPlaceOf group.now place }
-    ensures flight { result.group ≡ group.now }
-    ensures rest { All (λ c. c.group ≡ group.now) list.new.items }
-{
-    let caller = next_caller(rt, group, list);
-    match begin_wait(rt, group, caller, place) {
-        Ok(Begun::Lead(flight)) => flight,
-        Ok(Begun::Join(ticket)) => {
-            ticket.abandon();
-            panic!(rt; "it joins")
-        }
-        Err(_) => panic!(rt; "it is spent"),
-    }
-}
-
-#[test]
-fn abandoned_job_is_not_done(rt: HostRuntime) -> Result<(), Fail> {
-    let (group, mut callers) = Group::<Outcome>::new(rt.alloc(), 1, 1, 1)?;
-    let counts = Counts::new(1);
-    let flight = lead(&rt, &group, &mut callers, 1);
-    Job::new(flight, Marked(&counts)).abandon();
-    let runs = counts.runs.load(Ordering::SeqCst);
-    assert!(rt; runs == 0, "it ran {runs} times");
-    Ok(())
-}
-
-// How many of the jobs are done.
-fn count_done(mut list: Vec<Served<Outcome, Marked>>) -> u32 {
-    let mut done: u32 = 0;
-    while let Some(one) = list.pop() {
-        match one {
-            Served::Done(_, _) => done = done.wrapping_add(1),
-            Served::Held(settled) => settled.abandon(),
-            Served::Left(job) => job.abandon(),
-        }
-    }
-    list.destroy_empty();
-    done
-}
-
-fn abandon_all(mut jobs: Vec<Job<Outcome, Marked>>) {
-    while let Some(job) = jobs.pop() {
-        job.abandon();
-    }
-    jobs.destroy_empty();
-}
-
 // A job for each of the group's 64 places.
 fn most_jobs<'a>(
     rt: &(impl Abort + Wait),
     alloc: Global,
-    group: &Group<Outcome>,
-    callers: &mut Vec<Caller<Outcome>>,
+    group: &'a Group<Value>,
+    list: &mut Vec<Caller<Value>>,
     counts: &'a Counts,
-) -> Result<Vec<Job<Outcome, Marked<'a>>>, AllocError>
-    requires own { All (λ c. c.group ≡ group.now) callers.old.items }
+) -> Result<Batch<'a>, Memory>
+    requires own { All (λ c. c.group ≡ group.now) list.old.items }
     requires places { group.now.sizes.places ≡ 64 }
-    ensures own { IfOk result (λ jobs. All (λ job. job.flight.group ≡ group.now) jobs.items) }
-    ensures number { IfOk result (λ jobs. vec_len jobs ≡ 64) }
 {
     let mut jobs = Vec::with_capacity(alloc, 64)?;
     for index in 0..64 {
-        let flight = lead(rt, group, callers, index + 1);
-        jobs.push_reserved(Job::new(flight, Marked(counts)));
+        jobs.push_reserved(next_job(rt, group, list, index + 1, Marked(counts, 1)));
     }
-    Ok(jobs)
+    Ok(Batch {
+        group,
+        counts,
+        jobs,
+    })
 }
 
-// How many of the jobs are done behind the gate.
-fn serve_all(
-    rt: &(impl Abort + Threads + Wait + Sync),
-    alloc: Global,
-    group: &Group<Outcome>,
-    gate: &Slow<'_>,
-    jobs: Vec<Job<Outcome, Marked<'_>>>,
-) -> u32
-    requires own { All (λ job. job.flight.group ≡ group.now) jobs.items }
-    requires number { vec_len jobs ≡ 64 }
-{
-    match serve(rt, alloc, group, gate, jobs) {
-        Ok(list) => count_done(list),
-        Err(Unserved { back }) => {
-            abandon_all(back);
-            panic!(rt; "no memory")
-        }
-    }
-}
-
-// All of the 64 ran, and none of them before the gate was passed.
-fn check_all_done(rt: &impl Abort, done: u32, counts: &Counts) {
-    let runs = counts.runs.load(Ordering::SeqCst);
-    let early = counts.early.load(Ordering::SeqCst);
-    assert!(rt; done == 64 && runs == 64, "{done} are done by {runs} runs");
-    assert!(rt; early == 0, "{early} ran before the gate");
+// Serves the most jobs behind a slow gate.
+fn serve_most<R: Abort + Threads + Wait + Sync>(rt: &R, alloc: Global) -> Result<Counts, Memory> {
+    let (group, mut list) = Group::<Value>::new(alloc, 64, 64, 1)?;
+    let counts = Counts::new(0);
+    let batch = most_jobs(rt, alloc, &group, &mut list, &counts)?;
+    batch.serve(rt, alloc, &Slow(&counts));
+    Ok(counts)
 }
 
 #[test]
 fn most_jobs_are_done_behind_the_gate(rt: HostRuntime) -> Result<(), Fail> {
-    let (group, mut callers) = Group::<Outcome>::new(rt.alloc(), 64, 64, 1)?;
-    let counts = Counts::new(0);
-    let jobs = most_jobs(&rt, rt.alloc(), &group, &mut callers, &counts)?;
-    let done = serve_all(&rt, rt.alloc(), &group, &Slow(&counts), jobs);
-    check_all_done(&rt, done, &counts);
+    let counts = serve_most(&rt, rt.alloc())?;
+    let (done, runs, early) = counts.numbers();
+    assert!(rt; done == 64 && runs == 64, "{done} are done by {runs} runs");
+    assert!(rt; early == 0, "{early} ran before the gate");
     Ok(())
 }
 
 // A job whose thread cannot be made is left, and does not run. `.ci/refused-memory` runs this where no thread can be made.
 #[test]
 fn jobs_without_a_thread_are_left(rt: HostRuntime) -> Result<(), Fail> {
-    let (group, mut callers) = Group::<Outcome>::new(rt.alloc(), 64, 64, 1)?;
-    let counts = Counts::new(0);
-    let jobs = most_jobs(&rt, rt.alloc(), &group, &mut callers, &counts)?;
-    let done = serve_all(&rt, rt.alloc(), &group, &Slow(&counts), jobs);
-    let runs = counts.runs.load(Ordering::SeqCst);
+    let counts = serve_most(&rt, rt.alloc())?;
+    let (done, runs, _) = counts.numbers();
     assert!(rt; done == runs, "{done} are done by {runs} runs");
+    Ok(())
+}
+
+// Job 1 passes once job 2 was answered. How often it passes, and the sum of the other numbers that pass, are counted.
+#[derive(Drop)]
+struct SecondFirst<'a, R> {
+    stage: &'a Stage<'a, R>,
+    first: AtomicU32,
+    second: AtomicU32,
+}
+
+impl<R: Abort> Gate for SecondFirst<'_, R> {
+    fn pass(&self, job: u32) {
+        if job == 1 {
+            self.first.fetch_add(1, Ordering::SeqCst);
+            self.stage.wait_for("answered");
+        } else {
+            self.second.fetch_add(job, Ordering::SeqCst);
+        }
+    }
+}
+
+// Jobs 1 and 2, in the room that there is for them.
+fn two_jobs<'a>(
+    group: &'a Group<Value>,
+    counts: &'a Counts,
+    mut jobs: Vec<Job<Value, Marked<'a>>>,
+    first: Flight<Value>,
+    second: Flight<Value>,
+) -> Batch<'a>
+    requires own { (first.group ≡ group.now) × (second.group ≡ group.now) }
+    requires room { (vec_len jobs ≡ 0) × (2 ≤ vec_capacity jobs) }
+{
+    jobs.push_reserved(Job::new(first, Marked(counts, 1)));
+    jobs.push_reserved(Job::new(second, Marked(counts, 2)));
+    Batch {
+        group,
+        counts,
+        jobs,
+    }
+}
+
+// Takes the letter of job 2, whose channel caller 4 holds, and tells that.
+fn take_second<'a, R: Abort + Wait>(stage: &Stage<R>, seat: Seat<'a>) -> Seat<'a> {
+    let seat = seat.obey(stage, "poll: 4 got 3.1 with 2 joiners=0 shared=false");
+    seat.obey(stage, "tell answered")
+}
+
+// The end of job 2, and that of job 1.
+const TWO_DONE: &str = "\
+3 did 3.1 with 2 joiners=0 shared=false
+1 did 1.1 with 1 joiners=0 shared=false
+";
+
+// The letter of job 2 comes while both are served.
+fn serve_while_waiting<R: Abort + Threads + Wait + Sync>(
+    stage: &Stage<R>,
+    batch: Batch<'_>,
+    second: Seat<'_>,
+) {
+    let gate = SecondFirst {
+        stage,
+        first: AtomicU32::new(0),
+        second: AtomicU32::new(0),
+    };
+    let (_, said) = join(
+        stage.rt,
+        || take_second(stage, second),
+        || batch.serve(stage.rt, stage.alloc, &gate),
+    );
+    assert!(stage.rt; said.as_str() == TWO_DONE, "{said}");
+    let first = gate.first.load(Ordering::SeqCst);
+    let second = gate.second.load(Ordering::SeqCst);
+    assert!(stage.rt; first == 1 && second == 2, "{first} and {second} passed");
+}
+
+#[test]
+fn gate_two_jobs(rt: HostRuntime) -> Result<(), Fail> {
+    let (group, mut list) = Group::<Value>::new(rt.alloc(), 2, 4, 1)?;
+    let jobs = Vec::with_capacity(rt.alloc(), 2)?;
+    let stage = Stage::new(&rt, rt.alloc());
+    let counts = Counts::new(1);
+    let (flight, second) = lead_chan(&rt, &group, &mut list, 2);
+    let (first_flight, first) = lead_chan(&rt, &group, &mut list, 1);
+    let batch = two_jobs(&group, &counts, jobs, first_flight, flight);
+    serve_while_waiting(&stage, batch, second);
+    first.obey(&stage, "wait: 2 got 1.1 with 1 joiners=0 shared=false");
     Ok(())
 }

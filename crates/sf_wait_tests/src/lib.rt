@@ -7,18 +7,20 @@
 #[cfg(test)]
 mod busy;
 #[cfg(test)]
-mod holding;
+mod callers;
 #[cfg(test)]
 mod jobs;
 #[cfg(test)]
-mod outcome;
-#[cfg(test)]
 mod reloading;
 #[cfg(test)]
-mod serving;
+mod scenes;
+#[cfg(test)]
+mod seats;
 #[cfg(test)]
 mod sharing;
 #[cfg(test)]
-mod waiting;
+mod stage;
 #[cfg(test)]
-mod woken;
+mod value;
+#[cfg(test)]
+mod waiting;

@@ -5,9 +5,9 @@ use Rattle.sf_wait_tests.proofs.jobs.most_jobs.Goals as goal
 
 pub loop-index-preserved : goal.loop-index-preserved
 loop-index-preserved g c = record {
-  callers = search rules;
+  list = search rules;
   jobs = subst (λ (xs : List (JobValue _ _)). All (λ (j : JobValue _ _). j.flight.group ≡ c.args.group.now) xs) (sym c.push_reserved.ensures.items)
-      (All-push (λ (j : JobValue _ _). j.flight.group ≡ c.args.group.now) c.loop-index.jobs.items c.new.result c.loop-index.invariant.jobs (search rules));
+      (All-push (λ (j : JobValue _ _). j.flight.group ≡ c.args.group.now) c.loop-index.jobs.items c.next_job.result c.loop-index.invariant.jobs (search rules));
   count = search rules;
   room = search rules;
 }

@@ -6,7 +6,7 @@ use Rattle.sf_wait_tests.proofs.jobs.most_jobs.Given as goal
 
 abbrev pub invariant-loop-index : goal.invariant-loop-index
 invariant-loop-index g l = record {
-  callers : All (λ (c : CallerValue _). c.group ≡ l.group) l.callers.items;
+  list : All (λ (c : CallerValue _). c.group ≡ l.group) l.list.items;
   jobs : All (λ (j : JobValue _ _). j.flight.group ≡ l.group) l.jobs.items;
   count : vec_len l.jobs ≡ l.index;
   room : 64 ≤ vec_capacity l.jobs;
