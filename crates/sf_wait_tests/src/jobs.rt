@@ -265,7 +265,7 @@ impl<R: Abort> Gate for SecondFirst<'_, R> {
     fn pass(&self, job: u32) {
         if job == 1 {
             self.first.fetch_add(1, Ordering::SeqCst);
-            self.stage.wait_for("answered");
+            self.stage.wait_for("done");
         } else {
             self.second.fetch_add(job, Ordering::SeqCst);
         }
@@ -294,8 +294,8 @@ fn two_jobs<'a>(
 
 // Takes the letter of job 2, whose channel caller 4 holds, and tells that.
 fn take_second<'a, R: Abort + Wait>(stage: &Stage<R>, seat: Seat<'a>) -> Seat<'a> {
-    let seat = seat.obey(stage, "poll: 4 got 3.1 with 2 joiners=0 shared=false");
-    seat.obey(stage, "tell answered")
+    let seat = seat.obey(stage, "wait: 4 got 3.1 with 2 joiners=0 shared=false");
+    seat.obey(stage, "tell done")
 }
 
 // The end of job 2, and that of job 1.

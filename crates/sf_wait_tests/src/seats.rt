@@ -109,12 +109,25 @@ fn say_forgotten(said: &mut String, forgotten: Forgotten) {
     }
 }
 
-fn say_hit(said: &mut String, hit: Hit, call: CallId) {
+fn say_hit<R: Abort>(said: &mut String, stage: &Stage<R>, hit: Hit, call: CallId) {
     match hit {
         Hit::Closed => say_call(said, "closed", call),
-        Hit::Cleared => say_call(said, "cleared", call),
+        Hit::Cleared => {
+            stage.add_cleared();
+            say_call(said, "cleared", call);
+        }
         Hit::Missed => say_call(said, "missed", call),
     }
+}
+
+// Whether it is one of those that are due.
+fn is_one_of(said: &str, due: &str) -> bool {
+    for one in due.split(" or ") {
+        if one == said {
+            return true;
+        }
+    }
+    false
 }
 
 impl<'a> Seat<'a> {
@@ -162,14 +175,13 @@ impl<'a> Seat<'a> {
     }
 
     /// Makes the steps of those lines of the scene that begin so.
-    pub fn play<R: Abort + Wait>(self, stage: &Stage<R>, begin: &str, scene: &str) -> Seat<'a> {
+    pub fn play<R: Abort + Wait>(self, stage: &Stage<R>, begin: &str, scene: &str) {
         let mut seat = self;
         for line in scene.lines() {
             if let Some(step) = line.strip_prefix(begin) {
                 seat = seat.obey(stage, step);
             }
         }
-        seat
     }
 
     /// Makes the step, and compares what is said of it with what stands behind a colon.
@@ -177,27 +189,19 @@ impl<'a> Seat<'a> {
         let (step, due) = line.split_once(": ").unwrap_or((line, ""));
         let mut said = String::new(stage.alloc);
         let seat = self.step(stage, step, &mut said);
-        assert!(stage.rt; said.as_str() == due, "{line}, but {said}");
+        let as_due = is_one_of(said.as_str(), due);
+        assert!(stage.rt; as_due, "{line}, but {said}");
         seat
     }
 
-    /// Makes the step, and says what comes of it.
-    pub fn step<R: Abort + Wait>(
-        self,
-        stage: &Stage<R>,
-        step: &str,
-        said: &mut String,
-    ) -> Seat<'a> {
+    // Makes the step, and says what comes of it.
+    fn step<R: Abort + Wait>(self, stage: &Stage<R>, step: &str, said: &mut String) -> Seat<'a> {
         let (verb, rest) = step.split_once(' ').unwrap_or((step, ""));
         match verb {
-            "ask" => self.ask(stage.rt, said),
-            "settle" => self.settle(stage, rest, said),
-            "go" => self.go_on(said),
-            "wait" => self.wait(stage.rt, said),
-            "poll" => self.poll_often(said),
+            "ask" => self.ask(stage, said),
+            "settle" | "go" | "wait" => self.end(stage, rest, said),
             "leave" => self.leave(),
-            "forget" => self.forget(stage.rt, said),
-            "forgetcall" => self.forget_call(stage.rt, call(rest), said),
+            "forget" => self.forget(stage, rest, said),
             "do" => self.load(stage, rest, said),
             _ => {
                 look(stage, verb, rest, said);
@@ -206,20 +210,22 @@ impl<'a> Seat<'a> {
         }
     }
 
-    fn ask(self, rt: &impl Wait, said: &mut String) -> Seat<'a> {
+    fn ask<R: Abort + Wait>(self, stage: &Stage<R>, said: &mut String) -> Seat<'a> {
         let Seat {
             group,
             place,
             token,
         } = self;
         let token = match token {
-            Token::Free(caller) => match begin_wait(rt, group, caller, place) {
+            Token::Free(caller) => match begin_wait(stage.rt, group, caller, place) {
                 Ok(Begun::Lead(flight)) => {
                     say_call(said, "leads", flight.call());
+                    stage.tell("led");
                     Token::Leading(flight)
                 }
                 Ok(Begun::Join(ticket)) => {
                     say_call(said, "joins", ticket.call());
+                    stage.tell("joined");
                     Token::Waiting(ticket)
                 }
                 Err(Spent { back }) => {
@@ -239,7 +245,8 @@ impl<'a> Seat<'a> {
         }
     }
 
-    fn settle<R: Abort>(self, stage: &Stage<R>, rest: &str, said: &mut String) -> Seat<'a> {
+    // Settles its call, goes on with its delivery, or waits for its letter.
+    fn end<R: Abort + Wait>(self, stage: &Stage<R>, rest: &str, said: &mut String) -> Seat<'a> {
         let Seat {
             group,
             place,
@@ -256,56 +263,18 @@ impl<'a> Seat<'a> {
                     Token::Owing(settled)
                 }
             },
-            token => {
-                say(said, "cannot");
-                token
-            }
-        };
-        Seat {
-            group,
-            place,
-            token,
-        }
-    }
-
-    fn go_on(self, said: &mut String) -> Seat<'a> {
-        let Seat {
-            group,
-            place,
-            token,
-        } = self;
-        let token = match token {
             Token::Owing(settled) => match go_on_wait(group, settled) {
                 Finished::Done(caller, letter) => {
-                    say_letter(said, caller.number(), "settled", &letter, place);
+                    say_letter(said, caller.number(), "delivered", &letter, place);
                     Token::Free(caller)
                 }
                 Finished::Held(settled) => {
-                    say(said, "owes letters");
+                    say(said, "owes letters still");
                     Token::Owing(settled)
                 }
             },
-            token => {
-                say(said, "cannot");
-                token
-            }
-        };
-        Seat {
-            group,
-            place,
-            token,
-        }
-    }
-
-    fn wait(self, rt: &impl Wait, said: &mut String) -> Seat<'a> {
-        let Seat {
-            group,
-            place,
-            token,
-        } = self;
-        let token = match token {
             Token::Waiting(ticket) => {
-                let (caller, letter) = wait(rt, group, ticket);
+                let (caller, letter) = wait(stage.rt, group, ticket);
                 say_letter(said, caller.number(), "got", &letter, place);
                 Token::Free(caller)
             }
@@ -321,45 +290,6 @@ impl<'a> Seat<'a> {
         }
     }
 
-    fn poll(self, said: &mut String) -> Seat<'a> {
-        let Seat {
-            group,
-            place,
-            token,
-        } = self;
-        let token = match token {
-            Token::Waiting(ticket) => match group.poll(ticket) {
-                Polled::Ready(caller, letter) => {
-                    say_letter(said, caller.number(), "got", &letter, place);
-                    Token::Free(caller)
-                }
-                Polled::Pending(ticket) => Token::Waiting(ticket),
-            },
-            token => {
-                say(said, "cannot");
-                token
-            }
-        };
-        Seat {
-            group,
-            place,
-            token,
-        }
-    }
-
-    // Until the letter is there, 1,000,000 times at most.
-    fn poll_often(self, said: &mut String) -> Seat<'a> {
-        let mut seat = self;
-        for _ in 0..1_000_000 {
-            seat = seat.poll(said);
-            if !said.is_empty() {
-                return seat;
-            }
-            yield_now();
-        }
-        seat
-    }
-
     // Gives up what it has. Nobody is left on the seat.
     fn leave(self) -> Seat<'a> {
         let (group, place) = (self.group, self.place);
@@ -371,7 +301,8 @@ impl<'a> Seat<'a> {
         }
     }
 
-    fn forget(self, rt: &impl Wait, said: &mut String) -> Seat<'a> {
+    // Forgets its place, or the call of the text.
+    fn forget<R: Abort + Wait>(self, stage: &Stage<R>, text: &str, said: &mut String) -> Seat<'a> {
         let Seat {
             group,
             place,
@@ -379,34 +310,13 @@ impl<'a> Seat<'a> {
         } = self;
         let token = match token {
             Token::Free(mut caller) => {
-                say_forgotten(said, forget_wait(rt, group, &mut caller, place));
-                Token::Free(caller)
-            }
-            token => {
-                say(said, "cannot");
-                token
-            }
-        };
-        Seat {
-            group,
-            place,
-            token,
-        }
-    }
-
-    fn forget_call(self, rt: &impl Wait, call: CallId, said: &mut String) -> Seat<'a> {
-        let Seat {
-            group,
-            place,
-            token,
-        } = self;
-        let token = match token {
-            Token::Free(mut caller) => {
-                say_hit(
-                    said,
-                    forget_call_wait(rt, group, &mut caller, place, call),
-                    call,
-                );
+                if text == "" {
+                    say_forgotten(said, forget_wait(stage.rt, group, &mut caller, place));
+                } else {
+                    let call = call(text);
+                    let hit = forget_call_wait(stage.rt, group, &mut caller, place, call);
+                    say_hit(said, stage, hit, call);
+                }
                 Token::Free(caller)
             }
             token => {

@@ -159,51 +159,42 @@ fn four_threads_over_eight_places(rt: HostRuntime) -> Result<(), Fail> {
     Ok(())
 }
 
-// The place that the next desk finds for the key.
-fn next_place(rt: &impl Abort, directory: &Directory, desks: &mut Vec<Desk>) -> u32
-    requires { All (λ d. d.directory ≡ directory.now) desks.old.items }
-    ensures { All (λ d. d.directory ≡ directory.now) desks.new.items }
+// The next caller sits at the place that the next desk finds for the key.
+fn next_seat<'a>(
+    rt: &impl Abort,
+    directory: &Directory,
+    desks: &mut Vec<Desk>,
+    group: &'a Group<Value>,
+    list: &mut Vec<Caller<Value>>,
+) -> Seat<'a>
+    requires desks { All (λ d. d.directory ≡ directory.now) desks.old.items }
+    requires own { All (λ c. c.group ≡ group.now) list.old.items }
+    ensures desks { All (λ d. d.directory ≡ directory.now) desks.new.items }
+    ensures rest { All (λ c. c.group ≡ group.now) list.new.items }
 {
     let Some(mut desk) = desks.pop() else {
         panic!(rt; "no more desks")
     };
-    match directory.resolve(&mut desk, b"key") {
-        Ok(place) => place.number().number(),
-        Err(_) => panic!(rt; "no place"),
-    }
-}
-
-// The next caller of the group at the place that the next desk finds.
-fn next_seat<'a>(
-    rt: &impl Abort,
-    group: &'a Group<Value>,
-    callers: &mut Vec<Caller<Value>>,
-    place: u32,
-) -> Seat<'a>
-    requires { All (λ c. c.group ≡ group.now) callers.old.items }
-    ensures { All (λ c. c.group ≡ group.now) callers.new.items }
-{
-    assert!(rt; group.has(place), "no place {place}");
-    Seat::next(group, callers, place)
+    let Ok(place) = directory.resolve(&mut desk, b"key") else {
+        panic!(rt; "no place")
+    };
+    let number = place.number().number();
+    assert!(rt; group.has(number), "no place {number}");
+    Seat::next(group, list, number)
 }
 
 #[test]
 fn two_threads_one_load(rt: HostRuntime) -> Result<(), Fail> {
     let scene = "\
-beside
-1 do 7 once joined: 1 loaded 1.1 with 7 joiners=1 shared=true
-2 await loading
-2 ask: joins 1.1
-2 tell joined
-2 wait: 2 got 1.1 with 7 joiners=1 shared=true
-
-1 loads: 1";
+a do 7 once joined: 1 loaded 1.1 with 7 joiners=1 shared=true
+b await led
+b ask: joins 1.1
+b wait: 2 got 1.1 with 7 joiners=1 shared=true
+b loads: 1";
     let (directory, mut desks) = Directory::new(rt.alloc(), 4, 8, 2, 0, 0)?;
-    let (group, mut callers) = Group::<Value>::new(rt.alloc(), 4, 2, 1)?;
-    let place = next_place(&rt, &directory, &mut desks);
-    let second = next_seat(&rt, &group, &mut callers, place);
-    let place = next_place(&rt, &directory, &mut desks);
-    let first = next_seat(&rt, &group, &mut callers, place);
-    play(&Stage::new(&rt, rt.alloc()), (first, second), scene);
+    let (group, mut list) = Group::<Value>::new(rt.alloc(), 4, 2, 1)?;
+    let second = next_seat(&rt, &directory, &mut desks, &group, &mut list);
+    let first = next_seat(&rt, &directory, &mut desks, &group, &mut list);
+    play(&Stage::new(&rt, rt.alloc()), first, second, scene);
     Ok(())
 }

@@ -11,10 +11,11 @@ use std::thread::yield_now;
 pub struct Stage<'r, R> {
     pub rt: &'r R,
     pub alloc: Global,
-    loading: AtomicBool,
+    led: AtomicBool,
     joined: AtomicBool,
-    answered: AtomicBool,
+    done: AtomicBool,
     loads: AtomicU32,
+    cleared: AtomicU32,
 }
 
 // Whether the flag is seen within 1,000,000 looks.
@@ -29,22 +30,24 @@ fn is_seen(flag: &AtomicBool) -> bool {
 }
 
 impl<'r, R: Abort> Stage<'r, R> {
+    /// Where nothing is told, and no load called.
     pub fn new(rt: &'r R, alloc: Global) -> Stage<'r, R> {
         Stage {
             rt,
             alloc,
-            loading: AtomicBool::new(false),
+            led: AtomicBool::new(false),
             joined: AtomicBool::new(false),
-            answered: AtomicBool::new(false),
+            done: AtomicBool::new(false),
             loads: AtomicU32::new(0),
+            cleared: AtomicU32::new(0),
         }
     }
 
     fn named(&self, name: &str) -> &AtomicBool {
         match name {
-            "loading" => &self.loading,
+            "led" => &self.led,
             "joined" => &self.joined,
-            "answered" => &self.answered,
+            "done" => &self.done,
             _ => panic!(self.rt; "nobody tells {name}"),
         }
     }
@@ -63,7 +66,7 @@ impl<'r, R: Abort> Stage<'r, R> {
     /// A load that answers the value of the text, and waits before for what that says behind `once`.
     pub fn load(&self, text: &str) -> Value {
         self.loads.fetch_add(1, Ordering::SeqCst);
-        self.tell("loading");
+        self.led.store(true, Ordering::SeqCst);
         match text.split_once(" once ") {
             Some((value, name)) => {
                 self.wait_for(name);
@@ -71,6 +74,16 @@ impl<'r, R: Abort> Stage<'r, R> {
             }
             None => Value::read(text),
         }
+    }
+
+    /// A call is cleared.
+    pub fn add_cleared(&self) {
+        self.cleared.fetch_add(1, Ordering::SeqCst);
+    }
+
+    /// How many calls were cleared.
+    pub fn cleared(&self) -> u32 {
+        self.cleared.load(Ordering::SeqCst)
     }
 
     /// How many loads were called.

@@ -25,6 +25,7 @@ pub fn call(text: &str) -> CallId {
 }
 
 impl Value {
+    /// The number, of which so many copies are refused.
     pub fn new(number: u32, refused: u32) -> Value {
         Value {
             number,
