@@ -1,11 +1,13 @@
 //! Two keys of one place, step by step.
-ghost use Rattle.std.specs.Prelude.{◌≡◌};
+ghost use Rattle.std.specs.Prelude.{◌≡◌, All};
 
+use crate::asking::Asker;
 use crate::item::{Item, item, next_caller, size_in};
 use sf_group::{Begun, Caller, Finished, Flight, Group, MOST_TRIES, Ticket};
-use sf_keys::{KeyAnswer, KeyPolled, Places, ask_key, do_key, forget_key, poll_key};
+use sf_keys::{KeyPolled, Places, ask_key, poll_key};
 use std::process::Abort;
 use std::sync::Wait;
+use std::sync::atomic::AtomicU32;
 use std::test::Fail;
 
 const ONE: Places = Places {
@@ -14,11 +16,19 @@ const ONE: Places = Places {
     seed1: 8,
 };
 
-fn lead(rt: &impl Abort, group: &Group<Item>, caller: Caller<Item>, key: &[u8]) -> Flight<Item>
-    requires own { caller.group ≡ group.now }
+// The last caller of the list leads.
+fn lead(
+    rt: &impl Abort,
+    group: &Group<Item>,
+    list: &mut Vec<Caller<Item>>,
+    key: &[u8],
+) -> Flight<Item>
+    requires own { All (λ c. c.group ≡ group.now) list.old.items }
     requires place { group.now.sizes.places ≡ 1 }
-    ensures { result.group ≡ group.now }
+    ensures flight { result.group ≡ group.now }
+    ensures rest { All (λ c. c.group ≡ group.now) list.new.items }
 {
+    let caller = next_caller(rt, group, list);
     match ask_key(group, ONE, caller, key, MOST_TRIES) {
         Ok(Begun::Lead(flight)) => flight,
         Ok(Begun::Join(ticket)) => {
@@ -29,13 +39,21 @@ fn lead(rt: &impl Abort, group: &Group<Item>, caller: Caller<Item>, key: &[u8]) 
     }
 }
 
-fn join(rt: &impl Abort, group: &Group<Item>, caller: Caller<Item>, key: &[u8]) -> Ticket<Item>
-    requires own { caller.group ≡ group.now }
+// The last caller of the list joins, and finds no letter yet.
+fn join(
+    rt: &impl Abort,
+    group: &Group<Item>,
+    list: &mut Vec<Caller<Item>>,
+    key: &[u8],
+) -> Ticket<Item>
+    requires own { All (λ c. c.group ≡ group.now) list.old.items }
     requires place { group.now.sizes.places ≡ 1 }
-    ensures { result.group ≡ group.now }
+    ensures ticket { result.group ≡ group.now }
+    ensures rest { All (λ c. c.group ≡ group.now) list.new.items }
 {
+    let caller = next_caller(rt, group, list);
     match ask_key(group, ONE, caller, key, MOST_TRIES) {
-        Ok(Begun::Join(ticket)) => ticket,
+        Ok(Begun::Join(ticket)) => pending(rt, group, ticket, key),
         Ok(Begun::Lead(flight)) => {
             flight.abandon();
             panic!(rt; "it leads")
@@ -50,25 +68,16 @@ fn pending(rt: &impl Abort, group: &Group<Item>, ticket: Ticket<Item>, key: &[u8
 {
     match poll_key(group, ticket, key) {
         KeyPolled::Pending(ticket) => ticket,
-        KeyPolled::Ready(_, _) | KeyPolled::Other(_) => panic!(rt; "it is ready"),
+        _ => panic!(rt; "it is ready"),
     }
 }
 
-// The leader settles its call with what a load answers for the key: so many joined it.
-fn settle(
-    rt: &impl Abort,
-    group: &Group<Item>,
-    flight: Flight<Item>,
-    key: &'static [u8],
-    joiners: u32,
-)
+// The leader settles its call with what a load answers for the key. How many joined it.
+fn settle(rt: &impl Abort, group: &Group<Item>, flight: Flight<Item>, key: &'static [u8]) -> u32
     requires { flight.group ≡ group.now }
 {
     match group.finish(flight, item(key)) {
-        Finished::Done(_, letter) => {
-            let joined = letter.joiners();
-            assert!(rt; joined == joiners, "{joined} joined")
-        }
+        Finished::Done(_, letter) => letter.joiners(),
         Finished::Held(settled) => {
             settled.abandon();
             panic!(rt; "it is held")
@@ -103,59 +112,40 @@ fn are_found(rt: &impl Abort, first: Option<usize>, second: Option<usize>) {
 
 #[test]
 fn polls_of_two_keys(rt: HostRuntime) -> Result<(), Fail> {
-    let (group, mut callers) = Group::<Item>::new(rt.alloc(), 1, 3, 1)?;
-    let caller = next_caller(&rt, &group, &mut callers);
-    let flight = lead(&rt, &group, caller, b"first");
-    let caller = next_caller(&rt, &group, &mut callers);
-    let first = join(&rt, &group, caller, b"first");
-    let caller = next_caller(&rt, &group, &mut callers);
-    let second = join(&rt, &group, caller, b"second");
-    let first = pending(&rt, &group, first, b"first");
-    let second = pending(&rt, &group, second, b"second");
-    settle(&rt, &group, flight, b"first", 2);
+    let (group, mut list) = Group::<Item>::new(rt.alloc(), 1, 3, 1)?;
+    let flight = lead(&rt, &group, &mut list, b"first");
+    let first = join(&rt, &group, &mut list, b"first");
+    let second = join(&rt, &group, &mut list, b"second");
+    let joined = settle(&rt, &group, flight, b"first");
     let first = polled(&rt, &group, first, b"first");
     let second = polled(&rt, &group, second, b"second");
+    assert!(rt; joined == 2, "{joined} joined");
     are_found(&rt, first, second);
     Ok(())
 }
 
-fn is_answer(rt: &impl Abort, alone: bool, size: usize, expected: (bool, usize)) {
-    assert!(rt; (alone, size) == expected, "alone: {alone}, {size}");
-}
-
-// A do of this key comes to this: whether it was alone, and the number.
-fn do_once(
+// A do of the key comes to this: whether it was alone, and the number.
+fn ask<'a>(
     rt: &(impl Abort + Wait),
-    group: &Group<Item>,
-    caller: Caller<Item>,
+    asker: Asker<'a>,
     key: &'static [u8],
     rounds: u32,
-    expected: (bool, usize),
-) -> Caller<Item>
-    requires own { caller.group ≡ group.now }
-    requires place { group.now.sizes.places ≡ 1 }
-    ensures { result.group ≡ group.now }
-{
-    match do_key(rt, group, ONE, caller, key, rounds, || item(key)) {
-        Ok(KeyAnswer::Letter(caller, letter)) => {
-            is_answer(rt, false, size_in(&letter, key), expected);
-            caller
-        }
-        Ok(KeyAnswer::Alone(caller, item)) => {
-            is_answer(rt, true, item.value.0, expected);
-            caller
-        }
-        Err(_) => panic!(rt; "it is refused"),
-    }
+    due: (bool, usize),
+) -> Asker<'a> {
+    let (asker, alone, size) = asker.ask(rt, key, rounds);
+    let as_due = alone == due.0 && size == due.1;
+    assert!(rt; as_due, "alone: {alone}, {size}");
+    asker
 }
 
 #[test]
 fn dos_in_turn(rt: HostRuntime) -> Result<(), Fail> {
-    let (group, mut callers) = Group::<Item>::new(rt.alloc(), 1, 1, 1)?;
-    let caller = next_caller(&rt, &group, &mut callers);
-    let caller = do_once(&rt, &group, caller, b"first", 1, (false, 5));
-    let mut caller = do_once(&rt, &group, caller, b"second", 1, (false, 6));
-    let _ = forget_key(&rt, &group, ONE, &mut caller, b"third");
-    do_once(&rt, &group, caller, b"third", 0, (true, 5));
+    let (group, mut list) = Group::<Item>::new(rt.alloc(), 1, 1, 1)?;
+    let loads = AtomicU32::new(0);
+    let asker = Asker::next(&rt, &group, ONE, &mut list, &loads);
+    let asker = ask(&rt, asker, b"first", 1, (false, 5));
+    let mut asker = ask(&rt, asker, b"second", 1, (false, 6));
+    asker.forget(&rt, b"third");
+    ask(&rt, asker, b"third", 0, (true, 5));
     Ok(())
 }
