@@ -1,10 +1,27 @@
-//! Askings for place 1 that are to end in one way.
+//! Groups of one place, and askings for it that are to end in one way.
 
-ghost use Rattle.std.specs.Prelude.{◌≡◌, All, IfErr, IfOk};
+ghost use Rattle.std.specs.Prelude.{◌≡◌, ◌≤◌, All, IfErr, IfOk};
 ghost use Rattle.sf_group.specs.Same.{IsPlaceOf};
 
-use sf_group::{Begun, Caller, Fit, Flight, Group, Ticket};
+use sf_group::{Begun, Caller, Fit, Flight, Group, Letter, Polled, Ticket};
+use sf_history::Memory;
+use std::alloc::Global;
 use std::process::Abort;
+
+/// A group of one place, and so many callers. Where memory is refused it is asked for once more.
+pub(crate) fn make<V: Fit>(
+    alloc: Global,
+    callers: u32,
+) -> Result<(Group<V>, Vec<Caller<V>>), Memory>
+    requires { (1 ≤ callers) × (callers ≤ 65535) }
+    ensures place { IfOk result (λ made. IsPlaceOf made.0 1) }
+    ensures callers { IfOk result (λ made. All (λ c. c.group ≡ made.0) made.1.items) }
+{
+    if let Ok(made) = Group::new(alloc, 1, callers, 1) {
+        return Ok(made);
+    }
+    Group::new(alloc, 1, callers, 1)
+}
 
 // The caller of the greatest number asks.
 fn ask<V: Fit>(
@@ -64,6 +81,19 @@ pub(crate) fn join<V: Fit>(
         Ok(flight) => {
             flight.abandon();
             panic!(rt; "it leads")
+        }
+    }
+}
+
+/// The ticket's letter, which is there at the first look.
+pub(crate) fn letter<V: Fit>(rt: &impl Abort, group: &Group<V>, ticket: Ticket<V>) -> Letter<V>
+    requires { ticket.group ≡ group.now }
+{
+    match group.poll(ticket) {
+        Polled::Ready(_, letter) => letter,
+        Polled::Pending(ticket) => {
+            ticket.abandon();
+            panic!(rt; "a letter is not there")
         }
     }
 }

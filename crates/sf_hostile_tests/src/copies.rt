@@ -1,11 +1,12 @@
 //! Each copy of a value refused in turn.
 
-ghost use Rattle.std.specs.Prelude.{◌≡◌, IfSome};
+ghost use Rattle.std.specs.Prelude.{◌≡◌, All, IfSome};
+ghost use Rattle.sf_group.specs.Same.{IsPlaceOf};
 
-use crate::askings::{join, lead};
-use sf_group::{Finished, Fit, Group, Letter, Polled, Settled, Share, Ticket};
+use crate::askings::{join, lead, letter, make};
+use sf_group::{Caller, Finished, Fit, Group, Letter, Polled, Settled, Share, Ticket};
 use sf_history::Memory;
-use std::alloc::{AllocError, Global};
+use std::alloc::AllocError;
 use std::cell::Cell;
 use std::process::Abort;
 use std::test::Fail;
@@ -73,11 +74,8 @@ fn poll(
 fn poll_rest(rt: &impl Abort, group: &Group<Scarce>, ticket: Option<Ticket<Scarce>>)
     requires { IfSome ticket (λ t. t.group ≡ group.now) }
 {
-    let Some(ticket) = ticket else {
-        return;
-    };
-    if let Some(ticket) = poll(rt, group, ticket, true) {
-        ticket.abandon();
+    if let Some(ticket) = ticket {
+        check_letter(rt, &letter(rt, group, ticket), true);
     }
 }
 
@@ -105,38 +103,37 @@ fn go_on(rt: &impl Abort, group: &Group<Scarce>, settled: Settled<Scarce>, due: 
 }
 
 // One leads and three join; the copy of this number is refused. Those who joined last get their letters first.
-fn deliver(rt: &impl Abort, alloc: Global, refused: u32) -> Result<(), Fail> {
-    let (group, mut callers) = match Group::<Scarce>::new(alloc, 1, 4, 1) {
-        Ok(made) => made,
-        Err(_) => Group::<Scarce>::new(alloc, 1, 4, 1)?,
-    };
-    let flight = lead(rt, &group, &mut callers);
-    let first = join(rt, &group, &mut callers);
-    let second = join(rt, &group, &mut callers);
-    let last = join(rt, &group, &mut callers);
+fn deliver(rt: &impl Abort, group: &Group<Scarce>, callers: &mut Vec<Caller<Scarce>>, refused: u32)
+    requires own { All (λ c. c.group ≡ group.now) callers.old.items }
+    requires place { IsPlaceOf group.now 1 }
+{
+    let flight = lead(rt, group, callers);
+    let first = join(rt, group, callers);
+    let second = join(rt, group, callers);
+    let last = join(rt, group, callers);
     let value = Scarce {
         value: 7,
         refused: Cell::new(refused),
     };
     let finished = group.finish(flight, value);
-    let last = poll(rt, &group, last, refused > 1);
-    let second = poll(rt, &group, second, refused > 2);
-    let first = poll(rt, &group, first, refused > 3);
+    let last = poll(rt, group, last, refused > 1);
+    let second = poll(rt, group, second, refused > 2);
+    let first = poll(rt, group, first, refused > 3);
     match finished {
-        Finished::Held(settled) => go_on(rt, &group, settled, refused <= 3),
+        Finished::Held(settled) => go_on(rt, group, settled, refused <= 3),
         Finished::Done(_, letter) => check_done(rt, &letter, refused > 3),
     }
-    poll_rest(rt, &group, last);
-    poll_rest(rt, &group, second);
-    poll_rest(rt, &group, first);
-    Ok(())
+    poll_rest(rt, group, last);
+    poll_rest(rt, group, second);
+    poll_rest(rt, group, first);
 }
 
 // In the last run none is refused.
 #[test]
 fn each_copy_refused_in_turn(rt: HostRuntime) -> Result<(), Fail> {
     for refused in 1..=4 {
-        deliver(&rt, rt.alloc(), refused)?;
+        let (group, mut callers) = make(rt.alloc(), 4)?;
+        deliver(&rt, &group, &mut callers, refused);
     }
     Ok(())
 }

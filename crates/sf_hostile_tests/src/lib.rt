@@ -15,8 +15,14 @@ mod kept;
 #[cfg(test)]
 mod making;
 #[cfg(test)]
+mod meeting;
+#[cfg(test)]
 mod pair;
+#[cfg(test)]
+mod spare;
 #[cfg(test)]
 mod threads;
 #[cfg(test)]
 mod trial;
+#[cfg(test)]
+mod tried;

@@ -2,17 +2,17 @@
 
 ghost use Rattle.std.specs.Prelude.{◌≡◌, All, IfOk};
 
-use crate::askings::{join, lead};
+use crate::askings::{join, lead, letter, make};
 use bytes::Bytes;
 use sf_dir::{Desk, Directory, Refusal};
-use sf_group::{CallId, Finished, Fit, Group, Letter, Polled, Share};
+use sf_group::{CallId, Finished, Fit, Flight, Group, Letter, Share};
 use sf_history::Memory;
 use std::alloc::Global;
 use std::process::Abort;
 use std::test::Fail;
 
 // A directory of one place, and two desks.
-fn make(alloc: Global) -> Result<(Directory, Vec<Desk>), Memory>
+fn make_directory(alloc: Global) -> Result<(Directory, Vec<Desk>), Memory>
     ensures { IfOk result (λ made. All (λ d. d.directory ≡ made.0) made.1.items) }
 {
     if let Ok(made) = Directory::new(alloc, 1, 4, 2, 0, 0) {
@@ -21,17 +21,27 @@ fn make(alloc: Global) -> Result<(Directory, Vec<Desk>), Memory>
     Directory::new(alloc, 1, 4, 2, 0, 0)
 }
 
-#[test]
-fn directory_is_made(rt: HostRuntime) -> Result<(), Fail> {
-    let (directory, mut desks) = make(rt.alloc())?;
-    let mut desk = desks.pop().ok_or("no desk")?;
-    assert!(rt; desk.number() == 2 && desks.len() == 1, "other desks");
-    let place = directory
-        .resolve(&mut desk, b"key")
-        .map_err(|_| "no place")?;
-    assert!(rt; place.number().number() == 1, "another place");
+// A key has the place, and there is none for another.
+fn check_one_place(rt: &impl Abort, directory: &Directory, desk: Desk)
+    requires { desk.directory ≡ directory.now }
+{
+    let mut desk = desk;
+    match directory.resolve(&mut desk, b"key") {
+        Ok(place) => assert!(rt; place.number().number() == 1, "another place"),
+        Err(refusal) => panic!(rt; "{refusal}"),
+    }
     let refusal = directory.resolve(&mut desk, b"k").err();
     assert!(rt; refusal == Some(Refusal::Full), "there is room");
+}
+
+#[test]
+fn directory_is_made(rt: HostRuntime) -> Result<(), Fail> {
+    let (directory, mut desks) = make_directory(rt.alloc())?;
+    let Some(desk) = desks.pop() else {
+        panic!(rt; "no desk")
+    };
+    assert!(rt; desk.number() == 2 && desks.len() == 1, "other desks");
+    check_one_place(&rt, &directory, desk);
     Ok(())
 }
 
@@ -68,37 +78,39 @@ fn check_letter(rt: &impl Abort, letter: &Letter<Text>) {
     assert!(rt; letter.joiners() == 1, "not of one joiner");
 }
 
-// A delivery that is held for want of memory goes on to the same letters.
-#[test]
-fn joined_call_with_copies_that_take_memory(rt: HostRuntime) -> Result<(), Fail> {
-    let alloc = rt.alloc();
-    let (group, mut callers) = match Group::<Text>::new(alloc, 1, 2, 1) {
-        Ok(made) => made,
-        Err(_) => Group::<Text>::new(alloc, 1, 2, 1)?,
-    };
-    let text = match Bytes::copy_from_slice(alloc, b"v") {
-        Ok(text) => text,
-        Err(_) => Bytes::copy_from_slice(alloc, b"v")?,
-    };
-    let flight = lead(&rt, &group, &mut callers);
-    let ticket = join(&rt, &group, &mut callers);
-    let finished = match group.finish(flight, Text { text }) {
+fn make_text(alloc: Global) -> Result<Text, Memory> {
+    if let Ok(text) = Bytes::copy_from_slice(alloc, b"v") {
+        return Ok(Text { text });
+    }
+    let text = Bytes::copy_from_slice(alloc, b"v")?;
+    Ok(Text { text })
+}
+
+// The flight's letter. A delivery that is held for want of memory goes on to it.
+fn finish(rt: &impl Abort, group: &Group<Text>, flight: Flight<Text>, text: Text) -> Letter<Text>
+    requires { flight.group ≡ group.now }
+{
+    let finished = match group.finish(flight, text) {
         Finished::Held(settled) => group.go_on(settled),
         Finished::Done(leader, letter) => Finished::Done(leader, letter),
     };
     match finished {
-        Finished::Done(_, letter) => check_letter(&rt, &letter),
+        Finished::Done(_, letter) => letter,
         Finished::Held(settled) => {
             settled.abandon();
             panic!(rt; "it is held again")
         }
     }
-    match group.poll(ticket) {
-        Polled::Ready(_, letter) => check_letter(&rt, &letter),
-        Polled::Pending(ticket) => {
-            ticket.abandon();
-            panic!(rt; "the letter is lost")
-        }
-    }
+}
+
+// A delivery that is held for want of memory goes on to the same letters.
+#[test]
+fn joined_call_with_copies_that_take_memory(rt: HostRuntime) -> Result<(), Fail> {
+    let text = make_text(rt.alloc())?;
+    let (group, mut callers) = make(rt.alloc(), 2)?;
+    let flight = lead(&rt, &group, &mut callers);
+    let ticket = join(&rt, &group, &mut callers);
+    check_letter(&rt, &finish(&rt, &group, flight, text));
+    check_letter(&rt, &letter(&rt, &group, ticket));
     Ok(())
 }

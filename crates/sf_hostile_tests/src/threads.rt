@@ -3,12 +3,13 @@
 ghost use Rattle.std.specs.Prelude.{◌≡◌, All, IfOk, IfSome};
 ghost use Rattle.sf_group.specs.Same.{IsPlaceOf};
 
-use sf_group::{Begun, Caller, Finished, Fit, Group, NotBegun, Polled, Share, Ticket};
+use crate::askings::{letter, make};
+use sf_group::{Begun, Caller, Finished, Fit, Group, NotBegun, Share, Ticket};
 use sf_history::Memory;
 use std::alloc::Global;
 use std::process::Abort;
 use std::test::Fail;
-use std::thread::{Threads, join, yield_now};
+use std::thread::{Threads, map_vec, yield_now};
 
 const EACH: u32 = 1000;
 
@@ -50,24 +51,17 @@ impl Kept {
     }
 }
 
-// What a thread's askings came to.
-#[derive(Drop)]
-struct Ended<'a> {
-    group: &'a Group<Leader>,
-    tickets: Vec<Kept>,
-    led: u32,
-    // Tries that were busy.
-    busy: u32,
-    // Askings that ended otherwise, and tickets that were lost.
-    wrong: u32,
-    ghost kept: { All (λ k. k.ticket.group ≡ group.now) tickets.items },
-}
-
+// A thread's callers, and what their askings came to.
 #[derive(Drop)]
 struct Team<'a> {
     group: &'a Group<Leader>,
     callers: Vec<Caller<Leader>>,
     tickets: Vec<Kept>,
+    led: u32,
+    // Tries that were busy.
+    busy: u32,
+    // Askings that ended otherwise, and tickets that were lost for want of memory.
+    wrong: u32,
     ghost own: { All (λ c. c.group ≡ group.now) callers.items },
     ghost kept: { All (λ k. k.ticket.group ≡ group.now) tickets.items },
     ghost placed: { IsPlaceOf group.now 1 },
@@ -111,136 +105,136 @@ fn ask(
     Err(())
 }
 
-// Puts the ticket to the others. How many were lost, for want of memory.
-fn keep(group: &Group<Leader>, tickets: &mut Vec<Kept>, kept: Kept) -> u32
-    requires kept { kept.ticket.group ≡ group.now }
-    requires others { All (λ k. k.ticket.group ≡ group.now) tickets.old.items }
-    ensures { All (λ k. k.ticket.group ≡ group.now) tickets.new.items }
-{
-    let _ = group;
-    u32::from(tickets.push(kept).is_err())
-}
-
-impl<'a> Team<'a> {
-    fn work(self) -> Ended<'a> {
-        let Team {
-            group,
-            mut callers,
-            mut tickets,
-        } = self;
-        let mut led: u32 = 0;
-        let mut busy: u32 = 0;
-        let mut wrong: u32 = 0;
-        for _ in 0..EACH {
-            let Some(caller) = callers.pop() else {
-                break;
-            };
-            match ask(group, caller, &mut busy) {
-                Ok(None) => led = led.wrapping_add(1),
-                Ok(Some(kept)) => {
-                    let lost = keep(group, &mut tickets, kept);
-                    wrong = wrong.wrapping_add(lost);
-                }
-                Err(()) => wrong = wrong.wrapping_add(1),
-            }
-        }
-        Ended {
-            group,
-            tickets,
-            led,
-            busy,
-            wrong,
-        }
-    }
-}
-
+// The letter of the ticket's call, which is shared.
 fn take_letter(rt: &impl Abort, group: &Group<Leader>, kept: Kept)
     requires { kept.ticket.group ≡ group.now }
 {
     let ticket = kept.into_ticket();
     let call = ticket.call();
-    match group.poll(ticket) {
-        Polled::Pending(ticket) => {
-            ticket.abandon();
-            panic!(rt; "a letter is not there")
-        }
-        Polled::Ready(_, letter) => {
-            assert!(rt;
-                letter.call() == call && letter.value().0 == call.caller,
-                "a letter of another call"
-            );
-            assert!(rt; letter.shared(), "a joined call is not shared");
-        }
-    }
+    let letter = letter(rt, group, ticket);
+    assert!(rt;
+        letter.call() == call && letter.value().0 == call.caller,
+        "a letter of another call"
+    );
+    assert!(rt; letter.shared(), "a joined call is not shared");
 }
 
-impl<'a> Ended<'a> {
+impl<'a> Team<'a> {
+    // The last caller of the list is one of the team.
+    fn add(&mut self, list: &mut Vec<Caller<Leader>>) -> Result<(), Memory>
+        requires { All (λ c. c.group ≡ self.old.group.now) list.old.items }
+        ensures group { self.new.group.now ≡ self.old.group.now }
+        ensures rest { All (λ c. c.group ≡ self.old.group.now) list.new.items }
+    {
+        if let Some(caller) = list.pop() {
+            self.callers.push(caller)?;
+        }
+        Ok(())
+    }
+
+    // The next caller asks.
+    fn ask_next(&mut self) {
+        let Some(caller) = self.callers.pop() else {
+            return;
+        };
+        match ask(self.group, caller, &mut self.busy) {
+            Ok(None) => self.led = self.led.wrapping_add(1),
+            Ok(Some(kept)) => {
+                if self.tickets.push(kept).is_err() {
+                    self.wrong = self.wrong.wrapping_add(1);
+                }
+            }
+            Err(()) => self.wrong = self.wrong.wrapping_add(1),
+        }
+    }
+
+    fn work(self) -> Self {
+        let mut team = self;
+        for _ in 0..EACH {
+            team.ask_next();
+        }
+        team
+    }
+
     // Each ticket's letter is there at the first look. It answers how many askings led or joined, and how many tries were busy.
     fn check(self, rt: &impl Abort) -> (u32, u32) {
-        let Ended {
+        let Team {
             group,
+            callers: _,
             mut tickets,
             led,
             busy,
             wrong,
         } = self;
         assert!(rt; wrong == 0, "{wrong} askings ended otherwise");
-        let mut joined: u32 = 0;
+        let mut ended = led;
         'tickets: while let Some(kept) = tickets.pop() {
             take_letter(rt, group, kept);
-            joined = joined.wrapping_add(1);
+            ended = ended.wrapping_add(1);
         }
-        (led.wrapping_add(joined), busy)
+        (ended, busy)
     }
 }
 
 // A team of the next callers.
 fn next_team<'a>(
-    rt: &impl Abort,
     alloc: Global,
     group: &'a Group<Leader>,
     list: &mut Vec<Caller<Leader>>,
-) -> Result<Team<'a>, Fail>
+) -> Result<Team<'a>, Memory>
     requires own { All (λ c. c.group ≡ group.now) list.old.items }
     requires place { IsPlaceOf group.now 1 }
-    ensures { All (λ c. c.group ≡ group.now) list.new.items }
+    ensures { All (λ c. c.group ≡ group.entry.now) list.new.items }
 {
-    let mut callers = Vec::new(alloc);
-    for _ in 0..EACH {
-        let Some(caller) = list.pop() else {
-            panic!(rt; "no more callers")
-        };
-        callers.push(caller)?;
-    }
-    let tickets = Vec::with_capacity(alloc, EACH as usize)?;
-    Ok(Team {
+    let mut team = Team {
         group,
-        callers,
-        tickets,
-    })
+        callers: Vec::new(alloc),
+        tickets: Vec::with_capacity(alloc, EACH as usize)?,
+        led: 0,
+        busy: 0,
+        wrong: 0,
+    };
+    for _ in 0..EACH {
+        team.add(list)?;
+    }
+    Ok(team)
 }
 
-// Four threads ask. All have ended then, so each flight is finished. It answers how many tries were busy.
-fn play<R: Threads + Abort + Sync>(rt: &R, alloc: Global) -> Result<u32, Fail> {
-    let (group, mut list) = Group::<Leader>::new(alloc, 1, 4000, 1)?;
-    let one = next_team(rt, alloc, &group, &mut list)?;
-    let two = next_team(rt, alloc, &group, &mut list)?;
-    let three = next_team(rt, alloc, &group, &mut list)?;
-    let four = next_team(rt, alloc, &group, &mut list)?;
-    let ((one, two), (three, four)) = join(
-        rt,
-        || join(rt, || one.work(), || two.work()),
-        || join(rt, || three.work(), || four.work()),
-    );
+// Four teams of all callers.
+fn teams<'a>(
+    alloc: Global,
+    group: &'a Group<Leader>,
+    list: Vec<Caller<Leader>>,
+) -> Result<Vec<Team<'a>>, Memory>
+    requires own { All (λ c. c.group ≡ group.now) list.items }
+    requires place { IsPlaceOf group.now 1 }
+{
+    let mut list = list;
+    let mut teams = Vec::new(alloc);
+    for _ in 0..4 {
+        teams.push(next_team(alloc, group, &mut list)?)?;
+    }
+    Ok(teams)
+}
+
+// All askings have ended, of one team after the other. It answers how many tries were busy.
+fn check_all(rt: &impl Abort, teams: Vec<Team<'_>>) -> u32 {
     let mut asked: u32 = 0;
     let mut met: u32 = 0;
-    for ended in [one, two, three, four] {
-        let (ended, busy) = ended.check(rt);
+    for team in teams {
+        let (ended, busy) = team.check(rt);
         asked = asked.wrapping_add(ended);
         met = met.wrapping_add(busy);
     }
     assert!(rt; asked == 4000, "{asked} askings ended");
-    Ok(met)
+    met
+}
+
+// Four threads ask. All have ended then, so each flight is finished. It answers how many tries were busy.
+fn play<R: Threads + Abort + Sync>(rt: &R, alloc: Global) -> Result<u32, Memory> {
+    let (group, list) = make(alloc, 4000)?;
+    let teams = map_vec(rt, teams(alloc, &group, list)?, &|team: Team| team.work())?;
+    Ok(check_all(rt, teams))
 }
 
 #[test]

@@ -1,7 +1,7 @@
 use Rattle.std.proofs.Common.{◌≡◌}
 use Rattle.std.specs.List.{All}
 use Rattle.sf_hostile_tests.specs.declared.threads.Kept.{Kept}
-use Rattle.sf_hostile_tests.proofs.threads.Ended.check.Given as goal
+use Rattle.sf_hostile_tests.proofs.threads.Team.check.Given as goal
 
 abbrev pub invariant-tickets : goal.invariant-tickets
 invariant-tickets g l = All (λ (k : Kept). k.ticket.group ≡ l.group) l.tickets.items
