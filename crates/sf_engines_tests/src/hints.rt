@@ -1,11 +1,12 @@
 //! What helps with refused lines.
 
-use sf_engines::{Ending, Engine, Shown, hint_for};
+use crate::cases::{Case, ending_of, read, sections};
+use sf_engines::{Ending, Engine, hint_for};
 use std::alloc::Global;
 use std::process::Abort;
 use std::test::Fail;
 
-/// Refused inputs: each stands below its engine's name, and above a `=` and its hint.
+/// Refused inputs, and the hint for each in place of an answer.
 const HINTS: &str = r#"# run
 ask 1 k
 ask 2
@@ -122,15 +123,6 @@ hint: line 2: expected the names e, by, c, joiners, and one of ok and err
 hint: line 2: a value has another type or is out of range; callers are 1 to 65535, generations 1 to 4294967295, joiners 0 to 4294967295, hits closed, cleared or missed, keys at most 250 bytes
 "#;
 
-fn engine_of(rt: &impl Abort, name: &str) -> Engine {
-    match name {
-        "run" => Engine::Run { history: false },
-        "steps" => Engine::Steps(Shown::Lines),
-        "check" => Engine::Check,
-        _ => panic!(rt; "no engine is called {name}"),
-    }
-}
-
 /// Compares the hint for an input.
 fn is_hint(
     rt: &impl Abort,
@@ -139,95 +131,95 @@ fn is_hint(
     input: &[u8],
     expected: &str,
 ) -> Result<(), Fail> {
-    match hint_for(alloc, engine, input) {
-        Some(hint) => {
-            let said = format!(in alloc; "{hint}\n")?;
-            assert!(rt; said.as_str() == expected, "{said}");
-        }
-        None => panic!(rt; "no hint"),
-    }
+    let Some(hint) = hint_for(alloc, engine, input) else {
+        panic!(rt; "no hint")
+    };
+    let said = format!(in alloc; "{hint}\n")?;
+    assert!(rt; said.as_str() == expected, "{said}");
     Ok(())
-}
-
-/// Compares the hint for an input of `HINTS`.
-fn is_listed_hint(rt: &impl Abort, alloc: Global, headed: &str) -> Result<(), Fail> {
-    let (name, both) = headed.split_once('\n').unwrap_or((headed, ""));
-    let (input, hint) = both.split_once("=\n").unwrap_or((both, ""));
-    is_hint(rt, alloc, engine_of(rt, name), input.as_bytes(), hint)
 }
 
 #[test]
 fn refused_lines_have_hints(rt: HostRuntime) -> Result<(), Fail> {
-    for headed in HINTS.split("# ").skip(1) {
-        is_listed_hint(&rt, rt.alloc(), headed)?;
+    for section in sections(HINTS) {
+        let case = read(&rt, section);
+        is_hint(
+            &rt,
+            rt.alloc(),
+            case.engine,
+            case.input.as_bytes(),
+            case.answer,
+        )?;
     }
+    let hint = "hint: line 1: expected ask, chan, settle, forget, forgetcall, take or current\n";
     is_hint(
         &rt,
         rt.alloc(),
         Engine::Run { history: false },
         b"\xff\n",
-        "hint: line 1: expected ask, chan, settle, forget, forgetcall, take or current\n",
+        hint,
     )
 }
 
-/// Compares the answer, and whether a hint is left.
-fn leaves_hint(
-    rt: &impl Abort,
+/// Inputs that leave a hint, or none.
+const HINTED: &str = "# run: no hint
+ask 1 k
+=
+1 lead 1.1
+# run: a hint
+foo
+=
+line 1: not a command
+# run: no hint
+take 1
+=
+line 1: caller 1 has nothing to take
+# steps: a hint
+step 1
+=
+line 1: not a turn of this schedule
+# check: a hint
+=
+line 1: not a record
+";
+
+/// Starts a case's engine: how it ends, and what is left.
+fn left(
     alloc: Global,
-    engine: Engine,
-    input: &str,
-    line: &str,
-    ending: Ending,
-    is_hinted: bool,
-) -> Result<(), Fail> {
-    let name = engine.name();
-    let mut written: Vec<u8> = Vec::new(alloc);
+    case: Case<'_>,
+    written: &mut Vec<u8>,
+) -> Result<(Ending, &'static str), Fail> {
     let mut hinted = None;
-    let ended = engine.start_with_hint(alloc, &mut input.as_bytes(), &mut written, &mut hinted)?;
-    let is_left = hinted.is_some();
+    let mut input = case.input.as_bytes();
+    let ended = case
+        .engine
+        .start_with_hint(alloc, &mut input, written, &mut hinted)?;
+    let left = if hinted.is_some() {
+        "a hint"
+    } else {
+        "no hint"
+    };
+    Ok((ended, left))
+}
+
+/// Compares the answer, and whether a hint is left.
+fn leaves_hint(rt: &impl Abort, alloc: Global, case: Case<'_>) -> Result<(), Fail> {
+    let mut written: Vec<u8> = Vec::new(alloc);
+    let (ended, left) = left(alloc, case, &mut written)?;
     let said = str::from_utf8(written.as_slice()).unwrap_or("no text");
-    assert!(rt; ended == ending, "{name} ends otherwise");
-    assert!(rt; said == line, "{name} answers {said}");
-    assert!(rt; is_left == is_hinted, "{name} hints otherwise");
+    assert!(rt; said == case.answer, "it answers {said}");
+    assert!(rt;
+        ended == ending_of(case.answer),
+        "{said}, but it ends otherwise"
+    );
+    assert!(rt; left == case.name, "{said}, but it leaves {left}");
     Ok(())
 }
 
 #[test]
 fn a_hint_is_left_where_a_line_is_refused(rt: HostRuntime) -> Result<(), Fail> {
-    for (name, input, line, ending, is_hinted) in [
-        ("run", "ask 1 k\n", "1 lead 1.1\n", Ending::Answered, false),
-        (
-            "run",
-            "foo\n",
-            "line 1: not a command\n",
-            Ending::Refused,
-            true,
-        ),
-        (
-            "run",
-            "take 1\n",
-            "line 1: caller 1 has nothing to take\n",
-            Ending::Refused,
-            false,
-        ),
-        (
-            "steps",
-            "step 1\n",
-            "line 1: not a turn of this schedule\n",
-            Ending::Refused,
-            true,
-        ),
-        ("check", "", "line 1: not a record\n", Ending::Refused, true),
-    ] {
-        leaves_hint(
-            &rt,
-            rt.alloc(),
-            engine_of(&rt, name),
-            input,
-            line,
-            ending,
-            is_hinted,
-        )?;
+    for section in sections(HINTED) {
+        leaves_hint(&rt, rt.alloc(), read(&rt, section))?;
     }
     Ok(())
 }

@@ -1,62 +1,61 @@
 //! Worked histories, legal and illegal, and lines that are no records.
 
-use crate::answers::answers;
+use crate::cases::{all_answer, answers, sections};
 use crate::long_inputs::times;
-use sf_engines::{Ending, Engine};
+use sf_engines::Engine;
 use std::alloc::{AllocError, Global};
 use std::process::Abort;
 use std::test::Fail;
 
-/// Checks records, and compares the line that is said and how it ends.
-fn judges(
-    rt: &impl Abort,
-    alloc: Global,
-    records: &str,
-    line: &str,
-    ending: Ending,
-) -> Result<(), Fail> {
-    answers(rt, alloc, Engine::Check, records.as_bytes(), line, ending)
-}
+const HISTORIES: &str = r#"# check: check_names_the_foreign_settle
+{"format":1}
+{"e":"lead","by":1,"k":"k","c":[1,1],"own":null}
+{"e":"settle","by":2,"c":[1,1],"ok":"v","shared":false}
+=
+event 2: settled by a caller that did not lead
+# check: cut_settle
+{"format":1}
+{"e":"lead","by":1,"k":"k","c":[1,1],"own":null}
+{"e":"settle","by":2=
+line 3: not a record
+# check: no_events
+{"format":1}
+=
+legal: 0 events
+# check: no_line
+=
+line 1: not a record
+# check: wrong_shared_mark
+{"format":1}
+{"e":"lead","by":1,"k":"k","c":[1,1],"own":null}
+{"e":"settle","by":1,"c":[1,1],"ok":"v","shared":true}
+=
+event 2: number of joiners is wrong
+# check: idle_forget_beside_an_open_call
+{"format":1}
+{"e":"lead","by":1,"k":"k","c":[1,1],"own":null}
+{"e":"enter","by":2,"k":"k","c":[1,1],"m":[2,1]}
+{"e":"forget","by":3,"k":"k","closed":null}
+=
+event 3: forget names another call
+# check: shared_error_history_is_legal
+{"format":1}
+{"e":"lead","by":1,"k":"k","c":[1,1],"own":null}
+{"e":"enter","by":2,"k":"k","c":[1,1],"m":[2,1]}
+{"e":"settle","by":1,"c":[1,1],"err":"down","shared":true}
+{"e":"handed","by":1,"c":[1,1]}
+=
+legal: 4 events
+"#;
 
 #[test]
 fn histories(rt: HostRuntime) -> Result<(), Fail> {
-    let rows = [
-        // check_names_the_foreign_settle
-        (
-            "{\"format\":1}\n{\"e\":\"lead\",\"by\":1,\"k\":\"k\",\"c\":[1,1],\"own\":null}\n{\"e\":\"settle\",\"by\":2,\"c\":[1,1],\"ok\":\"v\",\"shared\":false}\n",
-            "event 2: settled by a caller that did not lead\n",
-            Ending::Illegal,
-        ),
-        (
-            "{\"format\":1}\n{\"e\":\"lead\",\"by\":1,\"k\":\"k\",\"c\":[1,1],\"own\":null}\n{\"e\":\"settle\",\"by\":2",
-            "line 3: not a record\n",
-            Ending::Refused,
-        ),
-        ("{\"format\":1}\n", "legal: 0 events\n", Ending::Answered),
-        ("", "line 1: not a record\n", Ending::Refused),
-        // wrong_shared_mark
-        (
-            "{\"format\":1}\n{\"e\":\"lead\",\"by\":1,\"k\":\"k\",\"c\":[1,1],\"own\":null}\n{\"e\":\"settle\",\"by\":1,\"c\":[1,1],\"ok\":\"v\",\"shared\":true}\n",
-            "event 2: number of joiners is wrong\n",
-            Ending::Illegal,
-        ),
-        // idle_forget_beside_an_open_call
-        (
-            "{\"format\":1}\n{\"e\":\"lead\",\"by\":1,\"k\":\"k\",\"c\":[1,1],\"own\":null}\n{\"e\":\"enter\",\"by\":2,\"k\":\"k\",\"c\":[1,1],\"m\":[2,1]}\n{\"e\":\"forget\",\"by\":3,\"k\":\"k\",\"closed\":null}\n",
-            "event 3: forget names another call\n",
-            Ending::Illegal,
-        ),
-        // shared_error_history_is_legal
-        (
-            "{\"format\":1}\n{\"e\":\"lead\",\"by\":1,\"k\":\"k\",\"c\":[1,1],\"own\":null}\n{\"e\":\"enter\",\"by\":2,\"k\":\"k\",\"c\":[1,1],\"m\":[2,1]}\n{\"e\":\"settle\",\"by\":1,\"c\":[1,1],\"err\":\"down\",\"shared\":true}\n{\"e\":\"handed\",\"by\":1,\"c\":[1,1]}\n",
-            "legal: 4 events\n",
-            Ending::Answered,
-        ),
-    ];
-    for (records, line, ending) in rows {
-        judges(&rt, rt.alloc(), records, line, ending)?;
-    }
-    Ok(())
+    all_answer(&rt, rt.alloc(), HISTORIES)
+}
+
+/// Checks records, and compares the line that is said and how it ends.
+fn judges(rt: &impl Abort, alloc: Global, records: &str, line: &str) -> Result<(), Fail> {
+    answers(rt, alloc, Engine::Check, records.as_bytes(), line)
 }
 
 /// The records that rows call by name.
@@ -100,17 +99,6 @@ fn push_record(rt: &impl Abort, records: &mut String, word: &str) -> Result<(), 
     }
 }
 
-/// How it ends where this line is said.
-fn ending_of(line: &str) -> Ending {
-    if line.starts_with("legal") {
-        Ending::Answered
-    } else if line.starts_with("event") {
-        Ending::Illegal
-    } else {
-        Ending::Refused
-    }
-}
-
 /// Checks the records that a row names, in this format: `lead closed: legal: 2 events`. A row that begins with `#` is a
 /// remark.
 fn says(rt: &impl Abort, alloc: Global, format: u32, row: &str) -> Result<(), Fail> {
@@ -122,7 +110,15 @@ fn says(rt: &impl Abort, alloc: Global, format: u32, row: &str) -> Result<(), Fa
     for word in words.split(' ') {
         push_record(rt, &mut records, word)?;
     }
-    judges(rt, alloc, records.as_str(), line, ending_of(line))
+    judges(rt, alloc, records.as_str(), line)
+}
+
+/// Checks the records of each row, in this format.
+fn all_say(rt: &impl Abort, alloc: Global, format: u32, rows: &str) -> Result<(), Fail> {
+    for row in rows.split_inclusive('\n') {
+        says(rt, alloc, format, row)?;
+    }
+    Ok(())
 }
 
 const COUNTS: &str = r#"lead enter "joiners":1: legal: 3 events
@@ -145,11 +141,8 @@ lead "joiners":0,"shared":false: line 3: not a record
 /// The number of joiners is that of the enters on the call.
 #[test]
 fn joiner_counts_in_records(rt: HostRuntime) -> Result<(), Fail> {
-    for row in COUNTS.split_inclusive('\n') {
-        says(&rt, rt.alloc(), 2, row)?;
-        says(&rt, rt.alloc(), 3, row)?;
-    }
-    Ok(())
+    all_say(&rt, rt.alloc(), 2, COUNTS)?;
+    all_say(&rt, rt.alloc(), 3, COUNTS)
 }
 
 const MARKS: &str = r#"lead enter "shared":true: legal: 3 events
@@ -168,10 +161,7 @@ lead enter "shared":true,"joiners":1: line 4: not a record
 /// A mark stands for nobody, or for those who entered in the lines before, and at least one.
 #[test]
 fn first_format_is_still_read(rt: HostRuntime) -> Result<(), Fail> {
-    for row in MARKS.split_inclusive('\n') {
-        says(&rt, rt.alloc(), 1, row)?;
-    }
-    Ok(())
+    all_say(&rt, rt.alloc(), 1, MARKS)
 }
 
 const HITS: &str = "# A call that nobody led is missed, and stays new.
@@ -211,24 +201,17 @@ other closed: event 2: hit is wrong
 /// An open call is closed, one that is current and not open is cleared, and one that is not current is missed.
 #[test]
 fn hits_in_records(rt: HostRuntime) -> Result<(), Fail> {
-    for row in HITS.split_inclusive('\n') {
-        says(&rt, rt.alloc(), 3, row)?;
-    }
-    Ok(())
+    all_say(&rt, rt.alloc(), 3, HITS)
 }
+
+const FORGETS_OF_ONE_CALL: &str = "lead closed: line 3: not a record
+missed: line 2: not a record
+";
 
 #[test]
 fn second_format_has_no_forgetcall(rt: HostRuntime) -> Result<(), Fail> {
-    for format in [1, 2] {
-        says(
-            &rt,
-            rt.alloc(),
-            format,
-            "lead closed: line 3: not a record\n",
-        )?;
-        says(&rt, rt.alloc(), format, "missed: line 2: not a record\n")?;
-    }
-    Ok(())
+    all_say(&rt, rt.alloc(), 1, FORGETS_OF_ONE_CALL)?;
+    all_say(&rt, rt.alloc(), 2, FORGETS_OF_ONE_CALL)
 }
 
 /// Checks a history of this format whose second line, with which this text begins, is no record.
@@ -239,13 +222,7 @@ fn second_line_is_no_record(
     text: &str,
 ) -> Result<(), Fail> {
     let records = format!(in alloc; "{{\"format\":{format}}}\n{text}")?;
-    judges(
-        rt,
-        alloc,
-        records.as_str(),
-        "line 2: not a record\n",
-        Ending::Refused,
-    )
+    judges(rt, alloc, records.as_str(), "line 2: not a record\n")
 }
 
 const HOSTILE_FORGETS: &str = r#"{"e":"forgetcall","by":2,"k":"k","c":[1,1],"hit":"lost"}
@@ -276,78 +253,53 @@ fn hostile_forgets_of_one_call(rt: HostRuntime) -> Result<(), Fail> {
     Ok(())
 }
 
-/// A history of four events in each format, a record a line.
-const FOUR_EVENTS: [[&str; 5]; 3] = [
-    [
-        "{\"format\":1}",
-        "{\"e\":\"lead\",\"by\":1,\"k\":\"k\",\"c\":[1,1],\"own\":null}",
-        "{\"e\":\"enter\",\"by\":2,\"k\":\"k\",\"c\":[1,1],\"m\":[2,1]}",
-        "{\"e\":\"settle\",\"by\":1,\"c\":[1,1],\"err\":\"down\",\"shared\":true}",
-        "{\"e\":\"handed\",\"by\":1,\"c\":[1,1]}",
-    ],
-    [
-        "{\"format\":2}",
-        "{\"e\":\"lead\",\"by\":1,\"k\":\"k\",\"c\":[1,1],\"own\":null}",
-        "{\"e\":\"enter\",\"by\":2,\"k\":\"k\",\"c\":[1,1],\"m\":[2,1]}",
-        "{\"e\":\"settle\",\"by\":1,\"c\":[1,1],\"err\":\"down\",\"joiners\":1}",
-        "{\"e\":\"handed\",\"by\":1,\"c\":[1,1]}",
-    ],
-    [
-        "{\"format\":3}",
-        "{\"e\":\"lead\",\"by\":1,\"k\":\"k\",\"c\":[1,1],\"own\":null}",
-        "{\"e\":\"enter\",\"by\":2,\"k\":\"k\",\"c\":[1,1],\"m\":[2,1]}",
-        "{\"e\":\"forgetcall\",\"by\":3,\"k\":\"k\",\"c\":[1,1],\"hit\":\"closed\"}",
-        "{\"e\":\"settle\",\"by\":1,\"c\":[1,1],\"err\":\"down\",\"joiners\":1}",
-    ],
-];
+/// A history of four events in each format.
+const FOUR_EVENTS: &str = r#"# first_format
+{"format":1}
+{"e":"lead","by":1,"k":"k","c":[1,1],"own":null}
+{"e":"enter","by":2,"k":"k","c":[1,1],"m":[2,1]}
+{"e":"settle","by":1,"c":[1,1],"err":"down","shared":true}
+{"e":"handed","by":1,"c":[1,1]}
+# second_format
+{"format":2}
+{"e":"lead","by":1,"k":"k","c":[1,1],"own":null}
+{"e":"enter","by":2,"k":"k","c":[1,1],"m":[2,1]}
+{"e":"settle","by":1,"c":[1,1],"err":"down","joiners":1}
+{"e":"handed","by":1,"c":[1,1]}
+# third_format
+{"format":3}
+{"e":"lead","by":1,"k":"k","c":[1,1],"own":null}
+{"e":"enter","by":2,"k":"k","c":[1,1],"m":[2,1]}
+{"e":"forgetcall","by":3,"k":"k","c":[1,1],"hit":"closed"}
+{"e":"settle","by":1,"c":[1,1],"err":"down","joiners":1}
+"#;
 
-/// Checks a record that is cut at every byte but the last, below what stands before it.
-fn is_cut_record(
-    rt: &impl Abort,
-    alloc: Global,
-    before: &str,
-    record: &str,
-    line: u64,
-) -> Result<(), Fail> {
-    let refused = format!(in alloc; "line {line}: not a record\n")?;
-    for cut in 1..record.len() {
-        let part = record.get(..cut).unwrap_or_default();
-        let records = format!(in alloc; "{before}{part}")?;
-        judges(
-            rt,
-            alloc,
-            records.as_str(),
-            refused.as_str(),
-            Ending::Refused,
-        )?;
-    }
-    Ok(())
+/// Checks a history of legal events that is cut after so many bytes: its last line is no record, or whole.
+fn is_cut(rt: &impl Abort, alloc: Global, history: &str, bytes: usize) -> Result<(), Fail> {
+    let (records, rest) = history.split_at_checked(bytes).unwrap_or(("", ""));
+    let lines = records.lines().count();
+    let is_whole = records.ends_with('\n') || rest.starts_with('\n');
+    let said = if is_whole {
+        format!(in alloc; "legal: {} events\n", lines.saturating_sub(1))?
+    } else {
+        format!(in alloc; "line {lines}: not a record\n")?
+    };
+    judges(rt, alloc, records, said.as_str())
 }
 
-/// Checks records of so many legal events.
-fn is_legal(rt: &impl Abort, alloc: Global, records: &str, events: usize) -> Result<(), Fail> {
-    let legal = format!(in alloc; "legal: {events} events\n")?;
-    judges(rt, alloc, records, legal.as_str(), Ending::Answered)
-}
-
-/// Checks a history of legal events that is cut at every byte.
-fn is_cut(rt: &impl Abort, alloc: Global, lines: &[&str]) -> Result<(), Fail> {
-    // What stands before the line that is cut.
-    let mut before = String::new(alloc);
-    for (i, record) in lines.iter().enumerate() {
-        is_cut_record(rt, alloc, before.as_str(), record, i as u64 + 1)?;
-        for end in [*record, "\n"] {
-            before.push_str(end)?;
-            is_legal(rt, alloc, before.as_str(), i)?;
-        }
+/// Checks a history that is cut at every byte.
+fn is_cut_everywhere(rt: &impl Abort, alloc: Global, history: &str) -> Result<(), Fail> {
+    for bytes in 1..=history.len() {
+        is_cut(rt, alloc, history, bytes)?;
     }
     Ok(())
 }
 
 #[test]
 fn history_cut_at_every_byte(rt: HostRuntime) -> Result<(), Fail> {
-    for lines in FOUR_EVENTS {
-        is_cut(&rt, rt.alloc(), lines.as_slice())?;
+    for section in sections(FOUR_EVENTS) {
+        let (_, history) = section.split_once('\n').unwrap_or((section, ""));
+        is_cut_everywhere(&rt, rt.alloc(), history)?;
     }
     Ok(())
 }
@@ -360,29 +312,29 @@ const HOSTILE_RECORDS: &str = r#"{"e":"lead","by":1,"k":"k","c":[1,0],"own":null
 {"e":"leave","by":1,"k":"k","c":[1,1],"own":null}
 "#;
 
+const HOSTILE_HISTORIES: &str = r#"# check: an_empty_line_above_a_record
+{"format":1}
+
+{"e":"lead","by":1,"k":"k","c":[1,1],"own":null}
+=
+line 2: not a record
+# check: fourth_format
+{"format":4}
+=
+line 1: not a record
+# check: ninth_format
+{"format":9}
+=
+line 1: not a record
+"#;
+
 #[test]
 fn hostile_records(rt: HostRuntime) -> Result<(), Fail> {
     second_line_is_no_record(&rt, rt.alloc(), 1, times(rt.alloc(), "[", 128)?.as_str())?;
     for line in HOSTILE_RECORDS.split_inclusive('\n') {
         second_line_is_no_record(&rt, rt.alloc(), 1, line)?;
     }
-    // An empty line, and a record below it.
-    second_line_is_no_record(
-        &rt,
-        rt.alloc(),
-        1,
-        "\n{\"e\":\"lead\",\"by\":1,\"k\":\"k\",\"c\":[1,1],\"own\":null}\n",
-    )?;
-    for first in ["{\"format\":4}\n", "{\"format\":9}\n"] {
-        judges(
-            &rt,
-            rt.alloc(),
-            first,
-            "line 1: not a record\n",
-            Ending::Refused,
-        )?;
-    }
-    Ok(())
+    all_answer(&rt, rt.alloc(), HOSTILE_HISTORIES)
 }
 
 #[test]
@@ -393,6 +345,5 @@ fn a_record_that_is_no_text(rt: HostRuntime) -> Result<(), Fail> {
         Engine::Check,
         b"{\"format\":1}\n{\"e\":\"handed\",\"by\":1,\"c\":[1,1]}\n\xff\n",
         "line 3: not a record\n",
-        Ending::Refused,
     )
 }

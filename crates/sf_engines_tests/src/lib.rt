@@ -2,9 +2,11 @@
 #![tactic(auto)]
 
 #[cfg(test)]
-mod answers;
+mod cases;
 #[cfg(test)]
 mod failing_streams;
+#[cfg(test)]
+mod forgets;
 #[cfg(test)]
 mod hints;
 #[cfg(test)]
