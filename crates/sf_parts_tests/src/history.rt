@@ -4,6 +4,7 @@ ghost use Rattle.std.specs.Prelude.{◌≡◌};
 ghost use Rattle.sf_history.specs.Limits.{IsCallWithin};
 ghost use Rattle.sf_sequential.specs.State.{IsCaller};
 
+use crate::reading::text;
 use sf_history::{CallId, Event, Forgotten, History, Hit, Share, laws};
 use sf_sequential::{Asked, ChanAsked, ModelRefusal, SeqGroup, Taken, walk};
 use sf_text::{Outcome, Text};
@@ -14,13 +15,6 @@ use std::process::Abort;
 type TextGroup = SeqGroup<Text, Outcome>;
 
 const LAST: u32 = 4_294_967_295;
-
-fn text(rt: &impl Abort, alloc: Global, text: &str) -> Text {
-    let Ok(text) = Text::copied(alloc, text) else {
-        panic!(rt; "no memory")
-    };
-    text
-}
 
 fn id(caller: u32, generation: u32) -> CallId {
     CallId { caller, generation }

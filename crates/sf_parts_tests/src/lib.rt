@@ -15,6 +15,10 @@ mod history;
 #[cfg(test)]
 mod loaders;
 #[cfg(test)]
+mod merging;
+#[cfg(test)]
+mod reading;
+#[cfg(test)]
 mod replay;
 #[cfg(test)]
 mod scripts;
