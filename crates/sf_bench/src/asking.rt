@@ -86,11 +86,7 @@ fn settle(
 }
 
 // Joins the open call.
-fn join(
-    group: &Group<Number>,
-    caller: Caller<Number>,
-    place: u32,
-) -> Result<Ticket<Number>, Fault>
+fn join(group: &Group<Number>, caller: Caller<Number>, place: u32) -> Result<Ticket<Number>, Fault>
     requires own { caller.group ≡ group.now }
     requires place { IsPlaceOf group.now place }
     ensures { IfOk result (λ ticket. ticket.group ≡ group.now) }

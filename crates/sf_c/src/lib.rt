@@ -24,8 +24,8 @@ pub use note_handle::NoteHandle;
 pub use note_slot::NoteSlot;
 pub use one_call::{sf_forget_call, sf_named};
 use sf_group::{MOST_CALLERS, MOST_PLACES};
-pub use slot::Slot;
 use sf_state::{BAD_NUMBER, DONE, NOT_OPEN, NOTHING_LEFT, State, WRONG_STATE};
+pub use slot::Slot;
 pub use stamps::{sf_is_still, sf_stamp};
 use std::alloc::Global;
 

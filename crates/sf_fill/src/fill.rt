@@ -71,11 +71,7 @@ impl<'d, D: Naming, N: Naming, O: Origin> Fill<'d, D, N, O> {
     }
 
     // The parts of all these getters, which are spent. What they counted is all entered.
-    fn sum_up<R: Wait, L: Drop>(
-        &self,
-        rt: &R,
-        getters: Vec<Getter<'d, D, N, O, L>>,
-    ) -> AllParts<N>
+    fn sum_up<R: Wait, L: Drop>(&self, rt: &R, getters: Vec<Getter<'d, D, N, O, L>>) -> AllParts<N>
         requires { 0 < vec_len getters }
         ensures { result ≡ record {
           parts = vec_len getters.entry;

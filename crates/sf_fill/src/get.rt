@@ -116,7 +116,9 @@ impl<'d, D: Naming, N: Naming, O: Origin> Fill<'d, D, N, O> {
             }
         };
         let asked = match at.spot(self.alloc, key) {
-            Ok(spot) => self.store.ask(rt, caller, spot, key, &mut loaders, &mut log),
+            Ok(spot) => self
+                .store
+                .ask(rt, caller, spot, key, &mut loaders, &mut log),
             Err(_) => Asked::Unmade(caller),
         };
         let (standing, counts, answer) = reply(asked, at, key);
@@ -177,7 +179,9 @@ impl<'d, D: Naming, N: Naming, O: Origin> Fill<'d, D, N, O> {
             return None;
         };
         let place = at.number().number();
-        let found = self.store.look(rt, &mut getter.tallies, place, key, caller)?;
+        let found = self
+            .store
+            .look(rt, &mut getter.tallies, place, key, caller)?;
         self.store.count_hit(rt, &mut getter.tallies);
         match found {
             Ok(letter) => {
@@ -231,7 +235,9 @@ impl<'d, D: Naming, N: Naming, O: Origin> Fill<'d, D, N, O> {
         let Standing::Free(caller) = &mut getter.standing else {
             return None;
         };
-        let found = getter.near.look_for_bytes(self.store.group(), at, key, caller)?;
+        let found = getter
+            .near
+            .look_for_bytes(self.store.group(), at, key, caller)?;
         self.store.count_hit(rt, &mut getter.tallies);
         match found {
             Ok(bytes) => Some(Ok(bytes)),

@@ -192,13 +192,7 @@ impl State {
 
     /// Asks for the key for the other: done where its caller leads a new call then and the other's waits on the leader's own
     /// channel, otherwise the other's waits for the open call's letter.
-    pub fn ask_chan(
-        &mut self,
-        alloc: Global,
-        other: &mut State,
-        key: &[u8],
-        tries: u32,
-    ) -> u32
+    pub fn ask_chan(&mut self, alloc: Global, other: &mut State, key: &[u8], tries: u32) -> u32
         requires { self.old.group ≡ other.old.group }
         ensures kept { KeepsLetter self.old self.new }
         ensures own { MarksOwn result true self.old.own self.new.own }
