@@ -86,7 +86,11 @@ fn settle(
 }
 
 // Joins the open call.
-fn join(group: &Group<Number>, caller: Caller<Number>, place: u32) -> Result<Ticket<Number>, Fault>
+fn join_open(
+    group: &Group<Number>,
+    caller: Caller<Number>,
+    place: u32,
+) -> Result<Ticket<Number>, Fault>
     requires own { caller.group ≡ group.now }
     requires place { IsPlaceOf group.now place }
     ensures { IfOk result (λ ticket. ticket.group ≡ group.now) }
@@ -175,7 +179,7 @@ impl<'a> Operation for Join<'a> {
             place,
         } = self;
         let flight = lead_new(group, leader, place)?;
-        let ticket = match join(group, joiner, place) {
+        let ticket = match join_open(group, joiner, place) {
             Ok(ticket) => ticket,
             Err(fault) => {
                 flight.abandon();
