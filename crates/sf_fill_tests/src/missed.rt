@@ -1,20 +1,19 @@
 //! A reload that misses its call, since a caller that is no getter's leads the next one meanwhile.
-ghost use Rattle.std.specs.Prelude.{◌≡◌, ◌≤◌, IfSome, vec_len, pos};
+ghost use Rattle.std.specs.Prelude.{◌≡◌, ◌≤◌, vec_len, pos};
 ghost use Rattle.sf_calls.specs.Same.{IsPlaceOf};
 ghost use Rattle.sf_words.specs.declared.limits.TheConstants.{LARGEST_PLACE};
 ghost use Rattle.sf_spots.specs.Spaces.{AreDesksOf, places_in, space_of};
-ghost use Rattle.sf_fill.specs.Made.{AreParts, AreOfGroup};
+ghost use Rattle.sf_fill.specs.Made.{AreParts};
 
-use crate::leaders::loaders;
-use sf_fill::{Fill, FillParts, FillValue, Forgot, Getter, Ledgers, Naming, Sizes};
-use sf_group::{Begun, Caller, Group, Memory};
+use crate::leaders::{both, loaders};
+use sf_fill::{Fill, FillParts, FillValue, Forgot, Getter, Naming, Sizes};
+use sf_group::{Begun, Caller, Memory};
 use sf_loaders::Loaders;
 use sf_loaders::scripted::{AnyValue, FixedPicker, RoundChance, Script};
 use sf_spots::{KeyDesk, KeySpace, open_directory};
 use sf_wait::begin_wait;
 use std::alloc::Global;
 use std::marker::{Brand, Model};
-use std::process::Abort;
 use std::sync::Wait;
 use std::sync::atomic::{AtomicBool, Ordering};
 use std::test::Fail;
@@ -29,10 +28,12 @@ const SIZES: Sizes = Sizes {
 
 type OneLoaders = Loaders<FixedPicker, Script, Script, RoundChance>;
 
+type OneGetter<'d, D, N> = Getter<'d, D, N, AnyValue, OneLoaders>;
+
 // The getter, which reloads once it has said so.
 struct Reloader<'a, 'd, 'f, D: Naming, N: Naming> {
     fill: &'a Fill<'d, D, N, AnyValue>,
-    getter: Getter<'d, D, N, AnyValue, OneLoaders>,
+    getter: OneGetter<'d, D, N>,
     begins: &'f AtomicBool,
 }
 
@@ -58,19 +59,27 @@ impl<'a, 'd, 'f, D: Naming, N: Naming> Reloader<'a, 'd, 'f, D, N> {
         begins.store(true, Ordering::SeqCst);
         let (getter, answer) = fill.reload(rt, getter, b"a");
         getter.abandon();
-        match answer {
-            Ok(Forgot::Missed(_)) => true,
-            _ => false,
-        }
+        matches!(answer, Ok(Forgot::Missed(_)))
     }
 }
 
-// The spare caller, which leads once the reload was said to begin, and it has looked so often more.
+// Looks until the reload was said to begin, 10,000,000 times at most, and then so often more.
+fn wait(begins: &AtomicBool, looks: u32) {
+    for _ in 0..10_000_000 {
+        if begins.load(Ordering::SeqCst) {
+            break;
+        }
+    }
+    for _ in 0..looks {
+        let _ = begins.load(Ordering::SeqCst);
+    }
+}
+
+// A caller that is no getter's, which leads once the reload was said to begin, and it has looked so often more.
 #[derive(Drop)]
 struct Leader<'a, 'd, 'f, D: Naming, N: Naming> {
     fill: &'a Fill<'d, D, N, AnyValue>,
     caller: Caller<FillValue<'d, D, AnyValue>>,
-    place: u32,
     begins: &'f AtomicBool,
     looks: u32,
 }
@@ -83,7 +92,7 @@ impl<'a, 'd, 'f, D: Naming, N: Naming> Model for Leader<'a, 'd, 'f, D, N> {
 
     ghost view = { λ _. tt };
 
-    ghost invariant = { λ l. (l.caller.group ≡ N.group) × IsPlaceOf N.group l.place };
+    ghost invariant = { λ l. (l.caller.group ≡ N.group) × IsPlaceOf N.group 1 };
 }
 
 impl<'a, 'd, 'f, D: Naming, N: Naming> Leader<'a, 'd, 'f, D, N> {
@@ -92,19 +101,11 @@ impl<'a, 'd, 'f, D: Naming, N: Naming> Leader<'a, 'd, 'f, D, N> {
         let Leader {
             fill,
             caller,
-            place,
             begins,
             looks,
         } = self;
-        for _ in 0..10_000_000 {
-            if begins.load(Ordering::SeqCst) {
-                break;
-            }
-        }
-        for _ in 0..looks {
-            let _ = begins.load(Ordering::SeqCst);
-        }
-        match begin_wait(rt, fill.group(), caller, place) {
+        wait(begins, looks);
+        match begin_wait(rt, fill.group(), caller, 1) {
             Ok(Begun::Lead(flight)) => {
                 let found = fill.followed(rt, &flight, b"a");
                 flight.abandon();
@@ -119,123 +120,94 @@ impl<'a, 'd, 'f, D: Naming, N: Naming> Leader<'a, 'd, 'f, D, N> {
     }
 }
 
-// Whether the reload missed its call, and whether the leader beside it found that call's letter.
-fn play<'d, D: Naming + Send + Sync, N: Naming + Send + Sync, R: Wait + Threads + Abort + Sync>(
+// Whether the getter's reload missed its call, and whether the caller, which leads beside it, found that call's letter.
+fn play_beside<'d, D: Naming + Send + Sync, N: Naming + Send + Sync, R: Wait + Threads + Sync>(
     rt: &R,
-    alloc: Global,
-    space: KeySpace<'d>,
-    parts: FillParts<'d, D, AnyValue, OneLoaders>,
+    fill: &Fill<'d, D, N, AnyValue>,
+    getter: OneGetter<'d, D, N>,
     caller: Caller<FillValue<'d, D, AnyValue>>,
-    place: u32,
     looks: u32,
-) -> Result<(bool, bool), Memory>
-    requires space { (space_of space ≡ N.space) × (D.space ≡ N.space) }
-    requires parts { AreParts N.space N.group N.getters N.ledgers parts }
-    requires getters { N.getters ≡ 1 }
-    requires limit { N.limit ≡ pos 100 }
+) -> (bool, bool)
     requires own { caller.group ≡ N.group }
-    requires place { IsPlaceOf N.group place }
+    requires place { IsPlaceOf N.group 1 }
 {
-    let (fill, mut getters) = match Fill::<'d, D, N, AnyValue>::new(alloc, space, parts, SIZES) {
-        Ok(made) => made,
-        Err(_) => return Err(Memory),
-    };
-    let Some(getter) = getters.pop() else {
-        unreachable!()
-    };
-    getters.destroy_empty();
-    let (getter, _view) = fill.get(rt, getter, b"a");
     let begins = AtomicBool::new(false);
     let reloader = Reloader {
-        fill: &fill,
+        fill,
         getter,
         begins: &begins,
     };
     let leader = Leader {
-        fill: &fill,
+        fill,
         caller,
-        place,
         begins: &begins,
         looks,
     };
-    Ok(join(rt, || reloader.misses(rt), || leader.finds(rt)))
+    join(rt, || reloader.misses(rt), || leader.finds(rt))
 }
 
-// The last caller, and the one before it.
-fn take_spare<'d, D: Naming>(
-    group: &Group<FillValue<'d, D, AnyValue>>,
-    callers: Vec<Caller<FillValue<'d, D, AnyValue>>>,
-) -> Option<
-    (
-        Vec<Caller<FillValue<'d, D, AnyValue>>>,
-        Caller<FillValue<'d, D, AnyValue>>,
-    ),
->
-    requires { AreOfGroup group.now callers.items }
-    ensures one { IfSome result (λ taken.
-        (vec_len taken.0 ≡ 1) × AreOfGroup group.now taken.0.items) }
-    ensures spare { IfSome result (λ taken. taken.1.group ≡ group.now) }
+// The first getter reloads what it got, beside the caller of the second one, if there is one.
+fn play<'d, D: Naming + Send + Sync, N: Naming + Send + Sync, R: Wait + Threads + Sync>(
+    rt: &R,
+    fill: &Fill<'d, D, N, AnyValue>,
+    getters: Vec<OneGetter<'d, D, N>>,
+    looks: u32,
+) -> Option<(bool, bool)>
+    requires { vec_len getters ≡ 2 }
 {
-    let _ = group;
-    let mut callers = callers;
-    let spare = callers.pop()?;
-    if callers.len() != 1 {
-        return None;
+    let (one, two) = both(getters);
+    let (one, _view) = fill.get(rt, one, b"a");
+    match two.into_caller(rt, fill) {
+        Some(caller) if fill.group().has(1) => Some(play_beside(rt, fill, one, caller, looks)),
+        _ => {
+            one.abandon();
+            None
+        }
     }
-    Some((callers, spare))
 }
 
-// The key space is named here. The last caller and the last desk are spare.
-fn with_space<'d, D: Naming + Send + Sync, R: Wait + Threads + Abort + Sync>(
+// All is named here.
+fn with_all<'d, D: Naming + Send + Sync, N: Naming + Send + Sync, R: Wait + Threads + Sync>(
+    rt: &R,
+    alloc: Global,
+    space: KeySpace<'d>,
+    parts: FillParts<'d, D, AnyValue, OneLoaders>,
+    looks: u32,
+) -> Result<Option<(bool, bool)>, Memory>
+    requires space { (space_of space ≡ N.space) × (D.space ≡ N.space) }
+    requires parts { AreParts N.space N.group N.getters N.ledgers parts }
+    requires getters { N.getters ≡ 2 }
+    requires limit { N.limit ≡ pos 100 }
+{
+    let Ok((fill, getters)) = Fill::<'d, D, N, AnyValue>::new(alloc, space, parts, SIZES) else {
+        return Err(Memory);
+    };
+    Ok(play(rt, &fill, getters, looks))
+}
+
+// The key space is named here.
+fn with_space<'d, D: Naming + Send + Sync, R: Wait + Threads + Sync>(
     rt: &R,
     alloc: Global,
     space: KeySpace<'d>,
     desks: Vec<KeyDesk>,
     looks: u32,
-) -> Result<(bool, bool), Memory>
+) -> Result<Option<(bool, bool)>, Memory>
     requires space { (space_of space ≡ D.space) × (places_in D.space ≤ LARGEST_PLACE) }
     requires desks { (vec_len desks ≡ 2) × AreDesksOf D.space desks.items }
 {
-    let loaders = vec![in alloc; loaders(alloc)?]?;
-    let (group, callers) = Group::<FillValue<'d, D, AnyValue>>::new(
-        alloc,
-        space.place_count(),
-        2,
-        1,
-    )?;
-    let mut desks = desks;
-    let Some(mut desk) = desks.pop() else {
-        unreachable!()
-    };
-    if desks.len() != 1 {
-        panic!(rt; "other desks")
-    }
-    let Some((callers, caller)) = take_spare(&group, callers) else {
-        panic!(rt; "other callers")
-    };
-    let Ok(at) = space.find(&mut desk, b"a") else {
-        panic!(rt; "the key has no place")
-    };
-    let place = at.number().number();
-    if !group.has(place) {
-        panic!(rt; "the group has no such place")
-    }
-    let parts = FillParts {
-        desks,
-        group,
-        callers,
-        loaders,
-        ledgers: Ledgers::new(1),
-    };
-    play::<D, Brand, R>(rt, alloc, space, parts, caller, place, looks)
+    let sets = vec![in alloc; loaders(alloc)?, loaders(alloc)?]?;
+    let parts = FillParts::new(alloc, space, desks, sets, 1)?;
+    with_all::<D, Brand, R>(rt, alloc, space, parts, looks)
 }
 
-fn try_out<R: Wait + Threads + Abort + Sync>(
+// What comes of it over a directory of one place, which is the key's.
+fn try_out<R: Wait + Threads + Sync>(
     rt: &R,
     alloc: Global,
     looks: u32,
-) -> Result<(bool, bool), Memory> {
-    let (directory, desks) = open_directory(alloc, 8, 4, 2, 0, 0)?;
+) -> Result<Option<(bool, bool)>, Memory> {
+    let (directory, desks) = open_directory(alloc, 1, 4, 2, 0, 0)?;
     with_space::<Brand, R>(rt, alloc, KeySpace::Directory(&directory), desks, looks)
 }
 
@@ -244,7 +216,9 @@ fn try_out<R: Wait + Threads + Abort + Sync>(
 #[test]
 fn missed_call_is_not_taken_over(rt: HostRuntime) -> Result<(), Fail> {
     for round in 0..300 {
-        let (missed, found) = try_out(&rt, rt.alloc(), round * 4)?;
+        let Some((missed, found)) = try_out(&rt, rt.alloc(), round * 4)? else {
+            panic!(rt; "no caller leads")
+        };
         assert!(rt; !missed || !found, "an old letter is found");
     }
     Ok(())

@@ -184,17 +184,12 @@ fn get_key<'d, D: Naming, N: Naming, O: Origin, L: LoadPath<Origin = O>>(
     getter
 }
 
-// Puts `w`, and says what that came to, with the bytes of its view.
-fn put<'d, D: Naming, N: Naming, O: Origin, L: LoadPath<Origin = O>>(
-    rt: &impl Wait,
-    fill: &Fill<'d, D, N, O>,
-    getter: Getter<'d, D, N, O, L>,
-    key: &str,
+// What a put of `w` came to, with the bytes of its view.
+fn say_put<'d, D: Naming, O: Origin>(
     said: &mut String,
-) -> Getter<'d, D, N, O, L>
-    requires { IsOpenOrigin O.loaded }
-{
-    let (getter, answer) = fill.put(rt, getter, key.as_bytes(), Bytes::from("w"));
+    key: &str,
+    answer: Result<Put<View<'d, D, O>>, LoadFault>,
+) {
     let _ = match answer {
         Ok(Put::Settled(view)) => {
             let call = view.call();
@@ -210,6 +205,20 @@ fn put<'d, D: Naming, N: Naming, O: Origin, L: LoadPath<Origin = O>>(
         }
         Err(fault) => write!(said, "put {key} {fault}\n"),
     };
+}
+
+// Puts `w`, and says what that came to.
+fn put<'d, D: Naming, N: Naming, O: Origin, L: LoadPath<Origin = O>>(
+    rt: &impl Wait,
+    fill: &Fill<'d, D, N, O>,
+    getter: Getter<'d, D, N, O, L>,
+    key: &str,
+    said: &mut String,
+) -> Getter<'d, D, N, O, L>
+    requires { IsOpenOrigin O.loaded }
+{
+    let (getter, answer) = fill.put(rt, getter, key.as_bytes(), Bytes::from("w"));
+    say_put(said, key, answer);
     getter
 }
 
@@ -227,6 +236,16 @@ fn say_stats<'d, D: Naming, N: Naming, O: Origin>(
         said,
         "{name} {bytes} bytes, {items} items, {evictions} evictions\n"
     );
+}
+
+// What main and hot hold.
+fn say_caches<'d, D: Naming, N: Naming, O: Origin>(
+    rt: &impl Wait,
+    fill: &Fill<'d, D, N, O>,
+    said: &mut String,
+) {
+    say_stats(rt, fill, Which::Main, "main", said);
+    say_stats(rt, fill, Which::Hot, "hot", said);
 }
 
 // Reloads the key, and says what that forgot.
@@ -436,6 +455,30 @@ fn remove<'d, D: Naming, N: Naming, O: Origin, L>(
     let _ = write!(said, "remove {key} {removed}\n");
 }
 
+// Gets the key if a letter of it is at hand, and says what is answered.
+fn get_present<'d, D: Naming, N: Naming, O: Origin, L: LoadPath<Origin = O>>(
+    rt: &impl Wait,
+    fill: &Fill<'d, D, N, O>,
+    getter: &mut Getter<'d, D, N, O, L>,
+    key: &str,
+    said: &mut String,
+) {
+    let answer = fill.get_if_present(rt, getter, key.as_bytes());
+    say_present(said, key, answer);
+}
+
+// Gets the key's bytes if a letter of it is at hand, and says what is answered.
+fn get_present_bytes<'d, D: Naming, N: Naming, O: Origin, L: LoadPath<Origin = O>>(
+    rt: &impl Wait,
+    fill: &Fill<'d, D, N, O>,
+    getter: &mut Getter<'d, D, N, O, L>,
+    key: &str,
+    said: &mut String,
+) {
+    let answer = fill.get_bytes_if_present(rt, getter, key.as_bytes());
+    say_bytes(said, key, answer);
+}
+
 // What the getter does and says in a step that leaves it free.
 fn look<'d, D: Naming, N: Naming, O: Origin, L: LoadPath<Origin = O>>(
     rt: &impl Wait,
@@ -447,19 +490,10 @@ fn look<'d, D: Naming, N: Naming, O: Origin, L: LoadPath<Origin = O>>(
 ) {
     let key = step.key;
     match step.does {
-        Verb::GetPresent => {
-            let answer = fill.get_if_present(rt, getter, key.as_bytes());
-            say_present(said, key, answer);
-        }
-        Verb::GetBytes => {
-            let answer = fill.get_bytes_if_present(rt, getter, key.as_bytes());
-            say_bytes(said, key, answer);
-        }
+        Verb::GetPresent => get_present(rt, fill, getter, key, said),
+        Verb::GetBytes => get_present_bytes(rt, fill, getter, key, said),
         Verb::Remove => remove(rt, fill, getter, key, said),
-        Verb::Stats => {
-            say_stats(rt, fill, Which::Main, "main", said);
-            say_stats(rt, fill, Which::Hot, "hot", said);
-        }
+        Verb::Stats => say_caches(rt, fill, said),
         Verb::TakeLog => say_events(said, getter.take_log().as_slice()),
         Verb::Await => flags.wait_for(flags.named(key)),
         Verb::Tell => flags.named(key).store(true, Ordering::SeqCst),
