@@ -103,7 +103,6 @@ fn finish(rt: &impl Abort, group: &Group<Text>, flight: Flight<Text>, text: Text
     }
 }
 
-// A delivery that is held for want of memory goes on to the same letters.
 #[test]
 fn joined_call_with_copies_that_take_memory(rt: HostRuntime) -> Result<(), Fail> {
     let text = make_text(rt.alloc())?;

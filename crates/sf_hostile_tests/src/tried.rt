@@ -1,7 +1,6 @@
 //! Getters of a pair, whose gets may be refused memory.
 
 use crate::meeting::{Flags, PairLoaders};
-use bytes::Bytes;
 use sf_fill::{Fill, Getter, LoadFault, Naming, View};
 use sf_group::Event;
 use sf_loaders::scripted::AnyValue;
