@@ -7,3 +7,7 @@ pub invariant_of-self-2 : goal.invariant_of-self-2
 invariant_of-self-2 g c =
     rw c.in_ok-push.ensures.ok
     (kept_forget g.K.PartialEq.eq _ c.args.caller c.args.key c.open_call-closed.result c.self.invariant (search rules) (search rules))
+
+-- Named, so that a wrong body is refused at once: a search that has no answer tries more.
+pub returns-clause-ok : goal.returns-clause-ok
+returns-clause-ok g c = search rules

@@ -1,4 +1,4 @@
-use Rattle.std.proofs.Common.{ℕ, ◌∙◌, ap}
+use Rattle.std.proofs.Common.{ℕ, ◌∙◌, ap, rules}
 use Rattle.std.specs.Prelude.{cond}
 use Rattle.sf_schedules.specs.declared.operation.Stage.{Stage}
 use Rattle.sf_words.specs.declared.key_word.KeyState.{KeyState}
@@ -18,3 +18,7 @@ returns-clause-world g c =
     (c.exchange_key-done.ensures.is_seen ∙ ap (λ (v : KeyState). same_key ((world_of c.args.self.now).keys c.args.led.place) v) c.named.ensures)
     (c.exchange_key-done.ensures.world ∙ ap (λ (v : KeyState). cond c.exchange_key-done.result (with_key (world_of c.args.self.now) c.args.led.place v) (world_of c.args.self.now)) c.named-2.ensures)
     c.goes_to_count.ensures.world
+
+-- Named, so that a wrong body is refused at once: a search that has no answer tries more.
+pub returns-clause-act : goal.returns-clause-act
+returns-clause-act g c = search rules

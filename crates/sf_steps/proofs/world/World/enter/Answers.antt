@@ -1,4 +1,4 @@
-use Rattle.std.proofs.Common.{ℕ, ◌∙◌, ap}
+use Rattle.std.proofs.Common.{ℕ, ◌∙◌, ap, rules}
 use Rattle.sf_schedules.specs.declared.operation.Stage.{Stage}
 use Rattle.sf_steps.specs.Running.{world_of}
 use Rattle.sf_steps.proofs.Worlds.{enter_done}
@@ -15,3 +15,10 @@ take_ticket-requires-clause-asks g c =
 pub returns-clause-world : goal.returns-clause-world
 returns-clause-world g c =
     enter_done (world_of c.args.self.now) (world_of c.exchange_call-done.new.self) (world_of c.take_ticket.new.self) c.args.caller c.args.place c.joiner-by.result c.args.second c.args.call c.args.seen c.exchange_call-done.result c.exchange_call-done.ensures.is_seen c.if-not-done.false c.exchange_call-done.ensures.world c.joiner-by.ensures.who c.take_ticket.ensures.world
+
+-- Named, so that a wrong body is refused at once: a search that has no answer tries more.
+pub returns-clause-act : goal.returns-clause-act
+returns-clause-act g c = search rules
+
+pub returns-clause-events : goal.returns-clause-events
+returns-clause-events g c = search rules

@@ -1,0 +1,12 @@
+use Rattle.std.proofs.Common.{rules}
+use Rattle.sf_steps.proofs.world.World.close_own.Goals as goal
+
+-- Named, so that a wrong body is refused at once: a search that has no answer tries more.
+pub returns-clause-world : goal.returns-clause-world
+returns-clause-world g c = search rules
+
+pub returns-clause-act : goal.returns-clause-act
+returns-clause-act g c = search rules
+
+pub returns-clause-events : goal.returns-clause-events
+returns-clause-events g c = search rules
