@@ -42,7 +42,7 @@ impl<'d, D: Naming, N: Naming, O: Origin> Model for Store<'d, D, N, O> {
 }
 
 impl<'d, D: Naming, N: Naming, O: Origin> Store<'d, D, N, O> {
-    /// Over the group, empty caches that keep at most so many bytes of keys and values, and accounts in which nothing is entered.
+    /// Over this group, these caches, whose limit in bytes of keys and values this is, and these accounts.
     pub fn new(
         group: Group<FillValue<'d, D, O>>,
         kept: Kept<'d, D, N, O>,
