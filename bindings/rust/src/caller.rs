@@ -111,19 +111,18 @@ impl<T> Drop for Leading<'_, T> {
 pub(crate) enum Asked {
     Leads,
     Joined(Call),
+    /// It had joined, and the letter is there.
+    Settled(Call, Letter),
+    /// Nothing: another key's call is open at the key's place, or no caller is left.
+    Other,
 }
 
 /// What a letter brought.
 pub(crate) enum Read<T> {
     Got(Got<T>),
-    /// Nothing: the leader's load ended without an answer.
+    /// Nothing: the leader's load ended without an answer, or the call was another key's.
     Failed,
-    /// Nothing: the call was another key's.
-    Other,
 }
-
-/// So many calls of other keys one waits for at the key's place, and then loads alone.
-pub(crate) const ROUNDS: u32 = 3;
 
 impl<T: Send + Sync> Caller<T> {
     /// Its seat, which is free: a new one where it has none, or left a call before it was over.
@@ -139,13 +138,18 @@ impl<T: Send + Sync> Caller<T> {
 
     /// Adds one to a number of its own.
     pub(crate) fn count(&self, counter: impl FnOnce(&Post) -> &Counter) {
-        if let Some(seat) = &self.seat {
-            counter(self.pool.post(seat.number)).add();
+        match &self.seat {
+            Some(seat) => counter(self.pool.post(seat.number)).add(),
+            None => counter(self.pool.post(0)).add_shared(),
         }
     }
 
     pub(crate) fn ask(&mut self, key: &[u8]) -> Result<Asked, Error> {
+        let fingerprint = self.pool.fingerprint(key);
         loop {
+            let Ok(seat) = self.free_seat() else { return Ok(Asked::Other) };
+            let number = seat.number;
+            self.pool.post(number).ask(fingerprint);
             let slot = &mut self.free_seat()?.slot;
             match unsafe { raw::sf_ask(slot, key.as_ptr(), key.len(), raw::MOST_TRIES) } {
                 raw::DONE => {
@@ -154,7 +158,17 @@ impl<T: Send + Sync> Caller<T> {
                 }
                 raw::OTHERWISE => {
                     self.count(|post| &post.joins);
-                    return Ok(Asked::Joined(self.joined()));
+                    let call = self.joined();
+                    if self.pool.post(call.caller).has_asked(fingerprint) {
+                        return Ok(Asked::Joined(call));
+                    }
+                    // The leader asks for another key only when it has settled its call. So where the letter is not there, the
+                    // fingerprint was that of the call, and to wait for it could be to wait for oneself: a load may ask for other keys.
+                    if let Some(letter) = self.seat.as_mut().and_then(Seat::poll) {
+                        return Ok(Asked::Settled(call, letter));
+                    }
+                    self.leave();
+                    return Ok(Asked::Other);
                 }
                 raw::BUSY => std::hint::spin_loop(),
                 // One whose job was forgotten leads still.
@@ -191,7 +205,7 @@ impl<T: Send + Sync> Caller<T> {
         self.waits = None;
         let Letter::Own(number, joiners) = letter else {
             self.pool.give_back(letter);
-            return Read::Other;
+            return Read::Failed;
         };
         self.has_letter = true;
         // SAFETY: the leader counts each who joined, and each takes its letter once.
@@ -253,24 +267,27 @@ impl<T: Send + Sync> Caller<T> {
     }
 
     fn do_until(&mut self, key: &[u8], deadline: Option<Instant>, load: impl FnOnce() -> T) -> Result<Got<T>, Error> {
-        let mut others = 0;
-        while others < ROUNDS {
-            let Asked::Joined(call) = self.ask(key)? else {
-                let leading = self.leading();
-                return Ok(leading.end(load()));
+        loop {
+            let (call, letter) = match self.ask(key)? {
+                Asked::Leads => {
+                    let leading = self.leading();
+                    return Ok(leading.end(load()));
+                }
+                Asked::Other => return Ok(self.alone(load())),
+                Asked::Settled(call, letter) => (call, letter),
+                Asked::Joined(call) => {
+                    let seat = self.seat.as_mut().expect("who joined has a seat");
+                    let Some(letter) = self.pool.post(call.caller).wait(seat, deadline) else {
+                        self.leave();
+                        return Err(Error::TimedOut);
+                    };
+                    (call, letter)
+                }
             };
-            let seat = self.seat.as_mut().expect("who joined has a seat");
-            let Some(letter) = self.pool.post(call.caller).wait(seat, deadline) else {
-                self.leave();
-                return Err(Error::TimedOut);
-            };
-            match self.read(letter, call) {
-                Read::Got(got) => return Ok(got),
-                Read::Failed => {}
-                Read::Other => others += 1,
+            if let Read::Got(got) = self.read(letter, call) {
+                return Ok(got);
             }
         }
-        Ok(self.alone(load()))
     }
 
     /// Closes the key's open call, if there is one: who asks from now on gets a later one's answer. Whether there was one.
@@ -285,21 +302,13 @@ impl<T: Send + Sync> Caller<T> {
     /// }).unwrap();
     /// ```
     pub fn forget(&mut self, key: &[u8]) -> Result<bool, Error> {
-        let seat = self.free_seat()?;
-        loop {
-            match unsafe { raw::sf_forget(&mut seat.slot, key.as_ptr(), key.len(), raw::MOST_TRIES) } {
-                raw::DONE => {
-                    self.count(|post| &post.closed);
-                    return Ok(true);
-                }
-                raw::OTHERWISE => {
-                    self.count(|post| &post.idle);
-                    return Ok(false);
-                }
-                raw::BUSY => std::hint::spin_loop(),
-                code => return Err(refusal(code)),
-            }
-        }
+        let closed = match self.free_seat() {
+            Ok(seat) => seat.forget(key),
+            // The callers that left calls of other keys are not back.
+            Err(_) => self.pool.forget(key),
+        }?;
+        self.count(|post| if closed { &post.closed } else { &post.idle });
+        Ok(closed)
     }
 
     /// Forgets this call of the key alone, and leaves a newer one as it is: of two that reload one stale answer the later does not
@@ -359,7 +368,10 @@ impl<T: Send + Sync> Caller<T> {
     /// assert!(!second.is_still(stamp));
     /// ```
     pub fn is_still(&mut self, stamp: Stamp) -> bool {
-        self.free_seat().is_ok_and(|seat| seat.is_still(stamp))
+        match self.free_seat() {
+            Ok(seat) => seat.is_still(stamp),
+            Err(_) => self.pool.is_still(stamp),
+        }
     }
 
     /// Whether the call of the answer that this caller got last is its place's current one still. None where it has none: before the

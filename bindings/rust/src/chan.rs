@@ -40,8 +40,8 @@ impl<T> fmt::Debug for Job<'_, T> {
 pub struct Receiver<T>(Caller<T>);
 
 impl<T: Send + Sync> Receiver<T> {
-    /// The answer, if it is there. `Disconnected` where there is none: the leader's load panicked, the call was another key's, at whose
-    /// place it was open, or the answer was taken before.
+    /// The answer, if it is there. `Disconnected` where there is none: the leader's load panicked, another key's call was open at the
+    /// place of the key, or the answer was taken before.
     pub fn try_recv(&mut self) -> Result<Got<T>, TryRecvError> {
         let call = self.0.waits.ok_or(TryRecvError::Disconnected)?;
         let letter = self.0.seat.as_mut().and_then(Seat::poll).ok_or(TryRecvError::Empty)?;
@@ -59,7 +59,7 @@ impl<T: Send + Sync> Receiver<T> {
     fn read(&mut self, letter: Letter, call: Call) -> Option<Got<T>> {
         match self.0.read(letter, call) {
             Read::Got(got) => Some(got),
-            Read::Failed | Read::Other => None,
+            Read::Failed => None,
         }
     }
 
@@ -97,8 +97,10 @@ impl<T: Send + Sync> Caller<T> {
         if !Arc::ptr_eq(&self.pool, &other.pool) {
             return Err((Error::OtherGroup, other));
         }
+        let (pool, fingerprint) = (self.pool.clone(), self.pool.fingerprint(key));
         let code = match (self.free_seat(), other.free_seat()) {
             (Ok(seat), Ok(second)) => loop {
+                pool.post(seat.number).ask(fingerprint);
                 match unsafe { raw::sf_ask_chan(&mut seat.slot, &mut second.slot, key.as_ptr(), key.len(), raw::MOST_TRIES) } {
                     raw::BUSY => std::hint::spin_loop(),
                     code => break code,
@@ -109,9 +111,13 @@ impl<T: Send + Sync> Caller<T> {
         if code != raw::DONE && code != raw::OTHERWISE {
             return Err((refusal(code), other));
         }
-        other.joined();
+        let call = other.joined();
         if code == raw::OTHERWISE {
             other.count(|post| &post.joins);
+            // As in Caller::ask: another key's call is open, or its leader has settled it and asks for another key.
+            if !pool.post(call.caller).has_asked(fingerprint) {
+                other.leave();
+            }
             return Ok((Receiver(other), None));
         }
         self.count(|post| &post.leads);

@@ -1,6 +1,6 @@
 //! Asking in a task: a future that runs under any executor.
 
-use crate::caller::{Asked, Caller, ROUNDS, Read};
+use crate::caller::{Asked, Caller, Read};
 use crate::{Call, Error, Got};
 use std::future::Future;
 use std::pin::Pin;
@@ -53,18 +53,19 @@ impl<T: Send + Sync> Caller<T> {
     /// });
     /// ```
     pub async fn do_async(&mut self, key: &[u8], load: impl Future<Output = T>) -> Result<Got<T>, Error> {
-        let mut others = 0;
-        while others < ROUNDS {
-            let Asked::Joined(call) = self.ask(key)? else {
-                let leading = self.leading();
-                return Ok(leading.end(load.await));
+        loop {
+            let read = match self.ask(key)? {
+                Asked::Leads => {
+                    let leading = self.leading();
+                    return Ok(leading.end(load.await));
+                }
+                Asked::Other => return Ok(self.alone(load.await)),
+                Asked::Settled(call, letter) => self.read(letter, call),
+                Asked::Joined(call) => (Waiting { caller: self, call }).await,
             };
-            match (Waiting { caller: self, call }).await {
-                Read::Got(got) => return Ok(got),
-                Read::Failed => {}
-                Read::Other => others += 1,
+            if let Read::Got(got) = read {
+                return Ok(got);
             }
         }
-        Ok(self.alone(load.await))
     }
 }

@@ -20,8 +20,8 @@
 //! Each thread or task has a [`Caller`] of its own, which goes back to its group when it is dropped. Asking, settling and forgetting
 //! take no lock; who joins a call parks until its leader, which looks whether anybody joined, wakes it.
 //!
-//! Any number of keys of any length come and go: a group has places, a key's is a hash of its bytes, and keys may share one. Who
-//! finds another key's call open there waits for it and asks again, three times at most, and loads without a call then, shared with
+//! Any number of keys of any length come and go: a group has places, a key's is a hash of its bytes, and keys may share one. No call
+//! waits for the load of another key: a caller that finds another key's call open at the place loads without a call, shared with
 //! nobody, which [`Stats::alone`] counts. So have 1,000 places for each call that is open at one time, or 16 for each cached answer.
 //!
 //! # Answers in a cache

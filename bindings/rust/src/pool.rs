@@ -46,6 +46,11 @@ impl Seat {
         unsafe { raw::sf_is_still(&mut self.slot, &stamp.0) == raw::DONE }
     }
 
+    /// Whether that closed a call.
+    pub(crate) fn forget(&mut self, key: &[u8]) -> Result<bool, Error> {
+        forget(&mut self.slot, key)
+    }
+
     /// The stamp of the letter that it had last.
     pub(crate) fn stamp(&mut self) -> Stamp {
         let mut stamp = Stamp::default();
@@ -63,6 +68,17 @@ impl Seat {
         let (mut caller, mut generation) = (0, 0);
         unsafe { raw::sf_call(&mut self.slot, &mut caller, &mut generation) };
         Call { caller, generation }
+    }
+}
+
+fn forget(slot: &mut Slot, key: &[u8]) -> Result<bool, Error> {
+    loop {
+        match unsafe { raw::sf_forget(slot, key.as_ptr(), key.len(), raw::MOST_TRIES) } {
+            raw::DONE => return Ok(true),
+            raw::OTHERWISE => return Ok(false),
+            raw::BUSY => std::hint::spin_loop(),
+            code => return Err(refusal(code)),
+        }
     }
 }
 
@@ -103,6 +119,7 @@ pub(crate) struct Pool<T> {
     seats: Mutex<Seats>,
     posts: Vec<OnceLock<Box<[Post]>>>,
     most: u32,
+    random: RandomState,
     value: PhantomData<fn(T) -> T>,
 }
 
@@ -122,10 +139,16 @@ impl<T> Pool<T> {
                 }),
                 posts: (0..=all as usize / CHUNK).map(|_| OnceLock::new()).collect(),
                 most: callers,
+                random,
                 value: PhantomData,
             }),
             code => Err(refusal(code)),
         }
+    }
+
+    /// Tells keys apart: two of them have the same with a probability of one in 2^64.
+    pub(crate) fn fingerprint(&self, key: &[u8]) -> u64 {
+        self.random.hash_one(key)
     }
 
     /// The post of the caller with this number.
@@ -160,6 +183,11 @@ impl<T> Pool<T> {
     /// Whether the call of the stamp is current, asked by the slot that nobody has.
     pub(crate) fn is_still(&self, stamp: Stamp) -> bool {
         unsafe { raw::sf_is_still(&mut lock(&self.seats).root, &stamp.0) == raw::DONE }
+    }
+
+    /// The same for a Forget.
+    pub(crate) fn forget(&self, key: &[u8]) -> Result<bool, Error> {
+        forget(&mut lock(&self.seats).root, key)
     }
 
     /// Gives the count of the answer back that the letter brought, which nobody uses.

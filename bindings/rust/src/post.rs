@@ -2,7 +2,10 @@
 
 use crate::pool::{Letter, Pool, Seat, lock};
 use std::collections::BTreeMap;
-use std::sync::atomic::{AtomicU64, AtomicUsize, Ordering::Relaxed};
+use std::sync::atomic::{
+    AtomicU64, AtomicUsize,
+    Ordering::{Acquire, Relaxed, Release},
+};
 use std::sync::{Condvar, Mutex, OnceLock, PoisonError};
 use std::task::{Poll, Waker};
 use std::time::{Duration, Instant};
@@ -50,6 +53,8 @@ struct Waits {
 pub(crate) struct Post {
     waits: Mutex<Waits>,
     settled: Condvar,
+    // Of the key that the caller asks for, or asked for last. It is written before the asking.
+    fingerprint: AtomicU64,
     pub(crate) leads: Counter,
     pub(crate) joins: Counter,
     pub(crate) alone: Counter,
@@ -66,12 +71,27 @@ impl Counter {
         self.0.store(self.get() + 1, Relaxed);
     }
 
+    /// For those who have no caller. The library's callers have numbers from 1.
+    pub(crate) fn add_shared(&self) {
+        self.0.fetch_add(1, Relaxed);
+    }
+
     pub(crate) fn get(&self) -> u64 {
         self.0.load(Relaxed)
     }
 }
 
 impl Post {
+    /// Its caller is about to ask for a key with this fingerprint.
+    pub(crate) fn ask(&self, fingerprint: u64) {
+        self.fingerprint.store(fingerprint, Release);
+    }
+
+    /// Whether the key that its caller asked for last has this fingerprint.
+    pub(crate) fn has_asked(&self, fingerprint: u64) -> bool {
+        self.fingerprint.load(Acquire) == fingerprint
+    }
+
     /// The caller's call is settled: wakes who waits for it, and takes the letters of those who have left.
     pub(crate) fn wake<T>(&self, pool: &Pool<T>) {
         // Who looked before the letters were there holds the lock until it sleeps, or its waker is there.

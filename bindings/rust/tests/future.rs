@@ -1,5 +1,5 @@
 //! Asking in tasks, by executors made by hand: who waits is woken by its leader alone, and who is dropped leaves nothing behind.
-use singleflight::{Caller, Error, Group};
+use singleflight::{Caller, Group};
 use std::cell::Cell;
 use std::collections::VecDeque;
 use std::future::{Future, poll_fn};
@@ -186,8 +186,8 @@ fn a_task_that_is_forgotten() {
     std::mem::forget((led, waits));
     third.forget(b"k").unwrap();
     assert!(**first.do_with(b"k", || Arc::new(1)).unwrap().answer == 1, "who led goes on");
-    let refused = second.do_with(b"k", || Arc::new(2));
-    assert!(refused.err() == Some(Error::NothingLeft) && group.stats().made == 4, "no caller is left for who waited");
+    let got = second.do_with(b"k", || Arc::new(3)).unwrap();
+    assert!(**got.answer == 3 && got.call().is_none() && group.stats().made == 4, "without a caller it loads alone");
     drop(third);
     assert!(**second.do_with(b"k", || Arc::new(2)).unwrap().answer == 2, "it goes on");
 }

@@ -6,64 +6,45 @@ use std::sync::atomic::{AtomicI64, AtomicU64, Ordering::SeqCst};
 use std::sync::mpsc::TryRecvError;
 use std::sync::{Arc, Mutex};
 use std::task::{Context, Poll, Waker};
-use std::time::Duration;
 
 fn look<F: Future>(future: Pin<&mut F>) -> Poll<F::Output> {
     future.poll(&mut Context::from_waker(Waker::noop()))
 }
 
 #[test]
-fn who_finds_another_keys_call_asks_again() {
+fn a_caller_that_finds_another_keys_call_loads_alone() {
     let group = Group::<Arc<&str>>::open(1, 2).unwrap();
     let (mut first, mut second) = (group.caller().unwrap(), group.caller().unwrap());
-    let value = Arc::new("ada");
+    let (value, other) = (Arc::new("ada"), Arc::new("grace"));
     let weak = Arc::downgrade(&value);
-    std::thread::scope(|scope| {
-        let mut other = None;
-        let got = first.do_with(b"ada", || {
-            other = Some(scope.spawn(|| second.do_with(b"grace", || Arc::new("grace")).unwrap()));
-            while group.stats().joins == 0 {
-                std::thread::sleep(Duration::from_millis(1));
-            }
-            value
-        });
-        let (got, other) = (got.unwrap(), other.unwrap().join().unwrap());
-        assert!(**got.answer == "ada" && got.led && got.joiners == 1, "who asked for another key had joined");
-        assert!(**other.answer == "grace" && other.led && !other.shared() && other.call() != got.call(), "and leads a call of its own");
+    assert!(second.do_with(b"grace", || other.clone()).is_ok() && second.is_current() == Some(true), "a letter before");
+    let got = first.do_with(b"ada", || {
+        let got = second.do_with(b"grace", || other.clone()).unwrap();
+        assert!(**got.answer == "grace" && got.led && !got.shared(), "its own load");
+        assert!(got.call().is_none() && got.stamp() == Stamp::default(), "of no call");
+        assert!(second.is_current().is_none(), "there is no call to ask about");
+        value
     });
-    assert!(weak.upgrade().is_none(), "its count of the other key's answer is given back");
-    assert!(first.is_current() == Some(false) && second.is_current() == Some(true), "the place has one current call");
-    assert!(group.stats() == Stats { leads: 2, joins: 1, made: 2, in_use: 2, ..Stats::default() }, "{:?}", group.stats());
+    assert!(**got.unwrap().answer == "ada" && first.is_current() == Some(true), "the first has its own");
+    assert!(weak.upgrade().is_none(), "the count of the caller that left is given back");
+    assert!(Arc::strong_count(&other) == 1, "the answer is gone with who had it");
+    assert!(group.stats() == Stats { leads: 2, joins: 1, alone: 1, made: 2, in_use: 1, ..Stats::default() }, "{:?}", group.stats());
+    assert!(*second.do_with(b"ada", || Arc::new("hopper")).unwrap().answer == Arc::new("hopper"), "its caller is back");
 }
 
 #[test]
-fn after_three_calls_of_other_keys_one_loads_alone() {
-    let group = Group::<Arc<u32>>::open(1, 2).unwrap();
+fn a_task_that_finds_another_keys_call_loads_alone() {
+    let group = Group::<u32>::open(1, 2).unwrap();
     let (mut first, mut second) = (group.caller().unwrap(), group.caller().unwrap());
-    let (loads, value) = (AtomicU64::new(0), Arc::new(1));
-    assert!(second.do_with(b"other", || Arc::new(0)).is_ok() && second.is_current() == Some(true), "a letter before");
-    {
-        let load = async {
-            loads.fetch_add(1, SeqCst);
-            value.clone()
-        };
-        let mut task = pin!(second.do_async(b"other", load));
-        for round in 0..3u64 {
-            let got = first.do_with(b"key", || {
-                assert!(look(task.as_mut()).is_pending(), "it waits");
-                assert!(group.stats().joins == round + 1 && loads.load(SeqCst) == 0, "and has asked again");
-                Arc::new(7)
-            });
-            assert!(**got.unwrap().answer == 7, "the first has its own");
-        }
-        let Poll::Ready(Ok(got)) = look(task.as_mut()) else { panic!("it waits no longer") };
-        assert!(**got.answer == 1 && got.led && got.joiners == 0 && loads.load(SeqCst) == 1, "its own load");
-        assert!(got.call().is_none() && got.stamp() == Stamp::default(), "of no call");
-    }
-    assert!(Arc::strong_count(&value) == 1, "the answer is gone with who had it");
-    assert!(second.is_current().is_none(), "there is no call to ask about");
-    let stats = group.stats();
-    assert!(stats.alone == 1 && stats.leads == 4 && stats.joins == 3, "{stats:?}");
+    first
+        .do_with(b"key", || {
+            let mut task = pin!(second.do_async(b"other", async { 1 }));
+            let Poll::Ready(Ok(got)) = look(task.as_mut()) else { panic!("it waits") };
+            assert!(*got.answer == 1 && got.led && got.call().is_none(), "its own load");
+            7
+        })
+        .unwrap();
+    assert!(group.stats().alone == 1, "{:?}", group.stats());
 }
 
 #[test]
@@ -73,15 +54,15 @@ fn a_receiver_of_another_keys_call_gets_none() {
     let mut waits = None;
     first
         .do_with(b"key", || {
-            let (receiver, job) = second.do_chan(third, b"other").unwrap();
+            let (mut receiver, job) = second.do_chan(third, b"other").unwrap();
             assert!(job.is_none(), "another call is open at its place");
+            assert!(receiver.try_recv().err() == Some(TryRecvError::Disconnected), "no answer of its key");
+            assert!(receiver.recv().is_err(), "and it does not wait for one");
             waits = Some(receiver);
             7
         })
         .unwrap();
-    let mut receiver = waits.unwrap();
-    assert!(receiver.try_recv().err() == Some(TryRecvError::Disconnected), "no answer of its key");
-    let third = receiver.into_caller().unwrap();
+    let third = waits.unwrap().into_caller().unwrap();
     let (mut receiver, job) = second.do_chan(third, b"other").unwrap();
     job.unwrap().run(|| 8);
     assert!(*receiver.recv().unwrap().answer == 8, "it asks again");
@@ -96,9 +77,8 @@ fn keys_of_any_length() {
         let other = [&key[..], b"l"].concat();
         let got = first.do_with(&key, || {
             // One byte more makes another key.
-            let mut task = pin!(second.do_async(&other, async { len + 1 }));
-            assert!(look(task.as_mut()).is_pending(), "it waits");
-            drop(task);
+            let got = second.do_with(&other, || len + 1).unwrap();
+            assert!(*got.answer == len + 1 && got.led, "another key");
             len
         });
         assert!(*got.unwrap().answer == len && first.is_current() == Some(true), "the answer");
@@ -139,9 +119,9 @@ fn stress(places: u32, answers: u64, cached: bool) -> Stats {
     let names: Vec<String> = (0..KEYS).map(|number| format!("{}{number}", "key".repeat(number % 8 * 20))).collect();
     let hits = AtomicU64::new(0);
     let group = Group::<Page>::open(places, 8).unwrap();
+    let callers: Vec<_> = (0..8u64).map(|thread| (thread, group.caller().unwrap())).collect();
     std::thread::scope(|scope| {
-        for thread in 0..8u64 {
-            let mut caller = group.caller().unwrap();
+        for (thread, mut caller) in callers {
             let (live, clock, forgotten, names, cache, hits) = (&live, &clock, &forgotten, &names, &cache, &hits);
             scope.spawn(move || {
                 let mut seed = 88_172_645_463_325_252 + thread;

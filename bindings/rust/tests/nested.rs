@@ -1,0 +1,82 @@
+//! No call waits for the load of another key, whatever the two share: nested and crossed calls of different keys end.
+use singleflight::Group;
+use std::future::Future;
+use std::pin::pin;
+use std::sync::Barrier;
+use std::sync::mpsc::channel;
+use std::task::{Context, Poll, Waker};
+use std::time::Duration;
+
+// Runs it in a thread of its own, and fails where that takes too long.
+fn ends(what: &'static str, run: impl FnOnce() + Send + 'static) {
+    let (done, ended) = channel();
+    let thread = std::thread::spawn(move || {
+        run();
+        done.send(()).unwrap();
+    });
+    let waited = ended.recv_timeout(Duration::from_secs(20));
+    assert!(waited.is_ok() || thread.is_finished(), "{what}: it hangs");
+    thread.join().unwrap();
+}
+
+fn open(callers: u32) -> Group<String> {
+    // All keys share one place.
+    Group::open(1, callers).unwrap()
+}
+
+#[test]
+fn nested_calls_in_one_thread() {
+    ends("nested", || {
+        let group = open(2);
+        let (mut outer, mut inner) = (group.caller().unwrap(), group.caller().unwrap());
+        let got = outer.do_with(b"page", || inner.do_with(b"user", || "ada".into()).unwrap().answer.to_uppercase());
+        assert!(*got.unwrap().answer == "ADA");
+    });
+}
+
+#[test]
+fn nested_calls_with_a_deadline() {
+    ends("nested, with a deadline", || {
+        let group = open(2);
+        let (mut outer, mut inner) = (group.caller().unwrap(), group.caller().unwrap());
+        let got = outer.do_with(b"page", || {
+            let got = inner.do_with_timeout(b"user", Duration::from_secs(3600), || "ada".into());
+            got.unwrap().answer.to_uppercase()
+        });
+        assert!(*got.unwrap().answer == "ADA");
+    });
+}
+
+#[test]
+fn crossed_calls_in_two_threads() {
+    ends("crossed", || {
+        let group = open(4);
+        let (group, together) = (&group, &Barrier::new(2));
+        std::thread::scope(|scope| {
+            for [outer, inner] in [["a", "b"], ["c", "d"]] {
+                scope.spawn(move || {
+                    let (mut first, mut second) = (group.caller().unwrap(), group.caller().unwrap());
+                    let got = first.do_with(outer.as_bytes(), || {
+                        together.wait();
+                        second.do_with(inner.as_bytes(), || inner.into()).unwrap().answer.repeat(2)
+                    });
+                    assert!(*got.unwrap().answer == inner.repeat(2));
+                });
+            }
+        });
+    });
+}
+
+#[test]
+fn nested_futures() {
+    ends("a future", || {
+        let group = open(2);
+        let (mut outer, mut inner) = (group.caller().unwrap(), group.caller().unwrap());
+        let load = async { inner.do_async(b"user", async { "ada".into() }).await.unwrap().answer.to_uppercase() };
+        let mut task = pin!(outer.do_async(b"page", load));
+        let Poll::Ready(got) = task.as_mut().poll(&mut Context::from_waker(Waker::noop())) else {
+            panic!("it waits for itself");
+        };
+        assert!(*got.unwrap().answer == "ADA");
+    });
+}
