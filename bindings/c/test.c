@@ -159,6 +159,106 @@ static void one_call(void) {
     sf_close(&b);
 }
 
+/* Whether the slot is told this number of others with its last letter's value. */
+static bool counts(sf_slot *slot, uint64_t number) {
+    uint64_t count = UINT64_MAX;
+    return sf_joined(slot, &count) == SF_DONE && count == number;
+}
+
+static bool counts_none(sf_slot *slot) {
+    uint64_t count = UINT64_MAX;
+    return sf_joined(slot, &count) == SF_NOTHING_LEFT && count == UINT64_MAX;
+}
+
+/* The number of others stays with the last letter, whatever its slot asks for next. */
+static void counted(void) {
+    sf_slot a = SF_SLOT_NONE, b = SF_SLOT_NONE, c = SF_SLOT_NONE;
+    uint64_t value = 7;
+    uint32_t joiners = 9;
+    check(open_wide(&a, 3) == SF_DONE && sf_split(&a, &b) == SF_DONE && sf_split(&a, &c) == SF_DONE, "open to count");
+    check(counts_none(&a), "free, and no letter yet");
+    check(ask_chan(&a, &b, "k", 1) == SF_LEADS && counts_none(&a) && counts_none(&b), "a leader and one who waits, and no letter yet");
+    check(forget(&c, "k", 1) == SF_CLOSED && sf_finish(&a, 1, &joiners) == SF_DONE && counts(&a, 1) && counts_none(&b), "the leader settled its own channel's call");
+    check(ask(&a, "k", 1) == SF_LEADS && counts(&a, 1), "it stays while the slot leads a call for itself");
+    check(sf_finish(&a, 2, &joiners) == SF_DONE && counts(&a, 0), "and goes with that call's letter");
+    check(sf_poll(&b, &value, &joiners) == SF_DONE && value == 1 && counts(&b, 0), "who waited on the own channel");
+    check(ask_chan(&a, &b, "k", 1) == SF_LEADS && counts(&a, 0) && counts(&b, 0), "it stays while the slot leads a call for another");
+    check(ask(&c, "k", 1) == SF_JOINED && counts_none(&c) && sf_finish(&a, 3, &joiners) == SF_DONE && counts(&a, 2), "one joined, and the own channel");
+    check(sf_poll(&b, &value, &joiners) == SF_DONE && counts(&b, 1) && sf_poll(&c, &value, &joiners) == SF_DONE && counts(&c, 1), "one joined");
+    check(ask(&c, "k", 1) == SF_LEADS && ask(&a, "k", 1) == SF_JOINED && counts(&a, 2), "it stays while the slot waits");
+    check(sf_poll(&a, &value, &joiners) == SF_NOT_YET && counts(&a, 2), "and when the letter is not there yet");
+    check(sf_finish(&c, 4, &joiners) == SF_DONE && sf_poll(&a, &value, &joiners) == SF_DONE && counts(&a, 1), "and goes with the letter that it polls");
+    check(ask_chan(&a, &b, "k", 1) == SF_LEADS && sf_finish(&a, 5, &joiners) == SF_DONE && counts(&a, 1), "an own channel once more");
+    check(forget(&a, "k", 1) == SF_NONE_OPEN && sf_is_current(&a) == SF_NO && counts(&a, 1), "other calls leave it");
+    check(ask(&c, "k", 1) == SF_LEADS && ask_chan(&a, &c, "k", 1) == SF_WRONG_STATE && counts(&a, 1), "a refused asking leaves it");
+    check(ask(&a, "k", 1) == SF_JOINED && sf_give_up(&a) == SF_DONE && counts(&a, 1), "it stays with a slot that gave up");
+    sf_close(&a);
+    sf_close(&b);
+    sf_close(&c);
+}
+
+/* One slot given twice to a call: it is refused, and changes nothing. */
+static void one_slot_twice(void) {
+    sf_slot a = SF_SLOT_NONE, b = SF_SLOT_NONE, none = SF_SLOT_NONE;
+    uint64_t value = 7;
+    uint32_t joiners = 9;
+    check(sf_split(&none, &none) == SF_NOT_OPEN && !none.live && none.at == NULL, "split: not open, twice");
+    check(sf_take_back(&none, &none) == SF_NOT_OPEN && ask_chan(&none, &none, "k", 1) == SF_NOT_OPEN && !none.live, "not open, twice");
+    check(open_wide(&a, 2) == SF_DONE, "open to give twice");
+    void *at = a.at;
+    check(sf_split(&a, &a) == SF_WRONG_STATE && a.live && a.at == at, "split into itself");
+    check(sf_take_back(&a, &a) == SF_WRONG_STATE && a.live && a.at == at, "taken back into itself");
+    check(ask_chan(&a, &a, "k", 1) == SF_WRONG_STATE && a.live && a.at == at, "asked for itself");
+    check(sf_split(&a, &b) == SF_DONE && sf_split(&b, &b) == SF_WRONG_STATE, "split into itself, without callers to split off");
+    at = b.at;
+    check(sf_take_back(&b, &b) == SF_WRONG_STATE && b.live && b.at == at, "taken back into itself, without callers to split off");
+    check(ask(&a, "k", 1) == SF_LEADS && ask(&b, "k", 1) == SF_JOINED, "leads and joins");
+    check(sf_split(&a, &a) == SF_WRONG_STATE && sf_take_back(&a, &a) == SF_WRONG_STATE && ask_chan(&a, &a, "m", 1) == SF_WRONG_STATE, "a leader twice");
+    check(sf_split(&b, &b) == SF_WRONG_STATE && sf_take_back(&b, &b) == SF_WRONG_STATE && ask_chan(&b, &b, "m", 1) == SF_WRONG_STATE, "one who waits twice");
+    check(sf_finish(&a, 3, &joiners) == SF_DONE && joiners == 1 && sf_poll(&b, &value, &joiners) == SF_DONE && value == 3, "both go on");
+    check(sf_take_back(&a, &b) == SF_DONE && sf_split(&a, &b) == SF_DONE, "and are split and taken back");
+    sf_close(&a);
+    sf_close(&b);
+}
+
+/* Two slots, or a slot and a note, of two groups: it is refused, and changes nothing. */
+static void two_groups(void) {
+    sf_slot a = SF_SLOT_NONE, b = SF_SLOT_NONE, c = SF_SLOT_NONE, d = SF_SLOT_NONE;
+    sf_note note = SF_NOTE_NONE;
+    uint64_t value = 7;
+    uint32_t joiners = 9;
+    check(sf_open(&a, 64, 2, 1, 2) == SF_DONE && sf_split(&a, &b) == SF_DONE, "one group");
+    /* Seeds or sizes differ; or where they do not, the callers' numbers are the same. */
+    static const struct { uint32_t places; uint64_t seed0, seed1; bool like; } others[] = {
+        {64, 3, 2, false}, {64, 1, 4, false}, {65, 1, 2, false}, {64, 1, 2, true},
+    };
+    for (size_t i = 0; i < sizeof others / sizeof *others; i++) {
+        bool like = others[i].like;
+        check(sf_open(&c, others[i].places, like ? 2 : 1, others[i].seed0, others[i].seed1) == SF_DONE, "another group");
+        if (like) check(sf_split(&c, &d) == SF_DONE, "with as many callers");
+        void *at = a.at, *other_at = c.at;
+        check(ask_chan(&a, &c, "k", 1) == SF_WRONG_STATE && ask_chan(&c, &a, "k", 1) == SF_WRONG_STATE, "asked for one of another group");
+        check(sf_take_back(&a, &c) == SF_WRONG_STATE && sf_take_back(&c, &a) == SF_WRONG_STATE, "taken back into another group");
+        check(a.live && a.at == at && c.live && c.at == other_at, "both are as they were");
+        if (!like) {
+            check(ask(&c, "k", 1) == SF_LEADS && sf_take_back(&c, &a) == SF_WRONG_STATE && ask_chan(&a, &c, "k", 1) == SF_WRONG_STATE, "also while one leads");
+            check(sf_finish(&c, 1, &joiners) == SF_DONE && joiners == 0, "which goes on");
+            check(sf_tell(&c, &note) == SF_DONE && sf_learn(&a, &note) == SF_WRONG_STATE && note.live, "a note of another group");
+            check(ask(&a, "k", 1) == SF_LEADS && sf_learn(&a, &note) == SF_WRONG_STATE && note.live, "also for a leader");
+            check(sf_learn(&c, &note) == SF_DONE, "the note's own group learns it");
+            check(ask(&b, "k", 1) == SF_JOINED && sf_finish(&a, 2, &joiners) == SF_DONE && joiners == 1, "the first group goes on");
+            check(sf_poll(&b, &value, &joiners) == SF_DONE && value == 2, "to its joiner");
+        }
+        sf_close(&c);
+        sf_close(&d);
+    }
+    check(sf_tell(&a, &note) == SF_DONE && sf_learn(&b, &note) == SF_DONE, "a note of the group");
+    check(ask_chan(&a, &b, "k", 1) == SF_LEADS && sf_finish(&a, 3, &joiners) == SF_DONE, "two slots of one group");
+    check(sf_poll(&b, &value, &joiners) == SF_DONE && value == 3 && sf_take_back(&a, &b) == SF_DONE, "and one is taken back");
+    sf_drop_note(&note);
+    sf_close(&a);
+}
+
 /* Asks for a second caller: who leads, who waits, and each refusal. */
 static void two_callers(void) {
     sf_slot a = SF_SLOT_NONE, b = SF_SLOT_NONE, c = SF_SLOT_NONE, none = SF_SLOT_NONE;
@@ -534,6 +634,9 @@ int main(void) {
     one_call();
     forgotten_by_name();
     two_callers();
+    counted();
+    one_slot_twice();
+    two_groups();
     notes();
     calls();
     others();

@@ -44,6 +44,7 @@ no_state = record {
   asked = [];
   last = None;
   own = false;
+  last_own = false;
   callers = [];
 }
 
@@ -58,4 +59,4 @@ abbrev pub note_coded : Coded NoteState.the_row.Denot
 note_coded = NoteState.the_row.coded
 
 abbrev pub no_note : NoteState.the_row.Denot
-no_note = record { group = record { table = no_table; sizes = record { places = 0; callers = 0; first = 0 } }; seen = [] }
+no_note = record { places = no_places; note = record { group = record { table = no_table; sizes = record { places = 0; callers = 0; first = 0 } }; seen = [] } }

@@ -3,13 +3,17 @@
 //!
 //! A slot holds a state on the heap behind one pointer, or nothing. Each export takes the state out, makes its call, and puts
 //! it back; a slot that is not open is answered by its code. What a call did is a row of `specs/Rows`, between what the
-//! slot held before and after. No row asks anything of the program but those of `sf_ask_chan`, `sf_take_back` and
-//! `sf_learn`, whose two slots, or slot and note, have to be of one group.
+//! slot held before and after. `sf_ask_chan`, `sf_take_back` and `sf_learn` tell two groups apart by the seeds and sizes
+//! under which keys have places, and two free callers by their numbers: two slots, or a slot and a note, that differ in
+//! neither have to be of one group.
+//!
+//! A slot that a program in C gives twice to one call, against the duties of sf.h, is refused: each export that takes two
+//! looks at whether the second is open before it takes the state out of the first.
 #![tactic(auto)]
 
 ghost use Rattle.std.specs.Prelude.{◌≡◌, ◌≢◌, ◌↔◌, ◌⊎◌, true, false};
 ghost use Rattle.sf_calls.specs.Notes.{HasGrown};
-ghost use Rattle.sf_state.specs.Rows.{AreSizes, HasOpened, HasSplit, HasTakenBack, HasAskedKey, HasAskedChanKey, HasForgotKey, HasFinishedPart, HasGoneOnPart, HasPolledPart, HasQuestionedPart, HasToldPart, HasNotTold, HasLearntPart, HasGivenUp, HasCounted, HasCalled, HasNumbered, MarksOwn, HasGivenKey, KeepsGroup, KeepsLetter, KeepsKey, call_in};
+ghost use Rattle.sf_state.specs.Rows.{AreSizes, HasOpened, HasSplit, HasTakenBack, HasAskedKey, HasAskedChanKey, HasForgotKey, HasFinishedPart, HasGoneOnPart, HasPolledPart, HasQuestionedPart, HasToldNote, HasNotTold, HasLearntNote, HasGivenUp, HasCounted, HasCalled, HasNumbered, MarksOwn, HasGivenKey, KeepsGroup, KeepsLetter, KeepsKey, AreBeside, ArePlacesOfOne, call_in};
 
 mod handle;
 mod loose;
@@ -82,13 +86,12 @@ pub extern "C" fn sf_split(slot: &mut Slot, alloc: Global, other: &mut Slot) -> 
         × (slot.old.live ≡ true → slot.new.handle.state ≡ slot.old.handle.state) }
     ensures twice { slot.old.live ≡ true → (result ≡ WRONG_STATE ↔ other.old.live ≡ true) }
 {
+    if slot.live && other.live {
+        return WRONG_STATE;
+    }
     let Some(mut state) = slot.take(alloc) else {
         return NOT_OPEN;
     };
-    if other.live {
-        slot.put(state);
-        return WRONG_STATE;
-    }
     let made = state.split(alloc);
     slot.put(state);
     let Some(made) = made else {
@@ -98,10 +101,11 @@ pub extern "C" fn sf_split(slot: &mut Slot, alloc: Global, other: &mut Slot) -> 
     DONE
 }
 
-/// Closes the other slot, and keeps its caller, which is free, for a further one. The slots have to be of one group.
+/// Closes the other slot, and keeps its caller, which is free and of the slot's group, for a further one.
 #[unsafe(no_mangle)]
 pub extern "C" fn sf_take_back(slot: &mut Slot, alloc: Global, other: &mut Slot) -> u32
     requires group { slot.old.live ≡ true → other.old.live ≡ true
+        → AreBeside slot.old.handle.state other.old.handle.state
         → slot.old.handle.state.group ≡ other.old.handle.state.group }
     ensures kept { slot.new.live ≡ slot.old.live }
     ensures closed { result ≡ NOT_OPEN ↔ ((slot.old.live ≡ false) ⊎ (other.old.live ≡ false)) }
@@ -113,12 +117,16 @@ pub extern "C" fn sf_take_back(slot: &mut Slot, alloc: Global, other: &mut Slot)
     ensures row { slot.old.live ≡ true → other.old.live ≡ true
         → HasTakenBack slot.old.handle.state other.old.handle.state slot.new.handle.state result }
 {
+    if !other.live {
+        return NOT_OPEN;
+    }
     let Some(mut state) = slot.take(alloc) else {
         return NOT_OPEN;
     };
+    // Only where the two are one slot.
     let Some(mut second) = other.take(alloc) else {
         slot.put(state);
-        return NOT_OPEN;
+        return WRONG_STATE;
     };
     let code = state.take_back(&mut second);
     slot.put(state);
@@ -150,7 +158,7 @@ pub extern "C" fn sf_ask(slot: &mut Slot, alloc: Global, key: &[u8], tries: u32)
 }
 
 /// The slot's caller asks for the key for the other slot's: it leads a new call, and the other waits on the leader's own
-/// channel; or the other joins the open one, and it is free still. The slots have to be of one group.
+/// channel; or the other joins the open one, and it is free still.
 #[unsafe(no_mangle)]
 pub extern "C" fn sf_ask_chan(
     slot: &mut Slot,
@@ -160,6 +168,7 @@ pub extern "C" fn sf_ask_chan(
     tries: u32,
 ) -> u32
     requires group { slot.old.live ≡ true → other.old.live ≡ true
+        → AreBeside slot.old.handle.state other.old.handle.state
         → slot.old.handle.state.group ≡ other.old.handle.state.group }
     ensures kept { (slot.new.live ≡ slot.old.live) × (other.new.live ≡ other.old.live) }
     ensures closed { result ≡ NOT_OPEN ↔ ((slot.old.live ≡ false) ⊎ (other.old.live ≡ false)) }
@@ -176,12 +185,16 @@ pub extern "C" fn sf_ask_chan(
         → HasAskedChanKey slot.old.handle.state other.old.handle.state key.now tries
         slot.new.handle.state other.new.handle.state result }
 {
+    if !other.live {
+        return NOT_OPEN;
+    }
     let Some(mut state) = slot.take(alloc) else {
         return NOT_OPEN;
     };
+    // Only where the two are one slot.
     let Some(mut second) = other.take(alloc) else {
         slot.put(state);
-        return NOT_OPEN;
+        return WRONG_STATE;
     };
     let code = state.ask_chan(alloc, &mut second, key, tries);
     slot.put(state);
@@ -216,6 +229,8 @@ pub extern "C" fn sf_finish(slot: &mut Slot, alloc: Global, value: u64, joiners:
     ensures unwritten { result ≡ NOT_OPEN → joiners.new ≡ joiners.old }
     ensures state { slot.old.live ≡ true → KeepsGroup slot.old.handle.state slot.new.handle.state
         × (slot.new.handle.state.own ≡ slot.old.handle.state.own) }
+    ensures own { slot.old.live ≡ true → MarksOwn result slot.old.handle.state.own
+        slot.old.handle.state.last_own slot.new.handle.state.last_own }
     ensures asked { slot.old.live ≡ true
         → HasGivenKey result slot.old.handle.state.asked slot.new.handle.state.asked }
     ensures row { slot.old.live ≡ true
@@ -239,6 +254,8 @@ pub extern "C" fn sf_go_on(slot: &mut Slot, alloc: Global, joiners: &mut u32) ->
     ensures unwritten { result ≡ NOT_OPEN → joiners.new ≡ joiners.old }
     ensures state { slot.old.live ≡ true → KeepsKey slot.old.handle.state slot.new.handle.state
         × (slot.new.handle.state.own ≡ slot.old.handle.state.own) }
+    ensures own { slot.old.live ≡ true → MarksOwn result slot.old.handle.state.own
+        slot.old.handle.state.last_own slot.new.handle.state.last_own }
     ensures row { slot.old.live ≡ true
         → HasGoneOnPart slot.old.handle.state.part slot.new.handle.state.part result joiners.old
         joiners.new slot.old.handle.state.last slot.new.handle.state.last }
@@ -257,9 +274,11 @@ pub extern "C" fn sf_poll(slot: &mut Slot, alloc: Global, value: &mut u64, joine
     ensures kept { slot.new.live ≡ slot.old.live }
     ensures closed { result ≡ NOT_OPEN ↔ slot.old.live ≡ false }
     ensures unwritten { result ≡ NOT_OPEN → (value.new ≡ value.old) × (joiners.new ≡ joiners.old) }
-    ensures state { slot.old.live ≡ true → KeepsKey slot.old.handle.state slot.new.handle.state }
+    ensures state { slot.old.live ≡ true → KeepsKey slot.old.handle.state slot.new.handle.state
+        × (slot.new.handle.state.own ≡ slot.old.handle.state.own) }
     ensures own { slot.old.live ≡ true
-        → MarksOwn result false slot.old.handle.state.own slot.new.handle.state.own }
+        → MarksOwn result false slot.old.handle.state.last_own
+        slot.new.handle.state.last_own }
     ensures row { slot.old.live ≡ true
         → HasPolledPart slot.old.handle.state.part slot.old.handle.state.asked
         slot.new.handle.state.part result value.old value.new joiners.old joiners.new
@@ -280,7 +299,8 @@ pub extern "C" fn sf_is_current(slot: &mut Slot, alloc: Global) -> u32
     ensures kept { slot.new.live ≡ slot.old.live }
     ensures closed { result ≡ NOT_OPEN ↔ slot.old.live ≡ false }
     ensures state { slot.old.live ≡ true → KeepsKey slot.old.handle.state slot.new.handle.state
-        × (slot.new.handle.state.own ≡ slot.old.handle.state.own) }
+        × (slot.new.handle.state.own ≡ slot.old.handle.state.own)
+        × (slot.new.handle.state.last_own ≡ slot.old.handle.state.last_own) }
     ensures row { slot.old.live ≡ true
         → HasQuestionedPart slot.old.handle.state.part slot.old.handle.state.last
         slot.new.handle.state.part slot.new.handle.state.last result }
@@ -302,7 +322,7 @@ pub extern "C" fn sf_joined(slot: &mut Slot, alloc: Global, count: &mut u64) -> 
     ensures state { slot.old.live ≡ true → slot.new.handle.state ≡ slot.old.handle.state }
     ensures unwritten { result ≡ NOT_OPEN → count.new ≡ count.old }
     ensures row { slot.old.live ≡ true
-        → HasCounted slot.old.handle.state.last slot.old.handle.state.own result count.old
+        → HasCounted slot.old.handle.state.last slot.old.handle.state.last_own result count.old
         count.new }
 {
     let Some(state) = slot.take(alloc) else {
@@ -364,7 +384,7 @@ pub extern "C" fn sf_tell(slot: &mut Slot, alloc: Global, note: &mut NoteSlot) -
     ensures closed { result ≡ NOT_OPEN ↔ slot.old.live ≡ false }
     ensures state { slot.old.live ≡ true → slot.new.handle.state ≡ slot.old.handle.state }
     ensures told { result ≡ DONE → (note.new.live ≡ true)
-        × HasToldPart slot.old.handle.state.group slot.old.handle.state.part note.new.handle.note }
+        × HasToldNote slot.old.handle.state note.new.handle.note }
     ensures refused { result ≢ DONE → note.new ≡ note.old }
     ensures code { slot.old.live ≡ true → result ≢ DONE → HasNotTold slot.old.handle.state result }
 {
@@ -386,11 +406,12 @@ pub extern "C" fn sf_tell(slot: &mut Slot, alloc: Global, note: &mut NoteSlot) -
 }
 
 /// The slot's caller, which is free or leads, has then seen what the note shows: no answer that a Forget closed of which the
-/// note tells is an answer to what it asks later. The slot and the note have to be of one group.
+/// note tells is an answer to what it asks later. A note of another group is refused.
 #[unsafe(no_mangle)]
 pub extern "C" fn sf_learn(slot: &mut Slot, alloc: Global, note: &mut NoteSlot) -> u32
     requires group { slot.old.live ≡ true → note.old.live ≡ true
-        → slot.old.handle.state.group ≡ note.old.handle.note.group }
+        → ArePlacesOfOne slot.old.handle.state.places note.old.handle.note.places
+        → slot.old.handle.state.group ≡ note.old.handle.note.note.group }
     ensures kept { (slot.new.live ≡ slot.old.live) × (note.new.live ≡ note.old.live) }
     ensures closed { result ≡ NOT_OPEN ↔ ((slot.old.live ≡ false) ⊎ (note.old.live ≡ false)) }
     ensures state { slot.old.live ≡ true → KeepsKey slot.old.handle.state slot.new.handle.state
@@ -398,9 +419,11 @@ pub extern "C" fn sf_learn(slot: &mut Slot, alloc: Global, note: &mut NoteSlot) 
         × (slot.new.handle.state.own ≡ slot.old.handle.state.own) }
     ensures unchanged { result ≡ NOT_OPEN → slot.old.live ≡ true
         → slot.new.handle.state ≡ slot.old.handle.state }
-    ensures note { note.old.live ≡ true → HasGrown note.old.handle.note note.new.handle.note }
+    ensures note { note.old.live ≡ true
+        → HasGrown note.old.handle.note.note note.new.handle.note.note
+        × (note.new.handle.note.places ≡ note.old.handle.note.places) }
     ensures row { slot.old.live ≡ true → note.old.live ≡ true
-        → HasLearntPart slot.old.handle.state.part note.old.handle.note slot.new.handle.state.part
+        → HasLearntNote slot.old.handle.state note.old.handle.note slot.new.handle.state.part
         result }
 {
     let Some(mut state) = slot.take(alloc) else {

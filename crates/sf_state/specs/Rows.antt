@@ -22,8 +22,8 @@ use Rattle.sf_state.specs.declared.part.Part.TheVariants.{Free, Leads, Waits, Ow
 use Rattle.sf_state.specs.declared.codes.TheConstants.{DONE, OTHERWISE, SPENT, BUSY, OTHER, WRONG_STATE, BAD_NUMBER, NOTHING_LEFT}
 
 -- what clauses see of a slot: its group, the places of keys, what its caller does, the key that it asked for where it leads or
--- waits, the letter of such a key that it had last, whether the call that it leads, or settled last, has an own channel, and the
--- callers that it has for other slots
+-- waits, the letter of such a key that it had last, whether the call that it leads, or led last, has an own channel, whether it
+-- led that letter's call and that has one, and the callers that it has for other slots
 pub record Seat : Type 0 where
   pub group : GroupValue
   pub places : Places
@@ -31,7 +31,13 @@ pub record Seat : Type 0 where
   pub asked : List ℕ
   pub last : Option (LetterValue WordValue)
   pub own : Bool
+  pub last_own : Bool
   pub callers : List (CallerValue WordValue)
+
+-- what clauses see of a note: the places of keys of its group, and what it shows
+pub record Told : Type 0 where
+  pub places : Places
+  pub note : NoteValue WordValue
 
 -- the part is that group's
 abbrev pub IsOf : GroupValue → Part → Type 0
@@ -274,6 +280,7 @@ pub record IsSeatOf (g : GroupValue) (p : Places) (c : CallerValue WordValue) (m
   pub asked : s.asked ≡ []
   pub last : s.last ≡ None
   pub own : s.own ≡ false
+  pub last_own : s.last_own ≡ false
   pub callers : s.callers ≡ more
 
 -- the first slot of a new group, all of whose callers are new
@@ -290,7 +297,7 @@ pub record HasOpened (places callers seed0 seed1 : ℕ) (s : Seat) : Type 0 wher
 
 -- the slot with these callers for other slots
 abbrev pub with_callers : Seat → List (CallerValue WordValue) → Seat
-with_callers s more = record { group = s.group; places = s.places; part = s.part; asked = s.asked; last = s.last; own = s.own; callers = more }
+with_callers s more = record { group = s.group; places = s.places; part = s.part; asked = s.asked; last = s.last; own = s.own; last_own = s.last_own; callers = more }
 
 -- the last of the callers for other slots got one
 pub record HasSplit (s t o : Seat) : Type 0 where
@@ -299,16 +306,40 @@ pub record HasSplit (s t o : Seat) : Type 0 where
   pub rest : t ≡ with_callers s t.callers
   pub seat : IsSeatOf s.group s.places caller [] o
 
+-- keys have the same places
+pub record ArePlacesOfOne (p q : Places) : Type 0 where
+  pub count : p.count ≡ q.count
+  pub seed0 : p.seed0 ≡ q.seed0
+  pub seed1 : p.seed1 ≡ q.seed1
+
+-- two free callers have different numbers, as any two of one group have
+abbrev pub AreNumberedApart : Part → Part → Type 0
+AreNumberedApart (Free c) (Free d) = c.number ≢ d.number
+AreNumberedApart (Free c) (Leads f) = Unit {0}
+AreNumberedApart (Free c) (Waits t) = Unit {0}
+AreNumberedApart (Free c) (Owes s) = Unit {0}
+AreNumberedApart (Free c) Gone = Unit {0}
+AreNumberedApart (Leads f) q = Unit {0}
+AreNumberedApart (Waits t) q = Unit {0}
+AreNumberedApart (Owes s) q = Unit {0}
+AreNumberedApart Gone q = Unit {0}
+
+-- nothing shows that the slots are of two groups: keys have the same places, and two free callers have different numbers
+pub record AreBeside (s u : Seat) : Type 0 where
+  pub places : ArePlacesOfOne s.places u.places
+  pub numbers : AreNumberedApart s.part u.part
+
 -- a free caller came back from its slot, which had no other; or it did not, and the two are as they were
 pub record IsTakenBack (s u t : Seat) (code : ℕ) : Type 0 where
   pub code_is : code ≡ DONE
+  pub beside : AreBeside s u
   pub caller : CallerValue WordValue
   pub free : u.part ≡ Free caller
   pub none : u.callers ≡ []
   pub rest : t ≡ with_callers s (s.callers ++ caller ∷ [])
 
 pub record IsNotTaken (s u t : Seat) (code : ℕ) : Type 0 where
-  pub why : ((code ≡ WRONG_STATE) × (IsNotFree u.part ⊎ (u.callers ≢ []))) ⊎ ((code ≡ NOTHING_LEFT) × IsFree u.part × (u.callers ≡ []))
+  pub why : ((code ≡ WRONG_STATE) × (IsNotFree u.part ⊎ (u.callers ≢ []) ⊎ (AreBeside s u → ⊥))) ⊎ ((code ≡ NOTHING_LEFT) × IsFree u.part × (u.callers ≡ []) × AreBeside s u)
   pub same : t ≡ s
 
 abbrev pub HasTakenBack : Seat → Seat → Seat → ℕ → Type 0
@@ -338,15 +369,16 @@ pub record HasNoRoom (s : Seat) (key : List ℕ) (tries : ℕ) (t : Seat) (code 
   pub free : IsFree s.part
   pub same : t ≡ s
 
--- the same of two slots, of which one is not free, or both are
+-- the same of two slots, of which one is not free, or which are of two groups; or both are free
 pub record AreOtherSeats (s u : Seat) (tries : ℕ) (t : Seat) (code : ℕ) : Type 0 where
   pub code_is : code ≡ WRONG_STATE
   pub tries_are : AreTries tries
-  pub not_free : IsNotFree s.part ⊎ IsNotFree u.part
+  pub why : IsNotFree s.part ⊎ IsNotFree u.part ⊎ (AreBeside s u → ⊥)
   pub same : t ≡ s
 
 pub record HaveNoRoom (s u : Seat) (key : List ℕ) (tries : ℕ) (t : Seat) (code : ℕ) : Type 0 where
   pub second_free : IsFree u.part
+  pub beside : AreBeside s u
   pub first : HasNoRoom s key tries t code
 
 abbrev pub HasNotCalled : Seat → ℕ → Seat → ℕ → Type 0
@@ -372,7 +404,7 @@ pub record HasAskedPlace (s : Seat) (key : List ℕ) (tries : ℕ) (t : Seat) (c
 abbrev pub HasAskedKey : Seat → List ℕ → ℕ → Seat → ℕ → Type 0
 HasAskedKey s key tries t code = HasAskedPlace s key tries t code ⊎ HasNotCalled s tries t code ⊎ HasNoRoom s key tries t code
 
--- an asking by key with a second that made nothing: as one without, or where the second is not free
+-- an asking by key with a second that made nothing: as one without, or where the second is not free, or is of another group
 pub record HasNotAskedChan (s u : Seat) (key : List ℕ) (tries : ℕ) (t v : Seat) (code : ℕ) : Type 0 where
   pub row : HasBadTries s tries t code ⊎ AreOtherSeats s u tries t code ⊎ HaveNoRoom s u key tries t code
   pub second_same : v ≡ u
@@ -382,6 +414,7 @@ pub record HasAskedChanPlace (s u : Seat) (key : List ℕ) (tries : ℕ) (t v : 
   pub tries_are : AreTries tries
   pub free : IsFree s.part
   pub second_free : IsFree u.part
+  pub beside : AreBeside s u
   pub row : HasAskedChan s.part u.part (place_of s.places key) tries t.part v.part code
   pub asked : KeepsLed code key s.asked t.asked
   pub second_asked : KeepsAsked code key u.asked v.asked
@@ -398,7 +431,8 @@ pub record HasForgotPlace (s : Seat) (key : List ℕ) (tries : ℕ) (t : Seat) (
 abbrev pub HasForgotKey : Seat → List ℕ → ℕ → Seat → ℕ → Type 0
 HasForgotKey s key tries t code = HasForgotPlace s key tries t code ⊎ HasNotCalled s tries t code
 
--- the group, the places and the callers for other slots are as they were, and so is the letter it had last; or the key that it asked for
+-- the group, the places and the callers for other slots are as they were, and so is the letter it had last, with how many have its value;
+-- or the key that it asked for
 pub record KeepsGroup (s t : Seat) : Type 0 where
   pub group : t.group ≡ s.group
   pub places : t.places ≡ s.places
@@ -409,6 +443,7 @@ pub record KeepsLetter (s t : Seat) : Type 0 where
   pub places : t.places ≡ s.places
   pub callers : t.callers ≡ s.callers
   pub last : t.last ≡ s.last
+  pub last_own : t.last_own ≡ s.last_own
 
 pub record KeepsKey (s t : Seat) : Type 0 where
   pub group : t.group ≡ s.group
@@ -416,12 +451,12 @@ pub record KeepsKey (s t : Seat) : Type 0 where
   pub callers : t.callers ≡ s.callers
   pub asked : t.asked ≡ s.asked
 
--- where the call is done the seat's mark of an own channel is this one then, and else as it was
+-- where the call is done a mark of an own channel is this one then, and else as it was
 pub record MarksOwn (code : ℕ) (own mark new_mark : Bool) : Type 0 where
   pub done : code ≡ DONE → new_mark ≡ own
   pub otherwise : code ≢ DONE → new_mark ≡ mark
 
--- how many others have the value of the letter that it had last: as many as joined the call, and who holds an own channel
+-- how many others have the value of the letter that it had last: as many as joined the call, and who holds its own channel, where the slot led it
 abbrev pub others_of : LetterValue WordValue → Bool → ℕ
 others_of l own = l.joiners + cond own 1 0
 
@@ -488,7 +523,7 @@ pub record HasToldPart (g : GroupValue) (p : Part) (n : NoteValue WordValue) : T
 abbrev pub HasNotTold : Seat → ℕ → Type 0
 HasNotTold s code = ((code ≡ WRONG_STATE) × IsNotFree s.part) ⊎ ((code ≡ NOTHING_LEFT) × IsFree s.part)
 
--- how learning ends: the caller, or the leader, has seen what the note shows
+-- how learning from a note of the group ends: the caller, or the leader, has seen what the note shows
 pub record IsLearnt (c : CallerValue WordValue) (n : NoteValue WordValue) (q : Part) (code : ℕ) : Type 0 where
   pub code_is : code ≡ DONE
   pub learner : CallerValue WordValue
@@ -507,3 +542,20 @@ HasLearntPart (Leads f) n q code = IsLearntLeading f n q code
 HasLearntPart (Waits t) n q code = IsOther (Waits t) q code
 HasLearntPart (Owes s) n q code = IsOther (Owes s) q code
 HasLearntPart Gone n q code = IsOther Gone q code
+
+-- how learning ends: from a note of the same places, or from one of another group, where the part is as it was
+pub record HasLearntBeside (s : Seat) (n : Told) (q : Part) (code : ℕ) : Type 0 where
+  pub places : ArePlacesOfOne s.places n.places
+  pub row : HasLearntPart s.part n.note q code
+
+pub record HasNotLearnt (s : Seat) (n : Told) (q : Part) (code : ℕ) : Type 0 where
+  pub places : ArePlacesOfOne s.places n.places → ⊥
+  pub row : IsOther s.part q code
+
+abbrev pub HasLearntNote : Seat → Told → Part → ℕ → Type 0
+HasLearntNote s n q code = HasLearntBeside s n q code ⊎ HasNotLearnt s n q code
+
+-- a note of the slot, or why there is none
+pub record HasToldNote (s : Seat) (n : Told) : Type 0 where
+  pub places : n.places ≡ s.places
+  pub row : HasToldPart s.group s.part n.note

@@ -1,9 +1,9 @@
 //! What the caller of a slot does, and how the group's calls change it, with a code. A part that is not one for the call stays as
 //! it was. Those that are asked most look first whether they are for the call, and move no more of the part than what it is.
-ghost use Rattle.std.specs.Prelude.{◌≡◌, ◌≢◌, ◌≤◌, ◌⊎◌, IsTrue, IsFalse, IfOk, IfErr, IfSome, IfNone};
+ghost use Rattle.std.specs.Prelude.{◌≡◌, ◌≢◌, ◌≤◌, ◌⊎◌, ◌↔◌, IsTrue, IsFalse, IfOk, IfErr, IfSome, IfNone};
 ghost use Rattle.sf_calls.specs.Same.{IsPlaceOf};
 ghost use Rattle.sf_calls.specs.Notes.{HasGrown};
-ghost use Rattle.sf_state.specs.Rows.{IsOf, HasGivenKey, IsLetterOf, HasAsked, HasAskedBoth, HasAskedChan, HasFinishedPart, HasGoneOnPart, HasPolledPart, HasForgotPart, HasGivenUp, HasQuestionedPart, HasToldPart, HasLearntPart, HasNumbered, IsFree, IsNotFree, IsLeading, IsNotLeading, IsWaiting, IsNotWaiting, call_in};
+ghost use Rattle.sf_state.specs.Rows.{IsOf, HasGivenKey, IsLetterOf, HasAsked, HasAskedBoth, HasAskedChan, HasFinishedPart, HasGoneOnPart, HasPolledPart, HasForgotPart, HasGivenUp, HasQuestionedPart, HasToldPart, HasLearntPart, HasNumbered, IsFree, IsNotFree, IsLeading, IsNotLeading, IsWaiting, IsNotWaiting, AreNumberedApart, call_in};
 ghost use Rattle.sf_state.specs.declared.part.Part.TheVariants.{Free, Leads, Owes, Waits};
 
 use crate::codes::{BUSY, DONE, NOT_OPEN, NOTHING_LEFT, OTHER, OTHERWISE, SPENT, WRONG_STATE};
@@ -457,6 +457,19 @@ impl Part {
         };
         *number = caller.number();
         DONE
+    }
+
+    /// Whether another is not one of a caller of the same number, where both are free.
+    pub(crate) fn is_numbered_apart(&self, other: &Part) -> bool
+        ensures { IsTrue result ↔ AreNumberedApart self.now other.now }
+    {
+        let Part::Free(caller) = self else {
+            return true;
+        };
+        let Part::Free(second) = other else {
+            return true;
+        };
+        caller.number() != second.number()
     }
 
     /// A note that shows what its caller has seen. None where that is not free.

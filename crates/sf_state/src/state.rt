@@ -1,8 +1,8 @@
 //! What a slot holds.
-ghost use Rattle.std.specs.Prelude.{◌≡◌, ◌≢◌, ◌<◌, ◌≤◌, All, IfOk, IfErr, IfSome, IfNone, true, false};
+ghost use Rattle.std.specs.Prelude.{◌≡◌, ◌≢◌, ◌<◌, ◌≤◌, ◌↔◌, All, IsTrue, IfOk, IfErr, IfSome, IfNone, true, false};
 ghost use Rattle.sf_calls.specs.Making.{IsNewCaller};
 ghost use Rattle.sf_calls.specs.Notes.{HasGrown};
-ghost use Rattle.sf_state.specs.Rows.{HasOpened, HasSplit, HasTakenBack, HasAskedKey, HasAskedChanKey, HasForgotKey, HasFinishedPart, HasGoneOnPart, HasPolledPart, HasQuestionedPart, HasToldPart, HasNotTold, HasLearntPart, HasGivenUp, HasCounted, HasCalled, HasNumbered, MarksOwn, HasGivenKey, call_in, KeepsGroup, KeepsLetter, KeepsKey};
+ghost use Rattle.sf_state.specs.Rows.{HasOpened, HasSplit, HasTakenBack, HasAskedKey, HasAskedChanKey, HasForgotKey, HasFinishedPart, HasGoneOnPart, HasPolledPart, HasQuestionedPart, HasToldNote, HasNotTold, HasLearntNote, HasGivenUp, HasCounted, HasCalled, HasNumbered, MarksOwn, HasGivenKey, call_in, AreBeside, ArePlacesOfOne, KeepsGroup, KeepsLetter, KeepsKey};
 
 use crate::codes::{BAD_NUMBER, DONE, NOT_OPEN, NOTHING_LEFT, OTHERWISE, WRONG_STATE};
 use crate::key::Key;
@@ -17,8 +17,8 @@ use std::mem::replace;
 use std::sync::Arc;
 
 /// A caller, with a share of its group; the places of keys; the key that it asks for, where it leads or waits; the letter of
-/// such a key that it had last; whether the call that it leads, or settled last, has an own channel; and the callers that
-/// have no slot.
+/// such a key that it had last; whether the call that it leads, or led last, has an own channel; whether it led that
+/// letter's call, and that has one; and the callers that have no slot.
 #[derive(Drop)]
 pub struct State {
     pub(crate) group: Arc<Group<Word>>,
@@ -27,6 +27,7 @@ pub struct State {
     pub(crate) asked: Key,
     pub(crate) last: Option<Letter<Word>>,
     pub(crate) own: bool,
+    pub(crate) last_own: bool,
     pub(crate) callers: Vec<Caller<Word>>,
 }
 
@@ -44,6 +45,7 @@ impl Model for State {
           asked = s.asked;
           last = s.last;
           own = s.own;
+          last_own = s.last_own;
           callers = s.callers.items;
         } };
 
@@ -57,6 +59,13 @@ fn sendable<T: Send>(value: T) -> T
     ensures { result ≡ value }
 {
     value
+}
+
+// Whether keys have the same places.
+fn are_same(left: Places, right: Places) -> bool
+    ensures { IsTrue result ↔ ArePlacesOfOne left right }
+{
+    left.count == right.count && left.seed0 == right.seed0 && left.seed1 == right.seed1
 }
 
 // A new group, its first caller and the others.
@@ -108,6 +117,7 @@ impl State {
             asked: Key::empty(),
             last: None,
             own: false,
+            last_own: false,
             callers,
         }))
     }
@@ -127,6 +137,7 @@ impl State {
                 asked: Key::empty(),
                 last: None,
                 own: false,
+                last_own: false,
                 callers: Vec::new(alloc),
             },
         )
@@ -136,15 +147,22 @@ impl State {
         Some(made)
     }
 
+    // Whether the other may be of its group: where keys have the same places, and two free callers different numbers.
+    fn is_beside(&self, other: &State) -> bool
+        ensures { IsTrue result ↔ AreBeside self.now other.now }
+    {
+        are_same(self.places, other.places) && self.part.is_numbered_apart(&other.part)
+    }
+
     /// Takes back the other's caller, for a further slot. Then the other has none; but not where that is not free, or the other
-    /// has callers for further slots itself, or there is no memory.
+    /// has callers for further slots itself, or is of another group, or there is no memory.
     pub fn take_back(&mut self, other: &mut State) -> u32
-        requires { self.old.group ≡ other.old.group }
+        requires { AreBeside self.old other.old → self.old.group ≡ other.old.group }
         ensures row { HasTakenBack self.old other.old self.new result }
         ensures refused { result ≢ DONE → other.new ≡ other.old }
         ensures open { result ≢ NOT_OPEN }
     {
-        if !other.callers.is_empty() {
+        if !other.callers.is_empty() || !self.is_beside(other) {
             return WRONG_STATE;
         }
         let caller = match replace(&mut other.part, Part::Gone).into_caller() {
@@ -193,7 +211,7 @@ impl State {
     /// Asks for the key for the other: done where its caller leads a new call then and the other's waits on the leader's own
     /// channel, otherwise the other's waits for the open call's letter.
     pub fn ask_chan(&mut self, alloc: Global, other: &mut State, key: &[u8], tries: u32) -> u32
-        requires { self.old.group ≡ other.old.group }
+        requires { AreBeside self.old other.old → self.old.group ≡ other.old.group }
         ensures kept { KeepsLetter self.old self.new }
         ensures own { MarksOwn result true self.old.own self.new.own }
         ensures other { KeepsLetter other.old other.new × (other.new.own ≡ other.old.own) }
@@ -203,7 +221,7 @@ impl State {
         if tries < 1 || tries > MOST_TRIES {
             return BAD_NUMBER;
         }
-        if !self.part.is_free() || !other.part.is_free() {
+        if !self.part.is_free() || !other.part.is_free() || !self.is_beside(other) {
             return WRONG_STATE;
         }
         let Ok(asked) = Key::of(alloc, key) else {
@@ -248,17 +266,23 @@ impl State {
     /// Settles the call that its caller leads.
     pub fn finish(&mut self, value: u64, joiners: &mut u32) -> u32
         ensures kept { KeepsGroup self.old self.new × (self.new.own ≡ self.old.own) }
+        ensures own { MarksOwn result self.old.own self.old.last_own self.new.last_own }
         ensures asked { HasGivenKey result self.old.asked self.new.asked }
         ensures row { HasFinishedPart self.old.part value self.old.asked self.new.part result
             joiners.old joiners.new self.old.last self.new.last }
         ensures open { result ≢ NOT_OPEN }
     {
-        self.part.finishes(&self.group, value, &mut self.asked, joiners, &mut self.last)
+        let code = self.part.finishes(&self.group, value, &mut self.asked, joiners, &mut self.last);
+        if code == DONE {
+            self.last_own = self.own;
+        }
+        code
     }
 
     /// Goes on with the delivery of a settled call.
     pub fn go_on(&mut self, joiners: &mut u32) -> u32
         ensures kept { KeepsKey self.old self.new × (self.new.own ≡ self.old.own) }
+        ensures own { MarksOwn result self.old.own self.old.last_own self.new.last_own }
         ensures row { HasGoneOnPart self.old.part self.new.part result joiners.old joiners.new
             self.old.last self.new.last }
         ensures open { result ≢ NOT_OPEN }
@@ -266,13 +290,16 @@ impl State {
         let part = replace(&mut self.part, Part::Gone);
         let (part, code) = part.gone_on(&self.group, joiners, &mut self.last);
         self.part = part;
+        if code == DONE {
+            self.last_own = self.own;
+        }
         code
     }
 
     /// Looks for the letter that its caller waits for, and whether it is of the key that it asked for.
     pub fn poll(&mut self, value: &mut u64, joiners: &mut u32) -> u32
-        ensures kept { KeepsKey self.old self.new }
-        ensures own { MarksOwn result false self.old.own self.new.own }
+        ensures kept { KeepsKey self.old self.new × (self.new.own ≡ self.old.own) }
+        ensures own { MarksOwn result false self.old.last_own self.new.last_own }
         ensures row { HasPolledPart self.old.part self.old.asked self.new.part result value.old
             value.new joiners.old joiners.new self.old.last self.new.last }
         ensures open { result ≢ NOT_OPEN }
@@ -281,14 +308,15 @@ impl State {
             .part
             .polls(&self.group, &self.asked, value, joiners, &mut self.last);
         if code == DONE {
-            self.own = false;
+            self.last_own = false;
         }
         code
     }
 
     /// Whether the call of the letter it had last is its key's current one.
     pub fn is_current(&mut self) -> u32
-        ensures kept { KeepsKey self.old self.new × (self.new.own ≡ self.old.own) }
+        ensures kept { KeepsKey self.old self.new × (self.new.own ≡ self.old.own)
+            × (self.new.last_own ≡ self.old.last_own) }
         ensures row { HasQuestionedPart self.old.part self.old.last self.new.part self.new.last
             result }
         ensures open { result ≢ NOT_OPEN }
@@ -309,15 +337,15 @@ impl State {
     }
 
     /// How many others have the value of the letter that it had last: as many as joined the call, and who holds its own
-    /// channel.
+    /// channel, where this caller led it.
     pub fn joined(&self, count: &mut u64) -> u32
-        ensures row { HasCounted self.now.last self.now.own result count.old count.new }
+        ensures row { HasCounted self.now.last self.now.last_own result count.old count.new }
         ensures open { result ≢ NOT_OPEN }
     {
         let Some(letter) = &self.last else {
             return NOTHING_LEFT;
         };
-        *count = u64::from(letter.joiners()) + u64::from(self.own);
+        *count = u64::from(letter.joiners()) + u64::from(self.last_own);
         DONE
     }
 
@@ -346,7 +374,7 @@ impl State {
     /// A note that shows what its caller has seen; or the code of its refusal.
     pub fn tell(&mut self) -> Result<NoteState, u32>
         ensures same { self.new ≡ self.old }
-        ensures told { IfOk result (HasToldPart self.old.group self.old.part) }
+        ensures told { IfOk result (HasToldNote self.old) }
         ensures refused { IfErr result (λ code. HasNotTold self.old code) }
     {
         let Some(note) = self.part.tells(&self.group) else {
@@ -355,18 +383,21 @@ impl State {
         let Ok(group) = Arc::try_clone(&self.group) else {
             return Err(NOTHING_LEFT);
         };
-        Ok(NoteState::new(group, note))
+        Ok(NoteState::new(group, self.places, note))
     }
 
-    /// Its caller has then seen what the note shows.
+    /// Its caller has then seen what the note shows, but not where that is of another group.
     pub fn learn(&mut self, told: &mut NoteState) -> u32
-        requires { self.old.group ≡ told.old.group }
+        requires { ArePlacesOfOne self.old.places told.old.places → self.old.group ≡ told.old.note.group }
         ensures kept { KeepsKey self.old self.new × KeepsLetter self.old self.new
             × (self.new.own ≡ self.old.own) }
-        ensures note { HasGrown told.old told.new }
-        ensures row { HasLearntPart self.old.part told.old self.new.part result }
+        ensures note { HasGrown told.old.note told.new.note × (told.new.places ≡ told.old.places) }
+        ensures row { HasLearntNote self.old told.old self.new.part result }
         ensures open { result ≢ NOT_OPEN }
     {
+        if !are_same(self.places, told.places) {
+            return WRONG_STATE;
+        }
         self.part.learns(&self.group, &mut told.note)
     }
 }
