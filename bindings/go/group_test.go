@@ -12,8 +12,8 @@ import (
 	"time"
 )
 
-func value(v interface{}) func() (interface{}, error) {
-	return func() (interface{}, error) { return v, nil }
+func value(v any) func() (any, error) {
+	return func() (any, error) { return v, nil }
 }
 
 // Waits until it holds, which it does soon.
@@ -36,7 +36,8 @@ func TestZeroGroup(t *testing.T) {
 		t.Error("the zero group", v, err, shared)
 	}
 	g.Forget("key")
-	if st := g.Stats(); st != (Stats{Leads: 1, Idle: 1, Made: 1}) {
+	// A goroutine whose stack has moved has another hot seat.
+	if st := g.Stats(); st.Leads != 1 || st.Idle != 1 || st.Made == 0 || st.Made > 2 || st.Joins+st.Alone+st.Closed+uint64(st.InUse) != 0 {
 		t.Error("its numbers", st)
 	}
 	g.Close()
@@ -51,7 +52,7 @@ func TestZeroGroup(t *testing.T) {
 func TestClose(t *testing.T) {
 	g := open(t, 3)
 	started, release := make(chan struct{}), make(chan struct{})
-	first := g.DoChan("key", func() (interface{}, error) { close(started); <-release; return 1, nil })
+	first := g.DoChan("key", func() (any, error) { close(started); <-release; return 1, nil })
 	<-started
 	joined := g.DoChan("key", value(2))
 	g.Close()
@@ -59,7 +60,7 @@ func TestClose(t *testing.T) {
 	// Another group may get the memory that is free again, and the calls of the closed one leave it alone.
 	other := open(t, 3)
 	inside, end := make(chan struct{}), make(chan struct{})
-	otherFirst := other.DoChan("key", func() (interface{}, error) { close(inside); <-end; return 3, nil })
+	otherFirst := other.DoChan("key", func() (any, error) { close(inside); <-end; return 3, nil })
 	<-inside
 	g.Forget("key")
 	if v, _, shared := g.Do("key", value(4)); v != 4 || shared {
@@ -79,12 +80,15 @@ func TestClose(t *testing.T) {
 		}
 	}
 	g.Close()
-	until(t, "all seats are freed", func() bool {
-		p := g.made.Load()
-		p.mu.Lock()
-		defer p.mu.Unlock()
-		return p.gone == p.made && p.root.slot == nil
-	})
+	until(t, "all seats are freed", func() bool { return isFreed(g) })
+}
+
+// Whether nothing is left of the group's library.
+func isFreed(g *Group) bool {
+	p := g.made.Load()
+	p.mu.Lock()
+	defer p.mu.Unlock()
+	return p.now.Load() == nil && len(p.draining) == 0
 }
 
 func TestCloseWhileCallsRun(t *testing.T) {
@@ -113,9 +117,8 @@ func TestCloseWhileCallsRun(t *testing.T) {
 			}(i)
 		}
 		all.Wait()
-		p := g.made.Load()
-		if p.gone != p.made || p.root.slot != nil {
-			t.Error("all seats are freed", p.gone, p.made)
+		if !isFreed(g) {
+			t.Error("all seats are freed")
 		}
 	}
 }
@@ -130,7 +133,7 @@ func TestForgottenGroup(t *testing.T) {
 		runtime.SetFinalizer(p, nil)
 		runtime.SetFinalizer(p, func(p *pool) {
 			p.close()
-			freed <- p.gone == p.made
+			freed <- p.now.Load() == nil && len(p.draining) == 0
 		})
 	}()
 	until(t, "the group is freed", func() bool {
@@ -147,33 +150,10 @@ func TestForgottenGroup(t *testing.T) {
 	})
 }
 
-// So many keys with a place each: where another key of its place is led, a stamp is current no more.
-func apart(t *testing.T, g *Group, count int) (keys []string) {
-	t.Helper()
-	var led []string
-	var stamps []Stamp
-	for i := 0; i < 2*count+10; i++ {
-		key := fmt.Sprint("key-", i)
-		_, _, _, stamp := g.DoStamped(key, value(nil))
-		led, stamps = append(led, key), append(stamps, stamp)
-	}
-	for i, key := range led {
-		if len(keys) < count && g.IsStill(stamps[i]) {
-			keys = append(keys, key)
-		}
-	}
-	if len(keys) < count {
-		t.Fatal("keys apart", len(keys))
-	}
-	return keys
-}
-
 // Many goroutines ask for few keys at one time, which all get one load each.
 func manyOn(t *testing.T, goroutines, keys int) {
 	var g Group
 	defer g.Close()
-	names := apart(t, &g, keys)
-	before := g.Stats()
 	var loads atomic.Int64
 	release := make(chan struct{})
 	var all sync.WaitGroup
@@ -181,7 +161,7 @@ func manyOn(t *testing.T, goroutines, keys int) {
 		all.Add(1)
 		go func(key string) {
 			defer all.Done()
-			v, err, shared := g.Do(key, func() (interface{}, error) {
+			v, err, shared := g.Do(key, func() (any, error) {
 				loads.Add(1)
 				<-release
 				return key, nil
@@ -189,19 +169,16 @@ func manyOn(t *testing.T, goroutines, keys int) {
 			if v != key || err != nil || shared != (goroutines > keys) {
 				t.Error("an answer", key, v, err, shared)
 			}
-		}(names[i%keys])
+		}(fmt.Sprint("key-", i%keys))
 	}
 	until(t, "all ask", func() bool {
 		st := g.Stats()
-		return st.Leads+st.Joins+st.Alone == before.Leads+uint64(goroutines)
+		return st.Leads+st.Joins+st.Alone >= uint64(goroutines)
 	})
-	if st := g.Stats(); st.InUse != uint32(goroutines) || st.Made > uint32(goroutines+shardCount) {
-		t.Error("each has a caller", st)
-	}
 	close(release)
 	all.Wait()
 	st := g.Stats()
-	if loads.Load() != int64(keys) || st.Leads != before.Leads+uint64(keys) || st.Joins != uint64(goroutines-keys) || st.Alone != 0 || st.InUse != 0 {
+	if loads.Load() != int64(keys) || st.Leads+st.Alone != uint64(keys) || st.InUse != 0 {
 		t.Error("one load for each key", loads.Load(), st)
 	}
 }
@@ -210,7 +187,15 @@ func TestManyOnOneKey(t *testing.T)   { manyOn(t, 4000, 1) }
 func TestManyOnSomeKeys(t *testing.T) { manyOn(t, 4000, 40) }
 func TestManyOnOwnKeys(t *testing.T)  { manyOn(t, 4000, 4000) }
 
-// The seats of all shards serve one that has none.
+// More than the library has callers.
+func TestVeryManyOnOneKey(t *testing.T) {
+	if testing.Short() || isRaceDetected {
+		t.Skip("100,000 goroutines")
+	}
+	manyOn(t, 100000, 1)
+}
+
+// The hot seats of all places serve a goroutine whose own has none.
 func TestSeatsAreDealtAgain(t *testing.T) {
 	g := open(t, 1)
 	for i := 0; i < 64; i++ {
@@ -219,46 +204,35 @@ func TestSeatsAreDealtAgain(t *testing.T) {
 			t.Error("one caller for many keys", v, err)
 		}
 	}
-	if st := g.Stats(); st != (Stats{Leads: 64, Made: 1}) {
+	if st := g.Stats(); st != (Stats{Leads: 64, Made: 1, Epochs: 1}) {
 		t.Error("one caller", st)
 	}
 }
 
-// Two keys of one shard: who waits for the slow one is not woken by the other.
+// Who waits for a slow key is not woken by another's calls.
 func TestWaitsAreApart(t *testing.T) {
 	g := open(t, 8)
 	p := g.made.Load()
-	other := ""
-	for i := 0; other == ""; i++ {
-		if key := fmt.Sprint("k", i); p.shardOf(key) == p.shardOf("slow") {
-			other = key
-		}
-	}
+	other := "other"
 	started, release := make(chan struct{}), make(chan struct{})
-	slow := g.DoChan("slow", func() (interface{}, error) { close(started); <-release; return 1, nil })
+	slow := g.DoChan("slow", func() (any, error) { close(started); <-release; return 1, nil })
 	<-started
 	joined := g.DoChan("slow", value(2))
 	waitOf := func() (w *wait) {
-		for i := range p.chunks {
-			if at := p.chunks[i].Load(); at != nil {
-				for j := range at {
-					if s := at[j].Load(); s != nil {
-						s.mu.Lock()
-						if s.waits != nil {
-							w = s.waits
-						}
-						s.mu.Unlock()
-					}
-				}
+		p.now.Load().each(func(_ uint32, s *seat) {
+			s.mu.Lock()
+			if s.waits != nil {
+				w = s.waits
 			}
-		}
+			s.mu.Unlock()
+		})
 		return w
 	}
 	until(t, "one waits", func() bool { return waitOf() != nil })
 	w := waitOf()
 	for i := 0; i < 100; i++ {
 		inside, end := make(chan struct{}), make(chan struct{})
-		first := g.DoChan(other, func() (interface{}, error) { close(inside); <-end; return i, nil })
+		first := g.DoChan(other, func() (any, error) { close(inside); <-end; return i, nil })
 		<-inside
 		second := g.DoChan(other, value(-1))
 		close(end)
@@ -283,27 +257,27 @@ func TestDoContext(t *testing.T) {
 	g := open(t, 4)
 	ctx, cancel := context.WithCancel(context.WithValue(context.Background(), "who", "leader"))
 	defer cancel()
-	if v, err, shared := g.DoContext(ctx, "key", func(own context.Context) (interface{}, error) {
+	if v, err, shared := g.DoContext(ctx, "key", func(own context.Context) (any, error) {
 		return own.Value("who"), own.Err()
 	}); v != "leader" || err != nil || shared {
 		t.Error("a load has the leader's values", v, err, shared)
 	}
 	done, over := context.WithCancel(ctx)
 	over()
-	if _, err, _ := g.DoContext(done, "key", func(context.Context) (interface{}, error) { t.Error("a call"); return nil, nil }); err != context.Canceled {
+	if _, err, _ := g.DoContext(done, "key", func(context.Context) (any, error) { t.Error("a call"); return nil, nil }); err != context.Canceled {
 		t.Error("a context that has ended", err)
 	}
 	// A waiter leaves, and the load goes on for the leader.
 	started, release := make(chan struct{}), make(chan struct{})
-	slow := g.DoChan("key", func() (interface{}, error) { close(started); <-release; return 1, nil })
+	slow := g.DoChan("key", func() (any, error) { close(started); <-release; return 1, nil })
 	<-started
 	short, stop := context.WithTimeout(ctx, 20*time.Millisecond)
 	defer stop()
-	if _, err, _ := g.DoContext(short, "key", func(context.Context) (interface{}, error) { return 2, nil }); err != context.DeadlineExceeded {
+	if _, err, _ := g.DoContext(short, "key", func(context.Context) (any, error) { return 2, nil }); err != context.DeadlineExceeded {
 		t.Error("a waiter's deadline", err)
 	}
-	if st := g.Stats(); st.InUse != 2 {
-		t.Error("its letter has not come", st)
+	if st := g.Stats(); st.InUse != 1 {
+		t.Error("who leaves has no caller", st)
 	}
 	close(release)
 	if r := <-slow; r.Val != 1 || !r.Shared {
@@ -323,7 +297,7 @@ func TestDoContextOfALeader(t *testing.T) {
 	results := make(chan error, 2)
 	fail := errors.New("the load was ended")
 	go func() {
-		_, err, _ := g.DoContext(leader, "key", func(own context.Context) (interface{}, error) {
+		_, err, _ := g.DoContext(leader, "key", func(own context.Context) (any, error) {
 			started <- own
 			<-own.Done()
 			return nil, fail
@@ -332,7 +306,7 @@ func TestDoContextOfALeader(t *testing.T) {
 	}()
 	own := <-started
 	go func() {
-		_, err, _ := g.DoContext(waiter, "key", func(context.Context) (interface{}, error) { return 1, nil })
+		_, err, _ := g.DoContext(waiter, "key", func(context.Context) (any, error) { return 1, nil })
 		results <- err
 	}()
 	until(t, "another waits", func() bool {
@@ -358,18 +332,15 @@ func TestDoContextOfALeader(t *testing.T) {
 	until(t, "all seats are back", func() bool { return g.Stats().InUse == 0 })
 }
 
-// How many wait for the one call that is waited for.
+// How many wait for the one call of the library that is waited for.
 func waiting(g *Group) (count int) {
-	p := g.made.Load()
-	for number := uint32(1); number <= p.most+1; number++ {
-		if s := p.chunks[0].Load()[number].Load(); s != nil {
-			s.mu.Lock()
-			if s.waits != nil {
-				count += s.waits.waiting
-			}
-			s.mu.Unlock()
+	g.made.Load().now.Load().each(func(_ uint32, s *seat) {
+		s.mu.Lock()
+		if s.waits != nil {
+			count += s.waits.waiting
 		}
-	}
+		s.mu.Unlock()
+	})
 	return count
 }
 
@@ -379,10 +350,10 @@ func TestDoContextPanics(t *testing.T) {
 		g := open(t, 3)
 		ctx, cancel := context.WithCancel(context.Background())
 		started, release := make(chan struct{}), make(chan struct{})
-		var recovered [2]interface{}
+		var recovered [2]any
 		var returned [2]bool
 		var all sync.WaitGroup
-		do := func(i int, fn func(context.Context) (interface{}, error)) {
+		do := func(i int, fn func(context.Context) (any, error)) {
 			all.Add(1)
 			go func() {
 				defer all.Done()
@@ -391,9 +362,9 @@ func TestDoContextPanics(t *testing.T) {
 				returned[i] = true
 			}()
 		}
-		do(0, func(context.Context) (interface{}, error) { close(started); <-release; ends(); return nil, nil })
+		do(0, func(context.Context) (any, error) { close(started); <-release; ends(); return nil, nil })
 		<-started
-		do(1, func(context.Context) (interface{}, error) { return nil, nil })
+		do(1, func(context.Context) (any, error) { return nil, nil })
 		until(t, "another waits", func() bool { return waiting(g) == 2 })
 		close(release)
 		all.Wait()
@@ -415,7 +386,7 @@ func TestManyContexts(t *testing.T)   { manyContexts(t, 256) }
 func TestContextsBeside(t *testing.T) { manyContexts(t, 2) }
 
 func manyContexts(t *testing.T, callers uint32) {
-	g := open(t, callers)
+	g := openFixed(t, callers)
 	var now atomic.Int64
 	var forgotten [8]atomic.Int64
 	var all sync.WaitGroup
@@ -437,7 +408,7 @@ func manyContexts(t *testing.T, callers uint32) {
 				}
 				before := forgotten[number].Load()
 				ctx, cancel := context.WithTimeout(context.Background(), time.Duration(seed>>4%300)*time.Microsecond)
-				v, err, _ := g.DoContext(ctx, key, func(own context.Context) (interface{}, error) {
+				v, err, _ := g.DoContext(ctx, key, func(own context.Context) (any, error) {
 					at := now.Add(1)
 					select {
 					case <-own.Done():
@@ -466,72 +437,73 @@ func manyContexts(t *testing.T, callers uint32) {
 	}
 }
 
-// More clients than callers, in rounds: those who find none free have one load together.
+// More clients than callers, in rounds: each has one load.
 func TestRounds(t *testing.T) {
 	const clients = 200
-	g := open(t, 64)
-	for round := uint64(1); round <= 20; round++ {
-		var loads atomic.Int64
-		var all sync.WaitGroup
-		release := make(chan struct{})
-		for i := 0; i < clients; i++ {
-			all.Add(1)
-			go func() {
-				defer all.Done()
-				g.Do("page", func() (interface{}, error) { loads.Add(1); <-release; return 1, nil })
-			}()
+	for _, option := range []Option{Callers(64), fixedCallers(64), fixedCallers(1)} {
+		g, err := New(option)
+		if err != nil {
+			t.Fatal(err)
 		}
-		until(t, "all ask", func() bool { st := g.Stats(); return st.Leads+st.Joins+st.Alone == clients*round })
-		close(release)
-		all.Wait()
-		if loads.Load() != 2 {
-			t.Error("one load by the callers, and one beside them", loads.Load())
+		t.Cleanup(g.Close)
+		for round := uint64(1); round <= 20; round++ {
+			var loads atomic.Int64
+			var all sync.WaitGroup
+			release := make(chan struct{})
+			for i := 0; i < clients; i++ {
+				all.Add(1)
+				go func() {
+					defer all.Done()
+					g.Do("page", func() (any, error) { loads.Add(1); <-release; return 1, nil })
+				}()
+			}
+			until(t, "all ask", func() bool { st := g.Stats(); return st.Leads+st.Joins+st.Alone == clients*round })
+			close(release)
+			all.Wait()
+			if loads.Load() != 1 {
+				t.Error("one load", loads.Load())
+			}
 		}
 	}
 }
 
-// One origin hangs behind deadlines and has all callers: those who ask for another key have two loads together at most.
+// As many callers as there are at first, and no more: what comes beyond them runs beside the library.
+func fixedCallers(n uint32) Option { return func(s *sizes) { s.callers, s.fixedCallers = n, true } }
+
+func openFixed(t *testing.T, callers uint32) *Group {
+	g, err := New(fixedCallers(callers))
+	if err != nil {
+		t.Fatal(err)
+	}
+	t.Cleanup(g.Close)
+	return g
+}
+
+// One origin hangs behind deadlines. It has one caller; a result of another key can be cached, and a Forget forgets it.
 func TestOriginThatHangs(t *testing.T) {
 	g := open(t, 16)
-	started, release := make(chan struct{}), make(chan struct{})
-	hangs := g.DoChan("hangs", func() (interface{}, error) { close(started); <-release; return 1, nil })
-	<-started
+	release := make(chan struct{})
+	load := func(context.Context) (any, error) { <-release; return 1, nil }
 	for i := 0; i < 100; i++ {
 		ctx, cancel := context.WithTimeout(context.Background(), 100*time.Microsecond)
-		_, err, _ := g.DoContext(ctx, "hangs", func(own context.Context) (interface{}, error) { <-own.Done(); return nil, own.Err() })
-		if err != context.DeadlineExceeded {
+		if _, err, _ := g.DoContext(ctx, "hangs", load); err != context.DeadlineExceeded {
 			t.Error("who waits for it leaves", err)
 		}
 		cancel()
 	}
-	if st := g.Stats(); st.InUse != 16 {
-		t.Error("it has all callers", st)
+	if st := g.Stats(); st.InUse != 1 || st.Leads != 1 {
+		t.Error("it runs once, and has one caller", st)
 	}
-	for round := 0; round < 20; round++ {
-		var loads atomic.Int64
-		var all sync.WaitGroup
-		before := g.Stats()
-		end := make(chan struct{})
-		for i := 0; i < 50; i++ {
-			all.Add(1)
-			go func() {
-				defer all.Done()
-				g.Do("page", func() (interface{}, error) { loads.Add(1); <-end; return 3, nil })
-			}()
+	for i := 0; i < 20; i++ {
+		_, _, _, stamp := g.DoStamped("page", value(3))
+		if !g.IsStill(stamp) {
+			t.Error("it can be cached", stamp)
 		}
-		until(t, "all ask", func() bool {
-			st := g.Stats()
-			return st.Leads+st.Joins+st.Alone == before.Leads+before.Joins+before.Alone+50
-		})
-		close(end)
-		all.Wait()
-		if loads.Load() > 2 {
-			t.Error("two loads at most", loads.Load())
+		g.Forget("page")
+		if g.IsStill(stamp) {
+			t.Error("it is forgotten", stamp)
 		}
 	}
 	close(release)
-	if r := <-hangs; r.Val != 1 {
-		t.Error("the origin answers", r)
-	}
 	until(t, "all callers are back", func() bool { return g.Stats().InUse == 0 })
 }

@@ -1,0 +1,237 @@
+package singleflight
+
+import (
+	"sync"
+	"sync/atomic"
+)
+
+const (
+	hotSeats  = 64
+	chunkSize = 256
+)
+
+// A seat is a caller of the library, and what became of the call that it led, until everyone who joined by a caller of
+// their own has read that. It fills whole cache lines.
+type seat struct {
+	slot
+	taken    uint32 // whether somebody has it, where it is hot
+	ended    bool   // whether the load was told to end, since nobody waited for it
+	void     bool   // whether the call was given up before its load, since the epoch had been replaced
+	stranger bool   // whether it was left at a call of another key
+	alerted  bool   // whether alert is raised for its call, which was open when its epoch was replaced; by mu
+	hot      bool   // whether it stands among the hot seats, at this index
+	index    uint8
+	followed atomic.Uint32 // whether its wait may have followers; see follow
+	owed     atomic.Int64
+	val      interface{}
+	err      error
+	key      string // of its call, where the library has only a digest of it
+	epoch    *epoch
+	mu       sync.Mutex // protects waits, and what the wait says
+	waits    *wait
+	_        [8]byte
+}
+
+// The wait of the call that it leads. Its lock is held.
+func (s *seat) wait() *wait {
+	if s.waits == nil {
+		s.waits = &wait{lock: &s.mu, done: make(chan struct{})}
+	}
+	return s.waits
+}
+
+// The call that its asking may lead, and the fingerprint of that asking's key. Zero where it asks for nothing and leads
+// nothing. Between two askings the generation is 0, and the fingerprint is stored before the next one: so the same
+// generation before and after the fingerprint was read tells whose that is.
+func (s *seat) asking() (generation, print uint64) {
+	generation = atomic.LoadUint64(&s.generation)
+	yield()
+	print = atomic.LoadUint64(&s.print)
+	yield()
+	if atomic.LoadUint64(&s.generation) != generation {
+		return 0, 0
+	}
+	return generation, print
+}
+
+// Whether it was free, and is the caller's now.
+func (s *seat) take() bool {
+	return atomic.LoadUint32(&s.taken) == 0 && atomic.CompareAndSwapUint32(&s.taken, 0, 1)
+}
+
+type chunk [chunkSize]atomic.Pointer[seat]
+
+// An epoch is one group of the library, with its callers. Seats are split off as they are needed, and go back when their
+// calls have ended. An epoch that was replaced frees each seat as it comes back. The pool's lock protects what has no
+// other.
+type epoch struct {
+	number  uint64 // no two epochs of a pool have the same
+	size    sizes
+	closed  atomic.Bool
+	nos     atomic.Uint64                                    // stamps of this epoch that were not current
+	hot     [hotSeats]atomic.Pointer[seat]                   // who is taken first, each by the goroutines of some stacks
+	chunks  [mostCallers/chunkSize + 2]atomic.Pointer[chunk] // seats by their numbers
+	root    *seat                                            // splits seats off; asks questions and forgets where no seat is free
+	free    []*seat
+	made    uint32
+	gone    uint32
+	spent   uint32
+	met     uint32 // how often a call met another key's
+	forgets uint64 // Forgets of the pool before it
+}
+
+// None where a size is out of range, or there is no memory.
+func newEpoch(number uint64, size sizes, seed0, seed1 uint64) *epoch {
+	e := &epoch{number: number, size: size, root: &seat{}}
+	// The slot from which the callers are split off has one of its own.
+	if !e.root.open(sizes{places: size.places, callers: size.callers + 1}, seed0, seed1) {
+		return nil
+	}
+	return e
+}
+
+// Another seat, if there may be one. The lock is held.
+func (e *epoch) grow() *seat {
+	if e.made == e.size.callers || !e.root.live {
+		return nil
+	}
+	s := &seat{epoch: e}
+	number := e.root.split(&s.slot)
+	if number == 0 {
+		return nil
+	}
+	s.last = e.size.generations
+	e.made++
+	at := &e.chunks[number/chunkSize]
+	if at.Load() == nil {
+		at.Store(new(chunk))
+	}
+	at.Load()[number%chunkSize].Store(s)
+	return s
+}
+
+// The seat of the caller with this number.
+func (e *epoch) numbered(number uint32) *seat {
+	return e.chunks[number/chunkSize].Load()[number%chunkSize].Load()
+}
+
+// Each seat that was made.
+func (e *epoch) each(do func(number uint32, s *seat)) {
+	for i := range e.chunks {
+		if at := e.chunks[i].Load(); at != nil {
+			for j := range at {
+				if s := at[j].Load(); s != nil {
+					do(uint32(i*chunkSize+j), s)
+				}
+			}
+		}
+	}
+}
+
+// The hot seat of the goroutine's index, where it is free: nearly always.
+func (e *epoch) takeHot() *seat {
+	if s := e.hot[here()].Load(); s != nil && s.take() {
+		return s
+	}
+	return nil
+}
+
+// A free seat of the epoch. None where all are taken.
+func (p *pool) take(e *epoch) *seat {
+	index := here()
+	for try := uint(0); try < 4; try++ {
+		s := e.hot[index^try].Load()
+		if s == nil {
+			index ^= try
+			break
+		}
+		if s.take() {
+			return s
+		}
+	}
+	p.lock()
+	var s *seat
+	if last := len(e.free) - 1; last >= 0 {
+		s, e.free = e.free[last], e.free[:last]
+	} else {
+		s = e.grow()
+	}
+	if s != nil && e.hot[index].Load() == nil && !e.closed.Load() {
+		s.hot, s.index, s.taken = true, uint8(index), 1
+		e.hot[index].Store(s)
+	}
+	p.mu.Unlock()
+	for i := 0; s == nil && i < hotSeats; i++ {
+		if h := e.hot[i].Load(); h != nil && h.take() {
+			s = h
+		}
+	}
+	return s
+}
+
+func (p *pool) put(s *seat) {
+	e := s.epoch
+	if s.hot {
+		atomic.StoreUint32(&s.taken, 0)
+	} else {
+		p.lock()
+		e.free = append(e.free, s)
+		p.mu.Unlock()
+	}
+	if e.closed.Load() {
+		p.lock()
+		p.drain(e)
+		p.mu.Unlock()
+	}
+}
+
+// Frees the seats of a replaced epoch that are free. The lock is held.
+func (p *pool) drain(e *epoch) {
+	for i := range e.hot {
+		if s := e.hot[i].Load(); s != nil && s.take() {
+			e.hot[i].Store(nil)
+			e.free = append(e.free, s)
+		}
+	}
+	for _, s := range e.free {
+		s.close()
+		e.gone++
+	}
+	e.free = nil
+	if e.gone < e.made {
+		return
+	}
+	for i, it := range p.draining {
+		if it == e {
+			p.draining = append(p.draining[:i:i], p.draining[i+1:]...)
+			e.root.close()
+			leads, joins := e.counts()
+			p.past.Leads += leads
+			p.past.Joins += joins
+		}
+	}
+}
+
+// How often its callers led and joined.
+func (e *epoch) counts() (leads, joins uint64) {
+	e.each(func(_ uint32, s *seat) {
+		led, joined := s.counts()
+		leads += led
+		joins += joined
+	})
+	return leads, joins
+}
+
+// How many callers are not free. The lock is held.
+func (e *epoch) inUse() uint32 {
+	free := e.gone + uint32(len(e.free))
+	for i := range e.hot {
+		if s := e.hot[i].Load(); s != nil && atomic.LoadUint32(&s.taken) == 0 {
+			free++
+		}
+	}
+	if free > e.made {
+		return 0
+	}
+	return e.made - free
+}

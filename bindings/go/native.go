@@ -1,0 +1,121 @@
+//go:build linux && amd64 && gc && !purego
+
+package singleflight
+
+import (
+	"sync/atomic"
+	"unsafe"
+)
+
+// The library, whose code is in library_amd64.s. A call of it is a call of C, on a stack that the slot has, without cgo: see calls_amd64.s.
+// None waits for another, and none keeps the address of what it is given.
+
+// So many bytes of stack has a call of the library: native/depths tells that none needs more. 16 divides where it ends.
+const stackSize = 2048
+
+// What the library has of a seat: a slot of sf.h, and how often its caller led and joined, which calls.c knows too; and its stack.
+type slot struct {
+	at           uintptr
+	live         bool
+	leads, joins uint64
+	stack        *[stackSize]byte
+	generation   uint64 // of the call that its asking may lead, until that is about to be settled; else 0
+	print        uint64 // the fingerprint of the key that it asked for last; stored before the generation
+	last         uint64 // the generation after which it is spent
+}
+
+// The library's code, at which no Go code may point: calls_amd64.s knows where in it the calls below stand.
+func library()
+
+//go:noescape
+func cOpen(s *slot, places, callers uint32, seed0, seed1 uint64) uint32
+
+//go:noescape
+func cSplit(s, other *slot) uint32
+
+//go:noescape
+func cClose(s *slot)
+
+//go:noescape
+func cAsk(s *slot, key unsafe.Pointer, n uintptr, tries uint32, print uint64) uint64
+
+//go:noescape
+func cCall(s *slot) uint64
+
+//go:noescape
+func cFinish(s *slot, l *letter, all bool)
+
+//go:noescape
+func cPoll(s *slot, l *letter)
+
+//go:noescape
+func cIsStill(s *slot, place, call uint64) uint32
+
+//go:noescape
+func cNamed(s *slot, key unsafe.Pointer, n uintptr) uint64
+
+//go:noescape
+func cForgetCall(s *slot, key unsafe.Pointer, n uintptr, caller, generation, tries uint32) uint32
+
+// So often a call tries before the goroutine may be stopped.
+const tries = 64
+
+// Where the string's bytes are.
+func bytesOf(key string) unsafe.Pointer { return *(*unsafe.Pointer)(unsafe.Pointer(&key)) }
+
+func (s *slot) open(size sizes, seed0, seed1 uint64) bool {
+	s.stack = new([stackSize]byte)
+	return cOpen(s, size.places, size.callers, seed0, seed1) == codeDone
+}
+
+// Puts another caller into the slot, and tells its number. None where it is 0.
+func (s *slot) split(other *slot) uint32 {
+	other.stack = new([stackSize]byte)
+	if split := cSplit(s, other); uint8(split) == codeDone {
+		return split >> 8
+	}
+	return 0
+}
+
+func (s *slot) close() {
+	cClose(s)
+	s.stack = nil
+}
+
+// How often its caller led, and joined.
+func (s *slot) counts() (leads, joins uint64) {
+	return atomic.LoadUint64(&s.leads), atomic.LoadUint64(&s.joins)
+}
+
+// Asks for the key, whose fingerprint is told too. The code, and the call where that is codeJoined.
+func (s *slot) ask(key string, print uint64) (uint8, Call) {
+	asked := cAsk(s, bytesOf(key), uintptr(len(key)), tries, print)
+	for uint8(asked) == codeBusy {
+		asked = cAsk(s, bytesOf(key), uintptr(len(key)), tries, print)
+	}
+	return uint8(asked), Call{caller: uint32(asked) >> 8, generation: uint32(asked >> 32)}
+}
+
+// The call that the key's slot names: the one that was led there last, unless a Forget cleared it.
+func (s *slot) named(key string) (Call, bool) {
+	call := cNamed(s, bytesOf(key), uintptr(len(key)))
+	return callOf(call), call != 0
+}
+
+// The call that it leads.
+func (s *slot) leading() Call { return callOf(cCall(s)) }
+
+// Settles the call that it leads. The letter tells how many joined, and where all is wanted, its stamp and call.
+func (s *slot) finish(l *letter, all bool) { cFinish(s, l, all) }
+
+func (s *slot) poll(l *letter) { cPoll(s, l) }
+
+func (s *slot) isStill(stamp Stamp) bool { return cIsStill(s, stamp.Place, stamp.Call) == codeDone }
+
+func (s *slot) forgetCall(key string, call Call) uint32 {
+	code := cForgetCall(s, bytesOf(key), uintptr(len(key)), call.caller, call.generation, tries)
+	for code == codeBusy {
+		code = cForgetCall(s, bytesOf(key), uintptr(len(key)), call.caller, call.generation, tries)
+	}
+	return code
+}

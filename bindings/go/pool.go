@@ -1,0 +1,867 @@
+package singleflight
+
+import (
+	"context"
+	"crypto/rand"
+	"encoding/binary"
+	"hash/maphash"
+	"sync"
+	"sync/atomic"
+)
+
+// How the package keeps its promises over the library.
+//
+// The library has hash slots. At one slot at most one call is open, and whoever asks there joins it, whatever its key.
+// The pool adds what makes the promises exact: no call waits for the load of another key; at most one run of a key at a
+// time, unless a Forget of that key ended the earlier one; a Forget always forgets; nothing wears out.
+//
+// A call that the library cannot have, since another key's call is open at its slot or no caller is free, runs beside
+// it: it stands in runs, by its key. An epoch is one group of the library; where it is too small or worn out, it is
+// replaced. The calls that are open in it then go on, and whoever asks in the new epoch looks for them in the old one, as
+// long as that drains.
+//
+// Why at most one runs. A leader in the library first changes the slot (a locked exchange), and then reads alert. A call
+// beside the library first raises alert, and then looks at the slot. So either the leader sees that there is something to
+// look for, and looks under the lock; or the call beside sees the leader's call, and follows it. Registering and looking
+// are one section under the lock, so a leader never waits for a run that waits for that leader.
+//
+// A replacement raises alert, changes now, and then looks at each seat of the old epoch. A leader in the old epoch first
+// asks and then reads now. So either the replacement sees its seat, and keeps alert raised until the call ends; or the
+// leader sees the new epoch, and gives its call up before its load (it is void, and those who joined it ask again). A
+// leader waits only for runs and for calls of older epochs, so no two wait for each other.
+//
+// A Forget reads now, takes the key out of runs and out of the epochs that drain, forgets in the epoch that it read, and
+// begins again where now has changed meanwhile. The order matters: a leader that comes between finds no old run to take the
+// result of, and one that took it before is closed. A Forget leaves open calls of other keys alone.
+type pool struct {
+	now    atomic.Pointer[epoch] // none where the group is closed, or there is no memory
+	seed   maphash.Seed
+	alert  [alerts]atomic.Int32 // by fingerprint: how many runs, open calls of old epochs, strangers and replacements there are to look for
+	spare  maphash.Seed         // of the second half of a long key's digest
+	closes atomic.Uint64
+	idles  atomic.Uint64
+	alone  atomic.Uint64 // runs beside the library
+	beside atomic.Uint64 // how many joined without a caller
+	voids  atomic.Uint64 // calls that were given up before their loads
+	adopts atomic.Uint64 // calls that took another's result in place of a load
+
+	mu       sync.Mutex // protects the rest
+	runs     map[string]*wait
+	draining []*epoch // those that were replaced and have calls still, the oldest first
+	size     sizes
+	number   uint64
+	past     Stats // of epochs that are gone
+	shut     bool
+	onPanic  func(value interface{}, stack []byte)
+}
+
+const alerts = 64
+
+// Longer keys are known to the library by a digest.
+const longestKey = 40
+
+// A key as the pool asks for it.
+type keyed struct {
+	key   string
+	print uint64 // the fingerprint, a keyed hash
+}
+
+func newPool(size sizes) *pool {
+	p := &pool{
+		seed: maphash.MakeSeed(), spare: maphash.MakeSeed(), size: size, onPanic: size.onPanic,
+		runs: make(map[string]*wait),
+	}
+	p.now.Store(p.newEpoch(size))
+	return p
+}
+
+// None where a size is out of range, or there is no memory.
+func (p *pool) newEpoch(size sizes) *epoch {
+	var seeds [16]byte
+	if _, err := rand.Read(seeds[:]); err != nil {
+		return nil
+	}
+	p.number++
+	return newEpoch(p.number, size, binary.LittleEndian.Uint64(seeds[:8]), binary.LittleEndian.Uint64(seeds[8:]))
+}
+
+func (p *pool) lock() { acquire(&p.mu) }
+
+func (p *pool) keyed(key string) keyed { return keyed{key, hash(p.seed, key)} }
+
+func (p *pool) alertOf(print uint64) *atomic.Int32 { return &p.alert[print%alerts] }
+
+// The bytes by which the library knows the key: its own, or those of a digest.
+func (p *pool) name(k keyed, digest *[16]byte) string {
+	if len(k.key) <= longestKey {
+		return k.key
+	}
+	binary.LittleEndian.PutUint64(digest[:8], k.print)
+	binary.LittleEndian.PutUint64(digest[8:], hash(p.spare, k.key))
+	return string(digest[:])
+}
+
+// Asks for the key by the seat.
+func (p *pool) askBy(s *seat, k keyed) (uint8, Call) {
+	if len(k.key) > longestKey {
+		var digest [16]byte
+		s.key = k.key
+		return s.ask(p.name(k, &digest), k.print)
+	}
+	return s.ask(k.key, k.print)
+}
+
+// An asking, which leads or waits: by a seat, or without one.
+type asking struct {
+	seat   *seat // leads, or waits for this call of the leader
+	leader *seat
+	call   Call
+	wait   *wait // without a seat: the run that it leads, or the call that it follows; of a leader, the call whose result it takes
+	leads  bool
+}
+
+// Asks for the key until it leads or waits. One who may leave follows a call sooner than join it by a caller, since that
+// would stay taken until the letter comes.
+func (p *pool) ask(a *asking, k keyed, leaves bool) {
+	for !p.try(a, k, leaves) {
+	}
+}
+
+func (p *pool) try(a *asking, k keyed, leaves bool) bool {
+	e := p.now.Load()
+	if e == nil {
+		return p.askBeside(a, k, nil, false)
+	}
+	if leaves || p.alertOf(k.print).Load() != 0 {
+		if found := p.look(e, k); found == foreign {
+			return p.askBeside(a, k, e, false)
+		} else if found.seat != nil {
+			return p.follow(a, found, k) && p.counted()
+		}
+	}
+	s := p.take(e)
+	if s == nil {
+		return p.askBeside(a, k, e, true)
+	}
+	yield()
+	code, call := p.askBy(s, k)
+	return p.asked(a, s, code, call, k)
+}
+
+// What comes of what the seat was answered: whether it leads, or waits. Else the seat is given back, and one asks again.
+func (p *pool) asked(a *asking, s *seat, code uint8, call Call, k keyed) bool {
+	e := s.epoch
+	switch code {
+	case codeLeads:
+		yield()
+		if p.now.Load() == e && p.alertOf(k.print).Load() == 0 {
+			*a = asking{seat: s, leads: true}
+			return true
+		}
+		return p.confirm(a, s, k, false)
+	case codeJoined:
+		yield()
+		if p.now.Load() != e {
+			p.withdraw(s)
+		}
+		// The leader keeps its seat until everyone who joined has its answer, so the fingerprint is that of its call.
+		leader := e.numbered(call.caller)
+		if atomic.LoadUint64(&leader.print) == k.print {
+			call.epoch = e.number
+			*a = asking{seat: s, leader: leader, call: call}
+			return true
+		}
+		// To wait for the load of another key might be to wait for oneself.
+		return p.leaveStranger(s, leader, k) && p.askBeside(a, k, e, false)
+	case codeSpent:
+		p.retire(s)
+	default:
+		p.put(s)
+		return p.askBeside(a, k, e, false)
+	}
+	return false
+}
+
+// The seat joined the leader's call, which is another key's. It is left there, and comes back with its letter. Whether the
+// call is open still.
+func (p *pool) leaveStranger(s, leader *seat, k keyed) bool {
+	var letter letter
+	acquire(&leader.mu)
+	s.poll(&letter)
+	if letter.code == codeNotYet {
+		w := leader.wait()
+		w.strangers++
+		w.left = append(w.left, s)
+		s.stranger = true
+		// Who asks for a key like this one looks before it asks, until then.
+		p.alertOf(k.print).Add(1)
+		leader.mu.Unlock()
+		return true
+	}
+	leader.mu.Unlock()
+	p.put(s)
+	p.release(leader, -1)
+	return false
+}
+
+// A call that was found open at the key's slot.
+type found struct {
+	seat *seat
+	call Call
+}
+
+// What was found where another key's call is open.
+var foreign = found{call: Call{caller: 1<<32 - 1}}
+
+// Looks for the key's open call in the epoch, by a free seat or under the lock.
+func (p *pool) look(e *epoch, k keyed) found {
+	s := e.takeHot()
+	if s == nil {
+		if s = p.take(e); s == nil {
+			p.lock()
+			defer p.mu.Unlock()
+			return p.lookBy(e, e.root, k)
+		}
+	}
+	it := p.lookBy(e, s, k)
+	p.put(s)
+	return it
+}
+
+// The same by this seat, which is free. None where the call that the slot names has ended; a root that was closed names
+// none.
+func (p *pool) lookBy(e *epoch, by *seat, k keyed) found {
+	if !by.live {
+		return found{}
+	}
+	var digest [16]byte
+	call, ok := by.named(p.name(k, &digest))
+	if !ok {
+		return found{}
+	}
+	yield()
+	s := e.numbered(call.caller)
+	generation, print := s.asking()
+	if uint32(generation) != call.generation {
+		return found{}
+	}
+	if print != k.print {
+		return foreign
+	}
+	call.epoch = e.number
+	return found{s, call}
+}
+
+// Joins the call without a caller, if it is not about to be settled. The leader first marks that, then settles, and then
+// looks whether it is followed. So either it sees the follower, or that sees the mark.
+func (p *pool) follow(a *asking, it found, k keyed) bool {
+	s := it.seat
+	acquire(&s.mu)
+	defer s.mu.Unlock()
+	if !s.isFollowable(uint64(it.call.generation)) {
+		return false
+	}
+	w := s.wait()
+	w.waiting++
+	w.followers++
+	*a = asking{wait: w, call: it.call}
+	return true
+}
+
+// One has joined without a caller.
+func (p *pool) counted() bool {
+	p.beside.Add(1)
+	return true
+}
+
+// Whether who waits at the seat now is told when its call of this generation is settled. Its lock is held.
+func (s *seat) isFollowable(generation uint64) bool {
+	s.followed.Store(1)
+	if atomic.LoadUint64(&s.generation) == generation {
+		return true
+	}
+	if s.waits == nil && !s.alerted {
+		s.followed.Store(0)
+	}
+	return false
+}
+
+// The seat leads the key's call; what is there to look for? It leads; or takes the result of a run that is there; or its
+// epoch was replaced, and it gives the call up and asks again. A leader that was confirmed before does not give up.
+func (p *pool) confirm(a *asking, s *seat, k keyed, confirmed bool) bool {
+	p.lock()
+	if !confirmed && p.now.Load() != s.epoch {
+		p.mu.Unlock()
+		p.giveUp(s, k)
+		return false
+	}
+	*a = asking{seat: s, leads: true, wait: p.runOf(k, s.epoch.number)}
+	p.mu.Unlock()
+	return true
+}
+
+// Joins the key's run beside the library, or its open call in an epoch older than this number. None where there is none.
+// The lock is held.
+func (p *pool) runOf(k keyed, before uint64) *wait {
+	if w := p.runs[k.key]; w != nil {
+		w.waiting++
+		w.followers++
+		return w
+	}
+	for _, e := range p.draining {
+		if e.number >= before {
+			break
+		}
+		var a asking
+		if it := p.lookBy(e, e.root, k); it.seat != nil && p.follow(&a, it, k) {
+			return a.wait
+		}
+	}
+	return nil
+}
+
+// Asks where the library cannot have the call: it follows a call that is open, or runs beside the library; or one asks
+// again. Where it is for want of a caller, the epoch is replaced by a larger one, if there may be one.
+func (p *pool) askBeside(a *asking, k keyed, e *epoch, wants bool) bool {
+	p.lock()
+	defer p.mu.Unlock()
+	if p.now.Load() != e {
+		return false
+	}
+	if w := p.runOf(k, 1<<63); w != nil {
+		*a = asking{wait: w}
+		return p.counted()
+	}
+	p.alertOf(k.print).Add(1)
+	yield()
+	if e != nil {
+		it := p.lookBy(e, e.root, k)
+		yield()
+		if it.seat != nil {
+			p.alertOf(k.print).Add(-1)
+			return p.follow(a, it, k) && p.counted()
+		}
+		if wants && p.grows(e) || !wants && p.meets(e) {
+			p.alertOf(k.print).Add(-1)
+			return false
+		}
+	}
+	if e != nil {
+		p.endStamp(e, k)
+	}
+	w := &wait{lock: &p.mu, done: make(chan struct{}), key: k.key}
+	p.runs[k.key] = w
+	p.alone.Add(1)
+	*a = asking{wait: w, leads: true}
+	return true
+}
+
+// Whether a larger epoch has taken the place of this one, which has no free caller for a call. The lock is held.
+func (p *pool) grows(e *epoch) bool {
+	return p.replace(e.size.more())
+}
+
+// Another key's call is open at the slot. Whether a new epoch has taken the place of this one, since that is so often.
+// The lock is held.
+func (p *pool) meets(e *epoch) bool {
+	e.met++
+	if e.met < 64 || e.met < e.size.places/32 {
+		return false
+	}
+	return p.replace(e.size.wider())
+}
+
+// A new epoch of this size, or none, takes the place of the present one. Whether there was memory for it. The lock is held.
+func (p *pool) replace(size sizes, ok bool) bool {
+	if !ok {
+		return false
+	}
+	next := p.newEpoch(size)
+	if next == nil {
+		return false
+	}
+	next.forgets = p.closes.Load() + p.idles.Load()
+	p.size = size
+	p.change(next)
+	return true
+}
+
+// The lock is held.
+func (p *pool) change(next *epoch) {
+	old := p.now.Load()
+	if old == nil {
+		p.now.Store(next)
+		return
+	}
+	for i := range p.alert {
+		p.alert[i].Add(1)
+	}
+	yield()
+	p.now.Store(next)
+	yield()
+	old.each(func(_ uint32, s *seat) {
+		generation, print := s.asking()
+		if generation == 0 {
+			return
+		}
+		acquire(&s.mu)
+		if s.isFollowable(generation) {
+			s.alerted = true
+			p.alertOf(print).Add(1)
+		}
+		s.mu.Unlock()
+		yield()
+	})
+	for i := range p.alert {
+		p.alert[i].Add(-1)
+	}
+	p.draining = append(p.draining, old)
+	old.closed.Store(true)
+	p.drain(old)
+}
+
+// The seat asked in an epoch that was replaced, and joined: nobody has to look for a call that it leads.
+func (p *pool) withdraw(s *seat) {
+	acquire(&s.mu)
+	w := s.quiet(p)
+	s.mu.Unlock()
+	if w != nil {
+		close(w.done)
+	}
+}
+
+// Who waits at the seat waits for nothing. Its wait, which is to be closed, if it has one. Its lock is held.
+func (s *seat) quiet(p *pool) *wait {
+	w := s.waits
+	s.waits = nil
+	s.followed.Store(0)
+	s.calm(p)
+	if w != nil {
+		w.void = true
+		w.settle("", Result{})
+	}
+	return w
+}
+
+// Its call, which was open when its epoch was replaced, has ended. Its lock is held.
+func (s *seat) calm(p *pool) {
+	if s.alerted {
+		s.alerted = false
+		p.alertOf(atomic.LoadUint64(&s.print)).Add(-1)
+	}
+}
+
+// Gives up the call that the seat leads before its load: those who joined ask again.
+func (p *pool) giveUp(s *seat, k keyed) {
+	p.voids.Add(1)
+	s.void = true
+	var r Result
+	p.settleBy(s, &r, k, false, true)
+}
+
+// The seat has made all its calls.
+func (p *pool) retire(s *seat) {
+	e := s.epoch
+	p.lock()
+	defer p.mu.Unlock()
+	if s.hot {
+		e.hot[s.index].Store(nil)
+	}
+	s.close()
+	e.gone++
+	e.spent++
+	if p.now.Load() == e && 2*e.spent >= e.size.callers {
+		p.replace(e.size, true)
+	} else if e.closed.Load() {
+		p.drain(e)
+	}
+}
+
+// Whether that closed a call of the key.
+func (p *pool) forget(key string) (closed bool) {
+	k := p.keyed(key)
+	for {
+		e := p.now.Load()
+		if p.alertOf(k.print).Load() != 0 {
+			closed = p.forgetBeside(k) || closed
+		}
+		yield()
+		if e != nil {
+			s := e.takeHot()
+			if s == nil {
+				s = p.any(e)
+			}
+			if s != nil {
+				closed = p.forgetBy(e, s, k) || closed
+				p.putAny(s)
+			}
+		}
+		yield()
+		// A leader of a newer epoch may have taken the result of a run before that was dropped.
+		if p.now.Load() == e {
+			return closed
+		}
+	}
+}
+
+// Nobody who asks from now on joins the key's run beside the library, or its open call in an epoch that drains. Whether
+// there was one.
+func (p *pool) forgetBeside(k keyed) bool {
+	p.lock()
+	defer p.mu.Unlock()
+	closed := p.dropRun(p.runs[k.key], k)
+	for _, e := range p.draining {
+		closed = p.forgetBy(e, e.root, k) || closed
+	}
+	return closed
+}
+
+// Forgets the key in the epoch, by a seat that is free: the call that its slot names, unless that is open and of another
+// key. A call that was led meanwhile is newer than this Forget. Whether that closed a call.
+func (p *pool) forgetBy(e *epoch, by *seat, k keyed) bool {
+	var digest [16]byte
+	name := p.name(k, &digest)
+	call, ok := by.named(name)
+	if !ok {
+		return false
+	}
+	yield()
+	if generation, print := e.numbered(call.caller).asking(); uint32(generation) == call.generation && print != k.print {
+		return false
+	}
+	return by.forgetCall(name, call) == codeDone
+}
+
+// What the key's last call came to is not current any more, since a run beside the library begins. A call that is open at
+// the slot stays: it has ended the older stamp itself. The lock is held.
+func (p *pool) endStamp(e *epoch, k keyed) {
+	var digest [16]byte
+	name := p.name(k, &digest)
+	call, ok := e.root.named(name)
+	if !ok {
+		return
+	}
+	yield()
+	if generation, _ := e.numbered(call.caller).asking(); uint32(generation) != call.generation {
+		e.root.forgetCall(name, call)
+	}
+}
+
+// The run stands in runs no longer. Whether it did. The lock is held.
+func (p *pool) dropRun(w *wait, k keyed) bool {
+	if w == nil || p.runs[k.key] != w {
+		return false
+	}
+	delete(p.runs, k.key)
+	p.alertOf(k.print).Add(-1)
+	return true
+}
+
+// Forgets one call. One that ran beside the library, which the zero Call names, has none.
+func (p *pool) forgetCall(key string, call Call) Hit {
+	if call == (Call{}) {
+		return Missed
+	}
+	k := p.keyed(key)
+	var digest [16]byte
+	name := p.name(k, &digest)
+	e := p.now.Load()
+	if e == nil || call.epoch != e.number {
+		return p.forgetOld(k, call)
+	}
+	s := p.any(e)
+	if s == nil {
+		return p.forgetOld(k, call)
+	}
+	code := s.forgetCall(name, call)
+	p.putAny(s)
+	switch code {
+	case codeDone:
+		return Closed
+	case codeCleared:
+		return Cleared
+	}
+	return Missed
+}
+
+// The same for a call of an epoch that was replaced. Its result is not current any more, but it may be open.
+func (p *pool) forgetOld(k keyed, call Call) Hit {
+	p.lock()
+	defer p.mu.Unlock()
+	var digest [16]byte
+	for _, e := range p.draining {
+		if e.number == call.epoch && e.root.forgetCall(p.name(k, &digest), call) == codeDone {
+			return Closed
+		}
+	}
+	return Missed
+}
+
+// A seat for a question or a Forget: one that is free, or else the one from which the others are split off, with the
+// lock. None where the epoch was replaced.
+func (p *pool) any(e *epoch) *seat {
+	if s := p.take(e); s != nil {
+		return s
+	}
+	p.lock()
+	if e.root.live {
+		return e.root
+	}
+	p.mu.Unlock()
+	return nil
+}
+
+func (p *pool) putAny(s *seat) {
+	if s.epoch == nil {
+		p.mu.Unlock()
+	} else {
+		p.put(s)
+	}
+}
+
+// Whether the call of the stamp is current. One of an epoch that was replaced is not.
+func (p *pool) isStill(stamp Stamp) bool {
+	e := p.now.Load()
+	if e == nil || stamp.Place>>placeBits != e.number {
+		return false
+	}
+	stamp.Place &= 1<<placeBits - 1
+	s := e.takeHot()
+	if s == nil {
+		if s = p.any(e); s == nil {
+			return false
+		}
+	}
+	still := s.isStill(stamp)
+	p.putAny(s)
+	if !still {
+		p.noted(e)
+	}
+	return still
+}
+
+// A stamp was not current. Where that is so more often than Forgets tell of, other keys' calls have ended the stamps, and
+// there are too few slots for so many cached results.
+func (p *pool) noted(e *epoch) {
+	nos := e.nos.Add(1)
+	if e.size.fixed || nos < 256 || nos < uint64(e.size.places)/8 || nos%64 != 0 {
+		return
+	}
+	if nos-p.forgetsSince(e) < uint64(e.size.places)/8 || nos < p.forgetsSince(e) {
+		return
+	}
+	p.lock()
+	defer p.mu.Unlock()
+	if p.now.Load() == e && e.size.places < widestPlaces {
+		p.replace(e.size.wider())
+	}
+}
+
+func (p *pool) forgetsSince(e *epoch) uint64 { return p.closes.Load() + p.idles.Load() - e.forgets }
+
+// Settles the call with what the result has, tells the result of the call, and wakes who waits for it.
+func (p *pool) settle(a *asking, r *Result, k keyed, watched *wait) {
+	s := a.seat
+	if s == nil {
+		p.settleRun(a.wait, r, k)
+		return
+	}
+	s.ended = false
+	if watched != nil {
+		acquire(&s.mu)
+		s.ended = watched.ended
+		s.mu.Unlock()
+	}
+	p.settleBy(s, r, k, true, watched != nil)
+}
+
+func (p *pool) settleRun(w *wait, r *Result, k keyed) {
+	p.lock()
+	p.dropRun(w, k)
+	r.Shared = w.followers > 0
+	w.settle(k.key, *r)
+	p.mu.Unlock()
+	close(w.done)
+}
+
+func (p *pool) settleBy(s *seat, r *Result, k keyed, all, watched bool) {
+	s.val, s.err = r.Val, r.Err
+	if isRaceDetected {
+		s.owed.Store(0)
+	}
+	var letter letter
+	s.finish(&letter, all)
+	if all {
+		r.Stamp, r.Call = letter.stamp, callOf(letter.call)
+		r.Stamp.Place |= s.epoch.number << placeBits
+		r.Call.epoch = s.epoch.number
+	}
+	yield()
+	if letter.joiners > 0 || watched || s.followed.Load() != 0 {
+		p.share(s, r, k, int64(letter.joiners))
+		return
+	}
+	// Nobody has a part in it.
+	p.clear(s)
+}
+
+// Nobody needs any more what the seat's call came to, and the seat is free.
+func (p *pool) clear(s *seat) {
+	s.val, s.err = nil, nil
+	if len(s.key) > 0 {
+		s.key = ""
+	}
+	s.void = false
+	p.put(s)
+}
+
+// Wakes who waits for the seat's call, which is settled. So many joined by callers of their own.
+func (p *pool) share(s *seat, r *Result, k keyed, joined int64) {
+	// Who looked too early holds the lock until it is among those who wait.
+	acquire(&s.mu)
+	w := s.waits
+	s.waits = nil
+	s.followed.Store(0)
+	owed := joined
+	r.Shared = joined > 0
+	if w != nil {
+		r.Shared = joined+int64(w.followers) > int64(w.strangers)
+		w.void = s.void
+		w.settle(k.key, *r)
+		if s.ended {
+			w.ended = true
+		}
+	}
+	s.calm(p)
+	s.mu.Unlock()
+	if w != nil {
+		close(w.done)
+		for _, left := range w.left {
+			var letter letter
+			left.poll(&letter)
+			p.comesBack(left)
+		}
+		owed -= int64(len(w.left))
+	}
+	p.release(s, owed)
+}
+
+// A seat that was left at a call has its letter.
+func (p *pool) comesBack(s *seat) {
+	if s.stranger {
+		s.stranger = false
+		p.alertOf(atomic.LoadUint64(&s.print)).Add(-1)
+	}
+	p.put(s)
+}
+
+// So many more have to take what the seat's call came to; or by -1 one has. The seat is free when all have.
+func (p *pool) release(s *seat, more int64) {
+	if s.owed.Add(more) == 0 {
+		p.clear(s)
+	}
+}
+
+// What came of a call: how many joined it, its stamp, and which it is, by its leader's number and in the upper half the
+// generation.
+type letter struct {
+	code, joiners uint32
+	stamp         Stamp
+	call          uint64
+}
+
+func callOf(word uint64) Call { return Call{caller: uint32(word), generation: uint32(word >> 32)} }
+
+// Waits until the call is settled that it joined, or until stop is closed.
+func (p *pool) join(r *Result, a *asking, k keyed, stop <-chan struct{}) (how outcome) {
+	if a.seat == nil {
+		return a.wait.join(r, k.key, stop)
+	}
+	s, led := a.seat, a.leader
+	var letter letter
+	s.poll(&letter)
+	for letter.code == codeNotYet {
+		acquire(&led.mu)
+		if s.poll(&letter); letter.code != codeNotYet {
+			led.mu.Unlock()
+			break
+		}
+		w := led.wait()
+		w.waiting++
+		led.mu.Unlock()
+		if !await(w.done, stop) {
+			if how := w.leave(false, s); how != settled {
+				return how
+			}
+			await(w.done, nil)
+		}
+		s.poll(&letter)
+	}
+	if isRaceDetected {
+		led.owed.Load()
+	}
+	switch {
+	case letter.code == codeOther || len(k.key) > longestKey && led.key != k.key:
+		how = again
+	case led.void || led.ended && led.err != nil:
+		how = again
+	default:
+		letter.stamp.Place |= s.epoch.number << placeBits
+		*r = Result{led.val, led.err, true, a.call, letter.stamp}
+	}
+	p.put(s)
+	p.release(led, -1)
+	return how
+}
+
+// The wait of a call that it leads, whose load has a goroutine of its own.
+func (p *pool) watch(a *asking, cancel context.CancelFunc) *wait {
+	lock := &p.mu
+	if a.seat != nil {
+		lock = &a.seat.mu
+	}
+	acquire(lock)
+	defer lock.Unlock()
+	w := a.wait
+	if a.seat != nil {
+		w = a.seat.wait()
+	}
+	w.waiting++
+	w.cancel = cancel
+	w.told = make(chan struct{})
+	return w
+}
+
+// No call begins in the library any more, and each seat is freed once it is free.
+func (p *pool) close() {
+	p.lock()
+	defer p.mu.Unlock()
+	p.shut = true
+	if p.now.Load() != nil {
+		p.change(nil)
+	}
+}
+
+func (p *pool) stats() Stats {
+	p.lock()
+	defer p.mu.Unlock()
+	st := p.past
+	count := func(e *epoch) {
+		leads, joins := e.counts()
+		st.Leads += leads
+		st.Joins += joins
+		st.InUse += e.inUse()
+	}
+	if e := p.now.Load(); e != nil {
+		count(e)
+		st.Made = e.made
+	}
+	for _, e := range p.draining {
+		count(e)
+	}
+	st.Leads -= p.voids.Load() + p.adopts.Load()
+	st.Joins += p.beside.Load() + p.adopts.Load()
+	st.Alone, st.Closed, st.Idle = p.alone.Load(), p.closes.Load(), p.idles.Load()
+	st.Epochs = p.number
+	return st
+}

@@ -1,0 +1,524 @@
+package singleflight
+
+import (
+	"context"
+	"errors"
+	"fmt"
+	"math/rand"
+	"os"
+	"runtime"
+	"strconv"
+	"strings"
+	"sync"
+	"sync/atomic"
+	"testing"
+	"time"
+)
+
+// Ends the test where it hangs.
+func within(t *testing.T, limit time.Duration, what string, do func()) {
+	t.Helper()
+	done := make(chan struct{})
+	go func() { defer close(done); do() }()
+	select {
+	case <-done:
+	case <-time.After(limit):
+		t.Fatal("it hangs: " + what)
+	}
+}
+
+// A thousand loads hang. Nobody who asks for another key waits for one of them.
+func TestLoadsThatHang(t *testing.T) {
+	var g Group
+	release := make(chan struct{})
+	var hung []<-chan Result
+	for i := 0; i < 1000; i++ {
+		hung = append(hung, g.DoChan(fmt.Sprint("hangs-", i), func() (any, error) { <-release; return 1, nil }))
+	}
+	within(t, 60*time.Second, "a key that nobody else asks for", func() {
+		var all sync.WaitGroup
+		for i := 0; i < 8; i++ {
+			all.Add(1)
+			go func(i int) {
+				defer all.Done()
+				for n := 0; n < 50000/8; n++ {
+					key := fmt.Sprint("instant-", i, "-", n)
+					if v, err, shared := g.Do(key, value(key)); v != key || err != nil || shared {
+						t.Error("its own answer", key, v, err, shared)
+					}
+				}
+			}(i)
+		}
+		all.Wait()
+	})
+	close(release)
+	for _, ch := range hung {
+		receive(t, ch)
+	}
+}
+
+// A key that hangs leaves its slot to others, whose results can then be cached again.
+func TestSlotsOfLoadsThatHang(t *testing.T) {
+	g := onePlace(t, 8)
+	release := make(chan struct{})
+	hung := g.DoChan("hangs", func() (any, error) { <-release; return 1, nil })
+	until(t, "a result that can be cached", func() bool {
+		_, _, _, stamp := g.DoStamped("page", value(2))
+		return g.IsStill(stamp)
+	})
+	joined := g.DoChan("hangs", value(3))
+	close(release)
+	for _, ch := range []<-chan Result{hung, joined} {
+		if r := receive(t, ch); r.Val != 1 || !r.Shared {
+			t.Error("the call that hung is joined still", r)
+		}
+	}
+	until(t, "nothing is left", func() bool { return g.Stats().InUse == 0 })
+}
+
+// A load takes no notice of its deadline. No second one begins while it runs.
+func TestOneRunAfterADeadline(t *testing.T) {
+	for _, places := range []uint32{1, 64} {
+		g, err := New(Places(places))
+		if err != nil {
+			t.Fatal(err)
+		}
+		defer g.Close()
+		if places == 1 {
+			// The slot is taken by another key, so that the call runs beside the library.
+			end := make(chan struct{})
+			defer close(end)
+			g.DoChan("other", func() (any, error) { <-end; return nil, nil })
+		}
+		var running, most atomic.Int64
+		release := make(chan struct{})
+		load := func(context.Context) (any, error) {
+			if n := running.Add(1); n > most.Load() {
+				most.Store(n)
+			}
+			defer running.Add(-1)
+			<-release
+			return nil, errors.New("the load failed")
+		}
+		for i := 0; i < 20; i++ {
+			ctx, cancel := context.WithTimeout(context.Background(), time.Millisecond)
+			if _, err, _ := g.DoContext(ctx, "key", load); err != context.DeadlineExceeded {
+				t.Error("a deadline", err)
+			}
+			cancel()
+		}
+		later := g.DoChan("key", value(7))
+		time.Sleep(10 * time.Millisecond)
+		close(release)
+		if r := receive(t, later); r.Val != 7 || r.Err != nil {
+			t.Error("who asks after all have left asks again when the load has failed", r)
+		}
+		if most.Load() != 1 {
+			t.Error("one run at a time", most.Load())
+		}
+	}
+}
+
+// More than a thousand times callers are spent and the library's group is made anew, under load.
+func TestNothingWearsOut(t *testing.T) {
+	s := sizes{places: 16, callers: 4, fixed: true, fixedCallers: true, generations: 25}
+	p := newPool(s)
+	var g Group
+	g.set(p)
+	defer g.Close()
+	target := uint64(1000)
+	if isRaceDetected {
+		target = 100
+	}
+	stress(t, &g, 8, 20, func() bool { return g.Stats().Epochs > target })
+	if st := g.Stats(); st.Epochs <= target {
+		t.Error("renewed", st)
+	}
+	// One caller that is spent at once.
+	p = newPool(sizes{places: 1, callers: 1, fixed: true, fixedCallers: true, generations: 1})
+	var one Group
+	one.set(p)
+	defer one.Close()
+	for i := 0; i < 100; i++ {
+		if v, _, _, stamp := one.DoStamped("key", value(i)); v != i || stamp == (Stamp{}) {
+			t.Error("each result has a stamp", v, stamp)
+		}
+	}
+	// What a drained epoch had is freed.
+	old := p.now.Load()
+	p.lock()
+	p.replace(p.size, true)
+	p.mu.Unlock()
+	if old.root.live {
+		t.Error("an epoch with no calls is freed")
+	}
+}
+
+// Calls of all kinds from many goroutines over few slots. SF_CALLS says how many; 10,000,000 take some minutes.
+func TestStress(t *testing.T) {
+	calls := 200000
+	if isRaceDetected || testing.Short() {
+		calls = 20000
+	}
+	if text := os.Getenv("SF_CALLS"); text != "" {
+		var err error
+		if calls, err = strconv.Atoi(text); err != nil {
+			t.Fatal("SF_CALLS", err)
+		}
+	}
+	for _, options := range [][]Option{{Places(64)}, {Places(64), fixedCallers(24)}, {}} {
+		g, err := New(options...)
+		if err != nil {
+			t.Fatal(err)
+		}
+		var done atomic.Int64
+		stress(t, g, 64, 64, func() bool { return done.Add(1) > int64(calls/3) })
+		t.Log(g.Stats())
+		g.Close()
+		until(t, "all is freed", func() bool { return isFreed(g) })
+	}
+}
+
+// Goroutines that ask for keys, nested and with deadlines, forget them and cache results, until it is enough. No two runs
+// of a key at one time but after a Forget, no answer from before a Forget, and without one none that goes back.
+func stress(t *testing.T, g *Group, goroutines, keys int, enough func() bool) {
+	t.Helper()
+	type page struct {
+		key            int
+		asked, started int64
+	}
+	type state struct {
+		mu       sync.Mutex
+		running  map[*page]bool
+		lastFrom int64 // the latest beginning of a Forget that has ended
+		lastTo   int64 // the latest end of one, or far away where one runs
+		forgets  int   // how many run
+	}
+	var clock atomic.Int64
+	states := make([]state, keys)
+	for i := range states {
+		states[i].running = map[*page]bool{}
+	}
+	type cached struct {
+		page  *page
+		stamp Stamp
+	}
+	cache := make([]atomic.Pointer[cached], keys)
+	names := make([]string, keys)
+	for i := range names {
+		names[i] = fmt.Sprint(strings.Repeat("a long key ", i%8), i)
+	}
+	var end atomic.Bool
+	var all sync.WaitGroup
+	client := func(seed int64) {
+		defer all.Done()
+		random := rand.New(rand.NewSource(seed))
+		last := make([]*page, keys)
+		check := func(key int, v any, asked, forgotten int64) *page {
+			it, ok := v.(*page)
+			if !ok || it.key != key {
+				t.Errorf("key %d has %v", key, v)
+				return nil
+			}
+			if it.started < forgotten {
+				t.Errorf("key %d has a result begun at %d, and was forgotten at %d", key, it.started, forgotten)
+			}
+			if before := last[key]; before != nil && before.started > it.started {
+				states[key].mu.Lock()
+				ended := states[key].lastTo > before.asked || states[key].lastTo > it.asked
+				states[key].mu.Unlock()
+				if !ended {
+					t.Errorf("key %d: an answer went back, from %d to %d", key, before.started, it.started)
+				}
+			}
+			last[key] = it
+			return it
+		}
+		var ask func(key, depth int)
+		ask = func(key, depth int) {
+			s := &states[key]
+			s.mu.Lock()
+			forgotten := s.lastFrom
+			s.mu.Unlock()
+			asked := clock.Add(1)
+			if depth == 0 {
+				if it := cache[key].Load(); it != nil && g.IsStill(it.stamp) {
+					check(key, it.page, asked, forgotten)
+					return
+				}
+			}
+			slow, nested, panics, fails := random.Intn(40) == 0, random.Intn(4) == 0, random.Intn(200) == 0, random.Intn(100) == 0
+			failed := errors.New("the load failed")
+			load := func() (any, error) {
+				me := &page{key: key, asked: asked, started: clock.Add(1)}
+				s.mu.Lock()
+				for other := range s.running {
+					if s.lastTo <= other.asked && s.lastTo <= asked {
+						t.Errorf("two runs of key %d at one time", key)
+					}
+				}
+				s.running[me] = true
+				s.mu.Unlock()
+				defer func() {
+					s.mu.Lock()
+					delete(s.running, me)
+					s.mu.Unlock()
+				}()
+				if slow {
+					time.Sleep(time.Duration(random.Intn(200)) * time.Microsecond)
+				}
+				if nested && depth < 3 && key+1 < keys {
+					ask(key+1+random.Intn(keys-key-1), depth+1)
+				}
+				if panics {
+					panic(failed)
+				}
+				if fails {
+					return nil, failed
+				}
+				return me, nil
+			}
+			defer func() {
+				if v := recover(); v != nil {
+					if err, ok := v.(error); !ok || err.Error() != failed.Error() && errors.Unwrap(err) == nil {
+						panic(v)
+					}
+				}
+			}()
+			if random.Intn(3) == 0 {
+				ctx, cancel := context.WithTimeout(context.Background(), time.Duration(random.Intn(300))*time.Microsecond)
+				defer cancel()
+				// The load may outlive this call, and then has no random source of its own.
+				slow, nested, panics = random.Intn(2) == 0, false, false
+				wait := time.Duration(random.Intn(200)) * time.Microsecond
+				v, err, _ := g.DoContext(ctx, names[key], func(own context.Context) (any, error) {
+					if slow {
+						select {
+						case <-own.Done():
+							return nil, own.Err()
+						case <-time.After(wait):
+						}
+					}
+					slow = false
+					return load()
+				})
+				if err == nil {
+					check(key, v, asked, forgotten)
+				} else if err == context.Canceled {
+					t.Error("the end of a load that others had left")
+				}
+				return
+			}
+			v, err, _, stamp := g.DoStamped(names[key], load)
+			if err == nil {
+				if it := check(key, v, asked, forgotten); it != nil && g.IsStill(stamp) {
+					cache[key].Store(&cached{it, stamp})
+				}
+			} else if err == context.Canceled {
+				t.Error("the end of a load that others had left")
+			}
+		}
+		for !end.Load() {
+			if enough() || t.Failed() {
+				end.Store(true)
+			}
+			key := random.Intn(keys)
+			if random.Intn(8) > 0 {
+				ask(key, 0)
+				continue
+			}
+			s := &states[key]
+			s.mu.Lock()
+			from := clock.Add(1)
+			s.forgets++
+			s.lastTo = 1 << 62
+			s.mu.Unlock()
+			g.Forget(names[key])
+			s.mu.Lock()
+			if from > s.lastFrom {
+				s.lastFrom = from
+			}
+			if s.forgets--; s.forgets == 0 {
+				s.lastTo = clock.Add(1)
+			}
+			s.mu.Unlock()
+		}
+	}
+	within(t, 20*time.Minute, "the stress", func() {
+		for i := 0; i < goroutines; i++ {
+			all.Add(1)
+			go client(int64(i))
+		}
+		all.Wait()
+	})
+	until(t, "all seats are back", func() bool { return g.Stats().InUse == 0 })
+}
+
+// A Forget needs no caller and no memory: where all callers are taken, where a call runs beside the library, after Close.
+func TestForgetAlwaysForgets(t *testing.T) {
+	for what, made := range map[string]func() *Group{
+		"no caller is free": func() *Group {
+			g := openFixed(t, 1)
+			end := make(chan struct{})
+			t.Cleanup(func() { close(end) })
+			g.DoChan("other", func() (any, error) { <-end; return nil, nil })
+			return g
+		},
+		"the slot is another key's": func() *Group {
+			g := onePlace(t, 4)
+			end := make(chan struct{})
+			t.Cleanup(func() { close(end) })
+			g.DoChan("other", func() (any, error) { <-end; return nil, nil })
+			return g
+		},
+		"a call of its own": func() *Group { return open(t, 4) },
+		"closed": func() *Group {
+			g := open(t, 4)
+			g.Close()
+			return g
+		},
+	} {
+		g := made()
+		started, release := chans()
+		old := g.DoChan("key", func() (any, error) { close(started); <-release; return "old", nil })
+		<-started
+		g.Forget("key")
+		within(t, 10*time.Second, what, func() {
+			if v, _, _ := g.Do("key", value("new")); v != "new" {
+				t.Error(what, v)
+			}
+		})
+		close(release)
+		if r := receive(t, old); r.Val != "old" {
+			t.Error(what, r)
+		}
+		if st := g.Stats(); st.Closed != 1 || st.Idle != 0 {
+			t.Error(what, st)
+		}
+	}
+}
+
+func chans() (a, b chan struct{}) { return make(chan struct{}), make(chan struct{}) }
+
+// The library's group is made anew while a call of the key runs. A Forget closes that call, and who asks without one joins
+// it.
+func TestCallsOfAnOldEpoch(t *testing.T) {
+	for _, forgets := range []bool{false, true} {
+		g := open(t, 4)
+		p := g.made.Load()
+		started, release := chans()
+		old := g.DoChan("key", func() (any, error) { close(started); <-release; return "old", nil })
+		<-started
+		p.lock()
+		p.replace(p.size, true)
+		p.mu.Unlock()
+		if forgets {
+			g.Forget("key")
+		}
+		joined := g.DoChan("key", value("new"))
+		if forgets {
+			if r := receive(t, joined); r.Val != "new" || !g.IsStill(r.Stamp) {
+				t.Error("a call after the Forget", r)
+			}
+		}
+		close(release)
+		r := receive(t, old)
+		if r.Val != "old" || r.Shared == forgets || g.IsStill(r.Stamp) {
+			t.Error("the old call", r)
+		}
+		if !forgets {
+			if r := receive(t, joined); r.Val != "old" || !r.Shared {
+				t.Error("who asks meanwhile has its result", r)
+			}
+		}
+	}
+}
+
+// Two keys with one fingerprint never exchange results.
+func TestFingerprintsThatMeet(t *testing.T) {
+	g := onePlace(t, 4)
+	p := g.made.Load()
+	ada, grace := keyed{"ada", 7}, keyed{"grace", 7}
+	var a, b asking
+	p.ask(&a, ada, false)
+	p.ask(&b, grace, true)
+	if !a.leads || b.leads || b.wait == nil {
+		t.Fatal("it follows the call", a, b)
+	}
+	ended := make(chan outcome)
+	var r Result
+	go func() { ended <- p.join(&r, &b, grace, nil) }()
+	p.settle(&a, &Result{Val: "ada"}, ada, nil)
+	if how := <-ended; how != again || r.Val != nil {
+		t.Error("it asks again", how, r)
+	}
+}
+
+// A panic of a load whose leader has left goes on in those who wait, and where nobody does it is told to the hook.
+func TestPanicsOfLoadsThatWereLeft(t *testing.T) {
+	told := make(chan any, 4)
+	g, err := New(OnPanic(func(value any, stack []byte) {
+		if !strings.Contains(string(stack), "TestPanicsOfLoadsThatWereLeft") {
+			t.Error("the stack of the load", string(stack))
+		}
+		told <- value
+	}))
+	if err != nil {
+		t.Fatal(err)
+	}
+	defer g.Close()
+	for _, waits := range []bool{true, false} {
+		ctx, cancel := context.WithCancel(context.Background())
+		started, release := chans()
+		gone := make(chan error)
+		go func() {
+			_, err, _ := g.DoContext(ctx, "key", func(context.Context) (any, error) { close(started); <-release; panic("left") })
+			gone <- err
+		}()
+		<-started
+		recovered := make(chan any, 1)
+		if waits {
+			go func() {
+				defer func() { recovered <- recover() }()
+				g.Do("key", value(1))
+			}()
+			until(t, "another waits", func() bool { return waiting(g) == 2 })
+		}
+		cancel()
+		if err := <-gone; err != context.Canceled {
+			t.Error("the leader leaves", err)
+		}
+		close(release)
+		if waits {
+			if e, ok := (<-recovered).(error); !ok || !strings.HasPrefix(e.Error(), "left\n\n") {
+				t.Error("the panic goes on", e)
+			}
+		} else if v := <-told; v != "left" {
+			t.Error("the hook", v)
+		}
+	}
+	if len(told) != 0 {
+		t.Error("the hook is told where nobody waits, and then alone")
+	}
+}
+
+// errors.Is and errors.As see through a panic that goes on.
+func TestPanicUnwraps(t *testing.T) {
+	failed := errors.New("failed")
+	defer func() {
+		if err, ok := recover().(error); !ok || !errors.Is(err, failed) {
+			t.Error("the error that the function panicked with", err)
+		}
+	}()
+	open(t, 1).Do("key", func() (any, error) { panic(failed) })
+}
+
+// Fifty results of DoChan that nobody reads leave no goroutine behind.
+func TestUnreadChannels(t *testing.T) {
+	before := runtime.NumGoroutine()
+	g := open(t, 4)
+	for i := 0; i < 50; i++ {
+		g.DoChan("key", value(i))
+	}
+	until(t, "their goroutines end", func() bool { return runtime.NumGoroutine() <= before })
+}

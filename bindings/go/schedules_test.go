@@ -1,0 +1,350 @@
+//go:build sf_schedules
+
+package singleflight
+
+import (
+	"context"
+	"errors"
+	"fmt"
+	"math/rand"
+	"os"
+	"strconv"
+	"testing"
+)
+
+// A world of goroutines of which one runs at a time. Who goes on at each yield is drawn at random.
+type world struct {
+	t       *testing.T
+	seed    int64
+	random  *rand.Rand
+	workers []*worker
+	running *worker
+	back    chan struct{}
+	now     int // a step each yield
+	blocked int // yields in a row that were of workers who could not go on
+	trace   []string
+
+	group    *Group
+	keys     [4]keyState
+	stamps   []stampOf
+	cancels  []context.CancelFunc
+	problems []string
+}
+
+type worker struct {
+	number  int
+	goOn    chan struct{}
+	ended   bool
+	blocked bool
+	last    [4]*run // whose result it had last, by key
+}
+
+// What the test knows of a key.
+type keyState struct {
+	forgets []interval
+	runs    []*run
+}
+
+type interval struct{ from, to int } // to is 0 until it has ended
+
+type run struct {
+	key, asked, from, to int
+}
+
+type stampOf struct {
+	stamp Stamp
+	call  Call
+	run   *run
+}
+
+func (w *world) yield(blocked bool) {
+	me := w.running
+	w.now++
+	me.blocked = blocked
+	if blocked {
+		w.blocked++
+	} else {
+		w.blocked = 0
+	}
+	w.back <- struct{}{}
+	<-me.goOn
+}
+
+func (w *world) index() uint { return uint(w.running.number) }
+
+func (w *world) spawn(do func()) {
+	me := &worker{number: len(w.workers), goOn: make(chan struct{})}
+	w.workers = append(w.workers, me)
+	go func() {
+		<-me.goOn
+		defer func() {
+			me.ended = true
+			w.blocked = 0
+			w.back <- struct{}{}
+		}()
+		do()
+	}()
+}
+
+func (w *world) problem(format string, args ...any) {
+	w.problems = append(w.problems, fmt.Sprintf(format, args...))
+}
+
+func (w *world) log(format string, args ...any) {
+	if verbose {
+		w.trace = append(w.trace, fmt.Sprintf("%d: worker %d: ", w.now, w.running.number)+fmt.Sprintf(format, args...))
+	}
+}
+
+var verbose = os.Getenv("SF_VERBOSE") != ""
+
+// Runs until all have ended. False where nobody can go on.
+func (w *world) play() bool {
+	for turn := 0; ; {
+		var live []*worker
+		for _, it := range w.workers {
+			if !it.ended {
+				live = append(live, it)
+			}
+		}
+		if len(live) == 0 {
+			return true
+		}
+		if w.blocked > 12*len(live)+100 {
+			return false
+		}
+		next := live[w.random.Intn(len(live))]
+		if w.blocked > 6*len(live) {
+			// Each in turn.
+			next = live[turn%len(live)]
+			turn++
+		} else if w.random.Intn(3) > 0 && !w.running.ended && !w.running.blocked {
+			next = w.running
+		}
+		w.running = next
+		next.goOn <- struct{}{}
+		<-w.back
+	}
+}
+
+// The latest beginning of a Forget of the key that had ended before.
+func (k *keyState) forgotten(before int) (latest int) {
+	for _, f := range k.forgets {
+		if f.to != 0 && f.to < before && f.from > latest {
+			latest = f.from
+		}
+	}
+	return latest
+}
+
+// Whether a Forget may have ended the call of the run, or the other that was asked for at this moment: a call begins
+// before its function does.
+func (k *keyState) ended(it *run, asked int) bool {
+	for _, f := range k.forgets {
+		if f.to == 0 || f.to > it.asked || f.to > asked {
+			return true
+		}
+	}
+	return false
+}
+
+// A function of a key that somebody asked for at this moment.
+func (w *world) load(key, asked int, body func()) (any, error) {
+	me := &run{key: key, asked: asked, from: w.now}
+	state := &w.keys[key]
+	for _, other := range state.runs {
+		if other.to != 0 {
+			continue
+		}
+		if !state.ended(other, asked) {
+			w.problem("two runs of key %d at one time, begun at %d and %d", key, other.from, me.from)
+		}
+	}
+	state.runs = append(state.runs, me)
+	w.log("runs key %d", key)
+	for n := w.random.Intn(6); n > 0; n-- {
+		yield()
+	}
+	defer func() { me.to = w.now; w.log("its run of key %d, begun at %d, ends", key, me.from); yield() }()
+	body()
+	return me, nil
+}
+
+func (w *world) got(key, asked int, v any) {
+	it, ok := v.(*run)
+	if !ok || it.key != key {
+		w.problem("key %d has a result of another: %v", key, v)
+		return
+	}
+	w.log("has key %d of the run begun at %d", key, it.from)
+	if forgotten := w.keys[key].forgotten(asked); it.from < forgotten {
+		w.problem("key %d asked for at %d has a result of a run begun at %d, and was forgotten at %d", key, asked, it.from, forgotten)
+	}
+	if last := w.running.last[key]; last != nil && last.from > it.from && !w.keys[key].ended(last, it.asked) {
+		w.problem("key %d: an answer went back, from %d to %d", key, last.from, it.from)
+	}
+	w.running.last[key] = it
+}
+
+var errEnded = errors.New("the load was told to end")
+
+// One thing that a worker does.
+func (w *world) act(depth, least int) {
+	if least >= len(w.keys) {
+		return
+	}
+	key := least + w.random.Intn(len(w.keys)-least)
+	name := fmt.Sprint("key-", key)
+	if key == 3 {
+		name += " of more than the forty bytes that the library keeps of a key"
+	}
+	asked := w.now
+	mayPanic := w.random.Intn(12) == 0
+	body := func() {
+		if depth < 2 && w.random.Intn(3) == 0 {
+			w.act(depth+1, key+1)
+		}
+		if mayPanic {
+			panic("as it was told")
+		}
+	}
+	defer func() {
+		if v := recover(); v != nil {
+			if e, ok := v.(error); !ok || len(e.Error()) < 14 || e.Error()[:14] != "as it was told" {
+				panic(v)
+			}
+		}
+	}()
+	switch what := w.random.Intn(21); {
+	case what < 8:
+		w.log("asks for key %d", key)
+		v, err, _, stamp := w.group.DoStamped(name, func() (any, error) { return w.load(key, asked, body) })
+		if err != nil {
+			w.problem("an error of a Do: %v", err)
+			return
+		}
+		w.got(key, asked, v)
+		if it, ok := v.(*run); ok {
+			w.stamps = append(w.stamps, stampOf{stamp, Call{}, it})
+		}
+	case what < 13:
+		ctx, cancel := context.WithCancel(context.Background())
+		w.cancels = append(w.cancels, cancel)
+		w.log("asks for key %d, and may leave", key)
+		v, err, _ := w.group.DoContext(ctx, name, func(own context.Context) (any, error) {
+			v, err := w.load(key, asked, func() {
+				for n := w.random.Intn(8); n > 0 && own.Err() == nil; n-- {
+					yield()
+				}
+				body()
+			})
+			if own.Err() != nil && w.random.Intn(2) == 0 {
+				return nil, errEnded
+			}
+			return v, err
+		})
+		if err == context.Canceled {
+			w.log("has left")
+		} else if err != nil {
+			w.problem("an error of a DoContext: %v", err)
+		} else {
+			w.got(key, asked, v)
+		}
+	case what < 15:
+		w.keys[key].forgets = append(w.keys[key].forgets, interval{from: w.now})
+		mine := len(w.keys[key].forgets) - 1
+		w.log("forgets key %d", key)
+		w.group.Forget(name)
+		w.now++
+		w.keys[key].forgets[mine].to = w.now
+		w.log("has forgotten key %d", key)
+	case what < 17:
+		if len(w.stamps) > 0 {
+			it := w.stamps[w.random.Intn(len(w.stamps))]
+			before := w.now
+			if w.group.IsStill(it.stamp) {
+				for _, other := range w.keys[it.run.key].runs {
+					if other.asked > it.run.asked && other.asked > it.run.to && other.from < before && !w.keys[it.run.key].ended(other, other.asked) {
+						w.problem("a result of a run begun at %d is current, and another began at %d", it.run.from, other.from)
+					}
+				}
+				if forgotten := w.keys[it.run.key].forgotten(before); it.run.from < forgotten {
+					w.problem("a result of a run begun at %d is current, and was forgotten at %d", it.run.from, forgotten)
+				}
+			}
+		}
+	case what < 18:
+		if len(w.cancels) > 0 {
+			w.cancels[w.random.Intn(len(w.cancels))]()
+		}
+	case what < 20 || w.random.Intn(10) > 0:
+		p := w.group.made.Load()
+		w.log("replaces the epoch")
+		p.lock()
+		if !p.shut {
+			p.replace(p.size, true)
+		}
+		p.mu.Unlock()
+	default:
+		w.log("closes the group")
+		w.group.Close()
+	}
+}
+
+func playWorld(t *testing.T, seed int64) {
+	w := &world{t: t, seed: seed, random: rand.New(rand.NewSource(seed)), back: make(chan struct{}), now: 1}
+	s := sizes{places: uint32(1 + w.random.Intn(3)), callers: uint32(1 + w.random.Intn(3)), fixed: true, generations: uint64(2 + w.random.Intn(6)), onPanic: func(any, []byte) {}}
+	s.fixedCallers = w.random.Intn(2) == 0
+	schedule, schedulesHash = nil, uint64(seed)*0x9e3779b97f4a7c15
+	p := newPool(s)
+	w.group = &Group{}
+	w.group.made.Store(p)
+	schedule = w
+	for i := 2 + w.random.Intn(5); i > 0; i-- {
+		w.spawn(func() {
+			for n := 1 + w.random.Intn(5); n > 0; n-- {
+				w.act(0, 0)
+				yield()
+			}
+		})
+	}
+	w.running = w.workers[0]
+	ended := w.play()
+	schedule = nil
+	if !ended {
+		w.problem("nobody can go on")
+	} else {
+		for i := range p.alert {
+			if n := p.alert[i].Load(); n != 0 {
+				w.problem("alert is raised: %d", n)
+			}
+		}
+		if st := p.stats(); st.InUse != 0 || len(p.runs) != 0 || len(p.draining) != 0 {
+			w.problem("something is left: %v, %d runs, %d epochs", st, len(p.runs), len(p.draining))
+		}
+		p.close()
+	}
+	if len(w.problems) > 0 {
+		for _, line := range w.trace {
+			t.Log(line)
+		}
+		t.Fatalf("seed %d: %v", seed, w.problems)
+	}
+}
+
+// Random schedules of random calls keep the promises. SF_SCHEDULES says how many, and SF_SEED with which one to begin.
+func TestSchedules(t *testing.T) {
+	count, from := 2000, int64(1)
+	for name, set := range map[string]func(int){"SF_SCHEDULES": func(n int) { count = n }, "SF_SEED": func(n int) { from = int64(n) }} {
+		if text := os.Getenv(name); text != "" {
+			n, err := strconv.Atoi(text)
+			if err != nil {
+				t.Fatal(name, err)
+			}
+			set(n)
+		}
+	}
+	for seed := from; seed < from+int64(count); seed++ {
+		playWorld(t, seed)
+	}
+}
