@@ -33,8 +33,17 @@ unsafe impl<T: Send + Sync> Sync for Answer<T> {}
 impl<T> Answer<T> {
     /// A value that many may be given before it is known how many there are.
     pub(crate) fn lent(value: T) -> Self {
+        Self::with(value, MANY)
+    }
+
+    /// A value that nobody else has.
+    pub(crate) fn own(value: T) -> Self {
+        Self::with(value, 1)
+    }
+
+    fn with(value: T, count: u64) -> Self {
         let node = Box::new(Node {
-            count: AtomicU64::new(MANY),
+            count: AtomicU64::new(count),
             value,
         });
         Answer {

@@ -1,15 +1,20 @@
-//! Askings for a second caller, who waits elsewhere.
+//! Askings whose answer comes to another caller, who waits elsewhere.
 
-use crate::caller::{Caller, Leading, Read};
-use crate::pool::{Letter, Seat};
-use crate::{Call, Error, Got, raw, refusal};
+use crate::caller::{Asked, By, Caller, Leading, Running};
+use crate::wait::Wait;
+use crate::{Error, Got};
 use std::fmt;
 use std::sync::Arc;
 use std::sync::mpsc::{RecvError, TryRecvError};
 
-/// A call that its caller leads, and for which it has to load. Where it is dropped, it is settled with nothing.
+/// A load that its caller has to run. Where it is dropped, its call is settled with nothing.
 #[must_use]
-pub struct Job<'a, T>(Leading<'a, T>);
+pub struct Job<'a, T>(Work<'a, T>);
+
+enum Work<'a, T> {
+    Leading(Leading<'a, T>),
+    Running(Running<'a, T>),
+}
 
 impl<T> Job<'_, T> {
     /// Loads, and settles the call.
@@ -22,8 +27,10 @@ impl<T> Job<'_, T> {
     /// # drop(receiver);
     /// ```
     pub fn run(self, load: impl FnOnce() -> T) -> Got<T> {
-        let leading = self.0;
-        leading.end(load())
+        match self.0 {
+            Work::Leading(leading) => leading.end(load()),
+            Work::Running(running) => running.end(load()),
+        }
     }
 }
 
@@ -33,37 +40,48 @@ impl<T> fmt::Debug for Job<'_, T> {
     }
 }
 
-/// The end of a call where its answer comes, once. Where it is dropped before, its caller goes back to the group when the answer
-/// has come.
-#[derive(Debug)]
+enum Comes<T> {
+    From(Arc<Wait<T>>),
+    There(Got<T>),
+    // It was taken, or there was none.
+    Nothing,
+}
+
+/// The end of a call where its answer comes, once.
 #[must_use]
-pub struct Receiver<T>(Caller<T>);
+pub struct Receiver<T> {
+    caller: Caller<T>,
+    key: Box<[u8]>,
+    comes: Comes<T>,
+}
 
 impl<T: Send + Sync> Receiver<T> {
-    /// The answer, if it is there. `Disconnected` where there is none: the leader's load panicked, another key's call was open at the
-    /// place of the key, or the answer was taken before.
+    /// The answer, if it is there. `Disconnected` where there is none: the load ended without an answer, or did not begin, or the
+    /// answer was taken before.
     pub fn try_recv(&mut self) -> Result<Got<T>, TryRecvError> {
-        let call = self.0.waits.ok_or(TryRecvError::Disconnected)?;
-        let letter = self.0.seat.as_mut().and_then(Seat::poll).ok_or(TryRecvError::Empty)?;
-        self.read(letter, call).ok_or(TryRecvError::Disconnected)
+        if matches!(&self.comes, Comes::From(wait) if !wait.is_settled()) {
+            return Err(TryRecvError::Empty);
+        }
+        self.read().ok_or(TryRecvError::Disconnected)
     }
 
     /// Waits for the answer. An error where there is none.
     pub fn recv(&mut self) -> Result<Got<T>, RecvError> {
-        let call = self.0.waits.ok_or(RecvError)?;
-        let seat = self.0.seat.as_mut().ok_or(RecvError)?;
-        let letter = self.0.pool.post(call.caller).wait(seat, None).ok_or(RecvError)?;
-        self.read(letter, call).ok_or(RecvError)
+        if let Comes::From(wait) = &self.comes {
+            wait.wait(None);
+        }
+        self.read().ok_or(RecvError)
     }
 
-    fn read(&mut self, letter: Letter, call: Call) -> Option<Got<T>> {
-        match self.0.read(letter, call) {
-            Read::Got(got) => Some(got),
-            Read::Failed => None,
+    fn read(&mut self) -> Option<Got<T>> {
+        match std::mem::replace(&mut self.comes, Comes::Nothing) {
+            Comes::From(wait) => self.caller.read_wait(&wait, &self.key),
+            Comes::There(got) => Some(got),
+            Comes::Nothing => None,
         }
     }
 
-    /// The caller that waited, which is free once its answer was there; else the receiver.
+    /// The caller that waited, once its answer was taken; else the receiver.
     ///
     /// ```
     /// # let group = singleflight::Group::<u32>::open(1, 2).unwrap();
@@ -75,7 +93,13 @@ impl<T: Send + Sync> Receiver<T> {
     /// assert!(receiver.into_caller().is_ok());
     /// ```
     pub fn into_caller(self) -> Result<Caller<T>, Self> {
-        if self.0.waits.is_some() { Err(self) } else { Ok(self.0) }
+        if matches!(self.comes, Comes::Nothing) { Ok(self.caller) } else { Err(self) }
+    }
+}
+
+impl<T> fmt::Debug for Receiver<T> {
+    fn fmt(&self, f: &mut fmt::Formatter<'_>) -> fmt::Result {
+        f.debug_struct("Receiver").field("caller", &self.caller).finish_non_exhaustive()
     }
 }
 
@@ -93,36 +117,30 @@ impl<T: Send + Sync> Caller<T> {
     /// }
     /// assert_eq!(waits.join().unwrap(), 7);
     /// ```
-    pub fn do_chan(&mut self, mut other: Caller<T>, key: &[u8]) -> Result<(Receiver<T>, Option<Job<'_, T>>), (Error, Caller<T>)> {
+    pub fn do_chan(&mut self, other: Caller<T>, key: &[u8]) -> Result<(Receiver<T>, Option<Job<'_, T>>), (Error, Caller<T>)> {
         if !Arc::ptr_eq(&self.pool, &other.pool) {
             return Err((Error::OtherGroup, other));
         }
-        let (pool, fingerprint) = (self.pool.clone(), self.pool.fingerprint(key));
-        let code = match (self.free_seat(), other.free_seat()) {
-            (Ok(seat), Ok(second)) => loop {
-                pool.post(seat.number).ask(fingerprint);
-                match unsafe { raw::sf_ask_chan(&mut seat.slot, &mut second.slot, key.as_ptr(), key.len(), raw::MOST_TRIES) } {
-                    raw::BUSY => std::hint::spin_loop(),
-                    code => break code,
-                }
-            },
-            (Err(why), _) | (_, Err(why)) => return Err((why, other)),
+        let asked = self.ask(key, By::Following);
+        let comes = match &asked {
+            Asked::Leads(call) => self.own_wait(key, *call).map_or(Comes::Nothing, Comes::From),
+            Asked::Runs(wait) | Asked::Follows(wait) => Comes::From(wait.clone()),
+            Asked::Settled(_) | Asked::Joined(_) => Comes::Nothing,
         };
-        if code != raw::DONE && code != raw::OTHERWISE {
-            return Err((refusal(code), other));
-        }
-        let call = other.joined();
-        if code == raw::OTHERWISE {
-            other.count(|post| &post.joins);
-            // As in Caller::ask: another key's call is open, or its leader has settled it and asks for another key.
-            if !pool.post(call.caller).has_asked(fingerprint) {
-                other.leave();
+        let mut receiver = Receiver {
+            caller: other,
+            key: key.into(),
+            comes,
+        };
+        let job = match asked {
+            Asked::Leads(call) => Some(Work::Leading(self.leading(key.to_vec().into(), call))),
+            Asked::Runs(run) => Some(Work::Running(self.running(key.to_vec().into(), run))),
+            Asked::Settled(got) => {
+                receiver.comes = Comes::There(got);
+                None
             }
-            return Ok((Receiver(other), None));
-        }
-        self.count(|post| &post.leads);
-        let mut leading = self.leading();
-        leading.has_receiver = true;
-        Ok((Receiver(other), Some(Job(leading))))
+            Asked::Follows(_) | Asked::Joined(_) => None,
+        };
+        Ok((receiver, job.map(Job)))
     }
 }

@@ -1,41 +1,47 @@
 //! Asking in a task: a future that runs under any executor.
 
-use crate::caller::{Asked, Caller, Read};
-use crate::{Call, Error, Got};
+use crate::caller::{Asked, By, Caller};
+use crate::wait::Wait;
+use crate::{Error, Got};
 use std::future::Future;
-use std::pin::Pin;
+use std::pin::{Pin, pin};
+use std::sync::Arc;
 use std::task::{Context, Poll};
 
-// Waits for the letter of the call that the caller joined. Where it is dropped before, the caller leaves the call.
-struct Waiting<'a, T: Send + Sync> {
+// Waits for the call that the caller follows. Where it is dropped before, the caller has left the call.
+struct Waiting<'a, T> {
     caller: &'a mut Caller<T>,
-    call: Call,
+    wait: Arc<Wait<T>>,
+    waker: u64,
+    is_over: bool,
 }
 
-impl<T: Send + Sync> Future for Waiting<'_, T> {
-    type Output = Read<T>;
+impl<T> Future for Waiting<'_, T> {
+    type Output = ();
 
-    fn poll(mut self: Pin<&mut Self>, context: &mut Context<'_>) -> Poll<Read<T>> {
-        let call = self.call;
-        let caller = &mut *self.caller;
-        let seat = caller.seat.as_mut().expect("who joined has a seat");
-        let letter = caller.pool.post(call.caller).poll(seat, context.waker());
-        letter.map(|letter| caller.read(letter, call))
+    fn poll(mut self: Pin<&mut Self>, context: &mut Context<'_>) -> Poll<()> {
+        let Waiting {
+            wait, waker, is_over, ..
+        } = &mut *self;
+        let polled = wait.poll(waker, context.waker());
+        *is_over = polled.is_ready();
+        polled
     }
 }
 
-impl<T: Send + Sync> Drop for Waiting<'_, T> {
+impl<T> Drop for Waiting<'_, T> {
     fn drop(&mut self) {
-        if self.caller.waits.is_some() {
-            self.caller.leave();
+        if !self.is_over {
+            self.wait.leave(self.waker);
+            self.caller.last = None;
         }
     }
 }
 
 impl<T: Send + Sync> Caller<T> {
     /// [`Caller::do_with`] in a task: the answer of the key's open call; or where there is none, of a new one, for which `load` is
-    /// awaited. It runs under any executor, and is woken by the call's leader alone. Where it is dropped while it waits, its caller goes
-    /// back to the group with the letter, and this one goes on by another; where it is dropped while it loads, who joined asks again.
+    /// awaited. It runs under any executor, and is woken by the call's leader alone. Where it is dropped while it waits, it leaves the
+    /// call; where it is dropped while it loads, who joined asks again.
     ///
     /// ```
     /// # use std::{future::Future, pin::pin, task::{Context, Poll, Waker}};
@@ -54,16 +60,36 @@ impl<T: Send + Sync> Caller<T> {
     /// ```
     pub async fn do_async(&mut self, key: &[u8], load: impl Future<Output = T>) -> Result<Got<T>, Error> {
         loop {
-            let read = match self.ask(key)? {
-                Asked::Leads => {
-                    let leading = self.leading();
-                    return Ok(leading.end(load.await));
+            let wait = match self.ask(key, By::Following) {
+                // The load is dropped before the call is settled: so it has ended when another begins.
+                Asked::Leads(call) => {
+                    let leading = self.leading(key.into(), call);
+                    let value = {
+                        let load = pin!(load);
+                        load.await
+                    };
+                    return Ok(leading.end(value));
                 }
-                Asked::Other => return Ok(self.alone(load.await)),
-                Asked::Settled(call, letter) => self.read(letter, call),
-                Asked::Joined(call) => (Waiting { caller: self, call }).await,
+                Asked::Runs(run) => {
+                    let running = self.running(key.into(), run);
+                    let value = {
+                        let load = pin!(load);
+                        load.await
+                    };
+                    return Ok(running.end(value));
+                }
+                Asked::Settled(got) => return Ok(got),
+                Asked::Joined(_) => unreachable!("who follows joins by no seat"),
+                Asked::Follows(wait) => wait,
             };
-            if let Read::Got(got) = read {
+            Waiting {
+                caller: self,
+                wait: wait.clone(),
+                waker: 0,
+                is_over: false,
+            }
+            .await;
+            if let Some(got) = self.read_wait(&wait, key) {
                 return Ok(got);
             }
         }

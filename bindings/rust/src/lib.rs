@@ -18,11 +18,22 @@
 //! ```
 //!
 //! Each thread or task has a [`Caller`] of its own, which goes back to its group when it is dropped. Asking, settling and forgetting
-//! take no lock; who joins a call parks until its leader, which looks whether anybody joined, wakes it.
+//! take no lock on the usual path. A caller that joins a call parks until the call's leader wakes it.
 //!
-//! Any number of keys of any length come and go: a group has places, a key's is a hash of its bytes, and keys may share one. No call
-//! waits for the load of another key: a caller that finds another key's call open at the place loads without a call, shared with
-//! nobody, which [`Stats::alone`] counts. So have 1,000 places for each call that is open at one time, or 16 for each cached answer.
+//! # Promises
+//!
+//! 1. No call waits for the load of another key. A load may ask for other keys.
+//! 2. At most one load of a key runs at a time, unless a Forget of the key ended the earlier one. So without a Forget answers do not go
+//!    backwards.
+//! 3. Nothing wears out.
+//! 4. A Forget always forgets.
+//! 5. A new group is small, and grows with its use.
+//!
+//! Any number of keys of any length come and go: a group has hash slots, and keys may share one. At each slot the library has one open
+//! call. A call that finds another key's there, or for which the library has no caller, goes beside the library: it joins the key's open
+//! call, or loads, under a lock. [`Stats::alone`] counts these loads. They have no stamp, so a cache cannot keep their answers. A group of
+//! [`Group::new`] grows where they are frequent. Give [`Group::open`] 1,000 slots for each call that is open at one time, or 16 for each
+//! cached answer.
 //!
 //! # Answers in a cache
 //!
@@ -66,21 +77,30 @@
 mod answer;
 mod caller;
 mod chan;
+mod epoch;
 mod future;
+mod hash;
 mod pool;
 mod post;
 mod raw;
+#[cfg(test)]
+mod schedules;
+mod sync;
+mod wait;
 
 pub use answer::Answer;
 pub use caller::Caller;
 pub use chan::{Job, Receiver};
-use pool::Pool;
 pub use pool::Stats;
+use pool::{Plan, Pool};
 use std::fmt;
 use std::sync::Arc;
 
-const PLACES: u32 = 1_048_576;
-const CALLERS: u32 = 16_384;
+/// What a new group begins with.
+const PLACES: u32 = 1024;
+const CALLERS: u32 = 32;
+/// After so many calls a caller of the library is spent.
+const CALLS: u32 = u32::MAX - 1;
 
 /// Why a call made nothing.
 #[derive(Clone, Copy, Debug, PartialEq, Eq)]
@@ -119,6 +139,7 @@ pub struct Group<T> {
 /// What a caller has seen, for another thread's caller to learn.
 pub struct Note<T> {
     note: raw::Note,
+    epoch: u32,
     pool: Arc<Pool<T>>,
 }
 
@@ -135,7 +156,7 @@ pub struct Got<T> {
     stamp: Stamp,
 }
 
-/// A call of a group: no two calls of one have both numbers the same.
+/// A call of a group: no two calls of one have all numbers the same.
 ///
 /// ```
 /// # let group = singleflight::Group::<u32>::open(1, 1).unwrap();
@@ -145,9 +166,11 @@ pub struct Got<T> {
 /// ```
 #[derive(Clone, Copy, Debug, PartialEq, Eq, Hash)]
 pub struct Call {
+    /// Which of the group's tables it was led in, from 1 on: a group that grows, or whose callers are worn, opens a new one.
+    pub epoch: u32,
     /// The number of its leader, from 1 to 65,535.
     pub caller: u32,
-    /// Which call of its leader it is, from 0 on.
+    /// Which call of its leader it is, from 1 on.
     pub generation: u32,
 }
 
@@ -214,19 +237,26 @@ fn refusal(code: u32) -> Error {
 }
 
 impl<T: Send + Sync> Group<T> {
-    /// A group with 1,048,576 places and at most 16,384 callers at one time, in 12 MB. It panics where there is no memory.
+    /// A group that begins with 1,024 hash slots and 32 callers of the library, in 40 kB, and grows with its use: to 1,048,576 slots and
+    /// 65,534 callers at most. It panics where there is no memory.
     ///
     /// ```
     /// let group = singleflight::Group::<u32>::new();
     /// assert_eq!(*group.caller().unwrap().do_with(b"any key", || 7).unwrap().answer, 7);
     /// ```
     pub fn new() -> Self {
-        Self::open(PLACES, CALLERS).expect("memory for a group")
+        let plan = Plan {
+            places: PLACES,
+            callers: CALLERS,
+            grows: true,
+            calls: CALLS,
+        };
+        Self::of(plan).expect("memory for a group")
     }
 
-    /// A group with 1 to 134,217,728 places, of 8 bytes each, and 1 to 65,534 callers at one time, of 240 bytes each and some 400 more once they
-    /// are made. While it is opened it takes twice as much. `Size` or `NothingLeft` where it is
-    /// refused.
+    /// A group that does not grow, with 1 to 134,217,728 hash slots and 1 to 65,534 callers of the library. A slot takes 8 bytes, twice that
+    /// while the group is opened. A caller takes 240 bytes, and 300 more once it was used. Calls for which there is no caller run
+    /// beside the library, under a lock. `Size` or `NothingLeft` where it is refused.
     ///
     /// ```
     /// use singleflight::{Error, Group};
@@ -235,22 +265,40 @@ impl<T: Send + Sync> Group<T> {
     /// assert_eq!(Group::<u32>::open(0, 16).err(), Some(Error::Size));
     /// ```
     pub fn open(places: u32, callers: u32) -> Result<Self, Error> {
-        let pool = Arc::new(Pool::open(places, callers)?);
+        Self::of(Plan {
+            places,
+            callers,
+            grows: false,
+            calls: CALLS,
+        })
+    }
+
+    /// For tests: `open` with callers that are spent after so many calls.
+    #[doc(hidden)]
+    pub fn open_spent_after(places: u32, callers: u32, calls: u32) -> Result<Self, Error> {
+        Self::of(Plan {
+            places,
+            callers,
+            grows: false,
+            calls: calls.clamp(1, CALLS),
+        })
+    }
+
+    fn of(plan: Plan) -> Result<Self, Error> {
+        let pool = Arc::new(Pool::open(plan)?);
         Ok(Group { pool })
     }
 
-    /// A caller, that of one that was dropped or a new one. None where all are taken, or there is no memory.
+    /// A caller, for one thread or task at a time. It is always there: any number of them may ask, and those for which the library
+    /// has no caller ask beside it.
     ///
     /// ```
     /// # let group = singleflight::Group::<u32>::open(1, 1).unwrap();
-    /// let caller = group.caller().unwrap();
-    /// assert!(group.caller().is_none());
-    /// drop(caller);
-    /// assert!(group.caller().is_some());
+    /// let (mut first, mut second) = (group.caller().unwrap(), group.caller().unwrap());
+    /// assert_eq!(*first.do_with(b"k", || *second.do_with(b"m", || 7).unwrap().answer).unwrap().answer, 7);
     /// ```
     pub fn caller(&self) -> Option<Caller<T>> {
-        let seat = self.pool.take()?;
-        Some(Caller::of(self.pool.clone(), seat))
+        Some(Caller::of(self.pool.clone()))
     }
 
     /// [`Caller::is_still`] for who has no caller. It takes a lock.
@@ -261,7 +309,7 @@ impl<T: Send + Sync> Group<T> {
     /// assert!(group.is_still(stamp));
     /// ```
     pub fn is_still(&self, stamp: Stamp) -> bool {
-        self.pool.is_still(stamp)
+        self.pool.is_still(None, stamp)
     }
 
     /// The numbers of the group's calls. It costs a look at each caller that was made.

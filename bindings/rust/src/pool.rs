@@ -1,20 +1,58 @@
-//! The callers of a group: they are split off as they are needed, and dealt again when they come back.
+//! What the callers of a group share: the epoch that they use now, and the calls that no place of it has.
+//!
+//! The library has at most one open call at each hash slot. Around it the pool keeps four promises:
+//! 1. No call waits for the load of another key.
+//! 2. At most one load of a key runs at a time, unless a Forget of the key ended the earlier one.
+//! 3. Nothing wears out: an epoch that is too small, or whose callers have had all their calls, is replaced.
+//! 4. A Forget always forgets.
+//!
+//! A caller that finds no free seat, or another key's call at its slot, goes to the side table, under its lock: there it joins the
+//! key's run beside the library (`runs`), or the key's call of an epoch that was replaced (`moved`), or the key's call of the
+//! library; or it enters a run of its own, and loads.
+//!
+//! # Why at most one load of a key runs
+//!
+//! `alert` counts, by the fingerprint, the entries of the side table.
+//! - A leader L of the library: its word is set; the exchange on the slot; it reads `now` and `alert`; it loads.
+//! - A run R: `alert` is counted up; it looks at the slot, and at the word of the leader that the slot names; it is entered; it loads.
+//!
+//! So L sees that `alert` is not 0, or R sees that L leads. Where L sees it, L takes the lock, by which R's look and entry are one
+//! step: if R is entered L settles its call with nothing and follows R, and else R has found L, or will.
+//! - The renewal: `now` is changed; the words of all seats of the old epoch are read, and each that is set is entered in `moved`.
+//!
+//! So L sees that `now` has changed, and settles with nothing; or the renewal sees L's word. Whoever asks in the new epoch sees
+//! `alert` before, waits for the lock, and follows the moved call.
+//!
+//! Nobody whom others follow waits for anything but its own load: a leader decides before its load begins, and what it decides to
+//! follow it follows after its own call was settled with nothing. So there is no circle.
+//!
+//! # Why a Forget forgets
+//!
+//! It takes the key's entries out of the side table, then ends the key's call in the library, marks the leader's word, and reads
+//! `now`: where that has changed, it begins anew. A call that the renewal entered before it saw the mark is taken out by the second
+//! round. Only a call of the key is ended: another key's open call at the slot stays, or its next asker would load a second time.
+//!
+//! # Why answers do not go backwards
+//!
+//! A leader's word stays until the library has settled the call. So whoever looks follows it, or comes after all who can still join.
+//! A call whose load is over is not moved: L has settled in the library, and stalls before its word is 0; another key's call is led at
+//! the slot; a run R of L's key finds that one, loads, and returns a newer answer; now the renewal would enter L, and the next asker
+//! would follow it.
 
 use crate::answer::Answer;
-use crate::post::Post;
+use crate::epoch::{Epoch, Taken};
+use crate::hash::Fingerprints;
+use crate::post::{Counters, Left, Whose, Woken};
 use crate::raw::{self, Slot};
-use crate::{Call, Error, Stamp, refusal};
-use std::collections::hash_map::RandomState;
-use std::hash::BuildHasher;
-use std::marker::PhantomData;
-use std::sync::{Mutex, MutexGuard, OnceLock, PoisonError};
-
-const CHUNK: usize = 256;
-
-// A lock whose holder panicked is as good as before: none panics between two writes.
-pub(crate) fn lock<T>(mutex: &Mutex<T>) -> MutexGuard<'_, T> {
-    mutex.lock().unwrap_or_else(PoisonError::into_inner)
-}
+use crate::sync::{lock, point};
+use crate::wait::Wait;
+use crate::{Call, Error, Hit, Stamp};
+use std::collections::HashMap;
+use std::sync::atomic::{
+    AtomicBool, AtomicU32,
+    Ordering::{Relaxed, SeqCst},
+};
+use std::sync::{Arc, Mutex};
 
 /// What a settled call brings to one who joined it: the number that it was settled with, and how many joined; or that it was
 /// another key's, and its number.
@@ -28,12 +66,26 @@ pub(crate) enum Letter {
 pub(crate) struct Seat {
     pub(crate) slot: Slot,
     pub(crate) number: u32,
+    /// The generation that its next asking uses, if that leads or joins. The library's first is 1.
+    pub(crate) next: u32,
+    /// Whether it leads a call.
+    pub(crate) leads: bool,
 }
 
 impl Seat {
+    pub(crate) fn new(slot: Slot, number: u32) -> Self {
+        Seat {
+            slot,
+            number,
+            next: FIRST,
+            leads: false,
+        }
+    }
+
     /// The letter of the call that it joined, once.
     pub(crate) fn poll(&mut self) -> Option<Letter> {
         let (mut number, mut joiners) = (0, 0);
+        point();
         match unsafe { raw::sf_poll(&mut self.slot, &mut number, &mut joiners) } {
             raw::DONE => Some(Letter::Own(number, joiners)),
             raw::OTHER => Some(Letter::Other(number)),
@@ -41,43 +93,23 @@ impl Seat {
         }
     }
 
-    /// Whether the call of the stamp is current.
-    pub(crate) fn is_still(&mut self, stamp: Stamp) -> bool {
-        unsafe { raw::sf_is_still(&mut self.slot, &stamp.0) == raw::DONE }
-    }
-
-    /// Whether that closed a call.
-    pub(crate) fn forget(&mut self, key: &[u8]) -> Result<bool, Error> {
-        forget(&mut self.slot, key)
-    }
-
-    /// The stamp of the letter that it had last.
-    pub(crate) fn stamp(&mut self) -> Stamp {
+    /// The stamp of the letter that it had last, in this epoch.
+    pub(crate) fn stamp(&mut self, epoch: u32) -> Stamp {
         let mut stamp = Stamp::default();
         unsafe { raw::sf_stamp(&mut self.slot, &mut stamp.0) };
+        // The library leaves the upper half of the place 0.
+        stamp.0[0] |= u64::from(epoch) << 32;
         stamp
     }
 
-    pub(crate) fn is_free(&mut self) -> bool {
-        let mut number = 0;
-        unsafe { raw::sf_number(&mut self.slot, &mut number) == raw::DONE }
-    }
-
-    /// The call that it leads or waits for, or that of the letter that it had last.
-    pub(crate) fn call(&mut self) -> Call {
+    /// The call that it leads or waits for.
+    pub(crate) fn call(&mut self, epoch: u32) -> Call {
         let (mut caller, mut generation) = (0, 0);
         unsafe { raw::sf_call(&mut self.slot, &mut caller, &mut generation) };
-        Call { caller, generation }
-    }
-}
-
-fn forget(slot: &mut Slot, key: &[u8]) -> Result<bool, Error> {
-    loop {
-        match unsafe { raw::sf_forget(slot, key.as_ptr(), key.len(), raw::MOST_TRIES) } {
-            raw::DONE => return Ok(true),
-            raw::OTHERWISE => return Ok(false),
-            raw::BUSY => std::hint::spin_loop(),
-            code => return Err(refusal(code)),
+        Call {
+            epoch,
+            caller,
+            generation,
         }
     }
 }
@@ -88,106 +120,437 @@ impl Drop for Seat {
     }
 }
 
-struct Seats {
-    // Each seat is split off from it.
-    root: Slot,
-    free: Vec<Seat>,
-    made: u32,
-    gone: u32,
-}
+/// The first generation of a caller of the library.
+pub(crate) const FIRST: u32 = 1;
 
-/// The numbers of a group's calls since it was opened.
+/// The numbers of a group.
 #[derive(Clone, Copy, Debug, Default, PartialEq, Eq)]
 pub struct Stats {
-    /// Calls that were led, of which each had one load.
+    /// Calls that were led.
     pub leads: u64,
-    /// Askings that joined another's call.
+    /// Calls that were joined, those included that one left.
     pub joins: u64,
-    /// Loads without a call, as other keys' calls were open at the key's place.
+    /// Loads without a call of the library: no caller was free, or another key's call was open at the key's place.
     pub alone: u64,
-    /// Forgets that closed a call.
+    /// Forgets that ended an open call.
     pub closed: u64,
-    /// Forgets that closed none.
+    /// Forgets that found none.
     pub idle: u64,
-    /// Callers that were made so far.
+    /// Callers of the library that were made.
     pub made: u32,
-    /// Callers that somebody has, or whose letters have not come.
+    /// Those of them that are in use: taken, or waiting for a letter that its asker has left.
     pub in_use: u32,
 }
 
+impl Stats {
+    fn add(&mut self, counters: &Counters) {
+        self.leads += counters.leads.get();
+        self.joins += counters.joins.get();
+        self.alone += counters.alone.get();
+        self.closed += counters.closed.get();
+        self.idle += counters.idle.get();
+    }
+}
+
+/// How a group grows, and when a caller of it is spent.
+#[derive(Clone, Copy)]
+pub(crate) struct Plan {
+    pub(crate) places: u32,
+    pub(crate) callers: u32,
+    pub(crate) grows: bool,
+    /// After so many calls a caller is replaced.
+    pub(crate) calls: u32,
+}
+
+/// A group that grows has at most so many places and callers, and each step is so many times the one before.
+const MOST_PLACES: u32 = 1 << 20;
+const MOST_CALLERS: u32 = 65_534;
+const STEP: u32 = 8;
+
+const ALERTS: usize = 64;
+
+struct Side<T> {
+    /// Loads that run beside the library.
+    runs: HashMap<Box<[u8]>, Arc<Wait<T>>>,
+    /// Calls of epochs that were replaced, by the fingerprints of their keys. Two may have one: a call that a Forget ended after it was
+    /// moved is not here, but an asking that has not led yet may be.
+    moved: HashMap<u64, Vec<Arc<Wait<T>>>>,
+}
+
+/// The epochs, of which the last one is current, and the numbers of those that are gone.
+struct Epochs<T> {
+    all: Vec<Arc<Epoch<T>>>,
+    gone: Stats,
+}
+
 pub(crate) struct Pool<T> {
-    seats: Mutex<Seats>,
-    posts: Vec<OnceLock<Box<[Post]>>>,
-    most: u32,
-    random: RandomState,
-    value: PhantomData<fn(T) -> T>,
+    // The number of the current epoch. Written with the lock of `side` held.
+    now: AtomicU32,
+    // By the fingerprint: how many entries of the side table one has to look for.
+    alert: [AtomicU32; ALERTS],
+    fingerprints: Fingerprints,
+    plan: Plan,
+    current: Mutex<Arc<Epoch<T>>>,
+    side: Mutex<Side<T>>,
+    epochs: Mutex<Epochs<T>>,
+    is_renewing: AtomicBool,
+    // Of those who have no seat.
+    pub(crate) counters: Counters,
+    made: AtomicU32,
+    in_use: AtomicU32,
+}
+
+/// What the side table has for a key.
+pub(crate) enum Beside<T> {
+    /// A call to follow.
+    Follow(Arc<Wait<T>>),
+    /// A run that was entered, for which one has to load.
+    Run(Arc<Wait<T>>),
+    /// Nothing, and no call is open at the key's place: one asks the library.
+    Nothing,
 }
 
 impl<T> Pool<T> {
-    pub(crate) fn open(places: u32, callers: u32) -> Result<Self, Error> {
-        // The slot from which the callers are split off has one of its own.
-        let all = callers.checked_add(1).filter(|all| *all > 1).ok_or(Error::Size)?;
-        let mut root = Slot::NONE;
-        let random = RandomState::new();
-        match unsafe { raw::sf_open(&mut root, places, all, random.hash_one(0), random.hash_one(1)) } {
-            raw::DONE => Ok(Pool {
-                seats: Mutex::new(Seats {
-                    root,
-                    free: Vec::new(),
-                    made: 0,
-                    gone: 0,
-                }),
-                posts: (0..=all as usize / CHUNK).map(|_| OnceLock::new()).collect(),
-                most: callers,
-                random,
-                value: PhantomData,
+    pub(crate) fn open(plan: Plan) -> Result<Self, Error> {
+        let first = Arc::new(Epoch::open(1, plan.places, plan.callers)?);
+        Ok(Pool {
+            now: AtomicU32::new(1),
+            alert: [const { AtomicU32::new(0) }; ALERTS],
+            fingerprints: Fingerprints::new(),
+            plan,
+            current: Mutex::new(first.clone()),
+            side: Mutex::new(Side {
+                runs: HashMap::new(),
+                moved: HashMap::new(),
             }),
-            code => Err(refusal(code)),
-        }
+            epochs: Mutex::new(Epochs {
+                all: vec![first],
+                gone: Stats::default(),
+            }),
+            is_renewing: AtomicBool::new(false),
+            counters: Counters::default(),
+            made: AtomicU32::new(0),
+            in_use: AtomicU32::new(0),
+        })
     }
 
-    /// Tells keys apart: two of them have the same with a probability of one in 2^64.
     pub(crate) fn fingerprint(&self, key: &[u8]) -> u64 {
-        self.random.hash_one(key)
+        self.fingerprints.of(key)
     }
 
-    /// The post of the caller with this number.
-    pub(crate) fn post(&self, number: u32) -> &Post {
-        let posts = self.posts[number as usize / CHUNK].get_or_init(|| (0..CHUNK).map(|_| Post::default()).collect());
-        &posts[number as usize % CHUNK]
+    /// The number of the current epoch.
+    #[inline]
+    pub(crate) fn now(&self) -> u32 {
+        point();
+        self.now.load(SeqCst)
     }
 
-    /// A free seat. None where all are taken, or there is no memory.
-    pub(crate) fn take(&self) -> Option<Seat> {
-        let mut seats = lock(&self.seats);
-        if let Some(seat) = seats.free.pop() {
-            return Some(seat);
+    /// Whether the side table may have something for a key with this fingerprint.
+    #[inline]
+    pub(crate) fn is_alert(&self, fingerprint: u64) -> bool {
+        point();
+        self.alert_of(fingerprint).load(SeqCst) != 0
+    }
+
+    #[inline]
+    fn alert_of(&self, fingerprint: u64) -> &AtomicU32 {
+        &self.alert[fingerprint as usize % ALERTS]
+    }
+
+    pub(crate) fn current(&self) -> Arc<Epoch<T>> {
+        lock(&self.current).clone()
+    }
+
+    /// A free seat of the current epoch. None where all are taken, or there is no memory.
+    pub(crate) fn take(&self) -> Option<Taken<T>> {
+        let epoch = self.current();
+        let (seat, is_new) = epoch.take()?;
+        self.made.fetch_add(u32::from(is_new), Relaxed);
+        self.in_use.fetch_add(1, Relaxed);
+        Some(Taken { seat, epoch })
+    }
+
+    pub(crate) fn put(&self, taken: Taken<T>) {
+        let Taken { seat, epoch } = taken;
+        self.put_in(&epoch, seat);
+        if epoch.number != self.now() {
+            drop(epoch);
+            self.sweep(&mut lock(&self.epochs));
         }
-        if seats.made == self.most {
-            return None;
+    }
+
+    fn put_in(&self, epoch: &Epoch<T>, seat: Seat) {
+        epoch.put(seat);
+        self.in_use.fetch_sub(1, Relaxed);
+    }
+
+    /// Lets a seat go whose caller has had all its calls. Where half of an epoch's have, another one is opened.
+    pub(crate) fn retire(&self, taken: Taken<T>) {
+        let Taken { seat, epoch } = taken;
+        drop(seat);
+        self.in_use.fetch_sub(1, Relaxed);
+        epoch.spent.fetch_add(1, Relaxed);
+        if epoch.is_worn() {
+            self.renew(&epoch, epoch.places, epoch.callers);
         }
-        let mut slot = Slot::NONE;
-        if unsafe { raw::sf_split(&mut seats.root, &mut slot) } != raw::DONE {
-            return None;
+    }
+
+    /// The calls after which a seat is spent.
+    #[inline]
+    pub(crate) fn calls(&self) -> u32 {
+        self.plan.calls
+    }
+
+    /// Another key's call was found at a key's place. Where that is frequent, there are too few places.
+    pub(crate) fn clash(&self, epoch: &Arc<Epoch<T>>) {
+        let clashes = epoch.clashes.fetch_add(1, Relaxed) + 1;
+        let is_time = clashes >= 16 && clashes.is_power_of_two();
+        if self.plan.grows && is_time && epoch.places < MOST_PLACES && epoch.askings() / 256 < clashes {
+            self.renew(epoch, (epoch.places * STEP).min(MOST_PLACES), epoch.callers);
         }
-        seats.made += 1;
-        let mut number = 0;
-        unsafe { raw::sf_number(&mut slot, &mut number) };
-        Some(Seat { slot, number })
     }
 
-    pub(crate) fn put(&self, seat: Seat) {
-        lock(&self.seats).free.push(seat);
+    /// One loads beside the library since no caller was free.
+    pub(crate) fn grow(&self) {
+        let epoch = self.current();
+        if epoch.is_worn() {
+            // There was no memory before.
+            self.renew(&epoch, epoch.places, epoch.callers);
+        } else if self.plan.grows && epoch.callers < MOST_CALLERS {
+            let callers = (epoch.callers * STEP).min(MOST_CALLERS);
+            self.renew(&epoch, (epoch.places * STEP).min(MOST_PLACES), callers);
+        }
     }
 
-    /// Whether the call of the stamp is current, asked by the slot that nobody has.
-    pub(crate) fn is_still(&self, stamp: Stamp) -> bool {
-        unsafe { raw::sf_is_still(&mut lock(&self.seats).root, &stamp.0) == raw::DONE }
+    /// Opens an epoch of these sizes in the place of the old one, unless that is replaced already, another thread does it, or there
+    /// is no memory.
+    fn renew(&self, old: &Arc<Epoch<T>>, places: u32, callers: u32) {
+        point();
+        if self.is_renewing.swap(true, SeqCst) {
+            return;
+        }
+        if old.number == self.now() {
+            // It takes some time, for which nobody waits.
+            if let Ok(new) = Epoch::open(old.number.wrapping_add(1).max(1), places, callers) {
+                self.install(old, Arc::new(new));
+            }
+        }
+        point();
+        self.is_renewing.store(false, SeqCst);
     }
 
-    /// The same for a Forget.
-    pub(crate) fn forget(&self, key: &[u8]) -> Result<bool, Error> {
-        forget(&mut lock(&self.seats).root, key)
+    fn install(&self, old: &Arc<Epoch<T>>, new: Arc<Epoch<T>>) {
+        let mut side = lock(&self.side);
+        // Who leads in the new epoch before all calls of the old one are entered waits for the lock.
+        for alert in &self.alert {
+            alert.fetch_add(1, SeqCst);
+        }
+        let number = new.number;
+        lock(&self.epochs).all.push(new.clone());
+        *lock(&self.current) = new;
+        point();
+        self.now.store(number, SeqCst);
+        for (caller, post) in old.posts() {
+            if let Some(wait) = post.moves(old.number, caller) {
+                point();
+                self.alert_of(wait.fingerprint).fetch_add(1, SeqCst);
+                side.moved.entry(wait.fingerprint).or_default().push(wait);
+            }
+        }
+        for alert in &self.alert {
+            alert.fetch_sub(1, SeqCst);
+        }
+        drop(side);
+        old.replace();
+        self.sweep(&mut lock(&self.epochs));
+    }
+
+    // Counts the epochs that nobody uses any more, and drops them.
+    fn sweep(&self, epochs: &mut Epochs<T>) {
+        let Epochs { all, gone } = epochs;
+        let now = self.now();
+        all.retain(|epoch| {
+            // Where the list alone has it, nobody takes another share.
+            let is_used = epoch.number == now || Arc::strong_count(epoch) > 1;
+            if !is_used {
+                epoch.posts().for_each(|(_, post)| gone.add(&post.counters));
+            }
+            is_used
+        });
+    }
+
+    /// Looks for the key in the side table, and then in the library, and follows what it finds. Where it finds nothing, it enters a
+    /// run; or does not, where the caller has a seat and the key's place is free.
+    pub(crate) fn beside(&self, key: &[u8], fingerprint: u64, has_seat: bool) -> Beside<T> {
+        let mut side = lock(&self.side);
+        loop {
+            if let Some(run) = side.runs.get(key) {
+                run.join();
+                return Beside::Follow(run.clone());
+            }
+            if let Some(moved) = side.moved_of(fingerprint) {
+                moved.join();
+                return Beside::Follow(moved.clone());
+            }
+            let alert = self.alert_of(fingerprint);
+            point();
+            alert.fetch_add(1, SeqCst);
+            let epoch = self.current();
+            let (call, whose) = epoch.look(None, key, fingerprint);
+            match (call, whose) {
+                (Some(call), Whose::Same) => {
+                    point();
+                    alert.fetch_sub(1, SeqCst);
+                    if let Some(wait) = epoch.post(call.caller).follow(call, fingerprint) {
+                        wait.join();
+                        return Beside::Follow(wait);
+                    }
+                }
+                (_, Whose::Ended) if has_seat => {
+                    point();
+                    alert.fetch_sub(1, SeqCst);
+                    return Beside::Nothing;
+                }
+                _ => {
+                    let run = Wait::new(fingerprint, None);
+                    side.runs.insert(key.into(), run.clone());
+                    return Beside::Run(run);
+                }
+            }
+        }
+    }
+
+    /// Whether a leader of this epoch may load, that has led its call before. Else it settles that with nothing, and asks again.
+    pub(crate) fn may_load(&self, epoch: u32, key: &[u8], fingerprint: u64) -> bool {
+        if self.now() == epoch && !self.is_alert(fingerprint) {
+            return true;
+        }
+        // Calls are moved only where `now` changes, and it has looked for these before.
+        let side = lock(&self.side);
+        self.now() == epoch && !side.runs.contains_key(key)
+    }
+
+    /// A run ends: it is taken out before its followers learn of it, so that who asks later loads anew.
+    pub(crate) fn end_run(&self, key: &[u8], run: &Arc<Wait<T>>) {
+        let mut side = lock(&self.side);
+        if side.runs.get(key).is_some_and(|entered| Arc::ptr_eq(entered, run)) {
+            let entered = side.runs.remove_entry(key);
+            point();
+            self.alert_of(run.fingerprint).fetch_sub(1, SeqCst);
+            drop(side);
+            drop(entered);
+        }
+    }
+
+    /// A call is settled that was followed.
+    fn unmove(&self, wait: &Arc<Wait<T>>) -> bool {
+        if !wait.moved.load(Relaxed) {
+            return false;
+        }
+        let mut side = lock(&self.side);
+        let found = side.unmove(wait);
+        if found {
+            point();
+            self.alert_of(wait.fingerprint).fetch_sub(1, SeqCst);
+        }
+        found
+    }
+
+    /// Forgets the key's runs and moved calls: whether there was one.
+    fn forget_beside(&self, key: &[u8], fingerprint: u64) -> bool {
+        if !self.is_alert(fingerprint) {
+            return false;
+        }
+        let mut side = lock(&self.side);
+        let run = side.runs.remove_entry(key);
+        let moved = side.moved.remove(&fingerprint).unwrap_or_default();
+        let count = moved.len() as u32 + u32::from(run.is_some());
+        point();
+        self.alert_of(fingerprint).fetch_sub(count, SeqCst);
+        drop(side);
+        run.is_some() || moved.iter().any(|wait| !wait.is_settled())
+    }
+
+    /// Forgets the key: whether that ended a call.
+    pub(crate) fn forget(&self, taken: &mut Option<Taken<T>>, key: &[u8], fingerprint: u64) -> bool {
+        let mut closed = false;
+        loop {
+            let epoch = self.epoch_of(taken);
+            closed |= self.forget_beside(key, fingerprint);
+            if let Some(call) = epoch.named(taken.as_mut().map(|taken| &mut taken.seat), key) {
+                let post = epoch.post(call.caller);
+                // Another key's open call stays: of this key nothing is open then, nor current.
+                if post.whose(call.generation, fingerprint) != Whose::Other {
+                    let hit = epoch.forget_call(taken.as_mut().map(|taken| &mut taken.seat), key, call);
+                    post.forget(call.generation);
+                    closed |= hit == Hit::Closed;
+                }
+            }
+            if self.now() == epoch.number {
+                return closed;
+            }
+            if let Some(taken) = taken.take() {
+                self.put(taken);
+            }
+            *taken = self.take();
+        }
+    }
+
+    /// Forgets one call of the key.
+    pub(crate) fn forget_call(&self, taken: &mut Option<Taken<T>>, key: &[u8], fingerprint: u64, call: Call) -> Hit {
+        let epoch = self.epoch_of(taken);
+        if call.epoch == epoch.number && epoch.has(call.caller) {
+            let post = epoch.post(call.caller);
+            if post.whose(call.generation, fingerprint) == Whose::Other {
+                return Hit::Missed;
+            }
+            let hit = epoch.forget_call(taken.as_mut().map(|taken| &mut taken.seat), key, call);
+            if hit != Hit::Missed {
+                post.forget(call.generation);
+                if self.now() == epoch.number {
+                    return hit;
+                }
+                self.forget_moved(fingerprint, call);
+                return hit;
+            }
+        }
+        if self.forget_moved(fingerprint, call) { Hit::Closed } else { Hit::Missed }
+    }
+
+    fn forget_moved(&self, fingerprint: u64, call: Call) -> bool {
+        if !self.is_alert(fingerprint) {
+            return false;
+        }
+        let side = lock(&self.side);
+        let moved = side.moved.get(&fingerprint);
+        let found = moved.and_then(|moved| moved.iter().find(|wait| wait.call == Some(call) && !wait.is_settled()).cloned());
+        drop(side);
+        found.is_some_and(|wait| self.unmove(&wait))
+    }
+
+    // The epoch of the seat, or where there is none the current one.
+    fn epoch_of(&self, taken: &Option<Taken<T>>) -> Arc<Epoch<T>> {
+        taken.as_ref().map_or_else(|| self.current(), |taken| taken.epoch.clone())
+    }
+
+    /// Whether the call of the stamp is current.
+    pub(crate) fn is_still(&self, taken: Option<&mut Taken<T>>, stamp: Stamp) -> bool {
+        let now = self.now();
+        if stamp.0[0] >> 32 != u64::from(now) {
+            return false;
+        }
+        let plain = [stamp.0[0] & u64::from(u32::MAX), stamp.0[1]];
+        let still = |slot: &mut Slot| {
+            point();
+            unsafe { raw::sf_is_still(slot, &plain) == raw::DONE }
+        };
+        match taken {
+            Some(taken) if taken.epoch.number == now => still(&mut taken.seat.slot),
+            _ => {
+                let epoch = self.current();
+                epoch.number == now && epoch.by(None, still)
+            }
+        }
     }
 
     /// Gives the count of the answer back that the letter brought, which nobody uses.
@@ -197,34 +560,86 @@ impl<T> Pool<T> {
         drop(unsafe { Answer::<T>::of_number(number) });
     }
 
-    /// Lets a seat go that has had all its calls.
-    pub(crate) fn retire(&self, seat: Seat) {
-        lock(&self.seats).gone += 1;
-        drop(seat);
+    /// Serves those who waited for a call of the epoch that is settled: `end` settles the wait.
+    pub(crate) fn serve(&self, epoch: &Epoch<T>, woken: Woken<T>, end: impl FnOnce(&Wait<T>)) {
+        if let Some(wait) = woken.wait {
+            end(&wait);
+            self.unmove(&wait);
+        }
+        for Left { mut seat, is_stranger } in woken.left {
+            seat.poll().into_iter().for_each(|letter| self.give_back(letter));
+            self.came_back(epoch, seat, is_stranger);
+        }
+    }
+
+    /// The seat leaves the call of the leader with this number, which it joined.
+    pub(crate) fn leave(&self, taken: Taken<T>, leader: u32, is_stranger: bool) {
+        let Taken { seat, epoch } = taken;
+        if is_stranger {
+            epoch.strange(true);
+        }
+        if let Some((Left { seat, .. }, letter)) = epoch.post(leader).leave(Left { seat, is_stranger }) {
+            self.give_back(letter);
+            self.came_back(&epoch, seat, is_stranger);
+        }
+    }
+
+    fn came_back(&self, epoch: &Epoch<T>, seat: Seat, is_stranger: bool) {
+        if is_stranger {
+            epoch.strange(false);
+        }
+        self.put_in(epoch, seat);
+    }
+
+    #[cfg(test)]
+    pub(crate) fn is_alert_anywhere(&self) -> bool {
+        self.alert.iter().any(|alert| alert.load(SeqCst) != 0)
     }
 
     pub(crate) fn stats(&self) -> Stats {
-        let seats = lock(&self.seats);
-        let mut stats = Stats {
-            made: seats.made,
-            in_use: seats.made - seats.gone - seats.free.len() as u32,
-            ..Stats::default()
-        };
-        drop(seats);
-        for post in self.posts.iter().filter_map(OnceLock::get).flat_map(|posts| posts.iter()) {
-            stats.leads += post.leads.get();
-            stats.joins += post.joins.get();
-            stats.alone += post.alone.get();
-            stats.closed += post.closed.get();
-            stats.idle += post.idle.get();
-        }
+        let mut epochs = lock(&self.epochs);
+        self.sweep(&mut epochs);
+        let mut stats = epochs.gone;
+        epochs.all.iter().flat_map(|epoch| epoch.posts()).for_each(|(_, post)| stats.add(&post.counters));
+        drop(epochs);
+        stats.add(&self.counters);
+        stats.made = self.made.load(Relaxed);
+        stats.in_use = self.in_use.load(Relaxed);
         stats
     }
 }
 
-impl<T> Drop for Pool<T> {
-    fn drop(&mut self) {
-        let seats = self.seats.get_mut().unwrap_or_else(PoisonError::into_inner);
-        unsafe { raw::sf_close(&mut seats.root) }
+impl<T> Side<T> {
+    // A moved call of a key with this fingerprint. One that is settled is about to be taken out.
+    fn moved_of(&mut self, fingerprint: u64) -> Option<&Arc<Wait<T>>> {
+        self.moved.get(&fingerprint)?.iter().find(|wait| !wait.is_settled())
+    }
+
+    fn unmove(&mut self, wait: &Arc<Wait<T>>) -> bool {
+        let Some(moved) = self.moved.get_mut(&wait.fingerprint) else {
+            return false;
+        };
+        let before = moved.len();
+        moved.retain(|other| !Arc::ptr_eq(other, wait));
+        let found = moved.len() < before;
+        if moved.is_empty() {
+            self.moved.remove(&wait.fingerprint);
+        }
+        found
+    }
+}
+
+impl<T> Epoch<T> {
+    fn forget_call(&self, seat: Option<&mut Seat>, key: &[u8], call: Call) -> Hit {
+        let Call { caller, generation, .. } = call;
+        self.by(seat, |slot| loop {
+            point();
+            match unsafe { raw::sf_forget_call(slot, key.as_ptr(), key.len(), caller, generation, raw::MOST_TRIES) } {
+                raw::DONE => return Hit::Closed,
+                raw::CLEARED => return Hit::Cleared,
+                raw::BUSY => std::hint::spin_loop(),
+                _ => return Hit::Missed,
+            }
+        })
     }
 }

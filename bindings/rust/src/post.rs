@@ -1,13 +1,14 @@
-//! Where those wait who joined a call of one caller: who sleeps in a thread, and who is woken by a waker.
+//! What stands at the number of a library's caller: which call it leads, and who waits for that.
 
-use crate::pool::{Letter, Pool, Seat, lock};
-use std::collections::BTreeMap;
+use crate::pool::{Letter, Seat};
+use crate::sync::{lock, point, sleep};
+use crate::wait::Wait;
+use crate::Call;
 use std::sync::atomic::{
     AtomicU64, AtomicUsize,
-    Ordering::{Acquire, Relaxed, Release},
+    Ordering::{AcqRel, Acquire, Relaxed, Release},
 };
-use std::sync::{Condvar, Mutex, OnceLock, PoisonError};
-use std::task::{Poll, Waker};
+use std::sync::{Arc, Condvar, Mutex, OnceLock};
 use std::time::{Duration, Instant};
 
 /// So long one looks for a letter before one sleeps, about as long as it takes to sleep and be woken.
@@ -22,13 +23,12 @@ fn most_looking() -> usize {
     *MOST.get_or_init(|| std::thread::available_parallelism().map_or(0, |processors| processors.get() - 1))
 }
 
-/// Looks for the letter for some time, until the deadline at the latest, unless as many look as may.
-fn look(seat: &mut Seat, deadline: Option<Instant>) -> Option<Letter> {
+/// Looks for the letter for some time, unless as many look as may.
+fn look(seat: &mut Seat) -> Option<Letter> {
     let before = LOOKING.fetch_add(1, Relaxed);
     let mut found = seat.poll();
-    if before < most_looking() {
-        let enough = Instant::now() + LOOKING_TIME;
-        let until = deadline.map_or(enough, |deadline| deadline.min(enough));
+    if before < most_looking() && !cfg!(test) {
+        let until = Instant::now() + LOOKING_TIME;
         while found.is_none() && Instant::now() < until {
             std::hint::spin_loop();
             found = seat.poll();
@@ -38,28 +38,24 @@ fn look(seat: &mut Seat, deadline: Option<Instant>) -> Option<Letter> {
     found
 }
 
-#[derive(Default)]
-struct Waits {
-    // Of those who have left, and whose letters will come.
-    left: Vec<Seat>,
-    // By the numbers of the callers that wait.
-    wakers: BTreeMap<u32, Waker>,
-    asleep: u32,
+/// A seat whose caller has left the call that it joined, and whose letter will come.
+pub(crate) struct Left {
+    pub(crate) seat: Seat,
+    /// Whether it asked for another key.
+    pub(crate) is_stranger: bool,
 }
 
-/// What stands at a caller's number.
-#[derive(Default)]
-#[repr(align(128))]
-pub(crate) struct Post {
-    waits: Mutex<Waits>,
-    settled: Condvar,
-    // Of the key that the caller asks for, or asked for last. It is written before the asking.
-    fingerprint: AtomicU64,
-    pub(crate) leads: Counter,
-    pub(crate) joins: Counter,
-    pub(crate) alone: Counter,
-    pub(crate) closed: Counter,
-    pub(crate) idle: Counter,
+struct Waits<T> {
+    left: Vec<Left>,
+    asleep: u32,
+    // Of the call that the caller leads, made by the first who follows it.
+    wait: Option<Arc<Wait<T>>>,
+}
+
+/// Those who waited for a call that is settled, and are not woken yet.
+pub(crate) struct Woken<T> {
+    pub(crate) left: Vec<Left>,
+    pub(crate) wait: Option<Arc<Wait<T>>>,
 }
 
 /// A number to which one thread at a time adds: that which has the caller.
@@ -71,7 +67,7 @@ impl Counter {
         self.0.store(self.get() + 1, Relaxed);
     }
 
-    /// For those who have no caller. The library's callers have numbers from 1.
+    /// For those who have no caller.
     pub(crate) fn add_shared(&self) {
         self.0.fetch_add(1, Relaxed);
     }
@@ -81,78 +77,203 @@ impl Counter {
     }
 }
 
-impl Post {
-    /// Its caller is about to ask for a key with this fingerprint.
-    pub(crate) fn ask(&self, fingerprint: u64) {
+#[derive(Default)]
+pub(crate) struct Counters {
+    pub(crate) leads: Counter,
+    pub(crate) joins: Counter,
+    pub(crate) alone: Counter,
+    pub(crate) closed: Counter,
+    pub(crate) idle: Counter,
+}
+
+/// Somebody follows the call.
+const FOLLOWED: u64 = 1;
+/// A Forget has ended the call.
+const FORGOTTEN: u64 = 2;
+
+fn word_of(generation: u32) -> u64 {
+    (u64::from(generation) + 1) << 2
+}
+
+fn is_of(word: u64, generation: u32) -> bool {
+    word & !(FOLLOWED | FORGOTTEN) == word_of(generation)
+}
+
+/// Whose call it is that a place of the library names.
+#[derive(Clone, Copy, PartialEq, Eq, Debug)]
+pub(crate) enum Whose {
+    /// It has ended: the letters are there.
+    Ended,
+    /// It is open, and of this key.
+    Same,
+    /// It is open, and of another key.
+    Other,
+}
+
+/// What stands at a caller's number. Its seat's owner alone begins and ends a word; anyone may set a mark while the word is of the
+/// call that is meant.
+#[repr(align(128))]
+pub(crate) struct Post<T> {
+    // 0, or the generation of an asking and the marks. It is written before the library is asked, so a call that the library names has
+    // its generation here until its leader has settled it: then the letters are there, and it is 0 again.
+    word: AtomicU64,
+    // Of the key that is asked for. It is written before the word, and the word is 0 then: so where the word is of one generation
+    // before and after, the fingerprint that was read between is that of this asking.
+    fingerprint: AtomicU64,
+    // The word of the call whose load is over. It is written before the call is settled in the library.
+    over: AtomicU64,
+    pub(crate) counters: Counters,
+    waits: Mutex<Waits<T>>,
+    settled: Condvar,
+}
+
+impl<T> Default for Post<T> {
+    fn default() -> Self {
+        Post {
+            word: AtomicU64::new(0),
+            fingerprint: AtomicU64::new(0),
+            over: AtomicU64::new(0),
+            counters: Counters::default(),
+            waits: Mutex::new(Waits {
+                left: Vec::new(),
+                asleep: 0,
+                wait: None,
+            }),
+            settled: Condvar::new(),
+        }
+    }
+}
+
+impl<T> Post<T> {
+    /// Its caller is about to ask. The library's exchange, a locked instruction, comes after these writes and before whatever the
+    /// asker looks at next.
+    pub(crate) fn begin(&self, fingerprint: u64, generation: u32) {
         self.fingerprint.store(fingerprint, Release);
+        point();
+        self.word.store(word_of(generation), Release);
+        point();
     }
 
-    /// Whether the key that its caller asked for last has this fingerprint.
-    pub(crate) fn has_asked(&self, fingerprint: u64) -> bool {
-        self.fingerprint.load(Acquire) == fingerprint
+    /// The load of its caller's call is over.
+    pub(crate) fn is_over(&self, generation: u32) {
+        point();
+        self.over.store(word_of(generation), Release);
     }
 
-    /// The caller's call is settled: wakes who waits for it, and takes the letters of those who have left.
-    pub(crate) fn wake<T>(&self, pool: &Pool<T>) {
-        // Who looked before the letters were there holds the lock until it sleeps, or its waker is there.
+    /// Its caller leads no call any more: whether anybody follows the one that it led. Where it led one, that is settled in the library.
+    pub(crate) fn end(&self) -> bool {
+        point();
+        self.word.swap(0, AcqRel) & FOLLOWED != 0
+    }
+
+    /// Whose the call of this generation is.
+    pub(crate) fn whose(&self, generation: u32, fingerprint: u64) -> Whose {
+        point();
+        if !is_of(self.word.load(Acquire), generation) {
+            return Whose::Ended;
+        }
+        point();
+        let found = self.fingerprint.load(Acquire);
+        point();
+        if !is_of(self.word.load(Acquire), generation) {
+            return Whose::Ended;
+        }
+        if found == fingerprint { Whose::Same } else { Whose::Other }
+    }
+
+    /// A Forget has ended the call of this generation.
+    pub(crate) fn forget(&self, generation: u32) {
+        self.mark(generation, FORGOTTEN);
+    }
+
+    // Whether the word is of this generation and has the mark.
+    fn mark(&self, generation: u32, mark: u64) -> bool {
+        point();
+        let set = |word: u64| is_of(word, generation).then_some(word | mark);
+        self.word.fetch_update(AcqRel, Acquire, set).is_ok()
+    }
+
+    /// Follows the call, unless it has ended. The leader's exchange with 0 comes after the mark, or the mark is not set.
+    pub(crate) fn follow(&self, call: Call, fingerprint: u64) -> Option<Arc<Wait<T>>> {
         let mut waits = lock(&self.waits);
-        let left = std::mem::take(&mut waits.left);
-        let wakers = std::mem::take(&mut waits.wakers);
+        if !self.mark(call.generation, FOLLOWED) {
+            return None;
+        }
+        Some(waits.wait.get_or_insert_with(|| Wait::new(fingerprint, Some(call))).clone())
+    }
+
+    /// Enters the call that the caller asks for, or leads, among those that are moved to the next epoch; unless there is none, or a
+    /// Forget has ended it, or its load is over: then it may be settled in the library, and a newer answer may have been returned by a run,
+    /// which has found another key's call at the place since.
+    pub(crate) fn moves(&self, epoch: u32, caller: u32) -> Option<Arc<Wait<T>>> {
+        let mut waits = lock(&self.waits);
+        loop {
+            point();
+            let word = self.word.load(Acquire);
+            if word == 0 || word & FORGOTTEN != 0 {
+                return None;
+            }
+            point();
+            if self.over.load(Acquire) == word & !FOLLOWED {
+                return None;
+            }
+            point();
+            let fingerprint = self.fingerprint.load(Acquire);
+            point();
+            if self.word.compare_exchange(word, word | FOLLOWED, AcqRel, Acquire).is_err() {
+                continue;
+            }
+            let generation = ((word >> 2) - 1) as u32;
+            let call = Call {
+                epoch,
+                caller,
+                generation,
+            };
+            let wait = waits.wait.get_or_insert_with(|| Wait::new(fingerprint, Some(call))).clone();
+            wait.moved.store(true, Relaxed);
+            return Some(wait);
+        }
+    }
+
+    /// The caller's call is settled: wakes who sleeps, and takes those who are to be served.
+    pub(crate) fn wake(&self) -> Woken<T> {
+        // Who looked before the letters were there holds the lock until it sleeps, or has left.
+        let mut waits = lock(&self.waits);
+        let woken = Woken {
+            left: std::mem::take(&mut waits.left),
+            wait: waits.wait.take(),
+        };
         let asleep = waits.asleep > 0;
         drop(waits);
         if asleep {
             self.settled.notify_all();
         }
-        wakers.into_values().for_each(Waker::wake);
-        for mut seat in left {
-            seat.poll().into_iter().for_each(|letter| pool.give_back(letter));
-            pool.put(seat);
-        }
+        woken
     }
 
-    /// Waits for the letter, until the deadline at the latest.
-    pub(crate) fn wait(&self, seat: &mut Seat, deadline: Option<Instant>) -> Option<Letter> {
-        if let Some(letter) = look(seat, deadline) {
-            return Some(letter);
+    /// Waits for the letter of the call that the seat joined.
+    pub(crate) fn wait(&self, seat: &mut Seat) -> Letter {
+        if let Some(letter) = look(seat) {
+            return letter;
         }
         let mut waits = lock(&self.waits);
         loop {
             if let Some(letter) = seat.poll() {
-                return Some(letter);
+                return letter;
             }
-            let timeout = match deadline {
-                None => None,
-                Some(deadline) => Some(deadline.checked_duration_since(Instant::now())?),
-            };
             waits.asleep += 1;
-            waits = match timeout {
-                None => self.settled.wait(waits).unwrap_or_else(PoisonError::into_inner),
-                Some(timeout) => self.settled.wait_timeout(waits, timeout).unwrap_or_else(PoisonError::into_inner).0,
-            };
+            waits = sleep(&self.settled, &self.waits, waits, None);
             waits.asleep -= 1;
         }
     }
 
-    /// The letter, or who is to be woken when it comes.
-    pub(crate) fn poll(&self, seat: &mut Seat, waker: &Waker) -> Poll<Letter> {
+    /// The seat, which waits, goes back when its letter has come: with the letter, where that is there.
+    pub(crate) fn leave(&self, mut left: Left) -> Option<(Left, Letter)> {
         let mut waits = lock(&self.waits);
-        if let Some(letter) = seat.poll() {
-            return Poll::Ready(letter);
-        }
-        waits.wakers.entry(seat.number).or_insert_with(|| waker.clone()).clone_from(waker);
-        Poll::Pending
-    }
-
-    /// The seat, which waits, goes back when its letter has come.
-    pub(crate) fn leave<T>(&self, pool: &Pool<T>, mut seat: Seat) {
-        let mut waits = lock(&self.waits);
-        let waker = waits.wakers.remove(&seat.number);
-        let Some(letter) = seat.poll() else {
-            waits.left.push(seat);
-            return;
+        let Some(letter) = left.seat.poll() else {
+            waits.left.push(left);
+            return None;
         };
-        drop((waits, waker));
-        pool.give_back(letter);
-        pool.put(seat);
+        Some((left, letter))
     }
 }

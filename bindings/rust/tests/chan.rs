@@ -67,10 +67,9 @@ fn receivers_that_are_dropped_leak_nothing() {
     let weak: Weak<u32> = Arc::downgrade(&value);
     let (receiver, job) = first.do_chan(second, b"k").ok().unwrap();
     drop(receiver);
-    assert!(group.stats().in_use == 3 && group.caller().is_none(), "its letter has not come");
+    assert!(group.stats().in_use == 2, "a receiver holds no caller of the library");
     drop(job.unwrap().run(|| value));
-    assert!(weak.upgrade().is_none(), "the leader took the count of the receiver that was dropped");
-    assert!(group.stats().in_use == 2 && group.caller().is_some(), "and its caller is back");
+    assert!(weak.upgrade().is_none(), "no answer is kept for the receiver that was dropped");
     let (receiver, job) = first.do_chan(third, b"k").ok().unwrap();
     drop((receiver, job));
     drop(first);

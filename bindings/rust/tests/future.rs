@@ -1,5 +1,5 @@
 //! Asking in tasks, by executors made by hand: who waits is woken by its leader alone, and who is dropped leaves nothing behind.
-use singleflight::{Caller, Group};
+use singleflight::{Caller, Error, Group};
 use std::cell::Cell;
 use std::collections::VecDeque;
 use std::future::{Future, poll_fn};
@@ -142,15 +142,14 @@ fn a_task_that_is_dropped_leaves() {
             let mut task = pin!(second.do_async(b"k", async { unreachable!() }));
             assert!(once(task.as_mut(), &wakes).is_pending(), "it waits");
         }
-        assert!(second.is_current().is_none() && group.stats().in_use == 2, "its letter has not come");
-        // It goes on by another caller.
+        assert!(second.is_current().is_none() && group.stats().in_use == 2, "it has left");
         let got = block_on(second.do_async(b"m", async { Arc::new(6) })).unwrap();
-        assert!(**got.answer == 6 && group.stats().in_use == 3, "another key");
+        assert!(**got.answer == 6 && group.stats().in_use == 2, "another key, by the same caller of the library");
         value
     });
     assert!(got.unwrap().joiners == 1, "it had joined");
     assert!(wakes.0.load(SeqCst) == 0 && weak.upgrade().is_none(), "nobody is woken, and its count is given back");
-    assert!(group.stats().in_use == 2 && group.caller().is_some(), "its caller is back");
+    assert!(group.stats().in_use == 2 && group.stats().made == 3, "no further caller was made");
 }
 
 #[test]
@@ -172,7 +171,7 @@ fn a_load_that_is_dropped() {
     assert!(group.stats().in_use == 0, "all are back");
 }
 
-// A future that is neither run to its end nor dropped keeps its call; its caller goes on by another.
+// The call of a future that is neither run to its end nor dropped ends when its caller is used again.
 #[test]
 fn a_task_that_is_forgotten() {
     let (group, mut all) = open(4);
@@ -184,12 +183,12 @@ fn a_task_that_is_forgotten() {
     let mut waits = Box::pin(second.do_async(b"k", async { unreachable!() }));
     assert!(once(waits.as_mut(), &wakes).is_pending(), "it waits");
     std::mem::forget((led, waits));
-    third.forget(b"k").unwrap();
-    assert!(**first.do_with(b"k", || Arc::new(1)).unwrap().answer == 1, "who led goes on");
-    let got = second.do_with(b"k", || Arc::new(3)).unwrap();
-    assert!(**got.answer == 3 && got.call().is_none() && group.stats().made == 4, "without a caller it loads alone");
-    drop(third);
-    assert!(**second.do_with(b"k", || Arc::new(2)).unwrap().answer == 2, "it goes on");
+    let late = third.do_with_timeout(b"k", std::time::Duration::from_millis(5), || Arc::new(0));
+    assert!(late.err() == Some(Error::TimedOut), "the call is open");
+    assert!(**first.do_with(b"m", || Arc::new(1)).unwrap().answer == 1, "who led goes on");
+    assert!(wakes.0.load(SeqCst) == 1, "and who waited was woken");
+    assert!(**third.do_with(b"k", || Arc::new(2)).unwrap().answer == 2, "the key can be loaded");
+    assert!(**second.do_with(b"k", || Arc::new(3)).unwrap().answer == 3 && group.stats().made == 4, "who waited goes on");
 }
 
 type Task = Mutex<Option<Pin<Box<dyn Future<Output = ()> + Send>>>>;

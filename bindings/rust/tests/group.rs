@@ -137,13 +137,12 @@ fn a_load_that_panics() {
 }
 
 #[test]
-fn refusals() {
+fn sizes_that_are_refused() {
     for (places, callers) in [(0, 1), (134_217_729, 1), (u32::MAX, 1), (1, 0), (1, 65_535), (1, u32::MAX)] {
         assert!(Group::<u32>::open(places, callers).err() == Some(Error::Size), "{places} places, {callers} callers");
     }
     let group = Group::<u32>::open(1, 1).unwrap();
     let mut caller = group.caller().unwrap();
-    assert!(group.caller().is_none(), "no caller is left");
     assert!(caller.is_current().is_none(), "no letter yet");
     let got = caller.do_with(b"k", || 1).unwrap();
     assert!(got.led && !got.shared() && *got.answer == 1, "leads alone");

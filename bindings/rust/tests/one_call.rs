@@ -55,13 +55,13 @@ fn a_call_that_is_open_is_closed() {
 fn named_and_refused() {
     let group = Group::<u32>::open(1, 3).unwrap();
     let (mut caller, mut other) = (group.caller().unwrap(), group.caller().unwrap());
-    let nobody = Call { caller: 3, generation: 7 };
+    let nobody = Call { epoch: 1, caller: 3, generation: 7 };
     assert_eq!(caller.named(b"k"), Ok(None));
     assert_eq!(caller.forget_call(b"k", nobody), Ok(Hit::Missed));
     let got = caller.do_with(b"k", || 1).unwrap();
     assert_eq!(other.named(b"k"), Ok(got.call()));
     assert_eq!(other.forget_call(b"k", nobody), Ok(Hit::Missed));
-    assert_eq!(other.forget_call(b"k", Call { caller: u32::MAX, generation: u32::MAX }), Ok(Hit::Missed));
+    assert_eq!(other.forget_call(b"k", Call { epoch: 1, caller: u32::MAX, generation: u32::MAX }), Ok(Hit::Missed));
     assert_eq!(caller.is_current(), Some(true));
     assert_eq!(other.forget(b"k"), Ok(false));
     assert_eq!(other.forget_call(b"k", got.call().unwrap()), Ok(Hit::Missed));

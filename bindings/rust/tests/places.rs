@@ -1,11 +1,12 @@
 //! Keys that share a place: each answer is of its own key, and none is from before a Forget.
-use singleflight::{Group, Stamp, Stats};
+use singleflight::{Error, Group, Stamp, Stats};
 use std::future::Future;
 use std::pin::{Pin, pin};
 use std::sync::atomic::{AtomicI64, AtomicU64, Ordering::SeqCst};
 use std::sync::mpsc::TryRecvError;
 use std::sync::{Arc, Mutex};
 use std::task::{Context, Poll, Waker};
+use std::time::Duration;
 
 fn look<F: Future>(future: Pin<&mut F>) -> Poll<F::Output> {
     future.poll(&mut Context::from_waker(Waker::noop()))
@@ -28,7 +29,7 @@ fn a_caller_that_finds_another_keys_call_loads_alone() {
     assert!(**got.unwrap().answer == "ada" && first.is_current() == Some(true), "the first has its own");
     assert!(weak.upgrade().is_none(), "the count of the caller that left is given back");
     assert!(Arc::strong_count(&other) == 1, "the answer is gone with who had it");
-    assert!(group.stats() == Stats { leads: 2, joins: 1, alone: 1, made: 2, in_use: 1, ..Stats::default() }, "{:?}", group.stats());
+    assert!(group.stats() == Stats { leads: 2, alone: 1, made: 2, in_use: 1, ..Stats::default() }, "{:?}", group.stats());
     assert!(*second.do_with(b"ada", || Arc::new("hopper")).unwrap().answer == Arc::new("hopper"), "its caller is back");
 }
 
@@ -48,24 +49,27 @@ fn a_task_that_finds_another_keys_call_loads_alone() {
 }
 
 #[test]
-fn a_receiver_of_another_keys_call_gets_none() {
+fn a_receiver_beside_another_keys_call_has_a_job() {
     let group = Group::<u32>::open(1, 3).unwrap();
     let (mut first, mut second, third) = (group.caller().unwrap(), group.caller().unwrap(), group.caller().unwrap());
-    let mut waits = None;
-    first
-        .do_with(b"key", || {
-            let (mut receiver, job) = second.do_chan(third, b"other").unwrap();
-            assert!(job.is_none(), "another call is open at its place");
-            assert!(receiver.try_recv().err() == Some(TryRecvError::Disconnected), "no answer of its key");
-            assert!(receiver.recv().is_err(), "and it does not wait for one");
-            waits = Some(receiver);
-            7
-        })
-        .unwrap();
-    let third = waits.unwrap().into_caller().unwrap();
-    let (mut receiver, job) = second.do_chan(third, b"other").unwrap();
-    job.unwrap().run(|| 8);
-    assert!(*receiver.recv().unwrap().answer == 8, "it asks again");
+    let mut fourth = group.caller().unwrap();
+    let got = first.do_with(b"key", || {
+        let (mut receiver, job) = second.do_chan(third, b"other").unwrap();
+        assert!(receiver.try_recv().err() == Some(TryRecvError::Empty), "not yet");
+        let got = job.expect("another key's call is no answer").run(|| {
+            let late = fourth.do_with_timeout(b"other", Duration::from_millis(1), || 9);
+            assert!(late.err() == Some(Error::TimedOut), "one load of the key at a time");
+            8
+        });
+        assert!(*got.answer == 8 && got.led && got.joiners == 1, "its load");
+        let got = receiver.recv().unwrap();
+        assert!(*got.answer == 8 && !got.led && got.call().is_none(), "the receiver has it");
+        let (mut receiver, job) = second.do_chan(receiver.into_caller().unwrap(), b"other").unwrap();
+        drop(job);
+        assert!(receiver.recv().is_err(), "a job that nobody runs");
+        7
+    });
+    assert!(*got.unwrap().answer == 7, "the first has its own");
 }
 
 #[test]

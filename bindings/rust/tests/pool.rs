@@ -3,6 +3,7 @@ mod apart;
 
 use singleflight::{Error, Group, Stats};
 use std::sync::atomic::{AtomicU64, Ordering::SeqCst};
+use std::sync::mpsc::TryRecvError;
 use std::sync::{Arc, Barrier};
 use std::time::{Duration, Instant};
 
@@ -20,7 +21,6 @@ fn callers_that_are_dropped_are_dealt_again() {
     let group = Group::<u32>::open(1, 1).unwrap();
     for round in 0..100 {
         let mut caller = group.caller().unwrap();
-        assert!(group.caller().is_none(), "there is one");
         assert!(caller.is_current().is_none(), "the letter of one who had it before is not this one's");
         assert!(*caller.do_with(b"k", || round).unwrap().answer == round && caller.is_current() == Some(true), "it asks");
     }
@@ -31,14 +31,16 @@ fn callers_that_are_dropped_are_dealt_again() {
 }
 
 #[test]
-fn a_caller_with_a_call_that_nobody_settles_is_not_dealt_again() {
+fn a_call_whose_job_is_forgotten_ends_with_its_caller() {
     let group = Group::<u32>::open(1 << 20, 3).unwrap();
     let (mut first, second) = (group.caller().unwrap(), group.caller().unwrap());
-    let (receiver, job) = first.do_chan(second, b"k").unwrap();
+    let (mut receiver, job) = first.do_chan(second, b"k").unwrap();
     std::mem::forget(job);
-    drop((receiver, first));
-    let mut third = group.caller().unwrap();
-    assert!(group.caller().is_none() && *third.do_with(b"m", || 1).unwrap().answer == 1, "the third is a new one");
+    assert!(receiver.try_recv().err() == Some(TryRecvError::Empty), "the call is open");
+    drop(first);
+    assert!(receiver.try_recv().err() == Some(TryRecvError::Disconnected), "nobody can load for it any more");
+    drop(receiver);
+    assert!(group.stats().in_use == 0 && *group.caller().unwrap().do_with(b"k", || 1).unwrap().answer == 1, "all are back");
 }
 
 #[test]
@@ -62,15 +64,12 @@ fn a_wait_that_takes_too_long() {
     started.wait();
     let refused = waiter.do_with_timeout(b"k", Duration::from_millis(20), || unreachable!());
     assert!(refused.err() == Some(Error::TimedOut) && waiter.is_current().is_none(), "it leaves");
-    assert!(group.stats().in_use == 2, "its letter has not come");
-    // By a new caller it goes on.
     assert!(**waiter.do_with(b"m", || Arc::new(8)).unwrap().answer == 8, "another key");
-    assert!(group.stats().in_use == 3 && group.caller().is_none(), "three are in use");
+    assert!(group.stats().in_use == 2 && group.stats().made == 2, "by the same caller of the library");
     release.wait();
     let (joiners, leader) = thread.join().unwrap();
     assert!(joiners == 1, "one joined");
-    assert!(group.stats().in_use == 2 && group.caller().is_some(), "the caller of the one who left is back");
-    assert!(weak.upgrade().is_none(), "so is its count of the answer");
+    assert!(weak.upgrade().is_none(), "no answer is kept for the one who left");
     drop((leader, waiter));
     let got = group.caller().unwrap().do_with_timeout(b"k", Duration::MAX, || Arc::new(9)).unwrap();
     assert!(**got.answer == 9 && got.led && group.stats().in_use == 0, "who leads waits for its own load");

@@ -1,0 +1,561 @@
+//! The crate's own code under schedules that are drawn at random: callers run as coroutines of one thread, and take turns at each
+//! step that others can see (`sync::point`). The library's calls are steps of their own, which its proof allows.
+//!
+//! Of each schedule it is checked that it ends, that no load of a key begins while another one runs that no Forget ended, that no
+//! answer is older than one that was returned before its asking began, or than a Forget that had returned, that a stamp that is current
+//! is no older either, and that all callers of the library are back.
+//!
+//! `SF_SCHEDULES` says how many are drawn, and `SF_SEED` with which one it begins.
+
+use crate::{Answer, Caller, Group, Plan, Stamp};
+use std::arch::global_asm;
+use std::cell::Cell;
+use std::collections::HashMap;
+use std::future::Future;
+use std::panic::{AssertUnwindSafe, catch_unwind};
+use std::pin::pin;
+use std::ptr::null_mut;
+use std::rc::Rc;
+use std::sync::Arc;
+use std::task::{Context, Poll, Waker};
+use std::time::Duration;
+
+// Keeps the registers that a call has to keep on the old stack, and takes those of the new one.
+global_asm!(
+    ".globl sf_rust_switch",
+    "sf_rust_switch:",
+    "push rbp",
+    "push rbx",
+    "push r12",
+    "push r13",
+    "push r14",
+    "push r15",
+    "mov [rdi], rsp",
+    "mov rsp, rsi",
+    "pop r15",
+    "pop r14",
+    "pop r13",
+    "pop r12",
+    "pop rbx",
+    "pop rbp",
+    "ret",
+);
+
+extern "C" {
+    fn sf_rust_switch(from: *mut usize, to: usize);
+}
+
+const STACK: usize = 256 << 10;
+/// More steps than any schedule takes that ends.
+const MOST_STEPS: u64 = 400_000;
+
+type Task = Box<dyn FnOnce()>;
+
+struct Coroutine {
+    stack: Box<[u128]>,
+    at: usize,
+    task: Option<Task>,
+    is_over: bool,
+    // Before this step it takes a turn only where no other can.
+    stalls: u64,
+}
+
+/// The schedule that is played.
+struct Play {
+    coroutines: Vec<Coroutine>,
+    current: usize,
+    main: usize,
+    random: Random,
+    // A turn ends at one point of so many.
+    turn: u64,
+    // Whether turns may end with a long stall.
+    has_stalls: bool,
+    steps: u64,
+    failure: Option<String>,
+}
+
+thread_local!(static PLAY: Cell<*mut Play> = const { Cell::new(null_mut()) });
+
+pub(crate) fn is_played() -> bool {
+    !PLAY.get().is_null()
+}
+
+/// A step that others can see comes next: the turn may end.
+pub(crate) fn point() {
+    step(false);
+}
+
+/// It cannot go on before another has taken a turn.
+pub(crate) fn is_blocked() {
+    step(true);
+}
+
+fn step(is_blocked: bool) {
+    let play = PLAY.get();
+    if play.is_null() {
+        return;
+    }
+    // SAFETY: one thread plays, and nothing of the play is borrowed while coroutines are switched.
+    unsafe {
+        (*play).steps += 1;
+        if (*play).steps > MOST_STEPS {
+            fail("it does not end".into());
+            // The coroutines are left as they are.
+            switch_to_main();
+        }
+        let turn = (*play).turn;
+        if is_blocked || (*play).random.below(turn) == 0 {
+            if (*play).has_stalls && !is_blocked && (*play).random.below(16) == 0 {
+                let until = (*play).steps + (*play).random.below(500);
+                (&mut (*play).coroutines)[(*play).current].stalls = until;
+            }
+            switch(is_blocked);
+        }
+    }
+}
+
+unsafe fn switch(is_blocked: bool) {
+    let play = PLAY.get();
+    let (from, count) = ((*play).current, (*play).coroutines.len());
+    let live = |at: &usize| !(&(*play).coroutines)[*at].is_over;
+    let goes_on = |at: &usize| live(at) && (&(*play).coroutines)[*at].stalls <= (*play).steps && !(is_blocked && *at == from);
+    let first = (*play).random.below(count as u64) as usize;
+    let all = || (0..count).map(|i| (first + i) % count);
+    let Some(to) = all().find(goes_on).or_else(|| all().find(live)) else {
+        return switch_to_main();
+    };
+    if to != from {
+        (*play).current = to;
+        let (old, new) = (&mut (&mut (*play).coroutines)[from].at as *mut usize, (&(*play).coroutines)[to].at);
+        sf_rust_switch(old, new);
+    }
+}
+
+unsafe fn switch_to_main() {
+    let play = PLAY.get();
+    let old = &mut (&mut (*play).coroutines)[(*play).current].at as *mut usize;
+    sf_rust_switch(old, (*play).main);
+}
+
+extern "C" fn enter() {
+    let play = PLAY.get();
+    // SAFETY: as in `step`.
+    unsafe {
+        let task = (&mut (*play).coroutines)[(*play).current].task.take().unwrap();
+        if let Err(panic) = catch_unwind(AssertUnwindSafe(task)) {
+            let text = panic.downcast_ref::<String>().cloned();
+            fail(text.or(panic.downcast_ref::<&str>().map(|text| text.to_string())).unwrap_or_default());
+        }
+        (&mut (*play).coroutines)[(*play).current].is_over = true;
+        switch(false);
+    }
+    unreachable!("a coroutine that is over takes no turn");
+}
+
+fn fail(why: String) {
+    // SAFETY: as in `step`.
+    unsafe { (*PLAY.get()).failure.get_or_insert(why) };
+}
+
+fn check(holds: bool, why: impl FnOnce() -> String) {
+    if !holds {
+        fail(why());
+    }
+}
+
+fn play(random: Random, turn: u64, stacks: &mut Vec<Box<[u128]>>, tasks: Vec<Task>) -> Result<u64, String> {
+    let coroutines = tasks.into_iter().map(|task| {
+        let mut stack = stacks.pop().unwrap_or_else(|| vec![0; STACK / 16].into());
+        let top = stack.as_mut_ptr_range().end as usize;
+        let at = top - 64;
+        // SAFETY: six registers, and where it begins, with the stack as a call leaves it.
+        unsafe { ((top - 16) as *mut usize).write(enter as extern "C" fn() as usize) };
+        Coroutine { stack, at, task: Some(task), is_over: false, stalls: 0 }
+    });
+    let mut made = Play {
+        coroutines: coroutines.collect(),
+        current: 0,
+        main: 0,
+        turn,
+        has_stalls: random.clone().below(2) == 0,
+        random,
+        steps: 0,
+        failure: None,
+    };
+    PLAY.set(&mut made);
+    // SAFETY: it comes back when all are over, or one says that they do not end.
+    unsafe { sf_rust_switch(&mut made.main, made.coroutines[0].at) };
+    PLAY.set(null_mut());
+    if let Some(why) = made.failure.take() {
+        std::mem::forget(made);
+        return Err(why);
+    }
+    stacks.extend(made.coroutines.into_iter().map(|coroutine| coroutine.stack));
+    Ok(made.steps)
+}
+
+#[derive(Clone)]
+struct Random(u64);
+
+impl Random {
+    fn new(seed: u64) -> Self {
+        Random(seed.wrapping_mul(0x9e37_79b9_7f4a_7c15) | 1)
+    }
+
+    fn next(&mut self) -> u64 {
+        self.0 ^= self.0 << 13;
+        self.0 ^= self.0 >> 7;
+        self.0 ^= self.0 << 17;
+        self.0.wrapping_mul(0x2545_f491_4f6c_dd1d) >> 16
+    }
+
+    fn below(&mut self, most: u64) -> u64 {
+        self.next() % most
+    }
+}
+
+/// A value: when its load began, and whether no Forget had ended its call before.
+struct Value {
+    moment: u64,
+    is_counted: bool,
+    live: Rc<Cell<i64>>,
+}
+
+// SAFETY: one thread plays.
+unsafe impl Send for Value {}
+unsafe impl Sync for Value {}
+
+impl Drop for Value {
+    fn drop(&mut self) {
+        self.live.set(self.live.get() - 1);
+    }
+}
+
+const KEYS: usize = 3;
+const NAMES: [&[u8]; KEYS] = [b"a", b"b", b"a key of more than forty bytes, which the library keeps on the heap"];
+
+#[derive(Default)]
+struct Key {
+    // When the loads began that run and that no Forget has ended.
+    running: Cell<Vec<u64>>,
+    // How many Forgets have begun and have not returned, and when the last one returned. Each may end any call that was asked for
+    // before it returned, also one whose load had not begun.
+    forgetting: Cell<u32>,
+    forgot: Cell<u64>,
+    // The newest answer that was returned.
+    returned: Cell<u64>,
+    // When the last Forget began of those that have returned.
+    forgotten: Cell<u64>,
+}
+
+#[derive(Default)]
+struct World {
+    clock: Cell<u64>,
+    keys: [Key; KEYS],
+    live: Rc<Cell<i64>>,
+    loads: Cell<u64>,
+    current: Cell<u64>,
+}
+
+impl World {
+    fn tick(&self) -> u64 {
+        self.clock.set(self.clock.get() + 1);
+        self.clock.get()
+    }
+
+    fn begins(&self, key: usize, asked: u64) -> (u64, bool) {
+        let of = &self.keys[key];
+        let moment = self.tick();
+        let is_counted = of.forgetting.get() == 0 && of.forgot.get() < asked;
+        if is_counted {
+            let mut running = of.running.take();
+            check(running.is_empty(), || format!("two loads of {key} run at one time"));
+            running.push(moment);
+            of.running.set(running);
+        }
+        self.loads.set(self.loads.get() + 1);
+        (moment, is_counted)
+    }
+
+    fn ends(&self, key: usize, (moment, _): (u64, bool)) {
+        let of = &self.keys[key];
+        let mut running = of.running.take();
+        running.retain(|other| *other != moment);
+        of.running.set(running);
+    }
+
+    fn value(&self, (moment, is_counted): (u64, bool)) -> Value {
+        self.live.set(self.live.get() + 1);
+        Value { moment, is_counted, live: self.live.clone() }
+    }
+
+    // What an answer has to be at least that is asked for now.
+    fn least(&self, key: usize) -> u64 {
+        self.keys[key].returned.get().max(self.keys[key].forgotten.get())
+    }
+
+    fn returned(&self, key: usize, least: u64, answer: &Answer<Value>) {
+        check(answer.moment >= least, || format!("an answer of {key} from {}, after one from {least} or a Forget then", answer.moment));
+        // A load that began after its call was forgotten may begin after the one that is current.
+        if answer.is_counted {
+            let of = &self.keys[key];
+            of.returned.set(of.returned.get().max(answer.moment));
+        }
+    }
+}
+
+/// One who asks, with two callers.
+struct Actor {
+    world: Rc<World>,
+    caller: Caller<Value>,
+    second: Option<Caller<Value>>,
+    random: Random,
+    // What it got last of each key.
+    last: HashMap<usize, (u64, Stamp, Option<crate::Call>)>,
+}
+
+impl Actor {
+    fn got(&mut self, key: usize, least: u64, got: crate::Got<Value>) {
+        self.world.returned(key, least, &got.answer);
+        self.last.insert(key, (got.answer.moment, got.stamp(), got.call()));
+    }
+
+    fn get(&mut self, key: usize, is_nested: bool, timeout: bool) {
+        let (world, asked, least) = (self.world.clone(), self.world.tick(), self.world.least(key));
+        let steps = self.random.below(4);
+        let mut second = self.second.take();
+        let load = || {
+            let moment = world.begins(key, asked);
+            (0..steps).for_each(|_| point());
+            // A load asks for greater keys alone, so that no two wait for each other.
+            if let Some(other) = second.as_mut().filter(|_| is_nested && key + 1 < KEYS) {
+                let (asked, least) = (world.tick(), world.least(key + 1));
+                let got = other.do_with(NAMES[key + 1], || {
+                    let moment = world.begins(key + 1, asked);
+                    point();
+                    world.ends(key + 1, moment);
+                    world.value(moment)
+                });
+                world.returned(key + 1, least, &got.unwrap().answer);
+            }
+            point();
+            world.ends(key, moment);
+            world.value(moment)
+        };
+        let got = match timeout {
+            true => self.caller.do_with_timeout(NAMES[key], Duration::ZERO, load),
+            false => self.caller.do_with(NAMES[key], load),
+        };
+        self.second = second;
+        if let Ok(got) = got {
+            self.got(key, least, got);
+        }
+    }
+
+    // Polls a future some times, and drops it where it is not ready then.
+    fn task(&mut self, key: usize) {
+        struct Load<'a>(&'a World, usize, (u64, bool));
+        impl Drop for Load<'_> {
+            fn drop(&mut self) {
+                self.0.ends(self.1, self.2);
+            }
+        }
+        let (world, asked, least) = (self.world.clone(), self.world.tick(), self.world.least(key));
+        let (steps, polls) = (self.random.below(3), self.random.below(40));
+        let load = async {
+            let running = Load(&world, key, world.begins(key, asked));
+            let mut left = steps;
+            std::future::poll_fn(|_| {
+                left = left.saturating_sub(1);
+                if left == 0 { Poll::Ready(()) } else { Poll::Pending }
+            })
+            .await;
+            world.value(running.2)
+        };
+        let mut got = None;
+        {
+            let mut task = pin!(self.caller.do_async(NAMES[key], load));
+            for _ in 0..polls {
+                if let Poll::Ready(ready) = task.as_mut().poll(&mut Context::from_waker(Waker::noop())) {
+                    got = Some(ready.unwrap());
+                    break;
+                }
+                is_blocked();
+            }
+        }
+        if let Some(got) = got {
+            self.got(key, least, got);
+        }
+    }
+
+    fn channel(&mut self, key: usize) {
+        let Some(second) = self.second.take() else { return };
+        let (world, asked, least) = (self.world.clone(), self.world.tick(), self.world.least(key));
+        let is_run = self.random.below(4) > 0;
+        let (mut receiver, job) = self.caller.do_chan(second, NAMES[key]).ok().unwrap();
+        let run = |job: crate::Job<'_, Value>| {
+            if is_run {
+                let got = job.run(|| {
+                    let moment = world.begins(key, asked);
+                    point();
+                    world.ends(key, moment);
+                    world.value(moment)
+                });
+                world.returned(key, least, &got.answer);
+            } else {
+                point();
+                drop(job);
+            }
+        };
+        job.map(run);
+        for _ in 0..self.random.below(30) {
+            if let Ok(got) = receiver.try_recv() {
+                self.got(key, least, got);
+                break;
+            }
+            is_blocked();
+        }
+        self.second = receiver.into_caller().ok();
+    }
+
+    fn forget(&mut self, key: usize) {
+        let world = self.world.clone();
+        let (began, of) = (world.tick(), &world.keys[key]);
+        of.forgetting.set(of.forgetting.get() + 1);
+        of.running.set(Vec::new());
+        self.caller.forget(NAMES[key]).unwrap();
+        of.forgetting.set(of.forgetting.get() - 1);
+        of.forgot.set(world.tick());
+        of.forgotten.set(of.forgotten.get().max(began));
+    }
+
+    // Asks about what it got last, or forgets that call alone.
+    fn last(&mut self, key: usize) {
+        let Some((moment, stamp, call)) = self.last.get(&key).copied() else { return };
+        let floor = self.world.keys[key].forgotten.get();
+        if self.caller.is_still(stamp) {
+            check(moment >= floor, || format!("a stamp of {key} from {moment} is current after a Forget from {floor}"));
+            self.world.current.set(self.world.current.get() + 1);
+        }
+        if let Some(call) = call.filter(|_| self.random.below(3) == 0) {
+            self.caller.forget_call(NAMES[key], call).unwrap();
+            check(!self.caller.is_still(stamp), || format!("a call of {key} that was forgotten is current"));
+        }
+    }
+
+    fn act(&mut self) {
+        let key = self.random.below(KEYS as u64) as usize;
+        match self.random.below(16) {
+            0..=5 => self.get(key, false, false),
+            6..=7 => self.get(key, true, false),
+            8 => self.get(key, false, true),
+            9..=10 => self.task(key),
+            11 => self.channel(key),
+            12..=14 => self.forget(key),
+            _ => self.last(key),
+        }
+    }
+}
+
+#[derive(Default)]
+struct Played {
+    steps: u64,
+    loads: u64,
+    current: u64,
+    epochs: u64,
+}
+
+// Plays the schedule of this seed.
+fn schedule(seed: u64, stacks: &mut Vec<Box<[u128]>>, all: &mut Played) -> Result<(), String> {
+    let mut random = Random::new(seed);
+    let callers = 1 + random.below(4) as u32;
+    let plan = Plan {
+        places: 1 + random.below(2) as u32,
+        callers,
+        grows: random.below(2) == 0,
+        calls: [1, 2, 4, 1000][random.below(4) as usize],
+    };
+    let group = Rc::new(Group::of(plan).map_err(|why| why.to_string())?);
+    let world = Rc::new(World::default());
+    let actors = 2 + random.below(3);
+    let turn = [1, 2, 4, 16][random.below(4) as usize];
+    let acts = 1 + random.below(5);
+    let tasks = (0..actors).map(|_| {
+        let (world, group, random) = (world.clone(), group.clone(), Random::new(random.next()));
+        Box::new(move || {
+            let mut actor = Actor { world, caller: group.caller().unwrap(), second: group.caller(), random, last: HashMap::new() };
+            for _ in 0..acts {
+                actor.act();
+            }
+        }) as Task
+    });
+    let tasks = tasks.collect();
+    all.steps += play(random, turn, stacks, tasks)?;
+    let stats = group.stats();
+    all.loads += world.loads.get();
+    all.current += world.current.get();
+    all.epochs += u64::from(group.pool.now());
+    if stats.in_use != 0 || stats.leads + stats.alone < world.loads.get() {
+        return Err(format!("{} loads, and not all callers are back: {stats:?}", world.loads.get()));
+    }
+    if group.pool.is_alert_anywhere() {
+        return Err("the side table is not empty".into());
+    }
+    drop(group);
+    if world.live.get() != 0 {
+        return Err(format!("{} values are left", world.live.get()));
+    }
+    Ok(())
+}
+
+fn number(name: &str, otherwise: u64) -> u64 {
+    std::env::var(name).map_or(otherwise, |number| number.parse().expect("a number"))
+}
+
+#[test]
+fn schedules_drawn_at_random() {
+    let (first, count) = (number("SF_SEED", 1), number("SF_SCHEDULES", 100_000));
+    let threads = 4;
+    let played: Vec<Played> = std::thread::scope(|scope| {
+        let threads: Vec<_> = (0..threads)
+            .map(|thread| {
+                scope.spawn(move || {
+                    let (mut stacks, mut all) = (Vec::new(), Played::default());
+                    for seed in (first + thread..first + count).step_by(threads as usize) {
+                        if let Err(why) = schedule(seed, &mut stacks, &mut all) {
+                            panic!("SF_SEED={seed} SF_SCHEDULES=1: {why}");
+                        }
+                    }
+                    all
+                })
+            })
+            .collect();
+        threads.into_iter().map(|thread| thread.join().expect("a schedule that is right")).collect()
+    });
+    let sum = |part: fn(&Played) -> u64| played.iter().map(part).sum::<u64>();
+    let (steps, loads, current, epochs) = (sum(|all| all.steps), sum(|all| all.loads), sum(|all| all.current), sum(|all| all.epochs));
+    println!("{count} schedules: {steps} steps, {loads} loads, {current} current stamps, {epochs} epochs");
+    assert!(count < 1000 || loads > count && current > 0 && epochs > count, "they do something");
+}
+
+#[test]
+fn the_coroutines_take_turns() {
+    let log = Rc::new(Cell::new(Vec::new()));
+    let tasks = (0..3).map(|number| {
+        let log = log.clone();
+        Box::new(move || {
+            for _ in 0..3 {
+                let mut so_far = log.take();
+                so_far.push(number);
+                log.set(so_far);
+                is_blocked();
+            }
+        }) as Task
+    });
+    play(Random::new(7), 1, &mut Vec::new(), tasks.collect()).unwrap();
+    let mut turns = log.take();
+    assert!(turns.len() == 9 && turns[..3] != turns[3..6] || turns.windows(2).any(|two| two[0] != two[1]), "{turns:?}");
+    turns.sort();
+    assert_eq!(turns, [0, 0, 0, 1, 1, 1, 2, 2, 2]);
+    let _ = Arc::new(());
+}

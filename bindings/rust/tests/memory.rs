@@ -1,0 +1,42 @@
+//! The memory of groups: a new one is small, and grows with its use alone.
+use singleflight::Group;
+
+extern "C" {
+    fn malloc_trim(pad: usize) -> i32;
+}
+
+// Kilobytes of memory that the process has.
+fn memory() -> u64 {
+    let status = std::fs::read_to_string("/proc/self/status").unwrap();
+    let line = status.lines().find(|line| line.starts_with("VmRSS")).unwrap();
+    line.split_whitespace().nth(1).unwrap().parse().unwrap()
+}
+
+#[test]
+fn groups_by_their_number() {
+    drop(Group::<u64>::new());
+    for count in [1, 1000, 10_000] {
+        let before = memory();
+        // Each is used by 32 callers at a time.
+        let groups: Vec<_> = (0..count)
+            .map(|_| {
+                let group = Group::<u64>::new();
+                let mut callers: Vec<_> = (0..32).map(|_| group.caller().unwrap()).collect();
+                for (number, caller) in (0..).zip(&mut callers) {
+                    caller.do_with(&[number], || 1).unwrap();
+                }
+                drop(callers);
+                assert!(group.stats().made == 32 && group.stats().alone == 0, "{:?}", group.stats());
+                group
+            })
+            .collect();
+        let each = (memory() - before) as f64 / count as f64;
+        println!("{count} groups: {} kB, {each:.1} kB each", memory() - before);
+        assert!(count == 1 || each <= 64.0, "{each} kB for each of {count} groups");
+        drop(groups);
+        // SAFETY: it gives the system what the allocator has free.
+        unsafe { malloc_trim(0) };
+        let left = memory().saturating_sub(before);
+        assert!(left < 1024, "{left} kB are left of {count} groups");
+    }
+}
