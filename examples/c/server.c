@@ -1,148 +1,85 @@
-/* A server's load path: worker threads get keys from a store behind a cache; of those who miss one key at one time one loads,
- * and after an update nobody gets the old value. Built and run by bindings/check. */
-#include "sf.h"
+/* A server's load path: worker threads get keys from a store behind a cache. Of the threads that miss one key at one time one loads, and
+ * after an update nobody gets the old value. Built and run by bindings/check, with bindings/c/sf_do.c. */
+#include "sf_do.h"
 #include <pthread.h>
 #include <stdatomic.h>
 #include <stdio.h>
 #include <stdlib.h>
-#include <sys/random.h>
 #include <time.h>
 
-#ifndef PLACES
-#define PLACES 4096
+#ifndef SLOTS
+#define SLOTS 0 /* as many as are usual */
 #endif
 
-enum { WORKERS = 4, CALLERS = 16, KEYS = 8, REQUESTS = 2000, TRIES = 64 };
+enum { WORKERS = 4, KEYS = 8, REQUESTS = 2000 };
 
-/* The store: a version a key, slow to read. */
+/* The store: a version for each key, slow to read. */
 static atomic_uint versions[KEYS];
-static atomic_uint loads, joined, alone;
+static atomic_uint hits, loads, joined;
 
-/* A caller, in the list of those that are free, or of those who have left a call. */
-struct caller {
-    sf_slot slot;
-    struct caller *next;
-};
+static sf_pool *pool;
 
-static struct caller callers[CALLERS];
-static struct caller *spare;
-static pthread_mutex_t spare_lock = PTHREAD_MUTEX_INITIALIZER;
-
-/* Where those sleep who wait for a leader's call. Leaders have numbers from 1. */
-static struct room {
+/* What was loaded, with its stamp. */
+static struct page {
     pthread_mutex_t lock;
-    pthread_cond_t settled;
-    struct caller *left; /* their letters will come */
-    atomic_uint key;     /* which the leader asks for, or asked for last; it is written before the asking */
-} rooms[WORKERS + CALLERS + 1];
+    uint64_t value;
+    sf_do_stamp stamp;
+} cache[KEYS];
 
 static size_t name_of(unsigned key, char name[16]) {
     return (size_t)snprintf(name, 16, "item-%u", key);
 }
 
-static struct caller *take(void) {
-    pthread_mutex_lock(&spare_lock);
-    struct caller *caller = spare;
-    if (caller) spare = caller->next;
-    pthread_mutex_unlock(&spare_lock);
-    return caller;
-}
+static uint64_t load(void *context, const uint8_t *name, size_t len);
 
-static void put(struct caller *caller) {
-    pthread_mutex_lock(&spare_lock);
-    caller->next = spare;
-    spare = caller;
-    pthread_mutex_unlock(&spare_lock);
-}
-
-static uint64_t load(unsigned key);
-
-/* Loads for the call that the caller leads, settles it, wakes those who joined, and takes the letters of those who have left. */
-static uint64_t lead(struct caller *caller, unsigned key, struct room *room) {
-    uint64_t value = load(key), other;
-    uint32_t joiners = 0;
-    while (sf_finish(&caller->slot, value, &joiners) == SF_OWES && sf_go_on(&caller->slot, &joiners) == SF_OWES) {}
-    if (joiners > 0) {
-        /* Who looked too early holds the lock until it sleeps, or has left. */
-        pthread_mutex_lock(&room->lock);
-        struct caller *left = room->left, *next;
-        room->left = NULL;
-        pthread_mutex_unlock(&room->lock);
-        pthread_cond_broadcast(&room->settled);
-        for (; left; left = next) {
-            next = left->next;
-            if (sf_poll(&left->slot, &other, &joiners) == SF_NOT_YET) abort();
-            put(left);
-        }
-    }
-    put(caller);
-    return value;
-}
-
-/* Sleeps until the letter is there: SF_DONE, or SF_OTHER where it is another key's. Where the call is open and another key's, it leaves
- * at once, since the load that it would wait for may wait for its own key: SF_NOT_YET. The leader asks for another key only after
- * it has settled its call, so the room has the key of the call as long as the letter is not there. */
-static uint32_t wait_for(struct caller *caller, unsigned key, struct room *room, uint64_t *value) {
-    uint32_t joiners = 0, code;
-    pthread_mutex_lock(&room->lock);
-    bool other = atomic_load(&room->key) != key;
-    while ((code = sf_poll(&caller->slot, value, &joiners)) == SF_NOT_YET && !other) pthread_cond_wait(&room->settled, &room->lock);
-    if (code == SF_NOT_YET) {
-        caller->next = room->left;
-        room->left = caller;
-    }
-    pthread_mutex_unlock(&room->lock);
-    if (code != SF_NOT_YET) put(caller);
-    return code;
-}
-
-/* The value of the key: loaded here, or by the worker that is loading it already. */
+/* The value of the key: from the cache, loaded here, or by the worker that is loading it already. */
 static uint64_t get(unsigned key) {
     char name[16];
     size_t len = name_of(key, name);
-    uint64_t value = 0;
-    uint32_t leader = 0, generation = 0, code = SF_OTHER;
-    for (struct caller *caller; code == SF_OTHER && (caller = take());) {
-        if (sf_number(&caller->slot, &leader) != SF_DONE) abort();
-        atomic_store(&rooms[leader].key, key);
-        while ((code = sf_ask(&caller->slot, (const uint8_t *)name, len, TRIES)) == SF_BUSY) {}
-        if (sf_call(&caller->slot, &leader, &generation) != SF_DONE) abort();
-        if (code == SF_LEADS) return lead(caller, key, &rooms[leader]);
-        code = wait_for(caller, key, &rooms[leader], &value);
+    struct page *page = &cache[key];
+    pthread_mutex_lock(&page->lock);
+    sf_got got = {.value = page->value, .stamp = page->stamp};
+    pthread_mutex_unlock(&page->lock);
+    if (sf_do_is_still(pool, &got.stamp)) {
+        atomic_fetch_add(&hits, 1);
+        return got.value;
     }
-    if (code == SF_DONE) {
-        atomic_fetch_add(&joined, 1);
-        return value;
+    if (sf_do(pool, (const uint8_t *)name, len, load, &key, SF_DO_FOREVER, &got) != SF_DO_DONE) abort();
+    atomic_fetch_add(got.led ? &loads : &joined, 1);
+    /* Where the key was forgotten meanwhile, the value may be older than that. */
+    if (sf_do_is_still(pool, &got.stamp)) {
+        pthread_mutex_lock(&page->lock);
+        page->value = got.value;
+        page->stamp = got.stamp;
+        pthread_mutex_unlock(&page->lock);
     }
-    /* Another key's call is open at the key's place, or no caller is free. */
-    atomic_fetch_add(&alone, 1);
-    return load(key);
+    return got.value;
 }
 
-/* Each key is loaded with the one after it, so a load asks for another key. */
-static uint64_t load(unsigned key) {
-    unsigned version = atomic_load(&versions[key]);
+/* Reads the store. An even key needs the one after it too: a load may ask for other keys. */
+static uint64_t load(void *context, const uint8_t *name, size_t len) {
+    unsigned key = *(unsigned *)context, version = atomic_load(&versions[key]);
+    (void)name;
+    (void)len;
     nanosleep(&(struct timespec){0, 100000}, NULL);
-    if (key + 1 < KEYS) get(key + 1);
-    atomic_fetch_add(&loads, 1);
+    if (key % 2 == 0) get(key + 1);
     return (uint64_t)key << 32 | version;
 }
 
 /* Writes the store first and forgets then: who asks from now on loads the new version. */
-static unsigned update(sf_slot *forgets, unsigned key) {
+static unsigned update(unsigned key) {
     char name[16];
     size_t len = name_of(key, name);
     unsigned version = atomic_fetch_add(&versions[key], 1) + 1;
-    while (sf_forget(forgets, (const uint8_t *)name, len, TRIES) == SF_BUSY) {}
+    sf_do_forget(pool, (const uint8_t *)name, len);
     return version;
 }
 
 static void *serve(void *at) {
-    sf_slot *forgets = at;
     unsigned seed = (unsigned)(size_t)at, stale = 0;
     for (int i = 0; i < REQUESTS; i++) {
         unsigned key = (unsigned)rand_r(&seed) % KEYS;
-        unsigned least = rand_r(&seed) % 10 == 0 ? update(forgets, key) : 0;
+        unsigned least = rand_r(&seed) % 10 == 0 ? update(key) : 0;
         uint64_t value = get(key);
         stale += (unsigned)(value >> 32) != key || (unsigned)value < least;
     }
@@ -150,28 +87,20 @@ static void *serve(void *at) {
 }
 
 int main(void) {
-    static sf_slot forgets[WORKERS];
     pthread_t threads[WORKERS];
     size_t stale = 0;
-    uint64_t seeds[2];
-    if (getrandom(seeds, sizeof seeds, 0) != sizeof seeds) return 1;
-    for (int i = 0; i <= WORKERS + CALLERS; i++) {
-        if (pthread_mutex_init(&rooms[i].lock, NULL) || pthread_cond_init(&rooms[i].settled, NULL)) return 1;
-    }
-    if (sf_open(&forgets[0], PLACES, WORKERS + CALLERS, seeds[0], seeds[1]) != SF_DONE) return 1;
-    for (int i = 1; i < WORKERS; i++) if (sf_split(&forgets[0], &forgets[i]) != SF_DONE) return 1;
-    for (int i = 0; i < CALLERS; i++) {
-        if (sf_split(&forgets[0], &callers[i].slot) != SF_DONE) return 1;
-        put(&callers[i]);
-    }
-    for (int i = 0; i < WORKERS; i++) if (pthread_create(&threads[i], NULL, serve, &forgets[i])) return 1;
+    const sf_do_sizes sizes = {.slots = SLOTS, .is_fixed = true};
+    pool = sf_do_open(SLOTS == 0 ? NULL : &sizes, NULL);
+    if (!pool) return 1;
+    for (int i = 0; i < KEYS; i++) if (pthread_mutex_init(&cache[i].lock, NULL)) return 1;
+    for (int i = 0; i < WORKERS; i++) if (pthread_create(&threads[i], NULL, serve, (void *)(size_t)i)) return 1;
     for (int i = 0; i < WORKERS; i++) {
         void *count;
         pthread_join(threads[i], &count);
         stale += (size_t)count;
     }
-    printf("requests %d, loads %u, joined %u, alone %u, stale %zu\n", WORKERS * REQUESTS, atomic_load(&loads), atomic_load(&joined), atomic_load(&alone), stale);
-    for (int i = 0; i < CALLERS; i++) sf_close(&callers[i].slot);
-    for (int i = 0; i < WORKERS; i++) sf_close(&forgets[i]);
+    sf_do_stats stats = sf_do_statistics(pool);
+    printf("hits %u, loads %u (%u beside), joined %u, stale %zu\n", atomic_load(&hits), atomic_load(&loads), (unsigned)stats.alone, atomic_load(&joined), stale);
+    sf_do_close(pool);
     return stale != 0;
 }
