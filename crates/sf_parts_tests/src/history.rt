@@ -1,7 +1,6 @@
 //! The sequential group: each call once with ample memory, and the last generation.
 
 ghost use Rattle.std.specs.Prelude.{◌≡◌};
-ghost use Rattle.sf_history.specs.Limits.{IsCallWithin};
 ghost use Rattle.sf_sequential.specs.State.{IsCaller};
 
 use crate::reading::text;
@@ -96,8 +95,7 @@ fn finds(
     due: Hit,
     there: &str,
 )
-    requires caller { IsCaller group.old 2 }
-    requires call { IsCallWithin call }
+    requires { IsCaller group.old 2 }
     ensures { group.new.callers ≡ group.old.callers }
 {
     let hit = group.forget_call(2, text(rt, alloc, key), call);
@@ -220,8 +218,7 @@ fn misses_beside_the_newer(
     before: CallId,
     newer: CallId,
 )
-    requires callers { group.old.callers ≡ 5 }
-    requires call { IsCallWithin before }
+    requires { group.old.callers ≡ 5 }
     ensures { group.new.callers ≡ group.old.callers }
 {
     let led = Ok(Asked::Lead(newer));
@@ -239,8 +236,8 @@ fn misses_beside_the_newer(
 
 // The newer call of the key is settled: a Forget of it clears it, and is found to do so before.
 fn clears_the_newer(rt: &impl Abort, alloc: Global, group: &mut TextGroup, newer: CallId)
-    requires caller { IsCaller group.old 2 }
-    requires call { IsCallWithin newer }
+    requires { IsCaller group.old 2 }
+    ensures { group.new.callers ≡ group.old.callers }
 {
     let found = walk::hit(group.history().events(), &text(rt, alloc, "k"), newer);
     assert!(rt; found == Hit::Cleared, "{found} is found");
@@ -248,6 +245,30 @@ fn clears_the_newer(rt: &impl Abort, alloc: Global, group: &mut TextGroup, newer
     finds(rt, alloc, group, "k", newer, Hit::Cleared, there);
     let otherwise = "a forgotten call is current";
     is_current(rt, alloc, group, newer, false, otherwise);
+}
+
+// Calls whose numbers no caller and no generation of a record can have are missed.
+fn misses_what_nobody_has(rt: &impl Abort, alloc: Global, group: &mut TextGroup)
+    requires { IsCaller group.old 2 }
+{
+    let none = CallId {
+        caller: 0,
+        generation: 0,
+    };
+    let beyond = CallId {
+        caller: u32::MAX,
+        generation: u32::MAX,
+    };
+    finds(rt, alloc, group, "k", none, Hit::Missed, "as nobody's");
+    finds(
+        rt,
+        alloc,
+        group,
+        "k",
+        beyond,
+        Hit::Missed,
+        "beyond the limits",
+    );
 }
 
 #[test]
@@ -268,7 +289,8 @@ fn one_call_is_forgotten(rt: HostRuntime) {
     misses_beside_the_newer(&rt, alloc, &mut group, one, three);
     settles(&rt, &mut group, 3, Ok(text(&rt, alloc, "v")), three, 0);
     clears_the_newer(&rt, alloc, &mut group, three);
-    has_events(&rt, &group, 8);
+    misses_what_nobody_has(&rt, alloc, &mut group);
+    has_events(&rt, &group, 10);
 }
 
 #[test]

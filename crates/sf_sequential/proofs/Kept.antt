@@ -11,8 +11,7 @@ use Rattle.sf_history.specs.declared.event.Event.TheVariants.{Lead, Enter, Forge
 use Rattle.sf_history.specs.Calls.{same_call}
 use Rattle.sf_history.specs.History.{IsNew, holds_call, names, enters, joined, uses, leads, settles, is_settled, hands, next_generation, maker}
 use Rattle.sf_history.specs.Legal.{MayFollow}
-use Rattle.sf_history.specs.Limits.{IsWithinLimits}
-use Rattle.sf_sequential.specs.State.{GroupState, IsKept, IsCaller, Leads, Holds, gives, led_call, last_ticket, held_ticket, own_ticket, untaken, leaves_led, leaves_ticket, has_taken, with_events}
+use Rattle.sf_sequential.specs.State.{GroupState, IsBounded, IsKept, IsCaller, Leads, Holds, gives, led_call, last_ticket, held_ticket, own_ticket, untaken, leaves_led, leaves_ticket, has_taken, with_events}
 use Rattle.sf_lists.proofs.Lists.{list_any_push_cases, list_any_push_kept, list_any_push_parts}
 use Rattle.sf_history.proofs.LegalHistories.{same_call_is, other_call, legal_push, fold_push, next_push}
 use Rattle.sf_history.proofs.Members.{joined_push}
@@ -141,13 +140,13 @@ module _ {K V : Type 0} where
   given_new eq h (Handed by call) t follows is = cc
 
   -- an event that may follow, of a caller of the group that is ready for it, keeps the group's promises
-  pub kept_event : (eq : K → K → Bool) (g : GroupState K V) (e : Event K V) → IsKept eq g → MayFollow eq g.history e → IsWithinLimits e → IsCaller g (maker e) → IsReady g e → NamesInOrder g e
+  pub kept_event : (eq : K → K → Bool) (g : GroupState K V) (e : Event K V) → IsKept eq g → MayFollow eq g.history e → IsBounded e → IsCaller g (maker e) → IsReady g e → NamesInOrder g e
       → ((a : ℕ) → next_generation g.first g.history a + uses a e ≤ 2 ^ 32) → ((c : CallId) → joined g.history c + cond {A = ℕ} (enters c e) 1 0 ≤ LARGEST_CALLER) → IsKept eq (with_events g (e ∷ []))
   kept_event eq g e kept follows limited made ready ordered room places = record {
     few = kept.few;
     first = kept.first;
     legal = legal_push eq g.history e kept.legal follows;
-    limited = All-push (λ (x : Event K V). IsWithinLimits x) g.history e kept.limited limited;
+    limited = All-push (λ (x : Event K V). IsBounded x) g.history e kept.limited limited;
     made = All-push (λ (x : Event K V). IsCaller g (maker x)) g.history e kept.made made;
     numbered = λ c named. elim (list_any_push_cases (names c) g.history e named) [
       | inl before ↦ let was = kept.numbered c before in let now = next_push g.first g.history e c.caller in omega arith

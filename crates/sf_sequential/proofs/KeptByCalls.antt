@@ -1,5 +1,5 @@
 -- each call of the sequential group keeps the group's promises
-use Rattle.std.proofs.Common.{◌≡◌, ◌≢◌, ℕ, ◌+◌, ◌^◌, ◌<◌, ◌≤◌, Bool, true, false, ◌==◌, List, [], ◌∷◌, ◌++◌, ◌↔◌, Option, Some, None, is_none, inl, inr, refl, sym, ◌∙◌, ap, subst, arith, eq-eqb, append_assoc, All, IfSome}
+use Rattle.std.proofs.Common.{◌≡◌, ◌≢◌, ℕ, ◌+◌, ◌^◌, ◌<◌, ◌≤◌, Bool, true, false, ◌==◌, ◌&&◌, List, [], ◌∷◌, ◌++◌, ◌↔◌, ◌⊎◌, Option, Some, None, is_none, inl, inr, refl, sym, ◌∙◌, ap, subst, arith, eq-eqb, append_assoc, All, IfSome}
 use Rattle.std.proofs.lemmas.Bool.{and_parts, or_cases, or_left, or_right, eqb-true, ltb-false, cond-true, cond-false, cases_Bool, ne_eqb, false_from_ne_true, true≢false}
 use Rattle.std.proofs.lemmas.List.Elements.{All-head, All-tail}
 use Rattle.std.specs.List.{list_any}
@@ -9,14 +9,15 @@ use Rattle.sf_sequential.specs.declared.ticket.Ticket.{Ticket}
 use Rattle.sf_history.specs.declared.event.Event.{Event}
 use Rattle.sf_history.specs.declared.event.Event.TheVariants.{Lead, Enter, Forget, ForgetCall, Settle, Handed}
 use Rattle.sf_history.specs.Calls.{same_call}
-use Rattle.sf_history.specs.History.{holds_call, names, leads, was_led, joined, settles, is_settled, hands, is_handed, open_call, current_call, next_generation}
+use Rattle.sf_history.specs.History.{has_ended, keeps_current, holds_call, names, leads, was_led, joined, settles, is_settled, hands, is_handed, open_call, current_call, next_generation}
 use Rattle.sf_history.specs.declared.event.Hit.{Hit}
+use Rattle.sf_history.specs.declared.event.Hit.TheVariants.{Missed}
 use Rattle.sf_history.specs.Legal.{MayFollow, IsHit}
-use Rattle.sf_history.specs.Limits.{IsCallerNumber, IsCallWithin, IsWithinLimits}
-use Rattle.sf_sequential.specs.State.{GroupState, IsKept, IsCaller, Leads, Holds, led_call, gives, last_ticket, held_ticket, untaken, has_taken, is_free, is_spent, next_id, with_events, with_taken}
+use Rattle.sf_history.specs.Limits.{IsCallerNumber, IsCallWithin}
+use Rattle.sf_sequential.specs.State.{GroupState, IsBounded, IsKept, IsCaller, Leads, Holds, led_call, gives, last_ticket, held_ticket, untaken, has_taken, is_free, is_spent, next_id, with_events, with_taken}
 use Rattle.sf_sequential.specs.Sequential.{found_as, hit_of}
-use Rattle.sf_lists.proofs.Lists.{list_any_push_kept, list_any_push_none, list_any_push_last, list_any_push_parts, list_any_push_cases}
-use Rattle.sf_history.proofs.LegalHistories.{same_call_is, same_call_self, open_named, led_named, handed_settled, open_unsettled}
+use Rattle.sf_lists.proofs.Lists.{by_push, list_any_push_kept, list_any_push_none, list_any_push_last, list_any_push_parts, list_any_push_cases}
+use Rattle.sf_history.proofs.LegalHistories.{same_call_is, same_call_self, fold_push, open_named, led_named, handed_settled, open_unsettled}
 use Rattle.sf_sequential.proofs.Standing.{led_was_led, led_unsettled, last_given}
 use Rattle.sf_sequential.proofs.Joiners.{room_for_joiner}
 use Rattle.sf_sequential.proofs.Kept.{NamesInOrder, kept_event, held_from_last}
@@ -56,7 +57,40 @@ hit_is opened current c = at (holds_call opened c) (holds_call current c) refl r
     at false true open_is current_is = (held_is current c current_is, not_held opened c open_is)
     at false false open_is current_is = not_held current c current_is
 
+-- a call that is found is within the limits, where the open call and the current one are
+hit_within : (opened current : Option CallId) (c : CallId) → (opened ≡ Some c → IsCallWithin c) → (current ≡ Some c → IsCallWithin c) → IsCallWithin c ⊎ (hit_of opened current c ≡ Missed)
+hit_within opened current c open_is current_is = at (holds_call opened c) (holds_call current c) refl refl
+  where
+    at : (x y : Bool) → holds_call opened c ≡ x → holds_call current c ≡ y → IsCallWithin c ⊎ (found_as x y ≡ Missed)
+    at true y is _ = inl (open_is (held_is opened c is))
+    at false true _ is = inl (current_is (held_is current c is))
+    at false false _ _ = inr refl
+
 module _ {K V : Type 0} where
+  -- a current call was named
+  current_named : (eq : K → K → Bool) (h : List (Event K V)) (k : K) (c : CallId) → current_call eq h k ≡ Some c → list_any (names c) h ≡ true
+  current_named eq h k c = by_push (λ (h : List (Event K V)). current_call eq h k ≡ Some c → list_any (names c) h ≡ true) (λ is. cc) step h
+    where
+      at_lead : (h : List (Event K V)) (by : ℕ) (key : K) (call : CallId) (own : Option CallId) → (current_call eq h k ≡ Some c → list_any (names c) h ≡ true) → (b : Bool)
+          → cond b (Some call) (current_call eq h k) ≡ Some c → list_any (names c) (h ++ Lead by key call own ∷ []) ≡ true
+      at_lead h by key call own before true found =
+          let calls : call ≡ c = cc in
+          list_any_push_last (names c) h _ (or_left _ _ (subst (λ (z : CallId). same_call z c ≡ true) (sym calls) (same_call_self c)))
+      at_lead h by key call own before false found = list_any_push_kept (names c) h _ (before found)
+
+      at_end : (h : List (Event K V)) (e : Event K V) → (current_call eq h k ≡ Some c → list_any (names c) h ≡ true) → (b : Bool)
+          → cond b None (current_call eq h k) ≡ Some c → list_any (names c) (h ++ e ∷ []) ≡ true
+      at_end h e before true found = cc
+      at_end h e before false found = list_any_push_kept (names c) h e (before found)
+
+      step : (h : List (Event K V)) (e : Event K V) → (current_call eq h k ≡ Some c → list_any (names c) h ≡ true) → current_call eq (h ++ e ∷ []) k ≡ Some c → list_any (names c) (h ++ e ∷ []) ≡ true
+      step h (Lead by key call own) before is = at_lead h by key call own before (eq key k) (sym (fold_push (keeps_current eq k) None h _) ∙ is)
+      step h (Enter by key call member) before is = list_any_push_kept (names c) h _ (before (sym (fold_push (keeps_current eq k) None h _) ∙ is))
+      step h (Forget by key closed) before is = at_end h _ before (eq key k) (sym (fold_push (keeps_current eq k) None h _) ∙ is)
+      step h (ForgetCall by key call hit) before is = at_end h _ before (eq key k && has_ended hit) (sym (fold_push (keeps_current eq k) None h _) ∙ is)
+      step h (Settle by call result joiners) before is = list_any_push_kept (names c) h _ (before (sym (fold_push (keeps_current eq k) None h _) ∙ is))
+      step h (Handed by call) before is = list_any_push_kept (names c) h _ (before (sym (fold_push (keeps_current eq k) None h _) ∙ is))
+
   -- a free caller neither leads nor holds
   pub free_parts : (g : GroupState K V) (a : ℕ) → is_free g a ≡ true → (led_call g.history a ≡ None) × (held_ticket g a ≡ None)
   free_parts g a free = let parts = and_parts _ _ free in (none_is _ parts.0, none_is _ parts.1)
@@ -103,12 +137,12 @@ module _ {K V : Type 0} where
       (made_within eq g a kept caller, omega arith, unspent g a left)
 
   -- a call that is named is within the limits
-  named_within : (h : List (Event K V)) (c : CallId) → All IsWithinLimits h → list_any (names c) h ≡ true → IsCallWithin c
+  named_within : (h : List (Event K V)) (c : CallId) → All IsBounded h → list_any (names c) h ≡ true → IsCallWithin c
   named_within [] c limited named = cc
   named_within (e ∷ h) c limited named =
       elim (or_cases _ _ named) [
-        | inl here ↦ by_event e (All-head (λ (x : Event K V). IsWithinLimits x) e h limited) here
-        | inr later ↦ named_within h c (All-tail (λ (x : Event K V). IsWithinLimits x) e h limited) later
+        | inl here ↦ by_event e (All-head (λ (x : Event K V). IsBounded x) e h limited) here
+        | inr later ↦ named_within h c (All-tail (λ (x : Event K V). IsBounded x) e h limited) later
       ]
     where
       one : (d : CallId) → IsCallWithin d → same_call d c ≡ true → IsCallWithin c
@@ -118,7 +152,7 @@ module _ {K V : Type 0} where
       own_one None within is = cc
       own_one (Some d) within is = one d within is
 
-      by_event : (e : Event K V) → IsWithinLimits e → names c e ≡ true → IsCallWithin c
+      by_event : (e : Event K V) → IsBounded e → names c e ≡ true → IsCallWithin c
       by_event (Lead by key call own) within is = elim (or_cases _ _ is) [ inl call_is ↦ one call within.1 call_is | inr own_is ↦ own_one own within.2 own_is ]
       by_event (Enter by key call member) within is = elim (or_cases _ _ is) [ inl call_is ↦ one call within.1 call_is | inr member_is ↦ one member within.2 member_is ]
       by_event (Forget by key closed) within is = cc
@@ -237,12 +271,14 @@ module _ {K V : Type 0} where
       kept_event eq g (Forget a k closed) kept is (made_within eq g a kept caller, closed_within eq g k closed kept is) caller tt (λ c named. cc) room (no_joiner eq g kept)
 
   -- a caller of the group forgets one call of a key
-  pub kept_forget_call : (eq : K → K → Bool) (g : GroupState K V) (a : ℕ) (k : K) (c : CallId) (hit : Hit) → IsKept eq g → IsCaller g a → IsCallWithin c → hit ≡ hit_of (open_call eq g.history k) (current_call eq g.history k) c
+  pub kept_forget_call : (eq : K → K → Bool) (g : GroupState K V) (a : ℕ) (k : K) (c : CallId) (hit : Hit) → IsKept eq g → IsCaller g a → hit ≡ hit_of (open_call eq g.history k) (current_call eq g.history k) c
       → IsKept eq (with_events g (ForgetCall a k c hit ∷ []))
-  kept_forget_call eq g a k c hit kept caller limited is =
+  kept_forget_call eq g a k c hit kept caller is =
       let room : (b : ℕ) → next_generation g.first g.history b + 0 ≤ 2 ^ 32 = λ b. let most = kept.within b in omega arith in
       let found : IsHit (open_call eq g.history k) (current_call eq g.history k) c hit = subst (IsHit (open_call eq g.history k) (current_call eq g.history k) c) (sym is) (hit_is (open_call eq g.history k) (current_call eq g.history k) c) in
-      kept_event eq g (ForgetCall a k c hit) kept found (made_within eq g a kept caller, limited) caller tt (λ d named. cc) room (no_joiner eq g kept)
+      let named : current_call eq g.history k ≡ Some c → IsCallWithin c = λ current. named_within g.history c kept.limited (current_named eq g.history k c current) in
+      let within : IsCallWithin c ⊎ (hit ≡ Missed) = subst (λ (h : Hit). IsCallWithin c ⊎ (h ≡ Missed)) (sym is) (hit_within (open_call eq g.history k) (current_call eq g.history k) c (open_within eq g k c kept) named) in
+      kept_event eq g (ForgetCall a k c hit) kept found (made_within eq g a kept caller, within) caller tt (λ d named. cc) room (no_joiner eq g kept)
 
   -- a leader settles its call, and its letters are handed out
   pub kept_settle : (eq : K → K → Bool) (g : GroupState K V) (a : ℕ) (c : CallId) (v : V) (joiners : ℕ) → IsKept eq g → IsCaller g a → led_call g.history a ≡ Some c → joiners ≡ joined g.history c

@@ -4,7 +4,6 @@ use Rattle.sf_history.specs.declared.call.CallId.{CallId}
 use Rattle.sf_history.specs.declared.event.Event.TheVariants.{Lead, Enter, Forget, ForgetCall, Settle, Handed}
 use Rattle.sf_history.specs.declared.event.Hit.{Hit}
 use Rattle.sf_history.specs.declared.event.Hit.TheVariants.{Closed, Cleared, Missed}
-use Rattle.sf_history.specs.Limits.{IsCallWithin}
 use Rattle.sf_sequential.specs.declared.refusal.ModelRefusal.{ModelRefusal}
 use Rattle.sf_sequential.specs.declared.refusal.ModelRefusal.TheVariants.{NotFree, NotLeading, NothingAsked, Spent, Memory}
 use Rattle.sf_sequential.specs.declared.command.Asked.{Asked}
@@ -116,12 +115,12 @@ module _ {K V : Type 0} where
   abbrev pub is_current_of : (K → K → Bool) → GroupState K V → K → CallId → Bool
   is_current_of eq g k c = holds_call (current_call eq g.history k) c
 
-  -- the callers that the command names are among so many, and a call that is to be forgotten is within the limits
+  -- the callers that the command names are among so many
   abbrev pub IsCommandOf : ℕ → Command K V → Type 0
   IsCommandOf callers (command.Ask a k) = (0 < a) × (a ≤ callers)
   IsCommandOf callers (command.AskChan a b k) = ((0 < a) × (a ≤ callers)) × ((0 < b) × (b ≤ callers))
   IsCommandOf callers (command.Settle a v) = (0 < a) × (a ≤ callers)
   IsCommandOf callers (command.Forget a k) = (0 < a) × (a ≤ callers)
-  IsCommandOf callers (command.ForgetCall a k c) = ((0 < a) × (a ≤ callers)) × IsCallWithin c
+  IsCommandOf callers (command.ForgetCall a k c) = (0 < a) × (a ≤ callers)
   IsCommandOf callers (command.Take a) = (0 < a) × (a ≤ callers)
   IsCommandOf callers (command.IsCurrent k c) = Unit {0}

@@ -1,14 +1,15 @@
 -- the sequential group as a state: what it knows, and who leads, holds, is free
-use Rattle.std.specs.Prelude.{◌≡◌, ℕ, ◌^◌, ◌<◌, ◌≤◌, ◌==◌, nat_lt, Bool, true, false, ◌&&◌, List, [], ◌∷◌, ◌++◌, if◌then◌else◌, Option, Some, None, fold, is_none, option_and_then, All}
+use Rattle.std.specs.Prelude.{◌≡◌, ◌⊎◌, ℕ, ◌^◌, ◌<◌, ◌≤◌, ◌==◌, nat_lt, Bool, true, false, ◌&&◌, List, [], ◌∷◌, ◌++◌, if◌then◌else◌, Option, Some, None, fold, is_none, option_and_then, All}
 use Rattle.std.specs.List.{list_any}
 use Rattle.sf_history.specs.declared.call.CallId.{CallId}
 use Rattle.sf_sequential.specs.declared.ticket.Ticket.{Ticket}
 use Rattle.sf_history.specs.declared.event.Event.{Event}
 use Rattle.sf_history.specs.declared.event.Event.TheVariants.{Lead, Enter, Forget, ForgetCall, Settle, Handed}
+use Rattle.sf_history.specs.declared.event.Hit.TheVariants.{Missed}
 use Rattle.sf_history.specs.Calls.{same_call}
 use Rattle.sf_history.specs.History.{holds_call, names, was_led, is_settled, is_handed, joined, next_generation, maker}
 use Rattle.sf_history.specs.Legal.{IsLegal}
-use Rattle.sf_history.specs.Limits.{IsWithinLimits}
+use Rattle.sf_history.specs.Limits.{IsCallerNumber, IsCallWithin, IsWithinLimits}
 use Rattle.sf_words.specs.declared.limits.TheConstants.{LARGEST_CALLER, LARGEST_GENERATION}
 
 -- the sequential group: its callers, 1 to so many, their first generation, what happened, and the members that took their letter
@@ -102,12 +103,21 @@ module _ {K V : Type 0} where
   abbrev pub Holds : GroupState K V → ℕ → Ticket → Type 0
   Holds g a t = (t.member.caller ≡ a) × (list_any (gives t) g.history ≡ true) × (has_taken g.taken t.member ≡ false)
 
+  -- the event is within the limits of records, but that a call which a Forget of it missed may be any
+  abbrev pub IsBounded : Event K V → Type 0
+  IsBounded (Lead by key call own) = IsWithinLimits {K = K} {V = V} (Lead by key call own)
+  IsBounded (Enter by key call member) = IsWithinLimits {K = K} {V = V} (Enter by key call member)
+  IsBounded (Forget by key closed) = IsWithinLimits {K = K} {V = V} (Forget by key closed)
+  IsBounded (ForgetCall by key call hit) = IsCallerNumber by × (IsCallWithin call ⊎ (hit ≡ Missed))
+  IsBounded (Settle by call result joiners) = IsWithinLimits {K = K} {V = V} (Settle by call result joiners)
+  IsBounded (Handed by call) = IsWithinLimits {K = K} {V = V} (Handed by call)
+
   -- what every sequential group keeps
   pub record IsKept (eq : K → K → Bool) (g : GroupState K V) : Type 0 where
     pub few : g.callers ≤ LARGEST_CALLER
     pub first : 0 < g.first
     pub legal : IsLegal eq g.history
-    pub limited : All IsWithinLimits g.history
+    pub limited : All IsBounded g.history
     pub made : All (λ e. IsCaller g (maker e)) g.history
     pub numbered : (c : CallId) → list_any (names c) g.history ≡ true → c.generation < next_generation g.first g.history c.caller
     pub within : (a : ℕ) → next_generation g.first g.history a ≤ 2 ^ 32

@@ -5,8 +5,7 @@ ghost use Rattle.sf_history.specs.declared.call.CallId.{CallId};
 ghost use Rattle.sf_sequential.specs.declared.ticket.Ticket.{Ticket};
 ghost use Rattle.sf_history.specs.History.{maker, joined};
 ghost use Rattle.sf_history.specs.Legal.{IsLegal};
-ghost use Rattle.sf_history.specs.Limits.{IsCallWithin, IsWithinLimits};
-ghost use Rattle.sf_sequential.specs.State.{GroupState, IsCaller, Leads, Holds, led_call, held_ticket, is_free, is_spent, next_id};
+ghost use Rattle.sf_sequential.specs.State.{GroupState, IsCaller, IsBounded, Leads, Holds, led_call, held_ticket, is_free, is_spent, next_id};
 ghost use Rattle.sf_sequential.specs.Sequential.{ask_of, ask_chan_of, settle_of, forget_of, forget_call_of, take_of, is_current_of, IsRefusal, MayAskChan};
 ghost use Rattle.sf_words.specs.declared.limits.TheConstants.{LARGEST_CALLER};
 
@@ -208,15 +207,14 @@ impl<K: Eq, V> SeqGroup<K, V> {
     }
 
     /// The caller forgets one call of the key, whichever it is: it closes that call where it is the key's open one, and ends
-    /// it where it is the current one. Another call of the key stays as it is.
+    /// it where it is the current one. Another call of the key stays as it is. Any two numbers may be named.
     ///
     /// Refused is a caller that is not free; Memory comes last.
     pub fn forget_call(&mut self, caller: u32, key: K, call: CallId) -> Result<Hit, ModelRefusal>
     where
         K: Drop,
         V: Drop,
-        requires caller { IsCaller self.old caller }
-        requires call { IsCallWithin call }
+        requires { IsCaller self.old caller }
         ensures callers { self.new.callers ≡ self.old.callers }
         ensures ok { IfOk result (λ hit.
             forget_call_of K.eq self.old caller key call ≡ Ok (hit, self.new)) }
@@ -281,10 +279,10 @@ impl<K: Eq, V> SeqGroup<K, V> {
         ensures holds { (a : ℕ) (t : Ticket) → (held_ticket self.now a ≡ Some t)
             ↔ Holds self.now a t }
 
-        // Its events are made by the group's callers, and are within the limits of records, so that where the keys are too, what
-        // is written of it reads back.
+        // Its events are made by the group's callers, and are within the limits of records, but that a call which a Forget of it
+        // missed may be any: so where that and the keys are within them too, what is written of it reads back.
         ensures made { All (λ e. IsCaller self.now (maker e)) self.now.history }
-        ensures within { All IsWithinLimits self.now.history }
+        ensures within { All IsBounded self.now.history }
     {
         &self.history
     }

@@ -6,4 +6,4 @@ use Rattle.sf_sequential.proofs.seq_group.SeqGroup.forget_call.Goals as goal
 pub invariant_of-self-2 : goal.invariant_of-self-2
 invariant_of-self-2 g c =
     rw c.in_ok-push.ensures.ok
-    (kept_forget_call g.K.PartialEq.eq _ c.args.caller c.args.key c.args.call c.hit-hit.result c.self.invariant (search rules) (search rules) (search rules))
+    (kept_forget_call g.K.PartialEq.eq _ c.args.caller c.args.key c.args.call c.hit-hit.result c.self.invariant (search rules) (search rules))
