@@ -91,6 +91,56 @@ step 2
 1 deliver 2.1
 = handed 1.1
 2 collect 2.1 full
+# steps: failed_lead_of_one_try_is_left
+do 1 ask 1
+step 1 2
+do 2 ask 1
+step 2 3
+step 1
+drop 1
+do 1 ask 1
+step 1 5
+=
+1 look 1 0
+1 ready 1.1 open
+2 look 1 0
+2 ready 2.1 open
+2 lead 1 2.1 yes
+= lead 1 2.1
+1 lead 1 1.1 no
+1 look 1 2.1
+1 peek 2.1 open 0
+1 ready 1.1 listed
+1 link 0
+1 enter 2.1 yes
+= enter 1 2.1 1.1
+# steps: failed_forget_of_one_try_is_left
+do 1 ask 1
+step 1 3
+do 2 forget 1
+step 2 2
+do 1 settle ok v
+step 1 2
+step 2
+drop 2
+do 2 forget 1
+step 2 3
+=
+1 look 1 0
+1 ready 1.1 open
+1 lead 1 1.1 yes
+= lead 1 1.1
+2 look 1 1.1
+2 peek 1.1 open 0
+1 peek 1.1 open 0
+1 close 1.1 done yes
+= settle 1.1 v joiners=0
+= handed 1.1
+2 close 1.1 forgot no
+2 look 1 1.1
+2 peek 1.1 done 0
+2 clear 1 1.1 yes
+= forget 1 idle
 # steps: leader_delivers_to_its_own_channel
 do 1 chan 2 1
 step 1 4

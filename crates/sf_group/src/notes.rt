@@ -17,10 +17,8 @@ impl<V: Fit> Group<V> {
         requires { caller.old.group ≡ self.now }
         ensures { HasTold caller.old caller.new result }
     {
-        let seat = self
-            .table
-            .shared
-            .split_seat::<Tells>(&mut caller.seated.seat);
+        let words = &self.table.shared;
+        let seat = words.split_seat::<Tells>(&mut caller.seated.seat);
         Note { seat }
     }
 
