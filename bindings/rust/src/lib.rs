@@ -170,7 +170,7 @@ pub struct Call {
     pub epoch: u32,
     /// The number of its leader, from 1 to 65,535.
     pub caller: u32,
-    /// Which call of its leader it is, from 1 on.
+    /// Which of the calls that its leader led or joined it is, from 1 on.
     pub generation: u32,
 }
 

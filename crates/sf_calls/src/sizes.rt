@@ -3,7 +3,7 @@
 /// How many places and callers a group has, and its callers' first generation.
 #[derive(Clone, Copy)]
 pub struct Sizes {
-    /// How many places, from 1 to 1,048,576. They are numbered from 1.
+    /// How many places, from 1 to 134,217,728. They are numbered from 1.
     pub places: u32,
     /// How many callers, from 1 to 65,535. They are numbered from 1.
     pub callers: u32,

@@ -123,7 +123,7 @@ impl<V: Fit> Group<V> {
         1 <= place && place <= self.sizes.places
     }
 
-    /// How many places it has, from 1 to 1,048,576.
+    /// How many places it has, from 1 to 134,217,728.
     pub fn places(&self) -> u32
         ensures { result ≡ self.now.sizes.places }
     {

@@ -1,6 +1,7 @@
 //! How large numbers and keys may be: what the layouts of words leave room for, and what every crate above keeps to.
 
-/// The largest number of a place: no directory or group has more places.
+/// The largest number of a place that a directory, a fill, a log or a schedule can name. A group may have more places, since
+/// no word holds a place's number.
 pub const LARGEST_PLACE: u32 = 1_048_576;
 
 /// The largest number of a caller of a group, or of a desk of a directory.
