@@ -73,7 +73,9 @@ fn with_space<
     requires room { sizes.keeps.log ≡ B.room body }
     ensures { IfOk result (λ answer. B.ends body answer) }
 {
-    let parts = FillParts::new(alloc, space, desks, loaders, sizes.first_generation)?;
+    let Ok(parts) = FillParts::new(alloc, space, desks, loaders, sizes.first_generation) else {
+        return Err(Memory);
+    };
     with_all::<D, Brand, O, L, B>(alloc, space, parts, sizes, body)
 }
 

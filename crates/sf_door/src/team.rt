@@ -132,7 +132,9 @@ fn with_space<
     ensures { IfOk result
         (IsOfThreads (T.gives team.now) (T.ends team.now) (vec_len loaders)) }
 {
-    let parts = FillParts::new(alloc, space, desks, loaders, sizes.first_generation)?;
+    let Ok(parts) = FillParts::new(alloc, space, desks, loaders, sizes.first_generation) else {
+        return Err(Memory);
+    };
     with_all::<D, Brand, O, L, R, T>(rt, alloc, space, parts, sizes.keeps, team)
 }
 

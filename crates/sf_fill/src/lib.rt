@@ -25,7 +25,7 @@ mod sizes;
 
 pub use fill::Fill;
 pub use getter::Getter;
-pub use parts::FillParts;
+pub use parts::{FillParts, RefusedParts};
 pub use put::Put;
 pub use sf_caches::{CacheStats, Which};
 pub use sf_counters::{Accounts, AllParts, GetCounts, Ledgers, Naming, Tallies, Totals};

@@ -36,6 +36,15 @@ pub struct FillParts<'d, D: Naming, O: Origin, L> {
     pub ledgers: Ledgers,
 }
 
+/// What a fill was to be made of, which comes back where memory for the rest of its parts is refused.
+#[derive(Drop)]
+pub struct RefusedParts<L> {
+    /// Look keys up, one a getter.
+    pub desks: Vec<KeyDesk>,
+    /// What getters ask for values, a set a getter.
+    pub loaders: Vec<L>,
+}
+
 /// All memory that a fill takes when it is made.
 struct Rooms<'d, D: Naming, N: Naming, O: Origin, L> {
     kept: Kept<'d, D, N, O>,
@@ -138,14 +147,15 @@ fn getters_of<'d, D: Naming, N: Naming, O: Origin, L: Drop>(
 
 impl<'d, D: Naming, O: Origin, L: Drop> FillParts<'d, D, O, L> {
     /// The parts of a fill over the key space, which has at most 1,048,576 places, with a getter for each set of loaders, 1 to
-    /// 65,535: a group whose callers' first generation is this one, from 1 on, and its ledgers. Refused where there is no memory.
+    /// 65,535: a group whose callers' first generation is this one, from 1 on, and its ledgers. Where memory is refused, desks and
+    /// loaders come back.
     pub fn new(
         alloc: Global,
         space: KeySpace<'d>,
         desks: Vec<KeyDesk>,
         loaders: Vec<L>,
         first_generation: u32,
-    ) -> Result<Self, Memory>
+    ) -> Result<Self, RefusedParts<L>>
         requires space { space_of space ≡ D.space }
         requires places { places_in D.space ≤ LARGEST_PLACE }
         requires getters { (1 ≤ vec_len loaders) × (vec_len loaders ≤ LARGEST_CALLER) }
@@ -155,15 +165,14 @@ impl<'d, D: Naming, O: Origin, L: Drop> FillParts<'d, D, O, L> {
             AreParts D.space parts.group (vec_len loaders) (names_of parts.ledgers) parts) }
         ensures callers { IfOk result (λ parts. All (IsNewCaller parts.group) parts.callers.items) }
         ensures given { IfOk result (λ parts. (parts.desks ≡ desks) × (parts.loaders ≡ loaders)) }
+        ensures refused { IfErr result (λ back. (back.desks ≡ desks) × (back.loaders ≡ loaders)) }
     {
         let getters = loaders.len() as u32;
         let places = space.place_count();
-        let (group, callers) = Group::<FillValue<'d, D, O>>::new(
-            alloc,
-            places,
-            getters,
-            first_generation,
-        )?;
+        let made = Group::<FillValue<'d, D, O>>::new(alloc, places, getters, first_generation);
+        let Ok((group, callers)) = made else {
+            return Err(RefusedParts { desks, loaders });
+        };
         Ok(FillParts {
             desks,
             group,

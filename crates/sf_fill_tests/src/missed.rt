@@ -197,7 +197,9 @@ fn with_space<'d, D: Naming + Send + Sync, R: Wait + Threads + Sync>(
     requires desks { (vec_len desks ≡ 2) × AreDesksOf D.space desks.items }
 {
     let sets = vec![in alloc; loaders(alloc)?, loaders(alloc)?]?;
-    let parts = FillParts::new(alloc, space, desks, sets, 1)?;
+    let Ok(parts) = FillParts::new(alloc, space, desks, sets, 1) else {
+        return Err(Memory);
+    };
     with_all::<D, Brand, R>(rt, alloc, space, parts, looks)
 }
 

@@ -3,12 +3,13 @@
 ghost use Rattle.std.specs.Prelude.{◌≡◌, ◌≤◌, IfOk, vec_len, pos};
 ghost use Rattle.sf_words.specs.declared.limits.TheConstants.{LARGEST_PLACE};
 ghost use Rattle.sf_spots.specs.Spaces.{AreDesksOf, places_in, space_of};
+ghost use Rattle.sf_counters.specs.Totals.{names_of};
 ghost use Rattle.sf_fill.specs.Made.{AreParts};
 
 use crate::meeting::{Flags, PairLoaders, loaders};
 use crate::spare::{Spare, take_letter};
 use crate::tried::{PairGetter, Tried};
-use sf_fill::{Fill, FillParts, Naming, Sizes};
+use sf_fill::{Fill, FillParts, Naming, RefusedParts, Sizes};
 use sf_group::Memory;
 use sf_loaders::scripted::AnyValue;
 use sf_spots::{KeyDesk, KeySpace, open_directory};
@@ -220,6 +221,30 @@ fn all_loaders<'f>(
     Ok(sets)
 }
 
+// The desks and the loaders come back where memory is refused, and make the parts then.
+fn make_parts<'d, 'f, D: Naming>(
+    alloc: Global,
+    space: KeySpace<'d>,
+    desks: Vec<KeyDesk>,
+    sets: Vec<PairLoaders<'f>>,
+) -> Result<FillParts<'d, D, AnyValue, PairLoaders<'f>>, Memory>
+    requires space { (space_of space ≡ D.space) × (places_in D.space ≤ LARGEST_PLACE) }
+    requires sets { vec_len sets ≡ 3 }
+    requires desks { (vec_len desks ≡ 3) × AreDesksOf D.space desks.items }
+    ensures { IfOk result (λ parts.
+        AreParts D.space parts.group 3 (names_of parts.ledgers) parts) }
+{
+    match FillParts::new(alloc, space, desks, sets, 1) {
+        Ok(parts) => Ok(parts),
+        Err(RefusedParts { desks, loaders }) => match FillParts::new(
+            alloc, space, desks, loaders, 1,
+        ) {
+            Ok(parts) => Ok(parts),
+            Err(_) => Err(Memory),
+        },
+    }
+}
+
 // The key space is named here.
 fn with_space<'d, D: Naming + Send + Sync, R: Wait + Threads + Abort + Sync>(
     rt: &R,
@@ -233,7 +258,7 @@ fn with_space<'d, D: Naming + Send + Sync, R: Wait + Threads + Abort + Sync>(
 {
     let flags = Flags::new();
     let sets = all_loaders(alloc, scene, &flags)?;
-    let parts = FillParts::new(alloc, space, desks, sets, 1)?;
+    let parts = make_parts(alloc, space, desks, sets)?;
     with_all::<D, Brand, R>(rt, alloc, space, parts, scene, &flags)
 }
 
@@ -292,4 +317,42 @@ fn gets_after_a_failed_peer(rt: HostRuntime) -> Result<(), Fail> {
 #[test]
 fn get_whose_load_is_joined(rt: HostRuntime) -> Result<(), Fail> {
     check(&rt, rt.alloc(), Scene::Joined)
+}
+
+// The parts of a fill, which are made although memory is refused once.
+fn check_parts<'d, D: Naming>(
+    rt: &impl Abort,
+    alloc: Global,
+    space: KeySpace<'d>,
+    desks: Vec<KeyDesk>,
+    sets: Vec<PairLoaders<'_>>,
+) -> Result<(), Memory>
+    requires space { (space_of space ≡ D.space) × (places_in D.space ≤ LARGEST_PLACE) }
+    requires sets { vec_len sets ≡ 3 }
+    requires desks { (vec_len desks ≡ 3) × AreDesksOf D.space desks.items }
+{
+    let parts = make_parts::<D>(alloc, space, desks, sets)?;
+    let (desks, callers) = (parts.desks.len(), parts.callers.len());
+    assert!(rt;
+        desks == 3 && callers == 3,
+        "{desks} desks, {callers} callers"
+    );
+    Ok(())
+}
+
+// No desk and no set of loaders is lost where memory for the group is refused: the parts are made of them then.
+#[test]
+fn refused_parts_come_back(rt: HostRuntime) -> Result<(), Fail> {
+    let alloc = rt.alloc();
+    let (directory, desks) = match open_directory(alloc, 1, 4, 3, 0, 0) {
+        Ok(opened) => opened,
+        Err(_) => open_directory(alloc, 1, 4, 3, 0, 0)?,
+    };
+    let flags = Flags::new();
+    let sets = match all_loaders(alloc, Scene::Reload, &flags) {
+        Ok(sets) => sets,
+        Err(_) => all_loaders(alloc, Scene::Reload, &flags)?,
+    };
+    check_parts::<Brand>(&rt, alloc, KeySpace::Directory(&directory), desks, sets)?;
+    Ok(())
 }

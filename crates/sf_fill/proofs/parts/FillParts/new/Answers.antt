@@ -11,8 +11,8 @@ returns-clause-parts g c = record {
   group = (refl, search rules);
   desks = c.requires.desks;
   callers = (
-    c.in_ok-group.callers.ok.0 ∙ as_many (λ (k : CallerValue Filled). k.number) c.in_ok-group.callers.items _ c.in_ok-group.ensures.numbers ∙ c.len-getters.ensures,
-    callers_of_group _ _ c.in_ok-group.ensures.callers,
+    c.in-Ok.callers.ok.0 ∙ as_many (λ (k : CallerValue Filled). k.number) c.in-Ok.callers.items _ c.in-Ok.ensures.numbers ∙ c.len-getters.ensures,
+    callers_of_group _ _ c.in-Ok.ensures.callers,
   );
   loaders = refl;
   ledgers = search rules;
