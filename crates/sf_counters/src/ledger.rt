@@ -106,6 +106,7 @@ impl<L: Ledger> Account<L> {
     pub fn gathered(&mut self, all: &mut Parts<L>) -> u128
         requires { all.old.parts ≡ L.parts }
         ensures sum { result ≡ all.old.counted }
+        ensures account { result ≡ self.old }
         ensures same { (self.new ≡ self.old) × (all.new ≡ all.old) }
     {
         self.left.audit(&mut all.left);

@@ -1,7 +1,7 @@
 //! All counters of a fill: their names, what one get adds to each, and what all getters count.
 ghost use Rattle.std.specs.Prelude.{◌≡◌, ◌+◌, ◌-◌, ◌<◌, ◌≤◌, ◌^◌, ◌↔◌, IsTrue, false};
 ghost use Rattle.sf_counters.specs.GetCounts.{hit_counts};
-ghost use Rattle.sf_counters.specs.Ledgers.{nothing_counted};
+ghost use Rattle.sf_counters.specs.Ledgers.{nothing_counted, new_tally, counted_on, all_entered};
 ghost use Rattle.sf_counters.specs.Totals.{plus, with_counts, counts_in, names_of, AreNamed, IsOfOneGet, IsWithinGets};
 ghost use Rattle.sf_words.specs.declared.limits.TheConstants.{LARGEST_CALLER};
 
@@ -203,6 +203,24 @@ pub struct Accounts<N: Naming> {
     local_load_errors: Account<Of<N, LocalLoadErrors>>,
 }
 
+impl<N: Naming> Model for Accounts<N> {
+    ghost use Rattle.sf_counters.specs.declared.totals.Totals.{Totals};
+
+    ghost Value = { Totals };
+
+    ghost view = { λ a.
+        record {
+          gets = a.gets;
+          cache_hits = a.cache_hits;
+          loads = a.loads;
+          loads_deduped = a.loads_deduped;
+          peer_loads = a.peer_loads;
+          peer_errors = a.peer_errors;
+          local_loads = a.local_loads;
+          local_load_errors = a.local_load_errors;
+        } };
+}
+
 /// The parts of getters, of each ledger.
 #[derive(Drop)]
 pub struct AllParts<N: Naming> {
@@ -254,12 +272,16 @@ pub struct Tallies<N: Naming> {
 
 impl<N: Naming> Model for Tallies<N> {
     ghost use Rattle.std.specs.Prelude.{◌≡◌, ◌+◌};
-    ghost use Rattle.sf_counters.specs.declared.totals.Totals.{Totals};
+    ghost use Rattle.sf_counters.specs.Ledgers.{Tally};
     ghost use Rattle.sf_counters.specs.Totals.{with_counts, IsWithinGets};
 
-    ghost Value = { Totals };
+    ghost Value = { Tally };
 
-    ghost view = { λ t. with_counts t.part.counted t.pending };
+    ghost view = { λ t.
+        record {
+          counted = with_counts t.part.counted t.pending;
+          entered = t.part.counted;
+        } };
 
     ghost invariant = { λ t. (t.part.parts ≡ 1) × (t.gets ≡ t.part.counted.gets + t.pending.gets)
         × IsWithinGets (with_counts t.part.counted t.pending) };
@@ -268,22 +290,24 @@ impl<N: Naming> Model for Tallies<N> {
 impl<N: Naming> Tallies<N> {
     /// Whether no further get can be counted.
     pub fn is_full(&self) -> bool
-        ensures full { IsTrue result ↔ (self.now.gets ≡ 2 ^ 64 - 1) }
-        ensures room { result ≡ false → self.now.gets < 2 ^ 64 - 1 }
+        ensures full { IsTrue result ↔ (self.now.counted.gets ≡ 2 ^ 64 - 1) }
+        ensures room { result ≡ false → self.now.counted.gets < 2 ^ 64 - 1 }
     {
         self.gets == u64::MAX
     }
 
     /// How many gets are counted and not entered yet.
-    pub fn pending(&self) -> u64 {
+    pub fn pending(&self) -> u64
+        ensures { self.now.entered.gets + result ≡ self.now.counted.gets }
+    {
         self.pending.gets
     }
 
     /// Counts a get that a letter at hand answered, which is to be entered.
     #[inline(always)]
     pub fn count_hit(&mut self)
-        requires { self.old.gets < 2 ^ 64 - 1 }
-        ensures { self.new ≡ with_counts self.old hit_counts }
+        requires { self.old.counted.gets < 2 ^ 64 - 1 }
+        ensures { self.new ≡ counted_on self.old hit_counts }
     {
         self.gets += 1;
         self.pending.gets += 1;
@@ -292,9 +316,9 @@ impl<N: Naming> Tallies<N> {
 
     /// Counts a get, which is to be entered.
     pub fn count(&mut self, counts: GetCounts)
-        requires room { self.old.gets < 2 ^ 64 - 1 }
+        requires room { self.old.counted.gets < 2 ^ 64 - 1 }
         requires one { IsOfOneGet counts }
-        ensures { self.new ≡ with_counts self.old counts }
+        ensures { self.new ≡ counted_on self.old counts }
     {
         self.gets += 1;
         self.pending.gets += counts.gets;
@@ -313,7 +337,8 @@ impl<N: Naming> Accounts<N> {
     pub fn open(ledgers: Ledgers, getters: u64) -> (Accounts<N>, AllParts<N>)
         requires named { AreNamed N.ledgers N.getters ledgers }
         requires getters { (getters ≡ N.getters) × (getters ≤ LARGEST_CALLER) }
-        ensures { result.1 ≡ record { parts = getters; counted = nothing_counted } }
+        ensures accounts { result.0 ≡ nothing_counted }
+        ensures parts { result.1 ≡ record { parts = getters; counted = nothing_counted } }
     {
         let (gets, gets_parts) = open(ledgers.gets, getters);
         let (cache_hits, cache_hits_parts) = open(ledgers.cache_hits, getters);
@@ -351,7 +376,9 @@ impl<N: Naming> Accounts<N> {
         requires part { part.old.parts ≡ 1 }
         requires counted { IsWithinGets (with_counts part.old.counted pending)
             × (part.old.counted.gets + pending.gets ≤ 2 ^ 64 - 1) }
-        ensures { part.new ≡ record { parts = 1; counted = with_counts part.old.counted pending } }
+        ensures part { part.new
+            ≡ record { parts = 1; counted = with_counts part.old.counted pending } }
+        ensures all { self.new ≡ with_counts self.old pending }
     {
         let more = pending.totals();
         macro_rules! enter {
@@ -362,9 +389,10 @@ impl<N: Naming> Accounts<N> {
         each!(enter);
     }
 
-    /// Enters what the getter has counted and not entered yet.
+    /// Enters what the getter has counted and not entered yet: the accounts rise by as much as what it has entered.
     pub fn enter(&mut self, tallies: &mut Tallies<N>)
-        ensures { tallies.new ≡ tallies.old }
+        ensures tallies { tallies.new ≡ all_entered tallies.old }
+        ensures all { plus self.new tallies.old.entered ≡ plus self.old tallies.old.counted }
     {
         self.enter_each(&mut tallies.part, tallies.pending);
         tallies.pending = NOTHING;
@@ -372,7 +400,8 @@ impl<N: Naming> Accounts<N> {
 
     /// The part of a getter that has ended, whose counts are all entered then.
     pub fn end(&mut self, tallies: Tallies<N>) -> AllParts<N>
-        ensures { result ≡ record { parts = 1; counted = tallies } }
+        ensures part { result ≡ record { parts = 1; counted = tallies.counted } }
+        ensures all { plus self.new tallies.entered ≡ plus self.old tallies.counted }
     {
         let Tallies {
             gets: _,
@@ -384,7 +413,9 @@ impl<N: Naming> Accounts<N> {
     }
 
     /// What the accounts say.
-    pub fn totals(&self) -> Totals {
+    pub fn totals(&self) -> Totals
+        ensures { result ≡ self.now }
+    {
         macro_rules! count {
             ($counter:ident) => {
                 self.$counter.count()
@@ -396,7 +427,9 @@ impl<N: Naming> Accounts<N> {
     /// What the accounts say, which is what all parts entered together.
     pub fn gathered(&mut self, all: &mut AllParts<N>) -> Totals
         requires { all.old.parts ≡ N.getters }
-        ensures { result ≡ all.old.counted }
+        ensures sum { result ≡ all.old.counted }
+        ensures accounts { result ≡ self.old }
+        ensures same { (self.new ≡ self.old) × (all.new ≡ all.old) }
     {
         macro_rules! gathered {
             ($counter:ident) => {
@@ -411,7 +444,7 @@ impl<N: Naming> AllParts<N> {
     /// The tallies of one getter, which has counted nothing.
     pub fn deal(&mut self) -> Tallies<N>
         requires { (0 < self.old.parts) × (self.old.counted ≡ nothing_counted) }
-        ensures tallies { result ≡ nothing_counted }
+        ensures tallies { result ≡ new_tally }
         ensures parts { (self.new.parts + 1 ≡ self.old.parts)
             × (self.new.counted ≡ nothing_counted) }
     {

@@ -145,7 +145,6 @@ impl<'a, R: Wait + Clock + Eprint> Crew<'a, R> {
             answers += is_right as u32;
         }
         let (mut getter, settled) = settle_up_often(fill, getter);
-        getter.enter(rt, fill);
         let log = getter.take_log();
         let ended = Ended {
             answers,

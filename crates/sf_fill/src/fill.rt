@@ -46,8 +46,8 @@ impl<'d, D: Naming, N: Naming, O: Origin> Model for Fill<'d, D, N, O> {
 }
 
 impl<'d, D: Naming, N: Naming, O: Origin> Fill<'d, D, N, O> {
-    /// What all getters have entered so far. A getter that runs has entered all that it counted but its last 63 gets at most; one
-    /// that has ended, and one that was just told to `enter`, all.
+    /// What all getters have entered so far. Each get is entered as it ends, in one locked section, unless a near letter answers it: of
+    /// these a getter that runs may not have entered its last 63. One that has ended, and one that was just told to `enter`, has.
     pub fn book<R: Wait>(&self, rt: &R) -> Totals {
         self.store.book(rt)
     }

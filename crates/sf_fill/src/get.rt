@@ -10,7 +10,7 @@ ghost use Rattle.sf_fill.specs.Counted.{IsCounted};
 ghost use Rattle.sf_fill.specs.Fresh.{IsFreshGet};
 ghost use Rattle.sf_letters.specs.Answers.{IsLoadedFor};
 ghost use Rattle.sf_fill.specs.Gets.{GetsOnce, HasAsked, HasGot};
-ghost use Rattle.sf_store.specs.Replies.{IsOfKey, IsOfPlace, reply_of};
+ghost use Rattle.sf_store.specs.Replies.{IsOfKey, IsOfPlace, counts_of, reply_of};
 ghost use Rattle.sf_fill.specs.Hits.{IsAbsent, IsPresent, LooksAtHand};
 ghost use Rattle.sf_store.specs.Standings.{is_owing, number_of, seen_of};
 ghost use Rattle.sf_store.specs.Logs.{HasLogged};
@@ -33,15 +33,9 @@ const GET_ALONE: GetCounts = GetCounts {
     run: NO_RUN,
 };
 
-const LOAD: GetCounts = GetCounts {
-    loads: 1,
-    ..GET_ALONE
-};
-
-/// Where a getter's caller stands after it asked, what the get counts, and what it answers.
+/// Where a getter's caller stands after it asked, and what the get answers.
 type Reply<'d, D, O> = (
     Standing<FillValue<'d, D, O>>,
-    GetCounts,
     Result<View<'d, D, O>, LoadFault>,
 );
 
@@ -54,24 +48,22 @@ fn reply<'d, D: Naming, O: Origin>(
     requires space { IsInSpace D.space (spot_at key.now at.old) }
     requires of_place { IsOfPlace (place_at at.old) (found_by asked) }
     requires of_key { IsOfKey key.now (found_by asked) }
-    ensures reply { result ≡ reply_of (found_by asked.entry) }
-    ensures keyed { IfOk result.2 (λ view.
+    ensures reply { (result.0, counts_of (found_by asked.entry), result.1)
+        ≡ reply_of (found_by asked.entry) }
+    ensures keyed { IfOk result.1 (λ view.
         spot_key view.value.spot ≡ spot_key (spot_at key.now at.old)) }
-    ensures loaded { IfOk result.2 (IsLoadedFor O.loaded (spot_key (spot_at key.now at.old))) }
+    ensures loaded { IfOk result.1 (IsLoadedFor O.loaded (spot_key (spot_at key.now at.old))) }
 {
     match asked {
-        Asked::Unmade(caller) => (Standing::Free(caller), GET_ALONE, Err(LoadFault::Memory)),
+        Asked::Unmade(caller) => (Standing::Free(caller), Err(LoadFault::Memory)),
         Asked::Spent(caller) => (
             Standing::Free(caller),
-            LOAD,
             Err(LoadFault::Refused(GetRefusal::Spent)),
         ),
-        Asked::Joined(caller, letter) => (Standing::Free(caller), LOAD, show(letter, at, key)),
-        Asked::Led(finished, counts) => match finished {
-            Finished::Done(caller, letter) => {
-                (Standing::Free(caller), counts, show(letter, at, key))
-            }
-            Finished::Held(settled) => (Standing::Owing(settled), counts, Err(LoadFault::Memory)),
+        Asked::Joined(caller, letter) => (Standing::Free(caller), show(letter, at, key)),
+        Asked::Led(finished, _) => match finished {
+            Finished::Done(caller, letter) => (Standing::Free(caller), show(letter, at, key)),
+            Finished::Held(settled) => (Standing::Owing(settled), Err(LoadFault::Memory)),
         },
     }
 }
@@ -116,13 +108,13 @@ impl<'d, D: Naming, N: Naming, O: Origin> Fill<'d, D, N, O> {
             }
         };
         let asked = match at.spot(self.alloc, key) {
-            Ok(spot) => self
-                .store
-                .ask(rt, caller, spot, key, &mut loaders, &mut log),
-            Err(_) => Asked::Unmade(caller),
+            Ok(spot) => self.store.ask(rt, caller, spot, key, &mut loaders, &mut log, &mut tallies),
+            Err(_) => {
+                self.store.count(rt, &mut tallies, GET_ALONE);
+                Asked::Unmade(caller)
+            }
         };
-        let (standing, counts, answer) = reply(asked, at, key);
-        self.store.count(rt, &mut tallies, counts);
+        let (standing, answer) = reply(asked, at, key);
         let getter = Getter {
             desk,
             standing,
@@ -134,7 +126,8 @@ impl<'d, D: Naming, N: Naming, O: Origin> Fill<'d, D, N, O> {
         (getter, answer)
     }
 
-    // Answers the key from a letter that the getter keeps near, if there is one, and counts a hit then.
+    // Answers the key from a letter that the getter keeps near, if there is one, and counts a hit then. No lock is taken, unless 64
+    // such hits are to be entered.
     #[inline(always)]
     fn look_near<R: Wait, L>(
         &self,
@@ -153,15 +146,14 @@ impl<'d, D: Naming, N: Naming, O: Origin> Fill<'d, D, N, O> {
             return None;
         };
         let found = getter.near.look(self.store.group(), at, key, caller)?;
-        self.store.count_hit(rt, &mut getter.tallies);
+        self.store.count_near_hit(rt, &mut getter.tallies);
         match found {
             Ok(view) => Some(Ok(view)),
             Err(_) => Some(Err(LoadFault::Memory)),
         }
     }
 
-    // Answers the key from a letter that a cache has, if there is one, and counts a hit then; the getter keeps it near. What it
-    // counted before is entered where the lock is taken.
+    // Answers the key from a letter that a cache has, if there is one, and counts a hit where it is found; the getter keeps it near.
     #[inline(never)]
     fn look_far<R: Wait, L>(
         &self,
@@ -182,7 +174,6 @@ impl<'d, D: Naming, N: Naming, O: Origin> Fill<'d, D, N, O> {
         let found = self
             .store
             .look(rt, &mut getter.tallies, place, key, caller)?;
-        self.store.count_hit(rt, &mut getter.tallies);
         match found {
             Ok(letter) => {
                 let mut letter = letter;
@@ -238,7 +229,7 @@ impl<'d, D: Naming, N: Naming, O: Origin> Fill<'d, D, N, O> {
         let found = getter
             .near
             .look_for_bytes(self.store.group(), at, key, caller)?;
-        self.store.count_hit(rt, &mut getter.tallies);
+        self.store.count_near_hit(rt, &mut getter.tallies);
         match found {
             Ok(bytes) => Some(Ok(bytes)),
             Err(_) => Some(Err(LoadFault::Memory)),

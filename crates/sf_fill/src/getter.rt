@@ -41,7 +41,7 @@ impl<'d, D: Naming, N: Naming, O: Origin, L> Model for Getter<'d, D, N, O, L> {
           desk = g.desk;
           standing = g.standing;
           loaders = g.loaders;
-          counted = g.tallies;
+          counted = g.tallies.counted;
           log = g.log;
         } };
 
@@ -104,7 +104,8 @@ impl<'d, D: Naming, N: Naming, O: Origin, L> Getter<'d, D, N, O, L> {
         standing.into_caller()
     }
 
-    /// Enters in the fill's book what the getter has counted and not entered yet: its last 63 gets at most.
+    /// Enters in the fill's book what the getter has counted and not entered yet: the last 63 gets at most that its near letters
+    /// answered.
     pub fn enter<R: Wait>(&mut self, rt: &R, fill: &Fill<'d, D, N, O>)
         ensures { self.new ≡ self.old }
     {
@@ -120,8 +121,8 @@ impl<'d, D: Naming, N: Naming, O: Origin, L> Getter<'d, D, N, O, L> {
         fill.store.enter(rt, &mut tallies);
     }
 
-    /// Spends the getter where there is no fill at hand: what it owes is abandoned, and so are its last 63 gets at most that are not
-    /// entered in the book.
+    /// Spends the getter where there is no fill at hand: what it owes is abandoned, and so are the last 63 gets at most, answered by its
+    /// near letters, that are not entered in the book.
     pub fn abandon(self)
     where
         L: Drop,
@@ -133,7 +134,7 @@ impl<'d, D: Naming, N: Naming, O: Origin, L> Getter<'d, D, N, O, L> {
     pub(crate) fn into_tallies(self) -> Tallies<N>
     where
         L: Drop,
-        ensures { result ≡ self.entry.counted }
+        ensures { result.counted ≡ self.entry.counted }
     {
         let Getter {
             desk: _,

@@ -10,7 +10,7 @@
 //! | have what is at hand, without a load | `get_bytes_if_present`, `get_if_present` |
 //! | get, reload | `get`, `reload` |
 //! | go on with a delivery that was refused memory | `owes`, `settle_up` |
-//! | count | `Fill::book` while it runs, `enter` for a getter's last gets in it, `gather` at the end |
+//! | count | `Fill::book` while it runs, `enter` for the last hits of a getter's near letters, `gather` at the end |
 //! | see what happened | `take_log` |
 //! | spend a getter | `end`, or `gather` |
 #![tactic(auto)]

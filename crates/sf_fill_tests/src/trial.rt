@@ -159,7 +159,8 @@ impl<'a, R: Wait> Play<'a, R> {
         says(self.script, "getters", "beside")
     }
 
-    // What the getter of this number does, and says; then all that it counted is in the book.
+    // What the getter of this number does, and says. All that it counted is in the book then, but for the last hits of near letters,
+    // which it enters here.
     fn turns<'d, D: Naming, N: Naming, O: Origin, L: LoadPath<Origin = O> + Drop>(
         &self,
         fill: &Fill<'d, D, N, O>,
@@ -175,7 +176,9 @@ impl<'a, R: Wait> Play<'a, R> {
             flags: self.flags,
         };
         let mut getter = run(self.rt, fill, getter, steps, &mut part);
-        getter.enter(self.rt, fill);
+        if setting(self.script, "near").is_some() {
+            getter.enter(self.rt, fill);
+        }
         (getter, numbered(self.alloc, number, part))
     }
 

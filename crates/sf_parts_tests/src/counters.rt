@@ -37,7 +37,7 @@ fn peer_load() -> GetCounts
 
 // A getter's get counts so, which is entered.
 fn count_get<N: Naming>(accounts: &mut Accounts<N>, tallies: &mut Tallies<N>, counts: GetCounts)
-    requires room { tallies.old.gets < 2 ^ 64 - 1 }
+    requires room { tallies.old.counted.gets < 2 ^ 64 - 1 }
     requires one { IsOfOneGet counts }
 {
     tallies.count(counts);
@@ -60,8 +60,8 @@ fn count_two<N: Naming>(
     mut other: Tallies<N>,
 ) -> (Totals, Totals)
     requires getters { N.getters ≡ 2 }
-    requires one { one.gets < 2 ^ 64 - 1 }
-    requires other { other.gets < 2 ^ 64 - 1 }
+    requires one { one.counted.gets < 2 ^ 64 - 1 }
+    requires other { other.counted.gets < 2 ^ 64 - 1 }
 {
     count_get(&mut accounts, &mut one, cache_hit());
     count_get(&mut accounts, &mut other, peer_load());

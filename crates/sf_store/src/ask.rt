@@ -1,7 +1,8 @@
 //! Askings: a caller leads its key's call, or waits for the letter of the one that another leads.
-ghost use Rattle.std.specs.Prelude.{◌≡◌};
+ghost use Rattle.std.specs.Prelude.{◌≡◌, ◌<◌, ◌^◌, ◌-◌};
 ghost use Rattle.sf_calls.specs.Same.{IsPlaceOf};
 ghost use Rattle.sf_calls.specs.Seen.{IsLawful};
+ghost use Rattle.sf_counters.specs.Ledgers.{entered_with};
 ghost use Rattle.sf_counters.specs.Totals.{IsOfOneGet};
 ghost use Rattle.sf_letters.specs.Rooted.{IsRooted};
 ghost use Rattle.sf_spots.specs.Spots.{IsInSpace, MayBe, spot_key, spot_place};
@@ -14,13 +15,21 @@ use crate::load::Sourced;
 use crate::log::Log;
 use crate::store::Store;
 use sf_calls::Fit;
-use sf_counters::{GetCounts, Naming};
+use sf_counters::{GetCounts, NO_RUN, Naming, Tallies};
 use sf_group::{Begun, Caller, Finished, Flight, Letter, Spent};
 use sf_letters::FillValue;
 use sf_loaders::{LoadPath, Origin};
 use sf_spots::Spot;
 use sf_wait::{begin_wait, wait};
 use std::sync::Wait;
+
+// What a get counts that asks, and runs no load path.
+const LOAD: GetCounts = GetCounts {
+    gets: 1,
+    cache_hits: 0,
+    loads: 1,
+    run: NO_RUN,
+};
 
 /// What it comes to that a free caller asks the group.
 pub enum Asked<V: Fit> {
@@ -36,7 +45,7 @@ pub enum Asked<V: Fit> {
 
 impl<'d, D: Naming, N: Naming, O: Origin> Store<'d, D, N, O> {
     /// Asks the group: loads the key where the caller leads, and else waits for the letter. Where that is of another key, it asks
-    /// again.
+    /// again. The get is counted, and entered: with the letter's put, or where nothing is put by itself.
     pub fn ask<R: Wait, L>(
         &self,
         rt: &R,
@@ -45,12 +54,14 @@ impl<'d, D: Naming, N: Naming, O: Origin> Store<'d, D, N, O> {
         key: &[u8],
         loaders: &mut L,
         log: &mut Log,
+        tallies: &mut Tallies<N>,
     ) -> Asked<FillValue<'d, D, O>>
     where
         L: LoadPath<Origin = O>,
         requires caller { caller.group ≡ N.group }
         requires spot { IsInSpace D.space spot × (spot_key spot ≡ key.now)
             × IsPlaceOf N.group (spot_place spot) }
+        requires room { tallies.old.counted.gets < 2 ^ 64 - 1 }
         ensures found { HasFoundFrom N.space key.now (L.run_gives key.now)
             (DrawsWithin N.limit L.draw_gives) spot.entry caller.entry loaders.old loaders.new
             (found_by result) }
@@ -59,6 +70,7 @@ impl<'d, D: Naming, N: Naming, O: Origin> Store<'d, D, N, O> {
         ensures of_place { IsOfPlace (spot_place spot.entry) (found_by result) }
         ensures of_key { IsOfKey key.now (found_by result) }
         ensures one { IsOfOneGet (counts_of (found_by result)) }
+        ensures counted { tallies.new ≡ entered_with tallies.old (counts_of (found_by result)) }
     {
         let number = spot.number();
         let mut asking = caller;
@@ -66,24 +78,30 @@ impl<'d, D: Naming, N: Naming, O: Origin> Store<'d, D, N, O> {
             match begin_wait(rt, &self.group, asking, number.number()) {
                 Ok(Begun::Lead(flight)) => {
                     log.add_lead(number, &flight);
-                    let (finished, counts) = self.lead(rt, flight, spot, key, loaders, log);
+                    let (finished, counts) = self.lead(
+                        rt, flight, spot, key, loaders, log, tallies,
+                    );
                     return Asked::Led(finished, counts);
                 }
                 Ok(Begun::Join(ticket)) => {
                     log.add_enter(number, &ticket);
                     let (caller, letter) = wait(rt, &self.group, ticket);
                     if letter.value().is_of(key) {
+                        self.count(rt, tallies, LOAD);
                         return Asked::Joined(caller, letter);
                     }
                     asking = caller;
                 }
-                Err(Spent { back }) => return Asked::Spent(back),
+                Err(Spent { back }) => {
+                    self.count(rt, tallies, LOAD);
+                    return Asked::Spent(back);
+                }
             }
         }
         unreachable!()
     }
 
-    // Settles the call that is led, with what its source gives.
+    // Settles the call that is led, with what its source gives, and counts the get.
     fn lead<R: Wait, L>(
         &self,
         rt: &R,
@@ -92,6 +110,7 @@ impl<'d, D: Naming, N: Naming, O: Origin> Store<'d, D, N, O> {
         key: &[u8],
         loaders: &mut L,
         log: &mut Log,
+        tallies: &mut Tallies<N>,
     ) -> (Finished<FillValue<'d, D, O>>, GetCounts)
     where
         L: LoadPath<Origin = O>,
@@ -101,6 +120,7 @@ impl<'d, D: Naming, N: Naming, O: Origin> Store<'d, D, N, O> {
         requires led { IsRooted flight.place flight.call flight.call flight.seen }
         requires spot { IsInSpace D.space spot × (spot_key spot ≡ key.now)
             × (spot_place spot ≡ flight.place) }
+        requires room { tallies.old.counted.gets < 2 ^ 64 - 1 }
         ensures run { HasRunFrom (L.run_gives key.now) (DrawsWithin N.limit L.draw_gives) spot.entry
             flight.entry loaders.old loaders.new result.0 result.1 }
         ensures logged { HasLogged flight.entry.number flight.entry.seen
@@ -108,6 +128,7 @@ impl<'d, D: Naming, N: Naming, O: Origin> Store<'d, D, N, O> {
         ensures of_place { IfDone (λ letter. letter.place ≡ flight.entry.place) result.0 }
         ensures of_key { IfDone (λ letter. MayBe letter.value.spot key.now) result.0 }
         ensures one { IsOfOneGet result.1 }
+        ensures counted { tallies.new ≡ entered_with tallies.old result.1 }
     {
         let mut flight = flight;
         let call = flight.call();
@@ -116,7 +137,8 @@ impl<'d, D: Naming, N: Naming, O: Origin> Store<'d, D, N, O> {
             keep,
             counts,
         } = self.source(rt, &mut flight, spot, key, loaders);
-        let finished = self.settle(rt, flight, value, keep, key.len());
+        tallies.count(counts);
+        let finished = self.settle(rt, flight, value, keep, key.len(), tallies);
         log.add_finished(call, &finished);
         (finished, counts)
     }

@@ -7,6 +7,7 @@ ghost use Rattle.sf_calls.specs.Notes.{HasLent};
 ghost use Rattle.sf_spots.specs.Spots.{IsInSpace, MayBe, spot_key, spot_place};
 ghost use Rattle.sf_letters.specs.FillValue.{FitsFill};
 ghost use Rattle.sf_counters.specs.GetCounts.{second_look_counts};
+ghost use Rattle.sf_counters.specs.Ledgers.{all_entered};
 ghost use Rattle.sf_store.specs.Found.{DrawsFor, DrawsWithin, HasSettled, IsFromCache, IsLoaded, IsSource};
 ghost use Rattle.sf_letters.specs.Rooted.{IsRooted};
 ghost use Rattle.sf_letters.specs.Settled.{CopiesFollowed, IsSettled};
@@ -14,7 +15,7 @@ ghost use Rattle.sf_counters.specs.Totals.{IsOfOneGet};
 
 use crate::store::Store;
 use sf_caches::Which;
-use sf_counters::{GetCounts, NO_RUN, Naming};
+use sf_counters::{GetCounts, NO_RUN, Naming, Tallies};
 use sf_group::{Caller, Finished, Flight, Letter};
 use sf_letters::{FillValue, InCache, Missed};
 use sf_loaders::{LoadPath, LocalFault, Origin, Source};
@@ -164,7 +165,8 @@ impl<'d, D: Naming, N: Naming, O: Origin> Store<'d, D, N, O> {
         }
     }
 
-    // Settles the call with the value, and puts its letter into the cache, if it brings bytes and is current.
+    // Settles the call with the value, and puts its letter into the cache, if it brings bytes and is current. What the getter has
+    // counted is entered, where the lock is taken to put or else by itself.
     pub(crate) fn settle<R: Wait>(
         &self,
         rt: &R,
@@ -172,40 +174,52 @@ impl<'d, D: Naming, N: Naming, O: Origin> Store<'d, D, N, O> {
         value: FillValue<'d, D, O>,
         keep: Option<Which>,
         key_len: usize,
+        tallies: &mut Tallies<N>,
     ) -> Finished<FillValue<'d, D, O>>
         requires own { flight.group ≡ N.group }
         requires place { IsPlaceOf N.group flight.place }
         requires fits { FitsFill flight.place flight.call value flight.seen }
-        ensures { HasSettled flight.entry value.entry result }
+        ensures settled { HasSettled flight.entry value.entry result }
+        ensures tallies { tallies.new ≡ all_entered tallies.old }
     {
         match self.group.finish(flight, value) {
             Finished::Done(mut caller, mut letter) => {
-                self.keep(rt, keep, key_len, &mut caller, &mut letter);
+                self.keep(rt, keep, key_len, tallies, &mut caller, &mut letter);
                 Finished::Done(caller, letter)
             }
-            Finished::Held(settled) => Finished::Held(settled),
+            Finished::Held(settled) => {
+                self.enter(rt, tallies);
+                Finished::Held(settled)
+            }
         }
     }
 
-    // Puts a copy of the letter into the cache, if it brings bytes and the caller is told that its call is current.
+    // Puts a copy of the letter into the cache, if it brings bytes and the caller is told that its call is current. What the getter
+    // has counted is entered.
     fn keep<R: Wait>(
         &self,
         rt: &R,
         keep: Option<Which>,
         key_len: usize,
+        tallies: &mut Tallies<N>,
         caller: &mut Caller<FillValue<'d, D, O>>,
         letter: &mut Letter<FillValue<'d, D, O>>,
     )
         requires place { IsPlaceOf N.group letter.old.place }
         requires caller { (caller.old.group ≡ N.group) × IsLawful N.group.sizes caller.old.seen }
         requires letter { (letter.old.group ≡ N.group) × IsSettled letter.old }
+        ensures tallies { tallies.new ≡ all_entered tallies.old }
         ensures caller { HasNothing caller.old caller.new }
         ensures letter { HasLent letter.old letter.new }
     {
-        let Some(which) = keep else { return };
-        let Some(value_len) = letter.value().byte_count() else {
+        let Some(which) = keep else {
+            self.enter(rt, tallies);
             return;
         };
-        self.put_letter(rt, which, key_len, value_len, caller, letter);
+        let Some(value_len) = letter.value().byte_count() else {
+            self.enter(rt, tallies);
+            return;
+        };
+        self.put_letter(rt, which, key_len, value_len, tallies, caller, letter);
     }
 }

@@ -1,6 +1,7 @@
 //! What the getters of a fill share, and what is counted under its lock.
-ghost use Rattle.std.specs.Prelude.{◌≡◌, ◌<◌, ◌^◌, ◌-◌};
+ghost use Rattle.std.specs.Prelude.{◌≡◌, ◌+◌, ◌<◌, ◌≤◌, ◌^◌, ◌-◌};
 ghost use Rattle.sf_counters.specs.GetCounts.{hit_counts};
+ghost use Rattle.sf_counters.specs.Ledgers.{all_entered, entered_with};
 ghost use Rattle.sf_counters.specs.Totals.{IsOfOneGet, with_counts};
 
 use sf_caches::{CacheStats, Which};
@@ -11,7 +12,7 @@ use sf_loaders::Origin;
 use std::marker::Model;
 use std::sync::{Mutex, Wait};
 
-/// How many gets a getter counts alone before it enters them.
+/// How many gets that its near letters answered a getter counts alone before it enters them.
 const MOST_PENDING: u64 = 64;
 
 /// What lies under the lock: the letters that are kept, and what all getters have counted.
@@ -79,30 +80,25 @@ impl<'d, D: Naming, N: Naming, O: Origin> Store<'d, D, N, O> {
         self.locked.lock(rt).kept.stats(which)
     }
 
-    /// Counts a get in the getter's tallies, and enters what 64 gets counted that were not entered yet.
+    /// Counts a get in the getter's tallies, and enters it with all that they have counted.
+    #[inline(never)]
     pub fn count<R: Wait>(&self, rt: &R, tallies: &mut Tallies<N>, counts: GetCounts)
-        requires room { tallies.old.gets < 2 ^ 64 - 1 }
+        requires room { tallies.old.counted.gets < 2 ^ 64 - 1 }
         requires one { IsOfOneGet counts }
-        ensures { tallies.new ≡ with_counts tallies.old counts }
+        ensures { tallies.new ≡ entered_with tallies.old counts }
     {
         tallies.count(counts);
-        self.enter_if_due(rt, tallies);
+        self.enter(rt, tallies);
     }
 
-    /// The same of a get that a letter at hand answered.
+    /// Counts a get that a near letter answered, without the lock, and enters what 64 gets counted that were not entered yet.
     #[inline(always)]
-    pub fn count_hit<R: Wait>(&self, rt: &R, tallies: &mut Tallies<N>)
-        requires { tallies.old.gets < 2 ^ 64 - 1 }
-        ensures { tallies.new ≡ with_counts tallies.old hit_counts }
+    pub fn count_near_hit<R: Wait>(&self, rt: &R, tallies: &mut Tallies<N>)
+        requires { tallies.old.counted.gets < 2 ^ 64 - 1 }
+        ensures counted { tallies.new.counted ≡ with_counts tallies.old.counted hit_counts }
+        ensures lag { tallies.new.counted.gets ≤ tallies.new.entered.gets + 63 }
     {
         tallies.count_hit();
-        self.enter_if_due(rt, tallies);
-    }
-
-    // Enters what 64 gets counted that were not entered yet.
-    fn enter_if_due<R: Wait>(&self, rt: &R, tallies: &mut Tallies<N>)
-        ensures { tallies.new ≡ tallies.old }
-    {
         if tallies.pending() >= MOST_PENDING {
             self.enter(rt, tallies);
         }
@@ -111,14 +107,14 @@ impl<'d, D: Naming, N: Naming, O: Origin> Store<'d, D, N, O> {
     /// Enters what the getter has counted and not entered yet.
     #[inline(never)]
     pub fn enter<R: Wait>(&self, rt: &R, tallies: &mut Tallies<N>)
-        ensures { tallies.new ≡ tallies.old }
+        ensures { tallies.new ≡ all_entered tallies.old }
     {
         self.locked.lock(rt).accounts.enter(tallies);
     }
 
     /// Enters what the getter has counted, which counts no more: its part of what all counted.
     pub fn end<R: Wait>(&self, rt: &R, tallies: Tallies<N>) -> AllParts<N>
-        ensures { result ≡ record { parts = 1; counted = tallies } }
+        ensures { result ≡ record { parts = 1; counted = tallies.counted } }
     {
         self.locked.lock(rt).accounts.end(tallies)
     }

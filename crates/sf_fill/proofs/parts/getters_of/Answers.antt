@@ -1,11 +1,10 @@
 use Rattle.std.proofs.Common.{◌≡◌, ◌+◌, ap, ◌∙◌, arith, vec_len}
 use Rattle.sf_spots.specs.Spaces.{IsDeskOf}
 use Rattle.sf_calls.specs.Tokens.{CallerValue}
-use Rattle.sf_counters.specs.declared.totals.Totals.{Totals}
 use Rattle.sf_store.specs.declared.standing.Standing.TheVariants.{Free}
 use Rattle.sf_letters.specs.FillValue.{Filled}
 use Rattle.sf_fill.specs.GetterValue.{GetterValue}
-use Rattle.sf_counters.specs.Ledgers.{nothing_counted}
+use Rattle.sf_counters.specs.Ledgers.{Tally, nothing_counted}
 use Rattle.sf_store.specs.Logs.{LogValue, empty_log}
 use Rattle.sf_fill.proofs.Dealt.{dealt_more}
 use Rattle.sf_fill.proofs.Popped.{popped, last_is}
@@ -35,7 +34,7 @@ deal-preserved g c =
     (last_is _ _ _ _ c.pop.ensures.items c.in-Some.is) (last_is _ _ _ _ c.pop-in-Some.ensures.items c.in-Some-pop.is) (last_is _ _ _ _ c.pop-in-Some-2.ensures.items c.in-Some-pop-2.is)
     (omega (arith, callers, c.pop.new.self.ok.0, c.pop-in-Some.new.self.ok.0)) (omega (arith, loaders, c.pop.new.self.ok.0, c.pop-in-Some-2.new.self.ok.0))
     c.push_reserved.ensures.items
-    (ap (λ (t : Totals). let v : GetterValue g.row.L.Denot = record { desk = c.in-Some.desk; standing = Free c.in-Some-pop.caller; loaders = c.in-Some-pop-2.loaders; counted = t; log = c.in-Some-pop-3.log } in v) c.deal-in-Some.ensures.tallies
+    (ap (λ (t : Tally). let v : GetterValue g.row.L.Denot = record { desk = c.in-Some.desk; standing = Free c.in-Some-pop.caller; loaders = c.in-Some-pop-2.loaders; counted = t.counted; log = c.in-Some-pop-3.log } in v) c.deal-in-Some.ensures.tallies
     ∙ ap (λ (x : LogValue). let v : GetterValue g.row.L.Denot = record { desk = c.in-Some.desk; standing = Free c.in-Some-pop.caller; loaders = c.in-Some-pop-2.loaders; counted = nothing_counted; log = x } in v) logs.0) in
     record {
       callers = (callers, caller.1);

@@ -1,6 +1,4 @@
-use Rattle.std.proofs.Common.{ℕ, ap, ◌∙◌, subst, arith}
-use Rattle.sf_fill.specs.GetterValue.{GetterValue}
-use Rattle.sf_store.specs.Logs.{empty_log}
+use Rattle.std.proofs.Common.{ℕ, subst, arith}
 use Rattle.sf_drive.specs.Jobs.{HasTakenTurns}
 use Rattle.sf_drive.proofs.Turning.{turns_count, turns_on, right_counts, right_is_one, job_counts, job_logs}
 use Rattle.sf_drive.proofs.jobs.Crew.get_all.Goals as goal
@@ -24,8 +22,8 @@ returns-clause-job g c few =
       turns = subst (λ (n : ℕ). HasTakenTurns g.N.Naming.space line.keys c.args.thread n c.args.getter at.getter at.answers) (omega (arith, c.loop-turn-test.false, at.auto.turn-end)) (at.invariant.turns few);
       done = c.settle_up_often-getter.result.0;
       settled = c.settle_up_often-getter.ensures;
-      log = c.take_log-log.ensures.events ∙ ap (λ (x : GetterValue g.row.L.Denot). x.log.events) c.enter.ensures;
-      emptied = c.take_log-log.ensures.emptied ∙ ap (λ (x : GetterValue g.row.L.Denot). record x { log = empty_log 0 }) c.enter.ensures;
+      log = c.take_log-log.ensures.events;
+      emptied = c.take_log-log.ensures.emptied;
     }
 
 pub returns-clause-counted : goal.returns-clause-counted

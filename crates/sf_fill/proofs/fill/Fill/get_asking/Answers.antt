@@ -14,11 +14,11 @@ invariant_of-getter g c = (
   elim c.match-spot.branch [
     | in-Ok w ↦
         asked_group (g.L.LoadPath.run_gives c.args.key.now) (DrawsWithin g.N.Naming.limit g.L.LoadPath.draw_gives) g.N.Naming.space c.args.key.now g.N.Naming.group w.in-Ok.spot c.in-Free.caller _ _
-        (found_by w.ask-asked.result) c.reply-standing.result (rw c.in-Free.is at c.getter.invariant.1) w.ask-asked.ensures.found
+        (found_by w.ask-asked.result) _ (rw c.in-Free.is at c.getter.invariant.1) w.ask-asked.ensures.found
         (c.reply-standing.ensures.reply ∙ ap (λ (a : Asked Filled). reply_of (found_by a)) w.asked-is)
     | in-Err w ↦
         asked_group (g.L.LoadPath.run_gives c.args.key.now) (DrawsWithin g.N.Naming.limit g.L.LoadPath.draw_gives) g.N.Naming.space c.args.key.now g.N.Naming.group (spot_at c.args.key.now c.args.at.now) c.in-Free.caller
-        c.getter.inside.loaders c.getter.inside.loaders (Unmade c.in-Free.caller) c.reply-standing.result (rw c.in-Free.is at c.getter.invariant.1) (refl, refl)
+        c.getter.inside.loaders c.getter.inside.loaders (Unmade c.in-Free.caller) _ (rw c.in-Free.is at c.getter.invariant.1) (refl, refl)
         (c.reply-standing.ensures.reply ∙ ap (λ (a : Asked Filled). reply_of (found_by a)) w.asked-is)
   ],
 )

@@ -1,13 +1,14 @@
-use Rattle.std.proofs.Common.{rules, refl}
+use Rattle.std.proofs.Common.{rules, refl, ap}
 use Rattle.sf_spots.specs.Spots.{spot_at}
+use Rattle.sf_counters.specs.Ledgers.{Tally}
 use Rattle.sf_fill.proofs.Once.{asked_getter, owing_getter, present_getter, present_logged, present_once, refused_getter}
 use Rattle.sf_fill.proofs.fill.Fill.get_once.Goals as goal
 
 pub returns-then-owes-clause-got : goal.returns-then-owes-clause-got
-returns-then-owes-clause-got g c = owing_getter _ _ _ _ _ _ _ _ _ _ c.getter.view_is c.count.new.tallies c.count.ensures (search rules)
+returns-then-owes-clause-got g c = owing_getter _ _ _ _ _ _ _ _ _ _ c.getter.view_is c.count.new.tallies.counted (ap (λ (t : Tally). t.counted) c.count.ensures) (search rules)
 
 pub returns-in-Err-clause-got : goal.returns-in-Err-clause-got
-returns-in-Err-clause-got g c = refused_getter _ _ _ _ _ _ _ _ _ _ c.getter.view_is c.find.new.desk c.count-in-Err.new.tallies c.in-Err.refusal c.of_key.result c.count-in-Err.ensures (search rules) (search rules) (search rules) c.of_key.ensures
+returns-in-Err-clause-got g c = refused_getter _ _ _ _ _ _ _ _ _ _ c.getter.view_is c.find.new.desk c.count-in-Err.new.tallies.counted c.in-Err.refusal c.of_key.result (ap (λ (t : Tally). t.counted) c.count-in-Err.ensures) (search rules) (search rules) (search rules) c.of_key.ensures
 
 pub returns-in-Some-clause-got : goal.returns-in-Some-clause-got
 returns-in-Some-clause-got g c =

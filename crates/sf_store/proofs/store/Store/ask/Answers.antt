@@ -35,6 +35,7 @@ loop-preserved g c =
       logs_on c.args.caller.number c.loop.asking.number c.args.caller.seen c.loop.asking.seen c.wait-caller.result.0.seen c.args.log.now c.loop.log c.add_enter.new.self i.6 i.7
           (logs_join c.loop.asking c.wait-caller.result.0 (spot_place c.args.spot) _ _ _ _ c.in-Ok-Join.ticket letter c.loop.log c.add_enter.new.self c.add_enter.ensures joined c.wait-caller.ensures
           (search rules) (search rules) (search rules) (search rules)),
+      i.8,
     )
 
 pub returns-in-Ok-Lead-clause-logged : goal.returns-in-Ok-Lead-clause-logged

@@ -15,3 +15,4 @@ invariant-loop g l =
     × ((n : ℕ) × HasMissed g.N.Naming.space l.key (spot_place l.fn.spot) n l.fn.caller l.asking)
     × (l.asking.number ≡ l.fn.caller.number)
     × HasLogged l.fn.caller.number l.fn.caller.seen l.asking.seen l.initial.log l.log
+    × (l.tallies ≡ l.initial.tallies)

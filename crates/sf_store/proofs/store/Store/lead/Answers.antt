@@ -31,4 +31,4 @@ logs_run f h v call n (Held s) log after same held own of is =
     logs_on f.number h.number f.seen h.seen s.seen log log after same.number (logs_still f.number f.seen h.seen log same.adds.grows.own) (logs_added h.number h.seen s.seen _ log after held.adds.grows.own logged)
 
 pub returns-clause-logged : goal.returns-clause-logged
-returns-clause-logged g c = logs_run _ _ _ _ _ _ _ _ c.source-value.ensures.learnt c.settle-finished.ensures c.requires.own c.call-call.ensures c.add_finished.ensures
+returns-clause-logged g c = logs_run _ _ _ _ _ _ _ _ c.source-value.ensures.learnt c.settle-finished.ensures.settled c.requires.own c.call-call.ensures c.add_finished.ensures
