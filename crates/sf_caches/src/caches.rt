@@ -66,10 +66,27 @@ impl<T: Drop> Caches<T> {
         })
     }
 
-    /// What the cache holds.
+    /// What main's entries weigh together, in bytes of keys and values.
+    pub fn main_bytes(&self) -> u128
+        ensures bytes { result ≡ weight_of self.now.main }
+        ensures within { result + weight_of self.now.hot ≤ self.now.limit }
+    {
+        self.main.bytes()
+    }
+
+    /// What hot's entries weigh together, in bytes of keys and values.
+    pub fn hot_bytes(&self) -> u128
+        ensures bytes { result ≡ weight_of self.now.hot }
+        ensures within { weight_of self.now.main + result ≤ self.now.limit }
+    {
+        self.hot.bytes()
+    }
+
+    /// What the cache holds, within the limit.
     pub fn stats(&self, which: Which) -> CacheStats
         ensures bytes { result.bytes ≡ weight_of (entries_of which self.now) }
         ensures items { result.items ≡ length (entries_of which self.now) }
+        ensures within { result.bytes ≤ self.now.limit }
     {
         match which {
             Which::Main => self.main.stats(),

@@ -1,5 +1,6 @@
 //! Fills, and what lies under their lock.
-ghost use Rattle.std.specs.Prelude.{◌≡◌, ◌<◌, IfErr, IfOk, IfSome, map, vec_len};
+ghost use Rattle.std.specs.Prelude.{◌≡◌, ◌<◌, ◌≤◌, IfErr, IfOk, IfSome, map, vec_len};
+ghost use Rattle.sf_caches.specs.Trimming.{room_of};
 ghost use Rattle.sf_counters.specs.Totals.{sums_of};
 ghost use Rattle.sf_dir.specs.declared.refusal.Refusal.{Refusal};
 ghost use Rattle.sf_letters.specs.Answers.{refusal_of};
@@ -135,8 +136,10 @@ impl<'d, D: Naming, N: Naming, O: Origin> Fill<'d, D, N, O> {
         }
     }
 
-    /// What main or hot holds now.
-    pub fn cache_stats<R: Wait>(&self, rt: &R, which: Which) -> CacheStats {
+    /// What main or hot holds now, within the limit.
+    pub fn cache_stats<R: Wait>(&self, rt: &R, which: Which) -> CacheStats
+        ensures { result.bytes ≤ room_of N.limit }
+    {
         self.store.cache_stats(rt, which)
     }
 }

@@ -144,6 +144,7 @@ impl<'d, D: Naming, N: Naming, O: Origin> Kept<'d, D, N, O> {
     pub fn stats(&self, which: Which) -> CacheStats
         ensures bytes { result.bytes ≡ weight_of (entries_of which self.now) }
         ensures items { result.items ≡ length (entries_of which self.now) }
+        ensures within { result.bytes ≤ room_of N.limit }
     {
         self.caches.stats(which)
     }

@@ -16,12 +16,13 @@ fn put(rt: &impl Abort, caches: &mut Caches<u8>, which: Which, place: u32, bytes
 }
 
 fn assert_bytes(rt: &impl Abort, caches: &Caches<u8>, main: u128, hot: u128) {
-    let (main_bytes, hot_bytes) = (
-        caches.stats(Which::Main).bytes,
-        caches.stats(Which::Hot).bytes,
-    );
+    let (main_bytes, hot_bytes) = (caches.main_bytes(), caches.hot_bytes());
     assert!(rt; main_bytes == main, "main weighs {main_bytes}");
     assert!(rt; hot_bytes == hot, "hot weighs {hot_bytes}");
+    assert!(rt;
+        caches.stats(Which::Main).bytes == main && caches.stats(Which::Hot).bytes == hot,
+        "other stats"
+    );
 }
 
 // What a cache has by now, and how many it had to drop.

@@ -1,5 +1,6 @@
 //! What the getters of a fill share, and what is counted under its lock.
 ghost use Rattle.std.specs.Prelude.{◌≡◌, ◌+◌, ◌<◌, ◌≤◌, ◌^◌, ◌-◌};
+ghost use Rattle.sf_caches.specs.Trimming.{room_of};
 ghost use Rattle.sf_counters.specs.GetCounts.{hit_counts};
 ghost use Rattle.sf_counters.specs.Ledgers.{all_entered, entered_with};
 ghost use Rattle.sf_counters.specs.Totals.{IsOfOneGet, with_counts};
@@ -76,7 +77,9 @@ impl<'d, D: Naming, N: Naming, O: Origin> Store<'d, D, N, O> {
     }
 
     /// What main or hot holds now.
-    pub fn cache_stats<R: Wait>(&self, rt: &R, which: Which) -> CacheStats {
+    pub fn cache_stats<R: Wait>(&self, rt: &R, which: Which) -> CacheStats
+        ensures { result.bytes ≤ room_of N.limit }
+    {
         self.locked.lock(rt).kept.stats(which)
     }
 
