@@ -7,12 +7,13 @@ ghost use Rattle.sf_door.specs.Opened.{IsNewGetter};
 use bytes::Bytes;
 use sf_door::{Body, FillSizes, Keys, Places, with_fill};
 use sf_fill::{Fill, FillValue, Getter, Naming};
-use sf_group::{Begun, Caller, Memory};
+use sf_group::{Begun, Caller, Forgotten, Memory};
 use sf_history::CallId;
 use sf_loaders::scripted::{Answer, FixedPicker, RoundChance, Script};
 use sf_loaders::{LoadPath, Loaders, Origin};
 use sf_wait::{begin_wait, forget_wait};
 use std::alloc::Global;
+use std::process::Abort;
 use std::sync::Wait;
 use std::test::Fail;
 
@@ -50,8 +51,15 @@ fn found_by<'d, D: Naming, N: Naming, O: Origin, R: Wait>(
     }
 }
 
-/// The call that the second look finds, once the first getter's letter of the key `a` lies in main, and the other's caller leads;
-/// and maybe a Forget came before.
+/// What the leader's Forget came to, if it made one, and the call that its second look finds.
+#[derive(Clone, Copy, PartialEq, Eq)]
+struct Looked {
+    forgot: Option<Forgotten>,
+    found: Option<CallId>,
+}
+
+/// What the second look finds, once the first getter's letter of the key `a` lies in main, and the other's caller leads; and maybe a
+/// Forget came before.
 #[derive(Drop)]
 struct SecondLook<'a, R> {
     rt: &'a R,
@@ -59,7 +67,7 @@ struct SecondLook<'a, R> {
 }
 
 impl<'a, R: Wait> Body for SecondLook<'a, R> {
-    type Answer = Option<CallId>;
+    type Answer = Option<Looked>;
 
     ghost use Rattle.std.specs.Prelude.{◌≡◌, ⊤};
 
@@ -67,7 +75,7 @@ impl<'a, R: Wait> Body for SecondLook<'a, R> {
 
     ghost room = { λ look. 0 };
 
-    ghost ends = { λ look found. ⊤ };
+    ghost ends = { λ look looked. ⊤ };
 
     fn run<
         'd,
@@ -75,7 +83,7 @@ impl<'a, R: Wait> Body for SecondLook<'a, R> {
         N: Naming + Send + Sync,
         O: Origin + Send + Sync,
         L: LoadPath<Origin = O> + Send + Drop,
-    >(self, fill: &Fill<'d, D, N, O>, getters: Vec<Getter<'d, D, N, O, L>>) -> Option<CallId>
+    >(self, fill: &Fill<'d, D, N, O>, getters: Vec<Getter<'d, D, N, O, L>>) -> Option<Looked>
         requires wants { N.getters ≡ 2 }
         requires getters { vec_len getters ≡ N.getters }
         requires new { All (IsNewGetter N.group 0) getters.items }
@@ -88,22 +96,25 @@ impl<'a, R: Wait> Body for SecondLook<'a, R> {
     }
 }
 
-// The call that the second look of a leader of place 1 finds, after a Forget or without one.
+// What the second look of a leader of place 1 finds, after a Forget or without one.
 fn found_after<'d, D: Naming, N: Naming, O: Origin, R: Wait>(
     rt: &R,
     fill: &Fill<'d, D, N, O>,
     mut leader: Caller<FillValue<'d, D, O>>,
     case: Case,
-) -> Option<CallId>
+) -> Option<Looked>
     requires leader { leader.group ≡ N.group }
 {
     if !fill.group().has(1) {
         return None;
     }
-    if case.forgets {
-        let _ = forget_wait(rt, fill.group(), &mut leader, 1);
-    }
-    found_by(rt, fill, leader, case.key.as_bytes())
+    let forgot = if case.forgets {
+        Some(forget_wait(rt, fill.group(), &mut leader, 1))
+    } else {
+        None
+    };
+    let found = found_by(rt, fill, leader, case.key.as_bytes());
+    Some(Looked { forgot, found })
 }
 
 /// The two getters of a fill.
@@ -135,7 +146,7 @@ pub(crate) fn loaders(
     ))
 }
 
-fn try_out<R: Wait>(rt: &R, alloc: Global, case: Case) -> Result<Option<CallId>, Memory> {
+fn try_out<R: Wait>(rt: &R, alloc: Global, case: Case) -> Result<Option<Looked>, Memory> {
     let places = Places {
         count: 1,
         seed0: 0,
@@ -146,8 +157,22 @@ fn try_out<R: Wait>(rt: &R, alloc: Global, case: Case) -> Result<Option<CallId>,
     with_fill(alloc, sizes, sets, SecondLook { rt, case })
 }
 
+// The leader does so, and its second look finds this.
+fn check<R: Wait + Abort>(
+    rt: &R,
+    alloc: Global,
+    case: Case,
+    forgot: Option<Forgotten>,
+    found: Option<CallId>,
+) -> Result<(), Memory> {
+    let due = Looked { forgot, found };
+    let looked = try_out(rt, alloc, case)?;
+    assert!(rt; looked == Some(due), "another second look for {}", case.key);
+    Ok(())
+}
+
 // The settled letter 1.1 of the key `a` lies in main. The next leader's second look finds it, unless the place was forgotten
-// before, or the leader is one of another key of the place.
+// before, by an idle Forget, since no call is open; or the leader is one of another key of the place.
 #[test]
 fn second_look(rt: HostRuntime) -> Result<(), Fail> {
     let first = CallId {
@@ -158,13 +183,13 @@ fn second_look(rt: HostRuntime) -> Result<(), Fail> {
         forgets: false,
         key: "a",
     };
-    assert!(rt; try_out(&rt, rt.alloc(), own)? == Some(first), "found");
     let after = Case {
         forgets: true,
         ..own
     };
-    assert!(rt; try_out(&rt, rt.alloc(), after)?.is_none(), "forgotten");
     let other = Case { key: "b", ..own };
-    assert!(rt; try_out(&rt, rt.alloc(), other)?.is_none(), "another key's");
+    check(&rt, rt.alloc(), own, None, Some(first))?;
+    check(&rt, rt.alloc(), after, Some(Forgotten::Idle), None)?;
+    check(&rt, rt.alloc(), other, None, None)?;
     Ok(())
 }
