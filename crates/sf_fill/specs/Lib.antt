@@ -10,3 +10,4 @@ pub mod Bytes
 pub mod Notes
 pub mod Purges
 pub mod Puts
+pub mod Renewing

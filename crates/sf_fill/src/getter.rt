@@ -1,6 +1,9 @@
 //! Getters: what they owe, and what they tell each other.
 ghost use Rattle.std.specs.Prelude.{IfSome, ◌≡◌, ◌↔◌, ◌-◌, ◌<◌, ◌^◌, IsTrue, false, is_ok, not};
-ghost use Rattle.sf_store.specs.Standings.{IsOfGroup, free_caller, is_owing};
+ghost use Rattle.sf_store.specs.Standings.{IsOfGroup, free_caller, is_owing, seen_of};
+ghost use Rattle.sf_calls.specs.Seen.{StartsWith};
+ghost use Rattle.sf_fill.specs.GetterValue.{with_loaders};
+ghost use Rattle.sf_fill.specs.Renewing.{Renews};
 ghost use Rattle.sf_fill.specs.Fresh.{HasAdded, delivered_by};
 ghost use Rattle.sf_store.specs.Logs.{empty_log, logged_by};
 ghost use Rattle.sf_fill.specs.Owing.{HasDelivered, HasSettledUp};
@@ -17,6 +20,7 @@ use sf_spots::KeyDesk;
 use sf_store::{Log, Standing};
 use sf_words::PlaceNo;
 use std::marker::Model;
+use std::mem;
 use std::sync::Wait;
 
 /// One who gets keys of a fill, in one thread at a time. It has to be spent.
@@ -235,6 +239,53 @@ impl<'d, D: Naming, N: Naming, O: Origin, L> Getter<'d, D, N, O, L> {
             Standing::Free(caller) => group.learn(caller, note),
             Standing::Owing(settled) => settled.learn(group, note),
         }
+    }
+}
+
+impl<'d, D: Naming, N: Naming, O: Origin, L> Getter<'d, D, N, O, L> {
+    /// The getter with these loaders, and the loaders that it had. A fill whose getters are made without loaders, as of `()`, has seats
+    /// for getters that are added while it runs: one gets keys once it has loaders.
+    pub fn with_loaders<M>(self, loaders: M) -> (Getter<'d, D, N, O, M>, L)
+        ensures getter { result.0 ≡ with_loaders self.entry loaders }
+        ensures back { result.1 ≡ self.entry.loaders }
+    {
+        let Getter {
+            desk,
+            standing,
+            loaders: back,
+            tallies,
+            log,
+            near,
+        } = self;
+        let getter = Getter {
+            desk,
+            standing,
+            loaders,
+            tallies,
+            log,
+            near,
+        };
+        (getter, back)
+    }
+
+    /// Gives the getter the spare caller for its own, which the spare is then: so a getter whose caller has no generation left goes on.
+    /// Each of the two callers has then seen what either had. Whether it was done: a getter that owes letters keeps its caller.
+    pub fn renew(
+        &mut self,
+        fill: &Fill<'d, D, N, O>,
+        spare: &mut Caller<FillValue<'d, D, O>>,
+    ) -> bool
+        requires spare { spare.old.group ≡ N.group }
+        ensures renewed { Renews self.old spare.old result self.new spare.new }
+        ensures seen { StartsWith (seen_of self.new.standing) (seen_of self.old.standing) }
+        ensures group { spare.new.group ≡ N.group }
+    {
+        let Standing::Free(caller) = &mut self.standing else {
+            return false;
+        };
+        fill.group().meet(caller, spare);
+        mem::swap(caller, spare);
+        true
     }
 }
 

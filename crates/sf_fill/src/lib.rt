@@ -13,6 +13,7 @@
 //! | count | `Fill::book` while it runs, `enter` for the last hits of a getter's near letters, `gather` at the end |
 //! | see what happened | `take_log` |
 //! | spend a getter | `end`, or `gather` |
+//! | add a getter, or go on with a spare caller | `with_loaders`, `renew` |
 #![tactic(auto)]
 
 mod fill;

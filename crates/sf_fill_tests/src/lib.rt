@@ -20,6 +20,8 @@ mod missed;
 #[cfg(test)]
 mod rows;
 #[cfg(test)]
+mod seats;
+#[cfg(test)]
 mod spots;
 #[cfg(test)]
 mod stale;
