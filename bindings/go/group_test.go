@@ -471,7 +471,7 @@ func TestRounds(t *testing.T) {
 func fixedCallers(n uint32) Option { return func(s *sizes) { s.callers, s.fixedCallers = n, true } }
 
 func openFixed(t *testing.T, callers uint32) *Group {
-	g, err := New(fixedCallers(callers))
+	g, err := New(Places(1<<18), fixedCallers(callers))
 	if err != nil {
 		t.Fatal(err)
 	}

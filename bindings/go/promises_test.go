@@ -121,7 +121,7 @@ func TestOneRunAfterADeadline(t *testing.T) {
 
 // More than a thousand times callers are spent and the library's group is made anew, under load.
 func TestNothingWearsOut(t *testing.T) {
-	s := sizes{places: 16, callers: 4, fixed: true, fixedCallers: true, generations: 25}
+	s := sizes{places: 16, callers: 4, fixed: true, fixedCallers: true, generations: 25, onPanic: func(any, []byte) {}}
 	p := newPool(s)
 	var g Group
 	g.set(p)
@@ -167,7 +167,7 @@ func TestStress(t *testing.T) {
 		}
 	}
 	for _, options := range [][]Option{{Places(64)}, {Places(64), fixedCallers(24)}, {}} {
-		g, err := New(options...)
+		g, err := New(append(options, OnPanic(func(any, []byte) {}))...)
 		if err != nil {
 			t.Fatal(err)
 		}
