@@ -135,6 +135,9 @@ func (p *pool) try(a *asking, k keyed, leaves bool) bool {
 	if leaves || p.alertOf(k.print).Load() != 0 {
 		if found := p.look(e, k); found == foreign {
 			return p.askBeside(a, k, e, false)
+		} else if found == ending {
+			pause()
+			return false
 		} else if found.seat != nil {
 			return p.follow(a, found, k) && p.counted()
 		}
@@ -210,8 +213,12 @@ type found struct {
 	call Call
 }
 
-// What was found where another key's call is open.
-var foreign = found{call: Call{caller: 1<<32 - 1}}
+// What was found where another key's call is open, and where the key's own is just being settled: whoever ran beside
+// that, and then joined it, would have the newer result first.
+var (
+	foreign = found{call: Call{caller: 1<<32 - 1}}
+	ending  = found{call: Call{caller: 1<<32 - 2}}
+)
 
 // Looks for the key's open call in the epoch, by a free seat or under the lock.
 func (p *pool) look(e *epoch, k keyed) found {
@@ -247,6 +254,9 @@ func (p *pool) lookBy(e *epoch, by *seat, k keyed) found {
 	}
 	if print != k.print {
 		return foreign
+	}
+	if generation&settling != 0 {
+		return ending
 	}
 	call.epoch = e.number
 	return found{s, call}
@@ -324,26 +334,39 @@ func (p *pool) runOf(k keyed, before uint64) *wait {
 // again. Where it is for want of a caller, the epoch is replaced by a larger one, if there may be one.
 func (p *pool) askBeside(a *asking, k keyed, e *epoch, wants bool) bool {
 	p.lock()
-	defer p.mu.Unlock()
+	asked, ends := p.askBesideLocked(a, k, e, wants)
+	p.mu.Unlock()
+	if ends {
+		pause()
+	}
+	return asked
+}
+
+// The same with the lock held. Whether it asked; or else the key's call is just being settled.
+func (p *pool) askBesideLocked(a *asking, k keyed, e *epoch, wants bool) (asked, ends bool) {
 	if p.now.Load() != e {
-		return false
+		return false, false
 	}
 	if w := p.runOf(k, 1<<63); w != nil {
 		*a = asking{wait: w}
-		return p.counted()
+		return p.counted(), false
 	}
 	p.alertOf(k.print).Add(1)
 	yield()
 	if e != nil {
 		it := p.lookBy(e, e.root, k)
 		yield()
+		if it == ending {
+			p.alertOf(k.print).Add(-1)
+			return false, true
+		}
 		if it.seat != nil {
 			p.alertOf(k.print).Add(-1)
-			return p.follow(a, it, k) && p.counted()
+			return p.follow(a, it, k) && p.counted(), false
 		}
 		if wants && p.grows(e) || !wants && p.meets(e) {
 			p.alertOf(k.print).Add(-1)
-			return false
+			return false, false
 		}
 	}
 	if e != nil {
@@ -353,7 +376,7 @@ func (p *pool) askBeside(a *asking, k keyed, e *epoch, wants bool) bool {
 	p.runs[k.key] = w
 	p.alone.Add(1)
 	*a = asking{wait: w, leads: true}
-	return true
+	return true, false
 }
 
 // Whether a larger epoch has taken the place of this one, which has no free caller for a call. The lock is held.
@@ -401,7 +424,7 @@ func (p *pool) change(next *epoch) {
 	yield()
 	old.each(func(_ uint32, s *seat) {
 		generation, print := s.asking()
-		if generation == 0 {
+		if generation == 0 || generation&settling != 0 {
 			return
 		}
 		acquire(&s.mu)

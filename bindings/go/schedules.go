@@ -24,6 +24,12 @@ func yield() {
 	}
 }
 
+func pause() {
+	if schedule != nil {
+		schedule.yield(true)
+	}
+}
+
 func acquire(mu *sync.Mutex) {
 	if schedule == nil {
 		mu.Lock()
