@@ -12,19 +12,21 @@ use std::process::Abort;
 use std::sync::Wait;
 use std::test::Fail;
 
-/// Two hundred gets, and how many of them the book lacked at most, when one had ended.
+/// Four hundred gets, and how many of them the book lacked at most, when one had ended.
 #[derive(Drop)]
 struct Behind<'a, R> {
     rt: &'a R,
+    refused: bool,
 }
 
-// The key of the turn's get: mostly one of two that are kept, else one that is too long, or that has no place.
-fn key_of(turn: u32) -> &'static [u8] {
+// The key of the turn's get: one of two that are kept, in turn, and if some are to be refused, one that is too long, or that has no
+// place.
+fn key_of(turn: u32, refused: bool) -> &'static [u8] {
     match turn % 50 {
-        7 => b"long",
-        8 => b"c",
-        9 | 19 | 29 => b"b",
-        _ => b"a",
+        7 if refused => b"long",
+        8 if refused => b"c",
+        _ if turn % 2 == 0 => b"a",
+        _ => b"b",
     }
 }
 
@@ -50,15 +52,15 @@ impl<'a, R: Wait> Body for Behind<'a, R> {
         requires getters { vec_len getters ≡ N.getters }
         requires new { All (IsNewGetter N.group 0) getters.items }
     {
-        let rt = self.rt;
+        let Behind { rt, refused } = self;
         let mut getters = getters;
         let Some(mut getter) = getters.pop() else {
             unreachable!()
         };
         getters.destroy_empty();
         let mut most: u128 = 0;
-        for turn in 0..200u32 {
-            let (back, _answer) = fill.get(rt, getter, key_of(turn));
+        for turn in 0..400u32 {
+            let (back, _answer) = fill.get(rt, getter, key_of(turn, refused));
             getter = back;
             let behind = (turn as u128 + 1).saturating_sub(fill.book(rt).gets);
             if most < behind {
@@ -70,8 +72,8 @@ impl<'a, R: Wait> Body for Behind<'a, R> {
     }
 }
 
-// How many gets the book lacked at most, where the getter keeps so many letters near.
-fn try_out<R: Wait>(rt: &R, alloc: Global, near: u32) -> Result<u128, Memory> {
+// How many gets the book lacked at most, where the getter keeps so many letters near, and some gets are refused.
+fn try_out<R: Wait>(rt: &R, alloc: Global, near: u32, refused: bool) -> Result<u128, Memory> {
     let keys = DirectoryKeys {
         keys: 2,
         key_bytes: 3,
@@ -90,18 +92,18 @@ fn try_out<R: Wait>(rt: &R, alloc: Global, near: u32) -> Result<u128, Memory> {
         first_generation: 1,
     };
     let sets = vec![in alloc; loaders(alloc)?]?;
-    with_fill(alloc, sizes, sets, Behind { rt })
+    with_fill(alloc, sizes, sets, Behind { rt, refused })
 }
 
-// Each get is in the book when it ends. Where letters are kept near, the last 63 that these answered may lack.
+// Each get is in the book when it ends. Where letters are kept near, the last 63 that these answered are missing at most.
 #[test]
 fn book_has_each_get_as_it_ends(rt: HostRuntime) -> Result<(), Fail> {
     let alloc = rt.alloc();
-    let behind = try_out(&rt, alloc, 0)?;
+    let behind = try_out(&rt, alloc, 0, true)?;
     assert!(rt; behind == 0, "the book lacks {behind} gets");
-    let behind = try_out(&rt, alloc, 2)?;
+    let behind = try_out(&rt, alloc, 2, false)?;
     assert!(rt;
-        0 < behind && behind <= 63,
+        behind == 63,
         "the book lacks {behind} gets beside near letters"
     );
     Ok(())
