@@ -101,10 +101,11 @@ static uint64_t word_at(const uint8_t *bytes, size_t len) {
 
 /* Two keys have one with a probability of one in 2^64, and who chooses keys does not know which. */
 static uint64_t fingerprint_of(const sf_pool *pool, const uint8_t *key, size_t len) {
-    uint64_t state = pool->seeds[0] ^ len;
+    uint64_t state = pool->seeds[0], length = len;
     for (; len >= 16; key += 16, len -= 16) state = fold(word_at(key, 8) ^ state, word_at(key + 8, 8) ^ pool->seeds[1]);
     state = fold(word_at(key, len) ^ state, (len > 8 ? word_at(key + 8, len - 8) : 0) ^ pool->seeds[2]);
-    return fold(state ^ pool->seeds[1], pool->seeds[2] ^ pool->seeds[0]);
+    /* The length comes in last: beside a word of the key it would tell nothing apart from another length with another byte. */
+    return fold(state ^ pool->seeds[1] ^ length, pool->seeds[2] ^ pool->seeds[0]);
 }
 
 /* Waits. */
@@ -745,12 +746,13 @@ bool sf_do_forget(sf_pool *pool, const uint8_t *key, size_t len) {
             /* Another key's open call stays, or it would be loaded a second time. */
             if (whose_call(leader, generation, fingerprint) != ANOTHER) {
                 uint32_t code;
+                /* Before the call ends, so that a second Forget, which finds no call, leaves none that a renewal would move. */
+                mark(leader, generation, FORGOTTEN);
                 if (!seat) pthread_mutex_lock(&pool->lock);
                 do {
                     code = sf_forget_call(seat ? &seat->slot : &epoch->root, key, len, caller, generation, SF_MOST_TRIES);
                 } while (code == SF_BUSY);
                 if (!seat) pthread_mutex_unlock(&pool->lock);
-                mark(leader, generation, FORGOTTEN);
                 closed |= code == SF_CLOSED;
             }
         }

@@ -248,12 +248,11 @@ impl<T> Caller<T> {
     // Asks the library once. None where one has to ask again.
     fn ask_library(&mut self, key: &[u8], fingerprint: u64, by: By) -> Option<Asked<T>> {
         let taken = self.taken.as_mut()?;
-        let (epoch, seat) = (&taken.epoch, &mut taken.seat);
+        let (epoch, seat, post) = taken.parts();
         if seat.next - FIRST >= self.pool.calls() {
             self.retire();
             return None;
         }
-        let post = epoch.post(seat.number);
         post.begin(fingerprint, seat.next);
         let code = loop {
             point();

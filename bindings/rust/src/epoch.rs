@@ -11,6 +11,7 @@ use std::sync::atomic::{
     AtomicU32, AtomicU64,
     Ordering::Relaxed,
 };
+use std::ptr::NonNull;
 use std::sync::{Arc, Mutex, OnceLock};
 
 const CHUNK: usize = 32;
@@ -41,11 +42,34 @@ pub(crate) struct Epoch<T> {
 pub(crate) struct Taken<T> {
     pub(crate) seat: Seat,
     pub(crate) epoch: Arc<Epoch<T>>,
+    // That of the seat's number, in the epoch.
+    post: NonNull<Post<T>>,
 }
 
+// SAFETY: the post is a part of the epoch, which has a share here.
+unsafe impl<T> Send for Taken<T> where Arc<Epoch<T>>: Send {}
+unsafe impl<T> Sync for Taken<T> where Arc<Epoch<T>>: Sync {}
+
 impl<T> Taken<T> {
+    pub(crate) fn new(seat: Seat, epoch: Arc<Epoch<T>>) -> Self {
+        let post = NonNull::from(epoch.post(seat.number));
+        Taken { seat, epoch, post }
+    }
+
+    #[inline]
     pub(crate) fn post(&self) -> &Post<T> {
-        self.epoch.post(self.seat.number)
+        // SAFETY: the epoch keeps its posts where they are.
+        unsafe { self.post.as_ref() }
+    }
+
+    #[inline]
+    pub(crate) fn parts(&mut self) -> (&Epoch<T>, &mut Seat, &Post<T>) {
+        // SAFETY: the epoch keeps its posts where they are.
+        (&self.epoch, &mut self.seat, unsafe { self.post.as_ref() })
+    }
+
+    pub(crate) fn into_parts(self) -> (Seat, Arc<Epoch<T>>) {
+        (self.seat, self.epoch)
     }
 }
 

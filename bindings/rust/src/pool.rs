@@ -28,9 +28,11 @@
 //!
 //! # Why a Forget forgets
 //!
-//! It takes the key's entries out of the side table, then ends the key's call in the library, marks the leader's word, and reads
-//! `now`: where that has changed, it begins anew. A call that the renewal entered before it saw the mark is taken out by the second
-//! round. Only a call of the key is ended: another key's open call at the slot stays, or its next asker would load a second time.
+//! It takes the key's entries out of the side table, marks the word of the leader that the key's slot names, ends that call in the
+//! library, and reads `now`: where that has changed, it begins anew. A call that the renewal entered before it saw the mark is taken out
+//! by the second round. The mark comes first, so that a second Forget, which finds that the call has ended and returns, leaves none that
+//! a renewal would enter. Only a call of the key is ended: another key's open call at the slot stays, or its next asker would load a
+//! second time.
 //!
 //! # Why answers do not go backwards
 //!
@@ -83,6 +85,7 @@ impl Seat {
     }
 
     /// The letter of the call that it joined, once.
+    #[inline]
     pub(crate) fn poll(&mut self) -> Option<Letter> {
         let (mut number, mut joiners) = (0, 0);
         point();
@@ -94,6 +97,7 @@ impl Seat {
     }
 
     /// The stamp of the letter that it had last, in this epoch.
+    #[inline]
     pub(crate) fn stamp(&mut self, epoch: u32) -> Stamp {
         let mut stamp = Stamp::default();
         unsafe { raw::sf_stamp(&mut self.slot, &mut stamp.0) };
@@ -234,6 +238,7 @@ impl<T> Pool<T> {
         })
     }
 
+    #[inline]
     pub(crate) fn fingerprint(&self, key: &[u8]) -> u64 {
         self.fingerprints.of(key)
     }
@@ -267,11 +272,11 @@ impl<T> Pool<T> {
         let (seat, is_new) = epoch.take()?;
         self.made.fetch_add(u32::from(is_new), Relaxed);
         self.in_use.fetch_add(1, Relaxed);
-        Some(Taken { seat, epoch })
+        Some(Taken::new(seat, epoch))
     }
 
     pub(crate) fn put(&self, taken: Taken<T>) {
-        let Taken { seat, epoch } = taken;
+        let (seat, epoch) = taken.into_parts();
         self.put_in(&epoch, seat);
         if epoch.number != self.now() {
             drop(epoch);
@@ -286,7 +291,7 @@ impl<T> Pool<T> {
 
     /// Lets a seat go whose caller has had all its calls. Where half of an epoch's have, another one is opened.
     pub(crate) fn retire(&self, taken: Taken<T>) {
-        let Taken { seat, epoch } = taken;
+        let (seat, epoch) = taken.into_parts();
         drop(seat);
         self.in_use.fetch_sub(1, Relaxed);
         epoch.spent.fetch_add(1, Relaxed);
@@ -421,10 +426,15 @@ impl<T> Pool<T> {
     }
 
     /// Whether a leader of this epoch may load, that has led its call before. Else it settles that with nothing, and asks again.
+    #[inline]
     pub(crate) fn may_load(&self, epoch: u32, key: &[u8], fingerprint: u64) -> bool {
         if self.now() == epoch && !self.is_alert(fingerprint) {
             return true;
         }
+        self.has_no_run(epoch, key)
+    }
+
+    fn has_no_run(&self, epoch: u32, key: &[u8]) -> bool {
         // Calls are moved only where `now` changes, and it has looked for these before.
         let side = lock(&self.side);
         self.now() == epoch && !side.runs.contains_key(key)
@@ -481,8 +491,8 @@ impl<T> Pool<T> {
                 let post = epoch.post(call.caller);
                 // Another key's open call stays: of this key nothing is open then, nor current.
                 if post.whose(call.generation, fingerprint) != Whose::Other {
-                    let hit = epoch.forget_call(taken.as_mut().map(|taken| &mut taken.seat), key, call);
                     post.forget(call.generation);
+                    let hit = epoch.forget_call(taken.as_mut().map(|taken| &mut taken.seat), key, call);
                     closed |= hit == Hit::Closed;
                 }
             }
@@ -504,9 +514,9 @@ impl<T> Pool<T> {
             if post.whose(call.generation, fingerprint) == Whose::Other {
                 return Hit::Missed;
             }
+            post.forget(call.generation);
             let hit = epoch.forget_call(taken.as_mut().map(|taken| &mut taken.seat), key, call);
             if hit != Hit::Missed {
-                post.forget(call.generation);
                 if self.now() == epoch.number {
                     return hit;
                 }
@@ -574,7 +584,7 @@ impl<T> Pool<T> {
 
     /// The seat leaves the call of the leader with this number, which it joined.
     pub(crate) fn leave(&self, taken: Taken<T>, leader: u32, is_stranger: bool) {
-        let Taken { seat, epoch } = taken;
+        let (seat, epoch) = taken.into_parts();
         if is_stranger {
             epoch.strange(true);
         }

@@ -63,6 +63,7 @@ pub(crate) struct Woken<T> {
 pub(crate) struct Counter(AtomicU64);
 
 impl Counter {
+    #[inline]
     pub(crate) fn add(&self) {
         self.0.store(self.get() + 1, Relaxed);
     }
@@ -72,6 +73,7 @@ impl Counter {
         self.0.fetch_add(1, Relaxed);
     }
 
+    #[inline]
     pub(crate) fn get(&self) -> u64 {
         self.0.load(Relaxed)
     }
@@ -91,10 +93,12 @@ const FOLLOWED: u64 = 1;
 /// A Forget has ended the call.
 const FORGOTTEN: u64 = 2;
 
+#[inline]
 fn word_of(generation: u32) -> u64 {
     (u64::from(generation) + 1) << 2
 }
 
+#[inline]
 fn is_of(word: u64, generation: u32) -> bool {
     word & !(FOLLOWED | FORGOTTEN) == word_of(generation)
 }

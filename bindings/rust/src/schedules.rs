@@ -310,6 +310,10 @@ struct Actor {
     caller: Caller<Value>,
     second: Option<Caller<Value>>,
     random: Random,
+    // Of how many keys it asks for one.
+    keys: u64,
+    // What it does first: a number of `act`, and a key.
+    script: &'static [(u64, usize)],
     // What it got last of each key.
     last: HashMap<usize, (u64, Stamp, Option<crate::Call>)>,
 }
@@ -322,7 +326,8 @@ impl Actor {
 
     fn get(&mut self, key: usize, is_nested: bool, timeout: bool) {
         let (world, asked, least) = (self.world.clone(), self.world.tick(), self.world.least(key));
-        let steps = self.random.below(4);
+        let most = [4, 4, 4, 400][self.random.below(4) as usize];
+        let steps = self.random.below(most);
         let mut second = self.second.take();
         let load = || {
             let moment = world.begins(key, asked);
@@ -444,8 +449,11 @@ impl Actor {
     }
 
     fn act(&mut self) {
-        let key = self.random.below(KEYS as u64) as usize;
-        match self.random.below(16) {
+        let (mut act, mut key) = (self.random.below(16), self.random.below(self.keys) as usize);
+        if let Some((first, rest)) = self.script.split_first() {
+            ((act, key), self.script) = (*first, rest);
+        }
+        match act {
             0..=5 => self.get(key, false, false),
             6..=7 => self.get(key, true, false),
             8 => self.get(key, false, true),
@@ -456,6 +464,9 @@ impl Actor {
         }
     }
 }
+
+/// Forgets of a key that is loaded, while the table is replaced for want of a caller for another key.
+const SCENE: [&[(u64, usize)]; 4] = [&[(0, 0)], &[(12, 0), (0, 0)], &[(12, 0), (0, 0)], &[(0, 1), (0, 1)]];
 
 #[derive(Default)]
 struct Played {
@@ -468,22 +479,24 @@ struct Played {
 // Plays the schedule of this seed.
 fn schedule(seed: u64, stacks: &mut Vec<Box<[u128]>>, all: &mut Played) -> Result<(), String> {
     let mut random = Random::new(seed);
-    let callers = 1 + random.below(4) as u32;
+    let is_scene = random.below(4) == 0;
+    let callers = if is_scene { 1 } else { 1 + random.below(4) as u32 };
     let plan = Plan {
         places: 1 + random.below(2) as u32,
         callers,
-        grows: random.below(2) == 0,
+        grows: is_scene || random.below(2) == 0,
         calls: [1, 2, 4, 1000][random.below(4) as usize],
     };
     let group = Rc::new(Group::of(plan).map_err(|why| why.to_string())?);
     let world = Rc::new(World::default());
-    let actors = 2 + random.below(3);
+    let actors = if is_scene { 4 } else { 2 + random.below(3) as usize };
     let turn = [1, 2, 4, 16][random.below(4) as usize];
-    let acts = 1 + random.below(5);
-    let tasks = (0..actors).map(|_| {
+    let (acts, keys) = (1 + random.below(5), 1 + random.below(KEYS as u64));
+    let tasks = (0..actors).map(|number| {
         let (world, group, random) = (world.clone(), group.clone(), Random::new(random.next()));
+        let script = if is_scene { SCENE[number] } else { &[] };
         Box::new(move || {
-            let mut actor = Actor { world, caller: group.caller().unwrap(), second: group.caller(), random, last: HashMap::new() };
+            let mut actor = Actor { world, caller: group.caller().unwrap(), second: group.caller(), random, keys, script, last: HashMap::new() };
             for _ in 0..acts {
                 actor.act();
             }

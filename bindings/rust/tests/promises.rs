@@ -106,6 +106,24 @@ fn one_load_for_more_than_there_are_callers() {
     }
 }
 
+#[test]
+fn one_load_for_a_hundred_thousand_tasks() {
+    const TASKS: usize = 100_000;
+    let group = Group::<u64>::new();
+    let mut callers: Vec<_> = (0..TASKS).map(|_| group.caller().unwrap()).collect();
+    let mut tasks = Vec::new();
+    let got = group.caller().unwrap().do_with(b"one key", || {
+        tasks = callers.iter_mut().map(|caller| Box::pin(caller.do_async(b"one key", async { panic!("a second load") }))).collect();
+        assert!(tasks.iter_mut().all(|task| look(task.as_mut()).is_pending()), "all wait");
+        7
+    });
+    assert!(got.unwrap().joiners == TASKS as u32, "all have joined");
+    for task in &mut tasks {
+        assert!(matches!(look(task.as_mut()), Poll::Ready(Ok(got)) if *got.answer == 7), "the answer");
+    }
+    assert!(group.stats().made <= 32 + 256 && group.stats().leads + group.stats().alone == 1, "{:?}", group.stats());
+}
+
 // x/sync returns 1, then 2, however many callers there are.
 #[test]
 fn answers_do_not_go_backwards() {
