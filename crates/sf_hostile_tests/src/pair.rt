@@ -1,5 +1,6 @@
 //! Fills of two getters, and a spare caller that joins the first one's load. Wherever one allocation is refused, each get
 //! answers the value, and one at most the fault for want of memory; what is owed is delivered then.
+ghost use Rattle.std.proofs.Common.{inl};
 ghost use Rattle.std.specs.Prelude.{◌≡◌, ◌≤◌, IfOk, vec_len, pos};
 ghost use Rattle.sf_words.specs.declared.limits.TheConstants.{LARGEST_PLACE};
 ghost use Rattle.sf_spots.specs.Spaces.{AreDesksOf, places_in, space_of};
@@ -9,6 +10,7 @@ ghost use Rattle.sf_fill.specs.Made.{AreParts};
 use crate::meeting::{Flags, PairLoaders, loaders};
 use crate::spare::{Spare, take_letter};
 use crate::tried::{PairGetter, Tried};
+use sf_dir::Directory;
 use sf_fill::{Fill, FillParts, Naming, RefusedParts, Sizes};
 use sf_group::Memory;
 use sf_loaders::scripted::AnyValue;
@@ -319,18 +321,39 @@ fn get_whose_load_is_joined(rt: HostRuntime) -> Result<(), Fail> {
     check(&rt, rt.alloc(), Scene::Joined)
 }
 
+// A directory of one place with its desks. Where memory is refused it is asked for once more.
+fn open(alloc: Global) -> Result<(Directory, Vec<KeyDesk>), Memory>
+    ensures count { IfOk result (λ opened. vec_len opened.1 ≡ 3) }
+    ensures desks { IfOk result (λ opened. AreDesksOf (inl opened.0) opened.1.items) }
+{
+    if let Ok(opened) = open_directory(alloc, 1, 4, 3, 0, 0) {
+        return Ok(opened);
+    }
+    open_directory(alloc, 1, 4, 3, 0, 0)
+}
+
+// The loaders of the three getters. Where memory is refused it is asked for once more.
+fn sets<'f>(alloc: Global, flags: &'f Flags) -> Result<Vec<PairLoaders<'f>>, Memory>
+    ensures { IfOk result (λ sets. vec_len sets ≡ 3) }
+{
+    if let Ok(sets) = all_loaders(alloc, Scene::Reload, flags) {
+        return Ok(sets);
+    }
+    all_loaders(alloc, Scene::Reload, flags)
+}
+
 // The parts of a fill, which are made although memory is refused once.
 fn check_parts<'d, D: Naming>(
     rt: &impl Abort,
     alloc: Global,
     space: KeySpace<'d>,
     desks: Vec<KeyDesk>,
-    sets: Vec<PairLoaders<'_>>,
 ) -> Result<(), Memory>
     requires space { (space_of space ≡ D.space) × (places_in D.space ≤ LARGEST_PLACE) }
-    requires sets { vec_len sets ≡ 3 }
     requires desks { (vec_len desks ≡ 3) × AreDesksOf D.space desks.items }
 {
+    let flags = Flags::new();
+    let sets = sets(alloc, &flags)?;
     let parts = make_parts::<D>(alloc, space, desks, sets)?;
     let (desks, callers) = (parts.desks.len(), parts.callers.len());
     assert!(rt;
@@ -344,15 +367,7 @@ fn check_parts<'d, D: Naming>(
 #[test]
 fn refused_parts_come_back(rt: HostRuntime) -> Result<(), Fail> {
     let alloc = rt.alloc();
-    let (directory, desks) = match open_directory(alloc, 1, 4, 3, 0, 0) {
-        Ok(opened) => opened,
-        Err(_) => open_directory(alloc, 1, 4, 3, 0, 0)?,
-    };
-    let flags = Flags::new();
-    let sets = match all_loaders(alloc, Scene::Reload, &flags) {
-        Ok(sets) => sets,
-        Err(_) => all_loaders(alloc, Scene::Reload, &flags)?,
-    };
-    check_parts::<Brand>(&rt, alloc, KeySpace::Directory(&directory), desks, sets)?;
+    let (directory, desks) = open(alloc)?;
+    check_parts::<Brand>(&rt, alloc, KeySpace::Directory(&directory), desks)?;
     Ok(())
 }
