@@ -19,7 +19,7 @@ type slot struct {
 	live         bool
 	leads, joins uint64
 	stack        *[stackSize]byte
-	generation   uint64 // of the call that its asking may lead, with settling while that is settled; else 0
+	generation   uint64 // of the call that its asking may lead, until that is about to be settled; else 0
 	print        uint64 // the fingerprint of the key that it asked for last; stored before the generation
 	last         uint64 // the generation after which it is spent
 }

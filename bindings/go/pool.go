@@ -135,9 +135,6 @@ func (p *pool) try(a *asking, k keyed, leaves bool) bool {
 	if leaves || p.alertOf(k.print).Load() != 0 {
 		if found := p.look(e, k); found == foreign {
 			return p.askBeside(a, k, e, false)
-		} else if found == ending {
-			pause()
-			return false
 		} else if found.seat != nil {
 			return p.follow(a, found, k) && p.counted()
 		}
@@ -213,12 +210,8 @@ type found struct {
 	call Call
 }
 
-// What was found where another key's call is open, and where the key's own is just being settled: whoever ran beside
-// that, and then joined it, would have the newer result first.
-var (
-	foreign = found{call: Call{caller: 1<<32 - 1}}
-	ending  = found{call: Call{caller: 1<<32 - 2}}
-)
+// What was found where another key's call is open.
+var foreign = found{call: Call{caller: 1<<32 - 1}}
 
 // Looks for the key's open call in the epoch, by a free seat or under the lock.
 func (p *pool) look(e *epoch, k keyed) found {
@@ -254,9 +247,6 @@ func (p *pool) lookBy(e *epoch, by *seat, k keyed) found {
 	}
 	if print != k.print {
 		return foreign
-	}
-	if generation&settling != 0 {
-		return ending
 	}
 	call.epoch = e.number
 	return found{s, call}
@@ -334,39 +324,26 @@ func (p *pool) runOf(k keyed, before uint64) *wait {
 // again. Where it is for want of a caller, the epoch is replaced by a larger one, if there may be one.
 func (p *pool) askBeside(a *asking, k keyed, e *epoch, wants bool) bool {
 	p.lock()
-	asked, ends := p.askBesideLocked(a, k, e, wants)
-	p.mu.Unlock()
-	if ends {
-		pause()
-	}
-	return asked
-}
-
-// The same with the lock held. Whether it asked; or else the key's call is just being settled.
-func (p *pool) askBesideLocked(a *asking, k keyed, e *epoch, wants bool) (asked, ends bool) {
+	defer p.mu.Unlock()
 	if p.now.Load() != e {
-		return false, false
+		return false
 	}
 	if w := p.runOf(k, 1<<63); w != nil {
 		*a = asking{wait: w}
-		return p.counted(), false
+		return p.counted()
 	}
 	p.alertOf(k.print).Add(1)
 	yield()
 	if e != nil {
 		it := p.lookBy(e, e.root, k)
 		yield()
-		if it == ending {
-			p.alertOf(k.print).Add(-1)
-			return false, true
-		}
 		if it.seat != nil {
 			p.alertOf(k.print).Add(-1)
-			return p.follow(a, it, k) && p.counted(), false
+			return p.follow(a, it, k) && p.counted()
 		}
 		if wants && p.grows(e) || !wants && p.meets(e) {
 			p.alertOf(k.print).Add(-1)
-			return false, false
+			return false
 		}
 	}
 	if e != nil {
@@ -376,7 +353,7 @@ func (p *pool) askBesideLocked(a *asking, k keyed, e *epoch, wants bool) (asked,
 	p.runs[k.key] = w
 	p.alone.Add(1)
 	*a = asking{wait: w, leads: true}
-	return true, false
+	return true
 }
 
 // Whether a larger epoch has taken the place of this one, which has no free caller for a call. The lock is held.
@@ -424,7 +401,7 @@ func (p *pool) change(next *epoch) {
 	yield()
 	old.each(func(_ uint32, s *seat) {
 		generation, print := s.asking()
-		if generation == 0 || generation&settling != 0 {
+		if generation == 0 {
 			return
 		}
 		acquire(&s.mu)

@@ -17,7 +17,7 @@ type plainSlot struct {
 	call         *openCall
 	key          string
 	leads, joins atomic.Uint64
-	generation   uint64 // of the call that its asking may lead, with settling while that is settled; else 0
+	generation   uint64 // of the call that its asking may lead, until that is about to be settled; else 0
 	print        uint64 // the fingerprint of the key that it asked for last; stored before the generation
 	last         uint64 // the generation after which it is spent
 }
@@ -117,16 +117,14 @@ func (s *plainSlot) leading() Call { return callOf(s.call.stamp.Call) }
 // Settles the call that it leads. The letter tells how many joined, its stamp and call.
 func (s *plainSlot) finish(l *letter, _ bool) {
 	w, c := s.words, s.call
-	atomic.StoreUint64(&s.generation, s.generation|settling)
+	atomic.StoreUint64(&s.generation, 0)
 	yield()
 	w.mu.Lock()
+	defer w.mu.Unlock()
 	c.settled = true
 	w.shut(c)
 	s.call = nil
 	l.joiners, l.stamp, l.call = c.joined, c.stamp, c.stamp.Call
-	w.mu.Unlock()
-	yield()
-	atomic.StoreUint64(&s.generation, 0)
 }
 
 // Nobody joins it any more. The lock is held.

@@ -4,16 +4,12 @@ package singleflight
 
 import (
 	"hash/maphash"
-	"runtime"
 	"sync"
 	"unsafe"
 )
 
 // Where the tests of schedules stop a goroutine; see schedules.go.
 func yield() {}
-
-// Lets others run, one of whom is about to settle a call.
-func pause() { runtime.Gosched() }
 
 func acquire(mu *sync.Mutex) { mu.Lock() }
 

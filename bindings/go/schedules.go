@@ -24,12 +24,6 @@ func yield() {
 	}
 }
 
-func pause() {
-	if schedule != nil {
-		schedule.yield(true)
-	}
-}
-
 func acquire(mu *sync.Mutex) {
 	if schedule == nil {
 		mu.Lock()

@@ -70,18 +70,13 @@ uint64_t sfgo_named(seat *s, const uint8_t *key, size_t len) {
 	return (uint64_t)generation << 32 | leader;
 }
 
-// Beside the generation of a call that is being settled: nobody follows it any more, and it may be open still. See settling in codes.go.
-#define SETTLING ((uint64_t)1 << 32)
-
 // Settles the call that the seat leads, and tells of it what is wanted: a Do wants no more than how many joined. First it says so by the
-// generation: the locked exchange by which the library settles stands between that and what the package reads then. The generation is 0
-// only when the call is no longer open in the library, or somebody could have a newer result first and then join this call.
+// generation: the locked exchange by which the library settles stands between that and what the package reads then.
 void sfgo_finish(seat *s, letter *l, uint32_t all) {
-	__atomic_store_n(&s->generation, s->generation | SETTLING, __ATOMIC_RELEASE);
+	__atomic_store_n(&s->generation, 0, __ATOMIC_RELEASE);
 	if (sf_finish(&s->slot, 0, &l->joiners) == SF_OWES) {
 		while (sf_go_on(&s->slot, &l->joiners) == SF_OWES) {}
 	}
-	__atomic_store_n(&s->generation, 0, __ATOMIC_RELEASE);
 	if (all) {
 		sf_stamp(&s->slot, l->stamp);
 		l->call = sfgo_call(s);
