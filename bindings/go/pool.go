@@ -533,7 +533,8 @@ func (p *pool) forgetBy(e *epoch, by *seat, k keyed) bool {
 }
 
 // What the key's last call came to is not current any more, since a run beside the library begins. A call that is open at
-// the slot stays: it has ended the older stamp itself. The lock is held.
+// the slot stays: it has ended the older stamp itself. One whose leader is about to settle it is closed, or somebody could
+// have the newer result of the run first, and then join that call. The lock is held.
 func (p *pool) endStamp(e *epoch, k keyed) {
 	var digest [16]byte
 	name := p.name(k, &digest)

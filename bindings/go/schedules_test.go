@@ -9,7 +9,9 @@ import (
 	"math/rand"
 	"os"
 	"strconv"
+	"sync/atomic"
 	"testing"
+	"time"
 )
 
 // A world of goroutines of which one runs at a time. Who goes on at each yield is drawn at random.
@@ -20,8 +22,11 @@ type world struct {
 	workers []*worker
 	running *worker
 	back    chan struct{}
-	now     int // a step each yield
-	blocked int // yields in a row that were of workers who could not go on
+	now     int  // a step each yield
+	blocked int  // yields in a row that were of workers who could not go on
+	stalls  bool // whether who goes on is told by priorities, so that some are stopped for long
+	lowest  int
+	few     bool // whether there are two keys, which are asked for and nothing else
 	trace   []string
 
 	group    *Group
@@ -32,11 +37,12 @@ type world struct {
 }
 
 type worker struct {
-	number  int
-	goOn    chan struct{}
-	ended   bool
-	blocked bool
-	last    [4]*run // whose result it had last, by key
+	number   int
+	goOn     chan struct{}
+	ended    bool
+	blocked  bool
+	priority int
+	last     [4]*run // whose result it had last, by key
 }
 
 // What the test knows of a key.
@@ -63,8 +69,15 @@ func (w *world) yield(blocked bool) {
 	me.blocked = blocked
 	if blocked {
 		w.blocked++
-	} else {
+	} else if w.blocked > 0 {
 		w.blocked = 0
+		for _, it := range w.workers {
+			it.blocked = false
+		}
+	}
+	if w.stalls && w.random.Intn(30) == 0 {
+		w.lowest--
+		me.priority = w.lowest
 	}
 	w.back <- struct{}{}
 	<-me.goOn
@@ -73,7 +86,7 @@ func (w *world) yield(blocked bool) {
 func (w *world) index() uint { return uint(w.running.number) }
 
 func (w *world) spawn(do func()) {
-	me := &worker{number: len(w.workers), goOn: make(chan struct{})}
+	me := &worker{number: len(w.workers), goOn: make(chan struct{}), priority: w.random.Intn(1000)}
 	w.workers = append(w.workers, me)
 	go func() {
 		<-me.goOn
@@ -118,6 +131,12 @@ func (w *world) play() bool {
 			// Each in turn.
 			next = live[turn%len(live)]
 			turn++
+		} else if w.stalls {
+			for _, it := range live {
+				if next.blocked || !it.blocked && it.priority > next.priority {
+					next = it
+				}
+			}
 		} else if w.random.Intn(3) > 0 && !w.running.ended && !w.running.blocked {
 			next = w.running
 		}
@@ -194,6 +213,9 @@ func (w *world) act(depth, least int) {
 		return
 	}
 	key := least + w.random.Intn(len(w.keys)-least)
+	if w.few {
+		key %= 2
+	}
 	name := fmt.Sprint("key-", key)
 	if key == 3 {
 		name += " of more than the forty bytes that the library keeps of a key"
@@ -201,7 +223,7 @@ func (w *world) act(depth, least int) {
 	asked := w.now
 	mayPanic := w.random.Intn(12) == 0
 	body := func() {
-		if depth < 2 && w.random.Intn(3) == 0 {
+		if depth < 2 && !w.few && w.random.Intn(3) == 0 {
 			w.act(depth+1, key+1)
 		}
 		if mayPanic {
@@ -216,7 +238,7 @@ func (w *world) act(depth, least int) {
 		}
 	}()
 	switch what := w.random.Intn(21); {
-	case what < 8:
+	case what < 8 || w.few:
 		w.log("asks for key %d", key)
 		v, err, _, stamp := w.group.DoStamped(name, func() (any, error) { return w.load(key, asked, body) })
 		if err != nil {
@@ -295,6 +317,8 @@ func playWorld(t *testing.T, seed int64) {
 	w := &world{t: t, seed: seed, random: rand.New(rand.NewSource(seed)), back: make(chan struct{}), now: 1}
 	s := sizes{places: uint32(1 + w.random.Intn(3)), callers: uint32(1 + w.random.Intn(3)), fixed: true, generations: uint64(2 + w.random.Intn(6)), onPanic: func(any, []byte) {}}
 	s.fixedCallers = w.random.Intn(2) == 0
+	w.stalls = w.random.Intn(2) == 0
+	w.few = w.random.Intn(4) == 0
 	schedule, schedulesHash = nil, uint64(seed)*0x9e3779b97f4a7c15
 	p := newPool(s)
 	w.group = &Group{}
@@ -347,4 +371,78 @@ func TestSchedules(t *testing.T) {
 	for seed := from; seed < from+int64(count); seed++ {
 		playWorld(t, seed)
 	}
+}
+
+// A scheduler that stops the first goroutine that yields once it is armed.
+type stopper struct {
+	armed            atomic.Int32
+	stopped, release chan struct{}
+}
+
+func (s *stopper) yield(blocked bool) {
+	if blocked {
+		time.Sleep(time.Millisecond)
+	} else if s.armed.CompareAndSwap(1, 2) {
+		close(s.stopped)
+		<-s.release
+	}
+}
+
+func (s *stopper) spawn(do func()) { go do() }
+func (s *stopper) index() uint     { return 0 }
+
+// A leader is stopped between its mark and its settling. Nobody has a newer result meanwhile and then joins the older call.
+func TestSettlingIsNotEnded(t *testing.T) {
+	schedule, schedulesHash = nil, 1
+	p := newPool(sizes{places: 64, callers: 2, fixed: true, fixedCallers: true, generations: generations})
+	var g Group
+	g.made.Store(p)
+	s := &stopper{stopped: make(chan struct{}), release: make(chan struct{})}
+	schedule = s
+	defer func() { schedule = nil }()
+	old := g.DoChan("key", func() (any, error) { s.armed.Store(1); return 1, nil })
+	<-s.stopped
+	// The other caller leads a call at another slot.
+	end := make(chan struct{})
+	leads := g.Stats().Leads
+	var busy <-chan Result
+	for i := 0; busy == nil; i++ {
+		other := fmt.Sprint("other-", i)
+		if it := p.look(p.now.Load(), p.keyed(other)); it != foreign {
+			busy = g.DoChan(other, func() (any, error) { <-end; return nil, nil })
+		}
+	}
+	if st := g.Stats(); st.Leads != leads+1 {
+		t.Fatal("it leads", st)
+	}
+	newer := make(chan any, 1)
+	go func() {
+		v, _, _ := g.Do("key", func() (any, error) { return 2, nil })
+		newer <- v
+	}()
+	var first any
+	select {
+	case first = <-newer:
+	case <-time.After(100 * time.Millisecond):
+	}
+	close(end)
+	<-busy
+	if first == nil {
+		// It waits for the older call's end, as it should.
+		close(s.release)
+		<-newer
+		<-old
+		return
+	}
+	second := make(chan any, 1)
+	go func() {
+		v, _, _ := g.Do("key", func() (any, error) { return 3, nil })
+		second <- v
+	}()
+	time.Sleep(50 * time.Millisecond)
+	close(s.release)
+	if v := <-second; v.(int) < first.(int) {
+		t.Error("an answer went back", first, v)
+	}
+	<-old
 }
