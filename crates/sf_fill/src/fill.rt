@@ -47,8 +47,8 @@ impl<'d, D: Naming, N: Naming, O: Origin> Model for Fill<'d, D, N, O> {
 }
 
 impl<'d, D: Naming, N: Naming, O: Origin> Fill<'d, D, N, O> {
-    /// What all getters have entered so far. Each get is entered as it ends, in one locked section, unless a near letter answers it: of
-    /// these a getter that runs may not have entered its last 63. One that has ended, and one that was just told to `enter`, has.
+    /// Returns what all getters have entered so far. Each get is entered as it ends, in one locked section, unless a near letter answers
+    /// it. Of those, the last 63 of each getter may be missing; of a getter that has ended, or was just told to `enter`, none is.
     pub fn book<R: Wait>(&self, rt: &R) -> Totals {
         self.store.book(rt)
     }

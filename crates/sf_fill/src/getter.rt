@@ -243,8 +243,8 @@ impl<'d, D: Naming, N: Naming, O: Origin, L> Getter<'d, D, N, O, L> {
 }
 
 impl<'d, D: Naming, N: Naming, O: Origin, L> Getter<'d, D, N, O, L> {
-    /// The getter with these loaders, and the loaders that it had. A fill whose getters are made without loaders, as of `()`, has seats
-    /// for getters that are added while it runs: one gets keys once it has loaders.
+    /// Returns the getter with these loaders, and the loaders that it had. A getter that was made with no loaders, as of `()`, is a seat
+    /// for one that is added while the fill runs: it can get keys once it has loaders.
     pub fn with_loaders<M>(self, loaders: M) -> (Getter<'d, D, N, O, M>, L)
         ensures getter { result.0 ≡ with_loaders self.entry loaders }
         ensures back { result.1 ≡ self.entry.loaders }
@@ -268,8 +268,8 @@ impl<'d, D: Naming, N: Naming, O: Origin, L> Getter<'d, D, N, O, L> {
         (getter, back)
     }
 
-    /// Gives the getter the spare caller for its own, which the spare is then: so a getter whose caller has no generation left goes on.
-    /// Each of the two callers has then seen what either had. Whether it was done: a getter that owes letters keeps its caller.
+    /// Trades the getter's caller for the spare one, so that a getter whose caller has no generation left goes on. Each of the two
+    /// callers has then seen what either had. Returns whether it was done: a getter that owes letters keeps its caller.
     pub fn renew(
         &mut self,
         fill: &Fill<'d, D, N, O>,
