@@ -156,6 +156,8 @@ static void many(void) {
             pthread_create(&threads[t], NULL, hangs, &joined[t]);
         }
         while (sf_do_statistics(pool).joins < THREADS) sleep_ms(1);
+        sf_got late;
+        check(get(pool, "k", plain, NULL, 0, &late) == SF_DO_TIMED_OUT, "one that is late is not counted");
         atomic_store(&inner.over, 1);
         pthread_join(first, NULL);
         for (int t = 0; t < THREADS; t++) {
