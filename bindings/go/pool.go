@@ -55,7 +55,11 @@ type pool struct {
 	onPanic  func(value interface{}, stack []byte)
 }
 
-const alerts = 64
+const (
+	alerts = 64
+	// Without an epoch, for want of memory, one is tried at one in so many calls.
+	besideTries = 64
+)
 
 // Longer keys are known to the library by a digest.
 const longestKey = 40
@@ -78,7 +82,7 @@ func newPool(size sizes) *pool {
 // None where a size is out of range, or there is no memory.
 func (p *pool) newEpoch(size sizes) *epoch {
 	var seeds [16]byte
-	if _, err := rand.Read(seeds[:]); err != nil {
+	if _, err := rand.Read(seeds[:]); err != nil || size.refused != nil && size.refused() {
 		return nil
 	}
 	p.number++
@@ -326,6 +330,9 @@ func (p *pool) askBeside(a *asking, k keyed, e *epoch, wants bool) bool {
 	p.lock()
 	defer p.mu.Unlock()
 	if p.now.Load() != e {
+		return false
+	}
+	if e == nil && !p.shut && p.alone.Load()%besideTries == besideTries-1 && p.replace(p.size, true) {
 		return false
 	}
 	if w := p.runOf(k, 1<<63); w != nil {

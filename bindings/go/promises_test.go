@@ -400,6 +400,47 @@ func TestForgetAlwaysForgets(t *testing.T) {
 
 func chans() (a, b chan struct{}) { return make(chan struct{}), make(chan struct{}) }
 
+// There is no memory for the library's group, and later there is: the promises hold meanwhile, and results can be cached
+// as soon as may be.
+func TestNoMemory(t *testing.T) {
+	var none atomic.Bool
+	var tries atomic.Int64
+	none.Store(true)
+	s := defaultSizes()
+	s.refused = func() bool { tries.Add(1); return none.Load() }
+	var g Group
+	g.set(newPool(s))
+	defer g.Close()
+	started, release := chans()
+	old := g.DoChan("key", func() (any, error) { close(started); <-release; return "old", nil })
+	<-started
+	joined := g.DoChan("key", value("joined"))
+	g.Forget("key")
+	if v, _, _, stamp := g.DoStamped("key", value("new")); v != "new" || g.IsStill(stamp) {
+		t.Error("a Forget forgets, and nothing can be cached", v)
+	}
+	for i := 0; i < 200; i++ {
+		g.Do("other", value(i))
+	}
+	if st := g.Stats(); st.Leads != 0 || st.Epochs != 0 || tries.Load() < 3 || tries.Load() > 10 {
+		t.Error("it was tried again now and then", tries.Load(), st)
+	}
+	none.Store(false)
+	until(t, "a result that can be cached", func() bool {
+		_, _, _, stamp := g.DoStamped("page", value(1))
+		return g.IsStill(stamp)
+	})
+	close(release)
+	for _, ch := range []<-chan Result{old, joined} {
+		if r := receive(t, ch); r.Val != "old" || !r.Shared {
+			t.Error("the call that ran", r)
+		}
+	}
+	if _, err := New(func(s *sizes) { s.refused = func() bool { return true } }); err != ErrSize {
+		t.Error("New tells of it", err)
+	}
+}
+
 // The library's group is made anew while a call of the key runs. A Forget closes that call, and who asks without one joins
 // it.
 func TestCallsOfAnOldEpoch(t *testing.T) {
