@@ -10,6 +10,10 @@
 #include <time.h>
 #include <unistd.h>
 
+/* How many threads stress a pool, and how many calls each makes. */
+#ifndef STRESSING
+#define STRESSING 16
+#endif
 #ifndef ROUNDS
 #define ROUNDS 4000
 #endif
@@ -171,14 +175,14 @@ static void many(void) {
     }
 }
 
-/* 16 threads, with nested calls, deadlines and Forgets: one load of a key at a time, and nothing older than a Forget. */
-enum { KEYS = 24, STRESSING = 16 };
+/* Threads with nested calls, deadlines and Forgets: one load of a key at a time, and nothing older than a Forget. */
+enum { KEYS = 24 };
 
 static struct key {
     char name[80];
     atomic_ullong begun, ended, forgotten;
     pthread_mutex_t lock; /* protects the rest */
-    struct { uint64_t moment, ended; } running[64];
+    struct { uint64_t moment, ended; } running[4 * STRESSING];
     int count;
     uint64_t cached_moment;
     sf_do_stamp cached;
@@ -204,7 +208,7 @@ static uint64_t loading(void *context, const uint8_t *name, size_t len) {
     /* What was asked for before all Forgets that have begun by now had returned may have been ended by one. */
     uint64_t begun = atomic_load(&key->begun);
     for (int i = 0; i < key->count && asking->ended == begun; i++) doubles += key->running[i].ended == begun;
-    if (key->count == 64) abort();
+    if (key->count == 4 * STRESSING) abort();
     key->running[key->count].moment = moment;
     key->running[key->count++].ended = asking->ended;
     pthread_mutex_unlock(&key->lock);

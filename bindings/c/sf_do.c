@@ -530,9 +530,11 @@ static enum beside ask_beside(sf_pool *pool, const uint8_t *key, size_t len, uin
             atomic_fetch_sub(alert_of(pool, fingerprint), 1);
             *wait = follow_call(&epoch->seats[caller], generation, fingerprint);
             how = FOLLOWS;
-            /* It has ended meanwhile, or there is no memory to follow it. */
-            is_over = *wait || !is_well;
-            if (!*wait) how = NO_MEMORY;
+            if (!*wait) {
+                /* It has ended meanwhile, or there is no memory to follow it. */
+                how = NO_MEMORY;
+                is_over = !is_well || is_of(&epoch->seats[caller], generation);
+            }
         } else if (whose == ENDED && has_seat) {
             atomic_fetch_sub(alert_of(pool, fingerprint), 1);
         } else if (!is_well) {

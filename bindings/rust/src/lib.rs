@@ -107,9 +107,9 @@ const CALLS: u32 = u32::MAX - 1;
 pub enum Error {
     /// A size is out of range.
     Size,
-    /// There is no memory, or no caller is left.
+    /// There is no memory for a group, or for a note.
     NothingLeft,
-    /// The caller has had all its calls.
+    /// No call returns it: a group replaces the callers that have had all their calls.
     Spent,
     /// The answer did not come in time.
     TimedOut,
@@ -121,7 +121,7 @@ impl fmt::Display for Error {
     fn fmt(&self, f: &mut fmt::Formatter<'_>) -> fmt::Result {
         f.write_str(match self {
             Error::Size => "a size is out of range",
-            Error::NothingLeft => "no memory or no caller is left",
+            Error::NothingLeft => "no memory is left",
             Error::Spent => "caller spent",
             Error::TimedOut => "timed out",
             Error::OtherGroup => "of another group",
