@@ -254,9 +254,10 @@ impl<T> Caller<T> {
             return None;
         }
         post.begin(fingerprint, seat.next);
+        let name = epoch.names.of(key);
         let code = loop {
             point();
-            match unsafe { raw::sf_ask(&mut seat.slot, key.as_ptr(), key.len(), raw::MOST_TRIES) } {
+            match unsafe { raw::sf_ask(&mut seat.slot, name.as_ptr(), name.len(), raw::MOST_TRIES) } {
                 raw::BUSY => std::hint::spin_loop(),
                 code => break code,
             }

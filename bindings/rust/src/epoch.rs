@@ -1,5 +1,6 @@
 //! One group of the library, with the callers that are split off from it. A pool replaces its epoch where that is too small, or worn.
 
+use crate::hash::Names;
 use crate::pool::Seat;
 use crate::post::{Post, Whose};
 use crate::raw::{self, Slot};
@@ -28,6 +29,7 @@ pub(crate) struct Epoch<T> {
     pub(crate) number: u32,
     pub(crate) places: u32,
     pub(crate) callers: u32,
+    pub(crate) names: Names,
     posts: Box<[OnceLock<Box<[Post<T>]>>]>,
     seats: Mutex<Seats>,
     // How many seats wait for calls of keys that they did not ask for: while there are some, one looks before one asks.
@@ -84,6 +86,7 @@ impl<T> Epoch<T> {
                 number,
                 places,
                 callers,
+                names: Names::new(),
                 posts: (0..=all as usize / CHUNK).map(|_| OnceLock::new()).collect(),
                 seats: Mutex::new(Seats {
                     root,
@@ -166,9 +169,10 @@ impl<T> Epoch<T> {
     /// Which call the key's place names.
     pub(crate) fn named(&self, seat: Option<&mut Seat>, key: &[u8]) -> Option<Call> {
         let (mut caller, mut generation) = (0, 0);
+        let name = self.names.of(key);
         let code = self.by(seat, |slot| {
             point();
-            unsafe { raw::sf_named(slot, key.as_ptr(), key.len(), &mut caller, &mut generation) }
+            unsafe { raw::sf_named(slot, name.as_ptr(), name.len(), &mut caller, &mut generation) }
         });
         (code == raw::DONE).then_some(Call {
             epoch: self.number,

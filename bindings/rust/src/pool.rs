@@ -642,9 +642,10 @@ impl<T> Side<T> {
 impl<T> Epoch<T> {
     fn forget_call(&self, seat: Option<&mut Seat>, key: &[u8], call: Call) -> Hit {
         let Call { caller, generation, .. } = call;
+        let name = self.names.of(key);
         self.by(seat, |slot| loop {
             point();
-            match unsafe { raw::sf_forget_call(slot, key.as_ptr(), key.len(), caller, generation, raw::MOST_TRIES) } {
+            match unsafe { raw::sf_forget_call(slot, name.as_ptr(), name.len(), caller, generation, raw::MOST_TRIES) } {
                 raw::DONE => return Hit::Closed,
                 raw::CLEARED => return Hit::Cleared,
                 raw::BUSY => std::hint::spin_loop(),

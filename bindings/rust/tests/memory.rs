@@ -12,8 +12,12 @@ fn memory() -> u64 {
     line.split_whitespace().nth(1).unwrap().parse().unwrap()
 }
 
+// What one test frees, another would miss.
+static ONE_AT_A_TIME: std::sync::Mutex<()> = std::sync::Mutex::new(());
+
 #[test]
 fn groups_by_their_number() {
+    let _one = ONE_AT_A_TIME.lock().unwrap();
     drop(Group::<u64>::new());
     for count in [1, 1000, 10_000] {
         let before = memory();
@@ -39,4 +43,19 @@ fn groups_by_their_number() {
         let left = memory().saturating_sub(before);
         assert!(left < 1024, "{left} kB are left of {count} groups");
     }
+}
+
+// Callers that are idle keep nothing of a long key.
+#[test]
+fn long_keys_are_not_kept() {
+    let _one = ONE_AT_A_TIME.lock().unwrap();
+    let group = Group::<u64>::new();
+    let before = memory();
+    let mut callers: Vec<_> = (0..1000).map(|_| group.caller().unwrap()).collect();
+    for (number, caller) in (0..).zip(&mut callers) {
+        let key = vec![number as u8; 65_536];
+        assert_eq!(*caller.do_with(&key, || number).unwrap().answer, number);
+    }
+    let took = memory().saturating_sub(before);
+    assert!(took < 20_000, "{took} kB for 1,000 callers");
 }
