@@ -1,6 +1,7 @@
 /* Tests of sf_do.h. */
 #include "sf_do.h"
 #include "sf.h"
+#include <malloc.h>
 #include <pthread.h>
 #include <sched.h>
 #include <stdatomic.h>
@@ -331,7 +332,42 @@ static void small(void) {
     for (int i = 0; i < POOLS; i++) sf_do_close(pools[i]);
 }
 
+/* Two hundred loads of long keys, each in the load of another, so that as many callers are taken at one time. */
+enum { LONG_KEY = 65536, DEEP = 200 };
+static uint8_t long_key[LONG_KEY];
+
+static uint64_t deeper(void *context, const uint8_t *key, size_t len) {
+    sf_pool *pool = context;
+    sf_got got;
+    if (key[0] == DEEP) return 0;
+    uint8_t *next = malloc(len);
+    if (!next) abort();
+    memcpy(next, key, len);
+    next[0]++;
+    int code = sf_do(pool, next, len, deeper, pool, SF_DO_FOREVER, &got);
+    free(next);
+    return code == SF_DO_DONE ? got.value + 1 : 0;
+}
+
+static void long_keys(void) {
+    sf_pool *pool = sf_do_open(NULL, NULL);
+    sf_got got;
+    long before = memory();
+    check(sf_do(pool, long_key, LONG_KEY, deeper, pool, SF_DO_FOREVER, &got) == SF_DO_DONE && got.value == DEEP, "long keys");
+    bool was_open = sf_do_forget(pool, long_key, LONG_KEY);
+    check(!was_open && !sf_do_is_still(pool, &got.stamp), "a long key is forgotten");
+#ifdef SIZES
+    malloc_trim(0);
+    printf("after long keys: %ld kB\n", memory() - before);
+    check(memory() - before < 6000, "callers that are idle keep nothing of a long key");
+#else
+    (void)before;
+#endif
+    sf_do_close(pool);
+}
+
 int main(void) {
+    long_keys();
     sizes();
     nested();
     hung();

@@ -74,6 +74,7 @@ struct sf_pool {
     atomic_ullong now; /* the number of the current epoch, written with both locks held */
     atomic_uint alerts[ALERTS];
     uint64_t seeds[3];
+    uint64_t names[4]; /* seeds of what the library knows of long keys */
     sf_do_sizes sizes;
     void (*share)(uint64_t, uint32_t);
     atomic_bool is_renewing;
@@ -106,6 +107,52 @@ static uint64_t fingerprint_of(const sf_pool *pool, const uint8_t *key, size_t l
     state = fold(word_at(key, len) ^ state, (len > 8 ? word_at(key + 8, len - 8) : 0) ^ pool->seeds[2]);
     /* The length comes in last: beside a word of the key it would tell nothing apart from another length with another byte. */
     return fold(state ^ pool->seeds[1] ^ length, pool->seeds[2] ^ pool->seeds[0]);
+}
+
+/* SipHash-1-3, by J.-P. Aumasson and D. J. Bernstein: of a key under two seeds. */
+static void sip_round(uint64_t v[4]) {
+    v[0] += v[1]; v[1] = (v[1] << 13 | v[1] >> 51) ^ v[0]; v[0] = v[0] << 32 | v[0] >> 32;
+    v[2] += v[3]; v[3] = (v[3] << 16 | v[3] >> 48) ^ v[2];
+    v[0] += v[3]; v[3] = (v[3] << 21 | v[3] >> 43) ^ v[0];
+    v[2] += v[1]; v[1] = (v[1] << 17 | v[1] >> 47) ^ v[2]; v[2] = v[2] << 32 | v[2] >> 32;
+}
+
+static uint64_t sip_hash(const uint64_t seeds[2], const uint8_t *key, size_t len) {
+    uint64_t v[4] = {seeds[0] ^ 0x736f6d6570736575, seeds[1] ^ 0x646f72616e646f6d, seeds[0] ^ 0x6c7967656e657261, seeds[1] ^ 0x7465646279746573};
+    uint64_t last = (uint64_t)len << 56;
+    for (; len >= 8; key += 8, len -= 8) {
+        uint64_t word = word_at(key, 8);
+        v[3] ^= word;
+        sip_round(v);
+        v[0] ^= word;
+    }
+    last |= word_at(key, len);
+    v[3] ^= last;
+    sip_round(v);
+    v[0] ^= last;
+    v[2] ^= 0xff;
+    for (int i = 0; i < 3; i++) sip_round(v);
+    return v[0] ^ v[1] ^ v[2] ^ v[3];
+}
+
+/* What the library is told of a key: its own bytes, or of one of more than LONGEST bytes a digest of 128 bits under secret seeds, which two keys
+ * share with a probability of one in 2^128. The library would keep a longer key on the heap until the caller's next call. */
+enum { LONGEST = 40 };
+
+struct name {
+    const uint8_t *at;
+    size_t len;
+    uint64_t digest[2];
+};
+
+static void name_of(struct name *name, const sf_pool *pool, const uint8_t *key, size_t len) {
+    name->at = key;
+    name->len = len;
+    if (len > LONGEST) {
+        for (int i = 0; i < 2; i++) name->digest[i] = sip_hash(&pool->names[2 * i], key, len);
+        name->at = (const uint8_t *)name->digest;
+        name->len = sizeof name->digest;
+    }
 }
 
 /* Waits. */
@@ -320,9 +367,11 @@ static void put(sf_pool *pool, struct epoch *epoch, struct seat *seat) {
 
 /* Which call the key's slot names, by the seat, or where there is none by the root. */
 static bool named(sf_pool *pool, struct epoch *epoch, struct seat *seat, const uint8_t *key, size_t len, uint32_t *caller, uint32_t *generation) {
-    if (seat) return sf_named(&seat->slot, key, len, caller, generation) == SF_DONE;
+    struct name name;
+    name_of(&name, pool, key, len);
+    if (seat) return sf_named(&seat->slot, name.at, name.len, caller, generation) == SF_DONE;
     pthread_mutex_lock(&pool->lock);
-    bool found = sf_named(&epoch->root, key, len, caller, generation) == SF_DONE;
+    bool found = sf_named(&epoch->root, name.at, name.len, caller, generation) == SF_DONE;
     pthread_mutex_unlock(&pool->lock);
     return found;
 }
@@ -627,7 +676,9 @@ static bool ask_library(sf_pool *pool, struct epoch *epoch, struct seat *seat, c
     }
     atomic_store_explicit(&seat->fingerprint, fingerprint, memory_order_release);
     atomic_store_explicit(&seat->word, word_of(seat->next), memory_order_release);
-    while ((code = sf_ask(&seat->slot, key, len, SF_MOST_TRIES)) == SF_BUSY) {}
+    struct name name;
+    name_of(&name, pool, key, len);
+    while ((code = sf_ask(&seat->slot, name.at, name.len, SF_MOST_TRIES)) == SF_BUSY) {}
     if (code == SF_LEADS) {
         seat->next++;
         if (may_load(pool, epoch, key, len, fingerprint)) return true;
@@ -748,11 +799,13 @@ bool sf_do_forget(sf_pool *pool, const uint8_t *key, size_t len) {
             /* Another key's open call stays, or it would be loaded a second time. */
             if (whose_call(leader, generation, fingerprint) != ANOTHER) {
                 uint32_t code;
+                struct name name;
+                name_of(&name, pool, key, len);
                 /* Before the call ends, so that a second Forget, which finds no call, leaves none that a renewal would move. */
                 mark(leader, generation, FORGOTTEN);
                 if (!seat) pthread_mutex_lock(&pool->lock);
                 do {
-                    code = sf_forget_call(seat ? &seat->slot : &epoch->root, key, len, caller, generation, SF_MOST_TRIES);
+                    code = sf_forget_call(seat ? &seat->slot : &epoch->root, name.at, name.len, caller, generation, SF_MOST_TRIES);
                 } while (code == SF_BUSY);
                 if (!seat) pthread_mutex_unlock(&pool->lock);
                 closed |= code == SF_CLOSED;
@@ -799,7 +852,8 @@ sf_pool *sf_do_open(const sf_do_sizes *sizes, void (*share)(uint64_t value, uint
     if (pool->sizes.calls == 0 || pool->sizes.calls == UINT32_MAX) pool->sizes.calls = UINT32_MAX - 1;
     pool->share = share;
     pool->current = open_epoch(1, pool->sizes.slots, pool->sizes.callers);
-    if (!pool->current || getrandom(pool->seeds, sizeof pool->seeds, 0) != sizeof pool->seeds) {
+    if (!pool->current || getrandom(pool->seeds, sizeof pool->seeds, 0) != sizeof pool->seeds
+        || getrandom(pool->names, sizeof pool->names, 0) != sizeof pool->names) {
         if (pool->current) free_epoch(pool, pool->current);
         free(pool);
         return NULL;
