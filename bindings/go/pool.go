@@ -43,6 +43,7 @@ type pool struct {
 	alone  atomic.Uint64 // runs beside the library
 	beside atomic.Uint64 // how many joined without a caller
 	voids  atomic.Uint64 // calls that were given up before their loads
+	parted atomic.Uint64 // how many had joined such a call, or another key's
 	adopts atomic.Uint64 // calls that took another's result in place of a load
 
 	mu       sync.Mutex // protects the rest
@@ -190,6 +191,7 @@ func (p *pool) asked(a *asking, s *seat, code uint8, call Call, k keyed) bool {
 // call is open still.
 func (p *pool) leaveStranger(s, leader *seat, k keyed) bool {
 	var letter letter
+	p.parted.Add(1)
 	acquire(&leader.mu)
 	s.poll(&letter)
 	if letter.code == codeNotYet {
@@ -783,7 +785,10 @@ func callOf(word uint64) Call { return Call{caller: uint32(word), generation: ui
 // Waits until the call is settled that it joined, or until stop is closed.
 func (p *pool) join(r *Result, a *asking, k keyed, stop <-chan struct{}) (how outcome) {
 	if a.seat == nil {
-		return a.wait.join(r, k.key, stop)
+		if how = a.wait.join(r, k.key, stop); how == again && a.wait.void {
+			p.parted.Add(1)
+		}
+		return how
 	}
 	s, led := a.seat, a.leader
 	var letter letter
@@ -811,7 +816,10 @@ func (p *pool) join(r *Result, a *asking, k keyed, stop <-chan struct{}) (how ou
 	switch {
 	case letter.code == codeOther || len(k.key) > longestKey && led.key != k.key:
 		how = again
-	case led.void || led.ended && led.err != nil:
+	case led.void:
+		p.parted.Add(1)
+		how = again
+	case led.ended && led.err != nil:
 		how = again
 	default:
 		letter.stamp.Place |= s.epoch.number << placeBits
@@ -868,7 +876,7 @@ func (p *pool) stats() Stats {
 		count(e)
 	}
 	st.Leads -= p.voids.Load() + p.adopts.Load()
-	st.Joins += p.beside.Load() + p.adopts.Load()
+	st.Joins += p.beside.Load() + p.adopts.Load() - p.parted.Load()
 	st.Alone, st.Closed, st.Idle = p.alone.Load(), p.closes.Load(), p.idles.Load()
 	st.Epochs = p.number
 	return st
