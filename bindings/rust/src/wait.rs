@@ -70,7 +70,13 @@ impl<T> Wait<T> {
 
     /// One more follows.
     pub(crate) fn join(&self) {
-        lock(&self.state).followers += 1;
+        let mut state = lock(&self.state);
+        // One that was settled meanwhile is told here: whoever joined has a shared answer.
+        if let Some(Outcome::Answer { joiners, .. }) = &mut state.outcome {
+            *joiners += 1;
+        } else {
+            state.followers += 1;
+        }
     }
 
     /// Sleeps until it is settled, or until the deadline: whether it is settled.
