@@ -199,7 +199,7 @@ func (p *pool) leaveStranger(s, leader *seat, k keyed) bool {
 		w.strangers++
 		w.left = append(w.left, s)
 		s.stranger = true
-		// Who asks for a key like this one looks before it asks, until then.
+		// Until then, a caller that asks for a key with this fingerprint looks before it asks.
 		p.alertOf(k.print).Add(1)
 		leader.mu.Unlock()
 		return true
@@ -280,7 +280,7 @@ func (p *pool) counted() bool {
 	return true
 }
 
-// Whether who waits at the seat now is told when its call of this generation is settled. Its lock is held.
+// Whether a follower that waits at the seat now is told when its call of this generation is settled. Its lock is held.
 func (s *seat) isFollowable(generation uint64) bool {
 	s.followed.Store(1)
 	if atomic.LoadUint64(&s.generation) == generation {
@@ -439,7 +439,7 @@ func (p *pool) withdraw(s *seat) {
 	}
 }
 
-// Who waits at the seat waits for nothing. Its wait, which is to be closed, if it has one. Its lock is held.
+// A follower at the seat waits for nothing. Its wait, which is to be closed, if it has one. Its lock is held.
 func (s *seat) quiet(p *pool) *wait {
 	w := s.waits
 	s.waits = nil
@@ -669,7 +669,7 @@ func (p *pool) noted(e *epoch) {
 
 func (p *pool) forgetsSince(e *epoch) uint64 { return p.closes.Load() + p.idles.Load() - e.forgets }
 
-// Settles the call with what the result has, tells the result of the call, and wakes who waits for it.
+// Settles the call with what the result has, tells the result of the call, and wakes all that wait for it.
 func (p *pool) settle(a *asking, r *Result, k keyed, watched *wait) {
 	s := a.seat
 	if s == nil {
@@ -725,9 +725,9 @@ func (p *pool) clear(s *seat) {
 	p.put(s)
 }
 
-// Wakes who waits for the seat's call, which is settled. So many joined by callers of their own.
+// Wakes all that wait for the seat's call, which is settled. So many joined by callers of their own.
 func (p *pool) share(s *seat, r *Result, k keyed, joined int64) {
-	// Who looked too early holds the lock until it is among those who wait.
+	// A joiner that looked too early holds the lock until it is among those that wait.
 	acquire(&s.mu)
 	w := s.waits
 	s.waits = nil

@@ -441,7 +441,7 @@ func TestNoMemory(t *testing.T) {
 	}
 }
 
-// The library's group is made anew while a call of the key runs. A Forget closes that call, and who asks without one joins
+// The library's group is made anew while a call of the key runs. A Forget closes that call, and a caller that asks without one joins
 // it.
 func TestCallsOfAnOldEpoch(t *testing.T) {
 	for _, forgets := range []bool{false, true} {

@@ -46,7 +46,7 @@ func (w *wait) leave(leader bool, joined *seat) outcome {
 	return left
 }
 
-// What it is settled with. The lock is held; who has it closes done.
+// Settles it with this result. The lock is held. The caller closes done after it has let the lock go.
 func (w *wait) settle(key string, r Result) {
 	w.settled, w.key, w.got = true, key, r
 }

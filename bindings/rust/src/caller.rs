@@ -116,7 +116,7 @@ impl<T> Drop for Leading<'_, T> {
     }
 }
 
-/// A load beside the library. Where it ends without an answer, who joined asks again.
+/// A load beside the library. Where it ends without an answer, each joiner asks again.
 pub(crate) struct Running<'a, T> {
     caller: &'a mut Caller<T>,
     key: Cow<'a, [u8]>,
@@ -166,7 +166,7 @@ pub(crate) enum Asked<T> {
 pub(crate) enum By {
     /// By its own seat.
     Seat,
-    /// Without one: a seat that waits for a load that hangs is gone, and who has a deadline, or is dropped, would leave one at each.
+    /// Without one: a seat that waits for a load that hangs is gone, and each caller with a deadline would leave one there.
     Following,
 }
 
