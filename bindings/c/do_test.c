@@ -1,6 +1,6 @@
-/* Tests of sf_do.h. */
-#include "sf_do.h"
-#include "sf.h"
+/* Tests of sflight_do.h. */
+#include "sflight_do.h"
+#include "sflight.h"
 #include <malloc.h>
 #include <pthread.h>
 #include <sched.h>
@@ -27,16 +27,16 @@ static void check(bool holds, const char *what) {
     printf("FAILED: %s\n", what);
 }
 
-static int get(sf_pool *pool, const char *key, sf_load *load, void *context, int64_t timeout, sf_got *got) {
-    return sf_do(pool, (const uint8_t *)key, strlen(key), load, context, timeout, got);
+static int get(sflight_pool *pool, const char *key, sflight_load *load, void *context, int64_t timeout, sflight_got *got) {
+    return sflight_do(pool, (const uint8_t *)key, strlen(key), load, context, timeout, got);
 }
 
-static bool forget(sf_pool *pool, const char *key) { return sf_do_forget(pool, (const uint8_t *)key, strlen(key)); }
+static bool forget(sflight_pool *pool, const char *key) { return sflight_do_forget(pool, (const uint8_t *)key, strlen(key)); }
 
 static void sleep_ms(long ms) { nanosleep(&(struct timespec){ms / 1000, ms % 1000 * 1000000}, NULL); }
 
 /* All keys share one slot, and there is one caller. */
-static const sf_do_sizes one = {.slots = 1, .callers = 1, .is_fixed = true};
+static const sflight_do_sizes one = {.slots = 1, .callers = 1, .is_fixed = true};
 
 static uint64_t plain(void *context, const uint8_t *key, size_t len) {
     (void)key;
@@ -46,11 +46,11 @@ static uint64_t plain(void *context, const uint8_t *key, size_t len) {
 
 /* A load that runs another thing meanwhile. */
 struct inner {
-    sf_pool *pool;
+    sflight_pool *pool;
     void (*run)(struct inner *);
     const char *key;
-    sf_load *load;
-    sf_got got;
+    sflight_load *load;
+    sflight_got got;
     int code;
     atomic_int begun, over;
 };
@@ -64,36 +64,36 @@ static uint64_t outer(void *context, const uint8_t *key, size_t len) {
 }
 
 static void runs_nested(struct inner *inner) {
-    inner->code = get(inner->pool, inner->key, plain, (void *)(size_t)2, SF_DO_FOREVER, &inner->got);
+    inner->code = get(inner->pool, inner->key, plain, (void *)(size_t)2, SFLIGHT_DO_FOREVER, &inner->got);
 }
 
 static void sizes(void) {
-    sf_do_sizes bad = {.slots = SF_MOST_PLACES + 1, .callers = 1}, many = {.slots = 1, .callers = SF_MOST_CALLERS};
-    check(!sf_do_open(&bad, NULL) && !sf_do_open(&many, NULL), "sizes that are refused");
-    sf_pool *pool = sf_do_open(NULL, NULL);
-    sf_got got;
-    check(get(pool, "k", plain, (void *)(size_t)7, SF_DO_FOREVER, &got) == SF_DO_DONE && got.value == 7 && got.led && got.joiners == 0, "a load");
-    check(sf_do_is_still(pool, &got.stamp) && !sf_do_is_still(pool, &(sf_do_stamp){0, {0, 0}}), "its stamp is current");
-    check(!forget(pool, "k") && !sf_do_is_still(pool, &got.stamp), "until the key is forgotten");
-    check(sf_do(pool, NULL, 0, plain, NULL, SF_DO_FOREVER, &got) == SF_DO_DONE, "the empty key");
-    sf_do_stats stats = sf_do_statistics(pool);
+    sflight_do_sizes bad = {.slots = SFLIGHT_MOST_PLACES + 1, .callers = 1}, many = {.slots = 1, .callers = SFLIGHT_MOST_CALLERS};
+    check(!sflight_do_open(&bad, NULL) && !sflight_do_open(&many, NULL), "sizes that are refused");
+    sflight_pool *pool = sflight_do_open(NULL, NULL);
+    sflight_got got;
+    check(get(pool, "k", plain, (void *)(size_t)7, SFLIGHT_DO_FOREVER, &got) == SFLIGHT_DO_DONE && got.value == 7 && got.led && got.joiners == 0, "a load");
+    check(sflight_do_is_still(pool, &got.stamp) && !sflight_do_is_still(pool, &(sflight_do_stamp){0, {0, 0}}), "its stamp is current");
+    check(!forget(pool, "k") && !sflight_do_is_still(pool, &got.stamp), "until the key is forgotten");
+    check(sflight_do(pool, NULL, 0, plain, NULL, SFLIGHT_DO_FOREVER, &got) == SFLIGHT_DO_DONE, "the empty key");
+    sflight_do_stats stats = sflight_do_statistics(pool);
     check(stats.leads == 2 && stats.joins == 0 && stats.alone == 0 && stats.epochs == 1 && stats.in_use == 0, "its numbers");
-    sf_do_close(pool);
-    sf_do_close(NULL);
+    sflight_do_close(pool);
+    sflight_do_close(NULL);
 }
 
 /* A load that asks for another key of its slot. */
 static void nested(void) {
-    const sf_do_sizes wide = {.slots = 1, .callers = 4, .is_fixed = true};
-    const sf_do_sizes *all[] = {&one, &wide};
+    const sflight_do_sizes wide = {.slots = 1, .callers = 4, .is_fixed = true};
+    const sflight_do_sizes *all[] = {&one, &wide};
     for (int i = 0; i < 2; i++) {
-        sf_pool *pool = sf_do_open(all[i], NULL);
+        sflight_pool *pool = sflight_do_open(all[i], NULL);
         struct inner inner = {.pool = pool, .run = runs_nested, .key = "b"};
-        sf_got got;
-        check(get(pool, "a", outer, &inner, SF_DO_FOREVER, &got) == SF_DO_DONE && got.value == 1, "the outer call");
-        check(inner.code == SF_DO_DONE && inner.got.value == 2 && inner.got.led && inner.got.stamp.epoch == 0, "the inner call, beside the library");
-        check(sf_do_statistics(pool).in_use == 0 && sf_do_statistics(pool).alone == 1, "all callers are back");
-        sf_do_close(pool);
+        sflight_got got;
+        check(get(pool, "a", outer, &inner, SFLIGHT_DO_FOREVER, &got) == SFLIGHT_DO_DONE && got.value == 1, "the outer call");
+        check(inner.code == SFLIGHT_DO_DONE && inner.got.value == 2 && inner.got.led && inner.got.stamp.epoch == 0, "the inner call, beside the library");
+        check(sflight_do_statistics(pool).in_use == 0 && sflight_do_statistics(pool).alone == 1, "all callers are back");
+        sflight_do_close(pool);
     }
 }
 
@@ -104,37 +104,37 @@ static void waits_until_over(struct inner *inner) {
 
 static void *hangs(void *at) {
     struct inner *inner = at;
-    inner->code = get(inner->pool, inner->key, outer, inner, SF_DO_FOREVER, &inner->got);
+    inner->code = get(inner->pool, inner->key, outer, inner, SFLIGHT_DO_FOREVER, &inner->got);
     return NULL;
 }
 
 /* While a load hangs: other keys are loaded and forgotten, and its own is joined, in time, and forgotten. */
 static void hung(void) {
-    const sf_do_sizes few = {.slots = 64, .callers = 2, .is_fixed = true};
-    const sf_do_sizes *all[] = {&one, &few, NULL};
+    const sflight_do_sizes few = {.slots = 64, .callers = 2, .is_fixed = true};
+    const sflight_do_sizes *all[] = {&one, &few, NULL};
     for (int i = 0; i < 3; i++) {
-        sf_pool *pool = sf_do_open(all[i], NULL);
+        sflight_pool *pool = sflight_do_open(all[i], NULL);
         struct inner inner = {.pool = pool, .run = waits_until_over, .key = "hung"};
         pthread_t thread;
-        sf_got got;
+        sflight_got got;
         char key[16];
         pthread_create(&thread, NULL, hangs, &inner);
         while (!atomic_load(&inner.begun)) sleep_ms(1);
         for (size_t k = 0; k < 300; k++) {
             snprintf(key, sizeof key, "key %zu", k);
-            check(get(pool, key, plain, (void *)k, SF_DO_FOREVER, &got) == SF_DO_DONE && got.value == k && got.led, "another key");
+            check(get(pool, key, plain, (void *)k, SFLIGHT_DO_FOREVER, &got) == SFLIGHT_DO_DONE && got.value == k && got.led, "another key");
             forget(pool, key);
-            check(!sf_do_is_still(pool, &got.stamp), "is forgotten");
-            check(get(pool, "hung", plain, NULL, 0, &got) == SF_DO_TIMED_OUT, "one load of it at a time");
+            check(!sflight_do_is_still(pool, &got.stamp), "is forgotten");
+            check(get(pool, "hung", plain, NULL, 0, &got) == SFLIGHT_DO_TIMED_OUT, "one load of it at a time");
         }
-        check(get(pool, "hung", plain, NULL, 3000000, &got) == SF_DO_TIMED_OUT, "in time");
+        check(get(pool, "hung", plain, NULL, 3000000, &got) == SFLIGHT_DO_TIMED_OUT, "in time");
         check(forget(pool, "hung") && !forget(pool, "hung"), "it is forgotten, once");
-        check(get(pool, "hung", plain, (void *)(size_t)5, SF_DO_FOREVER, &got) == SF_DO_DONE && got.value == 5, "and loaded anew");
+        check(get(pool, "hung", plain, (void *)(size_t)5, SFLIGHT_DO_FOREVER, &got) == SFLIGHT_DO_DONE && got.value == 5, "and loaded anew");
         atomic_store(&inner.over, 1);
         pthread_join(thread, NULL);
-        check(inner.code == SF_DO_DONE && inner.got.value == 1 && inner.got.led, "what hung");
-        check(sf_do_statistics(pool).in_use == 0, "all callers are back");
-        sf_do_close(pool);
+        check(inner.code == SFLIGHT_DO_DONE && inner.got.value == 1 && inner.got.led, "what hung");
+        check(sflight_do_statistics(pool).in_use == 0, "all callers are back");
+        sflight_do_close(pool);
     }
 }
 
@@ -148,9 +148,9 @@ static void counts(uint64_t value, uint32_t others) {
 /* More threads than there are callers ask for one key. */
 static void many(void) {
     enum { THREADS = 40 };
-    const sf_do_sizes *all[] = {&one, NULL};
+    const sflight_do_sizes *all[] = {&one, NULL};
     for (int i = 0; i < 2; i++) {
-        sf_pool *pool = sf_do_open(all[i], counts);
+        sflight_pool *pool = sflight_do_open(all[i], counts);
         struct inner inner = {.pool = pool, .run = waits_until_over, .key = "k"}, joined[THREADS];
         pthread_t first, threads[THREADS];
         atomic_store(&shared, 0);
@@ -160,19 +160,19 @@ static void many(void) {
             joined[t] = (struct inner){.pool = pool, .run = runs_nested, .key = "k"};
             pthread_create(&threads[t], NULL, hangs, &joined[t]);
         }
-        while (sf_do_statistics(pool).joins < THREADS) sleep_ms(1);
-        sf_got late;
-        check(get(pool, "k", plain, NULL, 0, &late) == SF_DO_TIMED_OUT, "one that is late is not counted");
+        while (sflight_do_statistics(pool).joins < THREADS) sleep_ms(1);
+        sflight_got late;
+        check(get(pool, "k", plain, NULL, 0, &late) == SFLIGHT_DO_TIMED_OUT, "one that is late is not counted");
         atomic_store(&inner.over, 1);
         pthread_join(first, NULL);
         for (int t = 0; t < THREADS; t++) {
             pthread_join(threads[t], NULL);
-            check(joined[t].code == SF_DO_DONE && joined[t].got.value == 1 && !joined[t].got.led && joined[t].got.joiners == THREADS, "joined");
+            check(joined[t].code == SFLIGHT_DO_DONE && joined[t].got.value == 1 && !joined[t].got.led && joined[t].got.joiners == THREADS, "joined");
         }
-        sf_do_stats stats = sf_do_statistics(pool);
+        sflight_do_stats stats = sflight_do_statistics(pool);
         check(inner.got.led && inner.got.joiners == THREADS && stats.leads + stats.alone == 1, "one load");
         check(atomic_load(&shared) == THREADS, "so many counts were given");
-        sf_do_close(pool);
+        sflight_do_close(pool);
     }
 }
 
@@ -186,11 +186,11 @@ static struct key {
     struct { uint64_t moment, ended; } running[4 * STRESSING];
     int count;
     uint64_t cached_moment;
-    sf_do_stamp cached;
+    sflight_do_stamp cached;
 } keys[KEYS];
 
 static atomic_ullong ticks, loads, hits, doubles, stale, refused;
-static sf_pool *stressed;
+static sflight_pool *stressed;
 
 struct asking {
     int key, depth;
@@ -232,21 +232,21 @@ static void ask(int number, int depth, unsigned *seed) {
     uint64_t least = atomic_load(&key->forgotten);
     pthread_mutex_lock(&key->lock);
     uint64_t cached = key->cached_moment;
-    sf_do_stamp stamp = key->cached;
+    sflight_do_stamp stamp = key->cached;
     pthread_mutex_unlock(&key->lock);
-    if (rand_r(seed) % 2 && sf_do_is_still(stressed, &stamp)) {
+    if (rand_r(seed) % 2 && sflight_do_is_still(stressed, &stamp)) {
         stale += cached < least;
         hits++;
     }
-    sf_got got;
-    int64_t timeout = rand_r(seed) % 4 ? SF_DO_FOREVER : (int64_t)(rand_r(seed) % 50000);
+    sflight_got got;
+    int64_t timeout = rand_r(seed) % 4 ? SFLIGHT_DO_FOREVER : (int64_t)(rand_r(seed) % 50000);
     int code = get(stressed, key->name, loading, &asking, timeout, &got);
-    if (code != SF_DO_DONE) {
-        refused += code != SF_DO_TIMED_OUT || timeout == SF_DO_FOREVER;
+    if (code != SFLIGHT_DO_DONE) {
+        refused += code != SFLIGHT_DO_TIMED_OUT || timeout == SFLIGHT_DO_FOREVER;
         return;
     }
     stale += got.value >> 8 < least || (got.value & 255) != (uint64_t)number;
-    if (sf_do_is_still(stressed, &got.stamp)) {
+    if (sflight_do_is_still(stressed, &got.stamp)) {
         pthread_mutex_lock(&key->lock);
         key->cached = got.stamp;
         key->cached_moment = got.value >> 8;
@@ -272,7 +272,7 @@ static void *stress_one(void *at) {
     return NULL;
 }
 
-static void stress(const char *what, const sf_do_sizes *size, uint64_t least_epochs) {
+static void stress(const char *what, const sflight_do_sizes *size, uint64_t least_epochs) {
     pthread_t threads[STRESSING];
     memset(keys, 0, sizeof keys);
     for (int i = 0; i < KEYS; i++) {
@@ -281,10 +281,10 @@ static void stress(const char *what, const sf_do_sizes *size, uint64_t least_epo
     }
     atomic_store(&loads, 0);
     atomic_store(&hits, 0);
-    stressed = sf_do_open(size, NULL);
+    stressed = sflight_do_open(size, NULL);
     for (size_t i = 0; i < STRESSING; i++) pthread_create(&threads[i], NULL, stress_one, (void *)i);
     for (size_t i = 0; i < STRESSING; i++) pthread_join(threads[i], NULL);
-    sf_do_stats stats = sf_do_statistics(stressed);
+    sflight_do_stats stats = sflight_do_statistics(stressed);
     printf("%s: %llu loads (%llu by the library, %llu beside), %llu joined, %llu hits, %llu epochs\n", what, (unsigned long long)loads, (unsigned long long)stats.leads,
            (unsigned long long)stats.alone, (unsigned long long)stats.joins, (unsigned long long)hits, (unsigned long long)stats.epochs);
     check(atomic_load(&doubles) == 0, "one load of a key at a time");
@@ -292,19 +292,19 @@ static void stress(const char *what, const sf_do_sizes *size, uint64_t least_epo
     check(atomic_load(&refused) == 0, "no call is refused");
     check(stats.leads + stats.alone == atomic_load(&loads) && stats.in_use == 0, "loads are counted, and all callers are back");
     check(stats.epochs >= least_epochs && stats.joins > 0 && atomic_load(&hits) > 0, what);
-    sf_do_close(stressed);
+    sflight_do_close(stressed);
 }
 
 static void spent(void) {
-    const sf_do_sizes size = {.slots = 4, .callers = 3, .is_fixed = true, .calls = 5};
-    sf_pool *pool = sf_do_open(&size, NULL);
-    sf_got got;
+    const sflight_do_sizes size = {.slots = 4, .callers = 3, .is_fixed = true, .calls = 5};
+    sflight_pool *pool = sflight_do_open(&size, NULL);
+    sflight_got got;
     size_t well = 0;
-    for (size_t i = 0; i < 20000; i++) well += get(pool, "k", plain, (void *)i, SF_DO_FOREVER, &got) == SF_DO_DONE && got.value == i && sf_do_is_still(pool, &got.stamp);
-    sf_do_stats stats = sf_do_statistics(pool);
+    for (size_t i = 0; i < 20000; i++) well += get(pool, "k", plain, (void *)i, SFLIGHT_DO_FOREVER, &got) == SFLIGHT_DO_DONE && got.value == i && sflight_do_is_still(pool, &got.stamp);
+    sflight_do_stats stats = sflight_do_statistics(pool);
     check(well == 20000 && stats.leads == 20000 && stats.alone == 0, "callers that are spent are replaced");
     check(stats.epochs >= 1000, "often");
-    sf_do_close(pool);
+    sflight_do_close(pool);
 }
 
 /* Kilobytes of memory that the process has. */
@@ -318,18 +318,18 @@ static long memory(void) {
 
 static void small(void) {
     enum { POOLS = 1000 };
-    static sf_pool *pools[POOLS];
+    static sflight_pool *pools[POOLS];
     long before = memory();
     for (int i = 0; i < POOLS; i++) {
-        sf_got got;
-        pools[i] = sf_do_open(NULL, NULL);
-        get(pools[i], "k", plain, NULL, SF_DO_FOREVER, &got);
+        sflight_got got;
+        pools[i] = sflight_do_open(NULL, NULL);
+        get(pools[i], "k", plain, NULL, SFLIGHT_DO_FOREVER, &got);
     }
     printf("a pool: %ld kB\n", (memory() - before) / POOLS);
 #ifdef SIZES
     check((memory() - before) / POOLS <= 64, "a new pool is small");
 #endif
-    for (int i = 0; i < POOLS; i++) sf_do_close(pools[i]);
+    for (int i = 0; i < POOLS; i++) sflight_do_close(pools[i]);
 }
 
 /* Two hundred loads of long keys, each in the load of another, so that as many callers are taken at one time. */
@@ -337,25 +337,25 @@ enum { LONG_KEY = 65536, DEEP = 200 };
 static uint8_t long_key[LONG_KEY];
 
 static uint64_t deeper(void *context, const uint8_t *key, size_t len) {
-    sf_pool *pool = context;
-    sf_got got;
+    sflight_pool *pool = context;
+    sflight_got got;
     if (key[0] == DEEP) return 0;
     uint8_t *next = malloc(len);
     if (!next) abort();
     memcpy(next, key, len);
     next[0]++;
-    int code = sf_do(pool, next, len, deeper, pool, SF_DO_FOREVER, &got);
+    int code = sflight_do(pool, next, len, deeper, pool, SFLIGHT_DO_FOREVER, &got);
     free(next);
-    return code == SF_DO_DONE ? got.value + 1 : 0;
+    return code == SFLIGHT_DO_DONE ? got.value + 1 : 0;
 }
 
 static void long_keys(void) {
-    sf_pool *pool = sf_do_open(NULL, NULL);
-    sf_got got;
+    sflight_pool *pool = sflight_do_open(NULL, NULL);
+    sflight_got got;
     long before = memory();
-    check(sf_do(pool, long_key, LONG_KEY, deeper, pool, SF_DO_FOREVER, &got) == SF_DO_DONE && got.value == DEEP, "long keys");
-    bool was_open = sf_do_forget(pool, long_key, LONG_KEY);
-    check(!was_open && !sf_do_is_still(pool, &got.stamp), "a long key is forgotten");
+    check(sflight_do(pool, long_key, LONG_KEY, deeper, pool, SFLIGHT_DO_FOREVER, &got) == SFLIGHT_DO_DONE && got.value == DEEP, "long keys");
+    bool was_open = sflight_do_forget(pool, long_key, LONG_KEY);
+    check(!was_open && !sflight_do_is_still(pool, &got.stamp), "a long key is forgotten");
 #ifdef SIZES
     malloc_trim(0);
     printf("after long keys: %ld kB\n", memory() - before);
@@ -363,7 +363,7 @@ static void long_keys(void) {
 #else
     (void)before;
 #endif
-    sf_do_close(pool);
+    sflight_do_close(pool);
 }
 
 int main(void) {
@@ -374,8 +374,8 @@ int main(void) {
     many();
     spent();
     small();
-    const sf_do_sizes shared_slots = {.slots = 16, .callers = 64, .is_fixed = true}, few = {.slots = 16, .callers = 3, .is_fixed = true};
-    const sf_do_sizes worn = {.slots = 16, .callers = 4, .is_fixed = true, .calls = 1}, grows = {.slots = 1, .callers = 1};
+    const sflight_do_sizes shared_slots = {.slots = 16, .callers = 64, .is_fixed = true}, few = {.slots = 16, .callers = 3, .is_fixed = true};
+    const sflight_do_sizes worn = {.slots = 16, .callers = 4, .is_fixed = true, .calls = 1}, grows = {.slots = 1, .callers = 1};
     stress("keys that share slots", &shared_slots, 1);
     stress("too few callers", &few, 1);
     stress("callers that are spent", &worn, ROUNDS / 4);

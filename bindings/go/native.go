@@ -13,7 +13,7 @@ import (
 // So many bytes of stack has a call of the library: native/depths tells that none needs more. 16 divides where it ends.
 const stackSize = 2048
 
-// What the library has of a seat: a slot of sf.h, and how often its caller led and joined, which calls.c knows too; and its stack.
+// What the library has of a seat: a slot of sflight.h, and how often its caller led and joined, which calls.c knows too; and its stack.
 type slot struct {
 	at           uintptr
 	live         bool

@@ -154,16 +154,16 @@ func TestNothingWearsOut(t *testing.T) {
 	}
 }
 
-// Calls of all kinds from many goroutines over few slots. SF_CALLS says how many; 10,000,000 take some minutes.
+// Calls of all kinds from many goroutines over few slots. SFLIGHT_CALLS says how many; 10,000,000 take some minutes.
 func TestStress(t *testing.T) {
 	calls := 200000
 	if isRaceDetected || testing.Short() {
 		calls = 20000
 	}
-	if text := os.Getenv("SF_CALLS"); text != "" {
+	if text := os.Getenv("SFLIGHT_CALLS"); text != "" {
 		var err error
 		if calls, err = strconv.Atoi(text); err != nil {
-			t.Fatal("SF_CALLS", err)
+			t.Fatal("SFLIGHT_CALLS", err)
 		}
 	}
 	for _, options := range [][]Option{{Places(64)}, {Places(64), fixedCallers(24)}, {}} {

@@ -1,4 +1,4 @@
-//go:build sf_schedules
+//go:build sflight_schedules
 
 package singleflight
 

@@ -1,4 +1,4 @@
-//go:build sf_schedules
+//go:build sflight_schedules
 
 package singleflight
 
@@ -109,7 +109,7 @@ func (w *world) log(format string, args ...any) {
 	}
 }
 
-var verbose = os.Getenv("SF_VERBOSE") != ""
+var verbose = os.Getenv("SFLIGHT_VERBOSE") != ""
 
 // Runs until all have ended. False where nobody can go on.
 func (w *world) play() bool {
@@ -356,10 +356,10 @@ func playWorld(t *testing.T, seed int64) {
 	}
 }
 
-// Random schedules of random calls keep the promises. SF_SCHEDULES says how many, and SF_SEED with which one to begin.
+// Random schedules of random calls keep the promises. SFLIGHT_SCHEDULES says how many, and SFLIGHT_SEED with which one to begin.
 func TestSchedules(t *testing.T) {
 	count, from := 2000, int64(1)
-	for name, set := range map[string]func(int){"SF_SCHEDULES": func(n int) { count = n }, "SF_SEED": func(n int) { from = int64(n) }} {
+	for name, set := range map[string]func(int){"SFLIGHT_SCHEDULES": func(n int) { count = n }, "SFLIGHT_SEED": func(n int) { from = int64(n) }} {
 		if text := os.Getenv(name); text != "" {
 			n, err := strconv.Atoi(text)
 			if err != nil {

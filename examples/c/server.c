@@ -1,6 +1,6 @@
 /* A server's load path: worker threads get keys from a store behind a cache. Of the threads that miss one key at one time one loads, and
- * after an update nobody gets the old value. Built and run by bindings/check, with bindings/c/sf_do.c. */
-#include "sf_do.h"
+ * after an update nobody gets the old value. Built and run by bindings/check, with bindings/c/sflight_do.c. */
+#include "sflight_do.h"
 #include <pthread.h>
 #include <stdatomic.h>
 #include <stdio.h>
@@ -17,13 +17,13 @@ enum { WORKERS = 4, KEYS = 8, REQUESTS = 2000 };
 static atomic_uint versions[KEYS];
 static atomic_uint hits, loads, joined;
 
-static sf_pool *pool;
+static sflight_pool *pool;
 
 /* What was loaded, with its stamp. */
 static struct page {
     pthread_mutex_t lock;
     uint64_t value;
-    sf_do_stamp stamp;
+    sflight_do_stamp stamp;
 } cache[KEYS];
 
 static size_t name_of(unsigned key, char name[16]) {
@@ -38,16 +38,16 @@ static uint64_t get(unsigned key) {
     size_t len = name_of(key, name);
     struct page *page = &cache[key];
     pthread_mutex_lock(&page->lock);
-    sf_got got = {.value = page->value, .stamp = page->stamp};
+    sflight_got got = {.value = page->value, .stamp = page->stamp};
     pthread_mutex_unlock(&page->lock);
-    if (sf_do_is_still(pool, &got.stamp)) {
+    if (sflight_do_is_still(pool, &got.stamp)) {
         atomic_fetch_add(&hits, 1);
         return got.value;
     }
-    if (sf_do(pool, (const uint8_t *)name, len, load, &key, SF_DO_FOREVER, &got) != SF_DO_DONE) abort();
+    if (sflight_do(pool, (const uint8_t *)name, len, load, &key, SFLIGHT_DO_FOREVER, &got) != SFLIGHT_DO_DONE) abort();
     atomic_fetch_add(got.led ? &loads : &joined, 1);
     /* Where the key was forgotten meanwhile, the value may be older than that. */
-    if (sf_do_is_still(pool, &got.stamp)) {
+    if (sflight_do_is_still(pool, &got.stamp)) {
         pthread_mutex_lock(&page->lock);
         page->value = got.value;
         page->stamp = got.stamp;
@@ -71,7 +71,7 @@ static unsigned update(unsigned key) {
     char name[16];
     size_t len = name_of(key, name);
     unsigned version = atomic_fetch_add(&versions[key], 1) + 1;
-    sf_do_forget(pool, (const uint8_t *)name, len);
+    sflight_do_forget(pool, (const uint8_t *)name, len);
     return version;
 }
 
@@ -89,8 +89,8 @@ static void *serve(void *at) {
 int main(void) {
     pthread_t threads[WORKERS];
     size_t stale = 0;
-    const sf_do_sizes sizes = {.slots = SLOTS, .is_fixed = true};
-    pool = sf_do_open(SLOTS == 0 ? NULL : &sizes, NULL);
+    const sflight_do_sizes sizes = {.slots = SLOTS, .is_fixed = true};
+    pool = sflight_do_open(SLOTS == 0 ? NULL : &sizes, NULL);
     if (!pool) return 1;
     for (int i = 0; i < KEYS; i++) if (pthread_mutex_init(&cache[i].lock, NULL)) return 1;
     for (int i = 0; i < WORKERS; i++) if (pthread_create(&threads[i], NULL, serve, (void *)(size_t)i)) return 1;
@@ -99,8 +99,8 @@ int main(void) {
         pthread_join(threads[i], &count);
         stale += (size_t)count;
     }
-    sf_do_stats stats = sf_do_statistics(pool);
+    sflight_do_stats stats = sflight_do_statistics(pool);
     printf("hits %u, loads %u (%u beside), joined %u, stale %zu\n", atomic_load(&hits), atomic_load(&loads), (unsigned)stats.alone, atomic_load(&joined), stale);
-    sf_do_close(pool);
+    sflight_do_close(pool);
     return stale != 0;
 }

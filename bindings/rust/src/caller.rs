@@ -46,9 +46,9 @@ impl<T> Caller<T> {
         let mut joiners = 0;
         point();
         unsafe {
-            let mut code = raw::sf_finish(slot, number, &mut joiners);
+            let mut code = raw::sflight_finish(slot, number, &mut joiners);
             while code == raw::OTHERWISE {
-                code = raw::sf_go_on(slot, &mut joiners);
+                code = raw::sflight_go_on(slot, &mut joiners);
             }
         }
         taken.seat.leads = false;
@@ -257,7 +257,7 @@ impl<T> Caller<T> {
         let name = epoch.names.of(key);
         let code = loop {
             point();
-            match unsafe { raw::sf_ask(&mut seat.slot, name.as_ptr(), name.len(), raw::MOST_TRIES) } {
+            match unsafe { raw::sflight_ask(&mut seat.slot, name.as_ptr(), name.len(), raw::MOST_TRIES) } {
                 raw::BUSY => std::hint::spin_loop(),
                 code => break code,
             }
@@ -567,7 +567,7 @@ impl<T> Caller<T> {
         let mut epoch = 0;
         if let Some(taken) = &mut self.taken {
             epoch = taken.epoch.number;
-            match unsafe { raw::sf_tell(&mut taken.seat.slot, &mut note) } {
+            match unsafe { raw::sflight_tell(&mut taken.seat.slot, &mut note) } {
                 raw::DONE => {}
                 code => return Err(refusal(code)),
             }
@@ -588,7 +588,7 @@ impl<T> Caller<T> {
         self.abandon();
         // A note of another epoch, or of a caller without a seat, has nothing for the library: who has it comes after who made it.
         match &mut self.taken {
-            Some(taken) if taken.epoch.number == note.epoch => match unsafe { raw::sf_learn(&mut taken.seat.slot, &mut note.note) } {
+            Some(taken) if taken.epoch.number == note.epoch => match unsafe { raw::sflight_learn(&mut taken.seat.slot, &mut note.note) } {
                 raw::DONE => Ok(()),
                 code => Err(refusal(code)),
             },

@@ -81,7 +81,7 @@ impl<T> Epoch<T> {
         let all = callers.checked_add(1).filter(|all| *all > 1).ok_or(Error::Size)?;
         let mut root = Slot::NONE;
         let random = RandomState::new();
-        match unsafe { raw::sf_open(&mut root, places, all, random.hash_one(0), random.hash_one(1)) } {
+        match unsafe { raw::sflight_open(&mut root, places, all, random.hash_one(0), random.hash_one(1)) } {
             raw::DONE => Ok(Epoch {
                 number,
                 places,
@@ -131,12 +131,12 @@ impl<T> Epoch<T> {
         }
         let mut slot = Slot::NONE;
         point();
-        if unsafe { raw::sf_split(&mut seats.root, &mut slot) } != raw::DONE {
+        if unsafe { raw::sflight_split(&mut seats.root, &mut slot) } != raw::DONE {
             return None;
         }
         seats.made += 1;
         let mut number = 0;
-        unsafe { raw::sf_number(&mut slot, &mut number) };
+        unsafe { raw::sflight_number(&mut slot, &mut number) };
         Some((Seat::new(slot, number), true))
     }
 
@@ -152,7 +152,7 @@ impl<T> Epoch<T> {
     pub(crate) fn replace(&self) {
         let mut seats = lock(&self.seats);
         seats.is_replaced = true;
-        unsafe { raw::sf_close(&mut seats.root) };
+        unsafe { raw::sflight_close(&mut seats.root) };
         let free = std::mem::take(&mut seats.free);
         drop(seats);
         drop(free);
@@ -172,7 +172,7 @@ impl<T> Epoch<T> {
         let name = self.names.of(key);
         let code = self.by(seat, |slot| {
             point();
-            unsafe { raw::sf_named(slot, name.as_ptr(), name.len(), &mut caller, &mut generation) }
+            unsafe { raw::sflight_named(slot, name.as_ptr(), name.len(), &mut caller, &mut generation) }
         });
         (code == raw::DONE).then_some(Call {
             epoch: self.number,

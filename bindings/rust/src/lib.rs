@@ -344,7 +344,7 @@ impl<T> fmt::Debug for Note<T> {
 
 impl<T> Drop for Note<T> {
     fn drop(&mut self) {
-        unsafe { raw::sf_drop_note(&mut self.note) }
+        unsafe { raw::sflight_drop_note(&mut self.note) }
     }
 }
 

@@ -89,7 +89,7 @@ impl Seat {
     pub(crate) fn poll(&mut self) -> Option<Letter> {
         let (mut number, mut joiners) = (0, 0);
         point();
-        match unsafe { raw::sf_poll(&mut self.slot, &mut number, &mut joiners) } {
+        match unsafe { raw::sflight_poll(&mut self.slot, &mut number, &mut joiners) } {
             raw::DONE => Some(Letter::Own(number, joiners)),
             raw::OTHER => Some(Letter::Other(number)),
             _ => None,
@@ -100,7 +100,7 @@ impl Seat {
     #[inline]
     pub(crate) fn stamp(&mut self, epoch: u32) -> Stamp {
         let mut stamp = Stamp::default();
-        unsafe { raw::sf_stamp(&mut self.slot, &mut stamp.0) };
+        unsafe { raw::sflight_stamp(&mut self.slot, &mut stamp.0) };
         // The library leaves the upper half of the place 0.
         stamp.0[0] |= u64::from(epoch) << 32;
         stamp
@@ -109,7 +109,7 @@ impl Seat {
     /// The call that it leads or waits for.
     pub(crate) fn call(&mut self, epoch: u32) -> Call {
         let (mut caller, mut generation) = (0, 0);
-        unsafe { raw::sf_call(&mut self.slot, &mut caller, &mut generation) };
+        unsafe { raw::sflight_call(&mut self.slot, &mut caller, &mut generation) };
         Call {
             epoch,
             caller,
@@ -120,7 +120,7 @@ impl Seat {
 
 impl Drop for Seat {
     fn drop(&mut self) {
-        unsafe { raw::sf_close(&mut self.slot) }
+        unsafe { raw::sflight_close(&mut self.slot) }
     }
 }
 
@@ -552,7 +552,7 @@ impl<T> Pool<T> {
         let plain = [stamp.0[0] & u64::from(u32::MAX), stamp.0[1]];
         let still = |slot: &mut Slot| {
             point();
-            unsafe { raw::sf_is_still(slot, &plain) == raw::DONE }
+            unsafe { raw::sflight_is_still(slot, &plain) == raw::DONE }
         };
         match taken {
             Some(taken) if taken.epoch.number == now => still(&mut taken.seat.slot),
@@ -645,7 +645,7 @@ impl<T> Epoch<T> {
         let name = self.names.of(key);
         self.by(seat, |slot| loop {
             point();
-            match unsafe { raw::sf_forget_call(slot, name.as_ptr(), name.len(), caller, generation, raw::MOST_TRIES) } {
+            match unsafe { raw::sflight_forget_call(slot, name.as_ptr(), name.len(), caller, generation, raw::MOST_TRIES) } {
                 raw::DONE => return Hit::Closed,
                 raw::CLEARED => return Hit::Cleared,
                 raw::BUSY => std::hint::spin_loop(),

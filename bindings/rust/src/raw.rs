@@ -1,4 +1,4 @@
-//! The functions of `sf.h`.
+//! The functions of `sflight.h`.
 
 #[repr(C)]
 pub struct Slot {
@@ -40,20 +40,20 @@ pub const CLEARED: u32 = 10;
 pub const MOST_TRIES: u32 = 65_536;
 
 extern "C" {
-    pub fn sf_open(slot: &mut Slot, places: u32, callers: u32, seed0: u64, seed1: u64) -> u32;
-    pub fn sf_split(slot: &mut Slot, other: &mut Slot) -> u32;
-    pub fn sf_ask(slot: &mut Slot, key: *const u8, len: usize, tries: u32) -> u32;
-    pub fn sf_finish(slot: &mut Slot, value: u64, joiners: &mut u32) -> u32;
-    pub fn sf_go_on(slot: &mut Slot, joiners: &mut u32) -> u32;
-    pub fn sf_poll(slot: &mut Slot, value: &mut u64, joiners: &mut u32) -> u32;
-    pub fn sf_call(slot: &mut Slot, caller: &mut u32, generation: &mut u32) -> u32;
-    pub fn sf_number(slot: &mut Slot, number: &mut u32) -> u32;
-    pub fn sf_forget_call(slot: &mut Slot, key: *const u8, len: usize, caller: u32, generation: u32, tries: u32) -> u32;
-    pub fn sf_named(slot: &mut Slot, key: *const u8, len: usize, caller: &mut u32, generation: &mut u32) -> u32;
-    pub fn sf_stamp(slot: &mut Slot, stamp: &mut [u64; 2]) -> u32;
-    pub fn sf_is_still(slot: &mut Slot, stamp: &[u64; 2]) -> u32;
-    pub fn sf_tell(slot: &mut Slot, note: &mut Note) -> u32;
-    pub fn sf_learn(slot: &mut Slot, note: &mut Note) -> u32;
-    pub fn sf_drop_note(note: &mut Note);
-    pub fn sf_close(slot: &mut Slot);
+    pub fn sflight_open(slot: &mut Slot, places: u32, callers: u32, seed0: u64, seed1: u64) -> u32;
+    pub fn sflight_split(slot: &mut Slot, other: &mut Slot) -> u32;
+    pub fn sflight_ask(slot: &mut Slot, key: *const u8, len: usize, tries: u32) -> u32;
+    pub fn sflight_finish(slot: &mut Slot, value: u64, joiners: &mut u32) -> u32;
+    pub fn sflight_go_on(slot: &mut Slot, joiners: &mut u32) -> u32;
+    pub fn sflight_poll(slot: &mut Slot, value: &mut u64, joiners: &mut u32) -> u32;
+    pub fn sflight_call(slot: &mut Slot, caller: &mut u32, generation: &mut u32) -> u32;
+    pub fn sflight_number(slot: &mut Slot, number: &mut u32) -> u32;
+    pub fn sflight_forget_call(slot: &mut Slot, key: *const u8, len: usize, caller: u32, generation: u32, tries: u32) -> u32;
+    pub fn sflight_named(slot: &mut Slot, key: *const u8, len: usize, caller: &mut u32, generation: &mut u32) -> u32;
+    pub fn sflight_stamp(slot: &mut Slot, stamp: &mut [u64; 2]) -> u32;
+    pub fn sflight_is_still(slot: &mut Slot, stamp: &[u64; 2]) -> u32;
+    pub fn sflight_tell(slot: &mut Slot, note: &mut Note) -> u32;
+    pub fn sflight_learn(slot: &mut Slot, note: &mut Note) -> u32;
+    pub fn sflight_drop_note(note: &mut Note);
+    pub fn sflight_close(slot: &mut Slot);
 }

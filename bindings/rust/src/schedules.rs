@@ -5,7 +5,7 @@
 //! answer is older than one that was returned before its asking began, or than a Forget that had returned, that a stamp that is current
 //! is no older either, and that all callers of the library are back.
 //!
-//! `SF_SCHEDULES` says how many are drawn, and `SF_SEED` with which one it begins.
+//! `SFLIGHT_SCHEDULES` says how many are drawn, and `SFLIGHT_SEED` with which one it begins.
 
 use crate::{Answer, Caller, Group, Plan, Stamp};
 use std::arch::global_asm;
@@ -22,8 +22,8 @@ use std::time::Duration;
 
 // Keeps the registers that a call has to keep on the old stack, and takes those of the new one.
 global_asm!(
-    ".globl sf_rust_switch",
-    "sf_rust_switch:",
+    ".globl sflight_rust_switch",
+    "sflight_rust_switch:",
     "push rbp",
     "push rbx",
     "push r12",
@@ -42,7 +42,7 @@ global_asm!(
 );
 
 extern "C" {
-    fn sf_rust_switch(from: *mut usize, to: usize);
+    fn sflight_rust_switch(from: *mut usize, to: usize);
 }
 
 const STACK: usize = 256 << 10;
@@ -127,14 +127,14 @@ unsafe fn switch(is_blocked: bool) {
     if to != from {
         (*play).current = to;
         let (old, new) = (&mut (&mut (*play).coroutines)[from].at as *mut usize, (&(*play).coroutines)[to].at);
-        sf_rust_switch(old, new);
+        sflight_rust_switch(old, new);
     }
 }
 
 unsafe fn switch_to_main() {
     let play = PLAY.get();
     let old = &mut (&mut (*play).coroutines)[(*play).current].at as *mut usize;
-    sf_rust_switch(old, (*play).main);
+    sflight_rust_switch(old, (*play).main);
 }
 
 extern "C" fn enter() {
@@ -184,7 +184,7 @@ fn play(random: Random, turn: u64, stacks: &mut Vec<Box<[u128]>>, tasks: Vec<Tas
     };
     PLAY.set(&mut made);
     // SAFETY: it comes back when all are over, or one says that they do not end.
-    unsafe { sf_rust_switch(&mut made.main, made.coroutines[0].at) };
+    unsafe { sflight_rust_switch(&mut made.main, made.coroutines[0].at) };
     PLAY.set(null_mut());
     if let Some(why) = made.failure.take() {
         std::mem::forget(made);
@@ -527,7 +527,7 @@ fn number(name: &str, otherwise: u64) -> u64 {
 
 #[test]
 fn schedules_drawn_at_random() {
-    let (first, count) = (number("SF_SEED", 1), number("SF_SCHEDULES", 100_000));
+    let (first, count) = (number("SFLIGHT_SEED", 1), number("SFLIGHT_SCHEDULES", 100_000));
     let threads = 4;
     let played: Vec<Played> = std::thread::scope(|scope| {
         let threads: Vec<_> = (0..threads)
@@ -536,7 +536,7 @@ fn schedules_drawn_at_random() {
                     let (mut stacks, mut all) = (Vec::new(), Played::default());
                     for seed in (first + thread..first + count).step_by(threads as usize) {
                         if let Err(why) = schedule(seed, &mut stacks, &mut all) {
-                            panic!("SF_SEED={seed} SF_SCHEDULES=1: {why}");
+                            panic!("SFLIGHT_SEED={seed} SFLIGHT_SCHEDULES=1: {why}");
                         }
                     }
                     all

@@ -1,4 +1,4 @@
-//! Keys without end: 200,000 different ones over 65,536 places, or as many as SF_KEYS says; it shows what each tenth of them costs.
+//! Keys without end: 200,000 different ones over 65,536 places, or as many as SFLIGHT_KEYS says; it shows what each tenth of them costs.
 use singleflight::Group;
 use std::sync::{Barrier, Mutex};
 use std::time::Instant;
@@ -15,7 +15,7 @@ fn memory() -> u64 {
 
 #[test]
 fn keys_come_and_go_in_bounded_memory() {
-    let keys: u64 = std::env::var("SF_KEYS").map_or(200_000, |keys| keys.parse().expect("SF_KEYS: a number of keys"));
+    let keys: u64 = std::env::var("SFLIGHT_KEYS").map_or(200_000, |keys| keys.parse().expect("SFLIGHT_KEYS: a number of keys"));
     let tenth = keys / 10 / THREADS / BATCH * BATCH;
     let group = Group::<u64>::open(65_536, THREADS as u32).unwrap();
     let (all, kilobytes) = (Mutex::new(vec![Vec::new(); 10]), Mutex::new(vec![0; 10]));

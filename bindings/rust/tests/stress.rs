@@ -1,5 +1,5 @@
 //! 64 threads over 64 hash slots, with nested calls, Forgets, deadlines, tasks and loads that panic: all end, one load of a key runs at a
-//! time, nothing is older than a Forget, and answers of one thread do not go backwards. `SF_CALLS` says how many calls are made in each
+//! time, nothing is older than a Forget, and answers of one thread do not go backwards. `SFLIGHT_CALLS` says how many calls are made in each
 //! of the four groups, 60,000 by default, and eight times as many in that whose callers are spent soon.
 use singleflight::{Caller, Group, Stamp, Stats};
 use std::future::Future;
@@ -196,7 +196,7 @@ impl<'a> Actor<'a> {
 }
 
 fn stress(what: &str, times: u64, open: impl FnOnce() -> Group<Value<'static>>) -> (Stats, u64) {
-    let calls = std::env::var("SF_CALLS").map_or(60_000 * times, |calls| calls.parse().expect("SF_CALLS: a number of calls"));
+    let calls = std::env::var("SFLIGHT_CALLS").map_or(60_000 * times, |calls| calls.parse().expect("SFLIGHT_CALLS: a number of calls"));
     let mut world = World::default();
     let name = |key: usize| format!("{}{key}", "key".repeat(key % 6 * 5)).into_bytes();
     world.keys.extend((0..KEYS).map(|key| Key { name: name(key), ..Key::default() }));

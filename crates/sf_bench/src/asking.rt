@@ -1,6 +1,6 @@
 //! Callers of a group: what they ask, settle and forget, alone and side by side.
 ghost use Rattle.std.specs.Prelude.{◌≡◌, ◌≤◌, All, IfOk};
-ghost use Rattle.sf_calls.specs.Same.{IsPlaceOf};
+ghost use Rattle.sf_group_rows.specs.Same.{IsPlaceOf};
 
 use crate::benchmark::Benchmark;
 use crate::fault::Fault;

@@ -1,7 +1,7 @@
 //! Getters of a fill, each on a thread of its own, that get a key which a cache has.
 ghost use Rattle.std.specs.Prelude.{◌≡◌, ◌≤◌, IfOk, vec_len};
 ghost use Rattle.sf_words.specs.declared.limits.TheConstants.{LARGEST_PLACE};
-ghost use Rattle.sf_door.specs.Opened.{places_for};
+ghost use Rattle.sf_fill_open.specs.Opened.{places_for};
 
 use crate::benchmark::Benchmark;
 use crate::fault::Fault;
@@ -10,7 +10,7 @@ use crate::rounds::{OPERATIONS, of_one};
 use crate::table::{Case, Table};
 use crate::times::{ROUNDS, Times};
 use bytes::Bytes;
-use sf_door::{DirectoryKeys, FillSizes, Keys, Places, Team, with_team};
+use sf_fill_open::{DirectoryKeys, FillSizes, Keys, Places, Team, with_team};
 use sf_fill::{Fill, Getter, Naming};
 use sf_group::{CallId, Memory};
 use sf_loaders::scripted::{AnyValue, FixedPicker, RoundChance};

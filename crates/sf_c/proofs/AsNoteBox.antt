@@ -6,8 +6,8 @@ use Rattle.std_alloc.proofs.BoxSteps.Form.{Bx}
 use Rattle.std_heap.specs.contracts.Global as Heap
 use Rattle.std_heap.specs.contracts.GlobalAllocator.TheImpl.{ghosts, dict}
 use Rattle.std_heap.proofs.Global.TheLaws as heap
-use Rattle.sf_state.specs.contracts.note_state.NoteState as State
-use Rattle.sf_state.proofs.note_state.NoteState.TheLaws as state
+use Rattle.sf_c_slots.specs.contracts.note_state.NoteState as State
+use Rattle.sf_c_slots.proofs.note_state.NoteState.TheLaws as state
 use Rattle.sf_c.specs.contracts.loose.Loose as Loose
 use Rattle.sf_c.specs.contracts.note_handle.NoteHandle as Handle
 

@@ -3,7 +3,7 @@ ghost use Rattle.std.specs.Prelude.{◌≡◌, Bool, true, false};
 ghost use Rattle.sf_c.specs.Owned.{Held, state_coded};
 
 use crate::loose::Loose;
-use sf_state::State;
+use sf_c_slots::State;
 use std::alloc::Global;
 use std::marker::Model;
 use std::mem::replace;

@@ -3,17 +3,17 @@
 //!
 //! A slot holds a state on the heap behind one pointer, or nothing. Each export takes the state out, makes its call, and puts
 //! it back; a slot that is not open is answered by its code. What a call did is a row of `specs/Rows`, between what the
-//! slot held before and after. `sf_ask_chan`, `sf_take_back` and `sf_learn` tell two groups apart by the seeds and sizes
+//! slot held before and after. `sflight_ask_chan`, `sflight_take_back` and `sflight_learn` tell two groups apart by the seeds and sizes
 //! under which keys have places, and two free callers by their numbers: two slots, or a slot and a note, that differ in
 //! neither have to be of one group.
 //!
-//! A slot that a program in C gives twice to one call, against the duties of sf.h, is refused: each export that takes two
+//! A slot that a program in C gives twice to one call, against the duties of sflight.h, is refused: each export that takes two
 //! looks at whether the second is open before it takes the state out of the first.
 #![tactic(auto)]
 
 ghost use Rattle.std.specs.Prelude.{◌≡◌, ◌≢◌, ◌↔◌, ◌⊎◌, true, false};
-ghost use Rattle.sf_calls.specs.Notes.{HasGrown};
-ghost use Rattle.sf_state.specs.Rows.{AreSizes, HasOpened, HasSplit, HasTakenBack, HasAskedKey, HasAskedChanKey, HasForgotKey, HasFinishedPart, HasGoneOnPart, HasPolledPart, HasQuestionedPart, HasToldNote, HasNotTold, HasLearntNote, HasGivenUp, HasCounted, HasCalled, HasNumbered, MarksOwn, HasGivenKey, KeepsGroup, KeepsLetter, KeepsKey, AreBeside, ArePlacesOfOne, call_in};
+ghost use Rattle.sf_group_rows.specs.Notes.{HasGrown};
+ghost use Rattle.sf_c_slots.specs.Rows.{AreSizes, HasOpened, HasSplit, HasTakenBack, HasAskedKey, HasAskedChanKey, HasForgotKey, HasFinishedPart, HasGoneOnPart, HasPolledPart, HasQuestionedPart, HasToldNote, HasNotTold, HasLearntNote, HasGivenUp, HasCounted, HasCalled, HasNumbered, MarksOwn, HasGivenKey, KeepsGroup, KeepsLetter, KeepsKey, AreBeside, ArePlacesOfOne, call_in};
 
 mod handle;
 mod loose;
@@ -26,11 +26,11 @@ mod stamps;
 pub use handle::Handle;
 pub use note_handle::NoteHandle;
 pub use note_slot::NoteSlot;
-pub use one_call::{sf_forget_call, sf_named};
+pub use one_call::{sflight_forget_call, sflight_named};
+use sf_c_slots::{BAD_NUMBER, DONE, NOT_OPEN, NOTHING_LEFT, State, WRONG_STATE};
 use sf_group::{MOST_CALLERS, MOST_PLACES};
-use sf_state::{BAD_NUMBER, DONE, NOT_OPEN, NOTHING_LEFT, State, WRONG_STATE};
 pub use slot::Slot;
-pub use stamps::{sf_is_still, sf_stamp};
+pub use stamps::{sflight_is_still, sflight_stamp};
 use std::alloc::Global;
 
 // Whether a group may be so large.
@@ -43,7 +43,7 @@ fn are_sizes(places: u32, callers: u32) -> bool
 /// Opens a group for this many places (1 to 134,217,728) and callers (1 to 65,535), with its first caller in the slot. Keys
 /// have places by a hash under the two seeds.
 #[unsafe(no_mangle)]
-pub extern "C" fn sf_open(
+pub extern "C" fn sflight_open(
     slot: &mut Slot,
     alloc: Global,
     places: u32,
@@ -77,7 +77,7 @@ pub extern "C" fn sf_open(
 
 /// Another caller of the slot's group, in the other slot, for another thread.
 #[unsafe(no_mangle)]
-pub extern "C" fn sf_split(slot: &mut Slot, alloc: Global, other: &mut Slot) -> u32
+pub extern "C" fn sflight_split(slot: &mut Slot, alloc: Global, other: &mut Slot) -> u32
     ensures kept { slot.new.live ≡ slot.old.live }
     ensures closed { result ≡ NOT_OPEN ↔ slot.old.live ≡ false }
     ensures made { result ≡ DONE → (other.old.live ≡ false) × (other.new.live ≡ true)
@@ -103,7 +103,7 @@ pub extern "C" fn sf_split(slot: &mut Slot, alloc: Global, other: &mut Slot) -> 
 
 /// Closes the other slot, and keeps its caller, which is free and of the slot's group, for a further one.
 #[unsafe(no_mangle)]
-pub extern "C" fn sf_take_back(slot: &mut Slot, alloc: Global, other: &mut Slot) -> u32
+pub extern "C" fn sflight_take_back(slot: &mut Slot, alloc: Global, other: &mut Slot) -> u32
     requires group { slot.old.live ≡ true → other.old.live ≡ true
         → AreBeside slot.old.handle.state other.old.handle.state
         → slot.old.handle.state.group ≡ other.old.handle.state.group }
@@ -140,7 +140,7 @@ pub extern "C" fn sf_take_back(slot: &mut Slot, alloc: Global, other: &mut Slot)
 
 /// The slot's caller asks for the key: it leads a new call, or it waits for the letter of the open one.
 #[unsafe(no_mangle)]
-pub extern "C" fn sf_ask(slot: &mut Slot, alloc: Global, key: &[u8], tries: u32) -> u32
+pub extern "C" fn sflight_ask(slot: &mut Slot, alloc: Global, key: &[u8], tries: u32) -> u32
     ensures kept { slot.new.live ≡ slot.old.live }
     ensures closed { result ≡ NOT_OPEN ↔ slot.old.live ≡ false }
     ensures state { slot.old.live ≡ true → KeepsLetter slot.old.handle.state slot.new.handle.state }
@@ -160,7 +160,7 @@ pub extern "C" fn sf_ask(slot: &mut Slot, alloc: Global, key: &[u8], tries: u32)
 /// The slot's caller asks for the key for the other slot's: it leads a new call, and the other waits on the leader's own
 /// channel; or the other joins the open one, and it is free still.
 #[unsafe(no_mangle)]
-pub extern "C" fn sf_ask_chan(
+pub extern "C" fn sflight_ask_chan(
     slot: &mut Slot,
     alloc: Global,
     other: &mut Slot,
@@ -204,7 +204,7 @@ pub extern "C" fn sf_ask_chan(
 
 /// The slot's caller, which is free, closes the key's open call, so that whoever asks later gets a new one.
 #[unsafe(no_mangle)]
-pub extern "C" fn sf_forget(slot: &mut Slot, alloc: Global, key: &[u8], tries: u32) -> u32
+pub extern "C" fn sflight_forget(slot: &mut Slot, alloc: Global, key: &[u8], tries: u32) -> u32
     ensures kept { slot.new.live ≡ slot.old.live }
     ensures closed { result ≡ NOT_OPEN ↔ slot.old.live ≡ false }
     ensures state { slot.old.live ≡ true → KeepsKey slot.old.handle.state slot.new.handle.state
@@ -223,7 +223,7 @@ pub extern "C" fn sf_forget(slot: &mut Slot, alloc: Global, key: &[u8], tries: u
 
 /// The slot's caller settles the call that it leads, and hands the letters out.
 #[unsafe(no_mangle)]
-pub extern "C" fn sf_finish(slot: &mut Slot, alloc: Global, value: u64, joiners: &mut u32) -> u32
+pub extern "C" fn sflight_finish(slot: &mut Slot, alloc: Global, value: u64, joiners: &mut u32) -> u32
     ensures kept { slot.new.live ≡ slot.old.live }
     ensures closed { result ≡ NOT_OPEN ↔ slot.old.live ≡ false }
     ensures unwritten { result ≡ NOT_OPEN → joiners.new ≡ joiners.old }
@@ -248,7 +248,7 @@ pub extern "C" fn sf_finish(slot: &mut Slot, alloc: Global, value: u64, joiners:
 
 /// Goes on with a delivery that stands still.
 #[unsafe(no_mangle)]
-pub extern "C" fn sf_go_on(slot: &mut Slot, alloc: Global, joiners: &mut u32) -> u32
+pub extern "C" fn sflight_go_on(slot: &mut Slot, alloc: Global, joiners: &mut u32) -> u32
     ensures kept { slot.new.live ≡ slot.old.live }
     ensures closed { result ≡ NOT_OPEN ↔ slot.old.live ≡ false }
     ensures unwritten { result ≡ NOT_OPEN → joiners.new ≡ joiners.old }
@@ -270,7 +270,7 @@ pub extern "C" fn sf_go_on(slot: &mut Slot, alloc: Global, joiners: &mut u32) ->
 
 /// Looks once for the letter that the slot's caller waits for, and whether it is of the key that it asked for.
 #[unsafe(no_mangle)]
-pub extern "C" fn sf_poll(slot: &mut Slot, alloc: Global, value: &mut u64, joiners: &mut u32) -> u32
+pub extern "C" fn sflight_poll(slot: &mut Slot, alloc: Global, value: &mut u64, joiners: &mut u32) -> u32
     ensures kept { slot.new.live ≡ slot.old.live }
     ensures closed { result ≡ NOT_OPEN ↔ slot.old.live ≡ false }
     ensures unwritten { result ≡ NOT_OPEN → (value.new ≡ value.old) × (joiners.new ≡ joiners.old) }
@@ -295,7 +295,7 @@ pub extern "C" fn sf_poll(slot: &mut Slot, alloc: Global, value: &mut u64, joine
 /// Whether the call of the letter that the slot had last, by a poll or by settling, is its place's current one still: no
 /// Forget has closed it, and no call has followed it.
 #[unsafe(no_mangle)]
-pub extern "C" fn sf_is_current(slot: &mut Slot, alloc: Global) -> u32
+pub extern "C" fn sflight_is_current(slot: &mut Slot, alloc: Global) -> u32
     ensures kept { slot.new.live ≡ slot.old.live }
     ensures closed { result ≡ NOT_OPEN ↔ slot.old.live ≡ false }
     ensures state { slot.old.live ≡ true → KeepsKey slot.old.handle.state slot.new.handle.state
@@ -316,7 +316,7 @@ pub extern "C" fn sf_is_current(slot: &mut Slot, alloc: Global) -> u32
 /// How many others have the value of the letter that the slot had last: as many as joined its call, and one more where the
 /// slot settled that and another holds its own channel.
 #[unsafe(no_mangle)]
-pub extern "C" fn sf_joined(slot: &mut Slot, alloc: Global, count: &mut u64) -> u32
+pub extern "C" fn sflight_joined(slot: &mut Slot, alloc: Global, count: &mut u64) -> u32
     ensures kept { slot.new.live ≡ slot.old.live }
     ensures closed { result ≡ NOT_OPEN ↔ slot.old.live ≡ false }
     ensures state { slot.old.live ≡ true → slot.new.handle.state ≡ slot.old.handle.state }
@@ -336,7 +336,7 @@ pub extern "C" fn sf_joined(slot: &mut Slot, alloc: Global, count: &mut u64) -> 
 /// Which call the slot's caller leads or waits for, by its leader's number and generation; or where the caller is free, the
 /// call of the letter that it had last.
 #[unsafe(no_mangle)]
-pub extern "C" fn sf_call(
+pub extern "C" fn sflight_call(
     slot: &mut Slot,
     alloc: Global,
     caller: &mut u32,
@@ -361,7 +361,7 @@ pub extern "C" fn sf_call(
 
 /// The number of the slot's caller, which is free: each caller of a group has its own.
 #[unsafe(no_mangle)]
-pub extern "C" fn sf_number(slot: &mut Slot, alloc: Global, number: &mut u32) -> u32
+pub extern "C" fn sflight_number(slot: &mut Slot, alloc: Global, number: &mut u32) -> u32
     ensures kept { slot.new.live ≡ slot.old.live }
     ensures closed { result ≡ NOT_OPEN ↔ slot.old.live ≡ false }
     ensures state { slot.old.live ≡ true → slot.new.handle.state ≡ slot.old.handle.state }
@@ -379,7 +379,7 @@ pub extern "C" fn sf_number(slot: &mut Slot, alloc: Global, number: &mut u32) ->
 
 /// Puts what the slot's caller, which is free, has seen into the note, in place of what that showed.
 #[unsafe(no_mangle)]
-pub extern "C" fn sf_tell(slot: &mut Slot, alloc: Global, note: &mut NoteSlot) -> u32
+pub extern "C" fn sflight_tell(slot: &mut Slot, alloc: Global, note: &mut NoteSlot) -> u32
     ensures kept { slot.new.live ≡ slot.old.live }
     ensures closed { result ≡ NOT_OPEN ↔ slot.old.live ≡ false }
     ensures state { slot.old.live ≡ true → slot.new.handle.state ≡ slot.old.handle.state }
@@ -408,7 +408,7 @@ pub extern "C" fn sf_tell(slot: &mut Slot, alloc: Global, note: &mut NoteSlot) -
 /// The slot's caller, which is free or leads, has then seen what the note shows: no answer that a Forget closed of which the
 /// note tells is an answer to what it asks later. A note of another group is refused.
 #[unsafe(no_mangle)]
-pub extern "C" fn sf_learn(slot: &mut Slot, alloc: Global, note: &mut NoteSlot) -> u32
+pub extern "C" fn sflight_learn(slot: &mut Slot, alloc: Global, note: &mut NoteSlot) -> u32
     requires group { slot.old.live ≡ true → note.old.live ≡ true
         → ArePlacesOfOne slot.old.handle.state.places note.old.handle.note.places
         → slot.old.handle.state.group ≡ note.old.handle.note.note.group }
@@ -441,7 +441,7 @@ pub extern "C" fn sf_learn(slot: &mut Slot, alloc: Global, note: &mut NoteSlot) 
 
 /// Lets a note go.
 #[unsafe(no_mangle)]
-pub extern "C" fn sf_drop_note(note: &mut NoteSlot, alloc: Global)
+pub extern "C" fn sflight_drop_note(note: &mut NoteSlot, alloc: Global)
     ensures { note.new.live ≡ false }
 {
     drop(note.take(alloc));
@@ -450,7 +450,7 @@ pub extern "C" fn sf_drop_note(note: &mut NoteSlot, alloc: Global)
 /// Gives up for good what the slot's caller has open: a call that it leads, a letter that it waits for, or letters that it
 /// owes. The slot may only be closed then, or split.
 #[unsafe(no_mangle)]
-pub extern "C" fn sf_give_up(slot: &mut Slot, alloc: Global) -> u32
+pub extern "C" fn sflight_give_up(slot: &mut Slot, alloc: Global) -> u32
     ensures kept { slot.new.live ≡ slot.old.live }
     ensures closed { result ≡ NOT_OPEN ↔ slot.old.live ≡ false }
     ensures state { slot.old.live ≡ true → KeepsKey slot.old.handle.state slot.new.handle.state
@@ -469,7 +469,7 @@ pub extern "C" fn sf_give_up(slot: &mut Slot, alloc: Global) -> u32
 
 /// Closes the slot, and gives up what its caller has open. The last slot of a group frees that.
 #[unsafe(no_mangle)]
-pub extern "C" fn sf_close(slot: &mut Slot, alloc: Global)
+pub extern "C" fn sflight_close(slot: &mut Slot, alloc: Global)
     ensures { slot.new.live ≡ false }
 {
     drop(slot.take(alloc));

@@ -3,7 +3,7 @@ ghost use Rattle.std.specs.Prelude.{◌≡◌, true, false, IfSome};
 ghost use Rattle.std.specs.Option.{IfNone};
 
 use crate::note_handle::NoteHandle;
-use sf_state::NoteState;
+use sf_c_slots::NoteState;
 use std::alloc::Global;
 
 #[repr(C)]

@@ -1,16 +1,16 @@
 //! The exports for Forgets of one call, and which call a key names.
 ghost use Rattle.std.specs.Prelude.{◌≡◌, ◌↔◌, true, false};
-ghost use Rattle.sf_state.specs.OneCall.{HasForgotCallKey, HasNamedKey};
-ghost use Rattle.sf_state.specs.Rows.{KeepsLetter, KeepsKey};
+ghost use Rattle.sf_c_slots.specs.OneCall.{HasForgotCallKey, HasNamedKey};
+ghost use Rattle.sf_c_slots.specs.Rows.{KeepsLetter, KeepsKey};
 
 use crate::slot::Slot;
+use sf_c_slots::NOT_OPEN;
 use sf_group::CallId;
-use sf_state::NOT_OPEN;
 use std::alloc::Global;
 
 /// The slot's caller, which is free, forgets this call of the key, and leaves a newer one as it is.
 #[unsafe(no_mangle)]
-pub extern "C" fn sf_forget_call(
+pub extern "C" fn sflight_forget_call(
     slot: &mut Slot,
     alloc: Global,
     key: &[u8],
@@ -38,7 +38,7 @@ pub extern "C" fn sf_forget_call(
 
 /// Which call the key names, for a Forget of that call alone: the one that was led last. The slot's caller is free.
 #[unsafe(no_mangle)]
-pub extern "C" fn sf_named(
+pub extern "C" fn sflight_named(
     slot: &mut Slot,
     alloc: Global,
     key: &[u8],

@@ -1,15 +1,15 @@
 //! The exports for stamps: the call of a letter, kept as plain numbers, and whether it is its place's current one still.
 ghost use Rattle.std.specs.Prelude.{◌≡◌, ◌↔◌, true, false};
-ghost use Rattle.sf_state.specs.Rows.{KeepsKey, KeepsLetter};
-ghost use Rattle.sf_state.specs.Stamps.{HasStamped, HasAskedStill};
+ghost use Rattle.sf_c_slots.specs.Rows.{KeepsKey, KeepsLetter};
+ghost use Rattle.sf_c_slots.specs.Stamps.{HasStamped, HasAskedStill};
 
 use crate::slot::Slot;
-use sf_state::{NOT_OPEN, Stamp};
+use sf_c_slots::{NOT_OPEN, Stamp};
 use std::alloc::Global;
 
 /// The stamp of the letter that the slot's caller, which is free, had last: the place and the call.
 #[unsafe(no_mangle)]
-pub extern "C" fn sf_stamp(slot: &mut Slot, alloc: Global, stamp: &mut Stamp) -> u32
+pub extern "C" fn sflight_stamp(slot: &mut Slot, alloc: Global, stamp: &mut Stamp) -> u32
     ensures kept { slot.new.live ≡ slot.old.live }
     ensures closed { result ≡ NOT_OPEN ↔ slot.old.live ≡ false }
     ensures unwritten { result ≡ NOT_OPEN → stamp.new ≡ stamp.old }
@@ -29,7 +29,7 @@ pub extern "C" fn sf_stamp(slot: &mut Slot, alloc: Global, stamp: &mut Stamp) ->
 /// Whether the stamp's call is its place's current one, as the slot's caller finds, whatever that does. A stamp of no call is
 /// answered with no.
 #[unsafe(no_mangle)]
-pub extern "C" fn sf_is_still(slot: &mut Slot, alloc: Global, stamp: &Stamp) -> u32
+pub extern "C" fn sflight_is_still(slot: &mut Slot, alloc: Global, stamp: &Stamp) -> u32
     ensures kept { slot.new.live ≡ slot.old.live }
     ensures closed { result ≡ NOT_OPEN ↔ slot.old.live ≡ false }
     ensures state { slot.old.live ≡ true → KeepsKey slot.old.handle.state slot.new.handle.state

@@ -2,7 +2,7 @@
 use Rattle.std.proofs.Common.{◌≢◌, ℕ, List, [], Option, Some, None, IfNone, All, map, sym, arith}
 use Rattle.std.proofs.lemmas.List.Elements.{All-map}
 use Rattle.sf_cli.specs.declared.table.Row.{Row}
-use Rattle.sf_engines.specs.declared.engine.Engine.TheVariants.{Run, Steps, Check}
+use Rattle.sf_cli_engines.specs.declared.engine.Engine.TheVariants.{Run, Steps, Check}
 use Rattle.sf_cli.specs.declared.table.Work.{Work}
 use Rattle.sf_cli.specs.declared.table.Work.TheVariants.{Engine, Drive, Bench}
 use Rattle.sf_cli.specs.Work.{work_name_of, works}

@@ -4,17 +4,17 @@ use Rattle.std.specs.Io.KnownBytes.{Appends}
 use Rattle.sf_text.specs.StreamText.{AppendsPart}
 use Rattle.sf_text.specs.declared.stream.StreamFault.{StreamFault}
 use Rattle.sf_text.specs.declared.stream.StreamFault.TheVariants.{CannotRead, CannotWrite}
-use Rattle.sf_engines.specs.declared.ending.Ending.{Ending}
-use Rattle.sf_engines.specs.declared.ending.Outcome.TheVariants.{Failed, Usage}
-use Rattle.sf_engines.specs.Ending.{exit_status_of, outcome_of}
-use Rattle.sf_engines.specs.Engines.{IsWrittenBy, IsAnswerOf}
-use Rattle.sf_engines.specs.declared.engine.Engine as engine
-use Rattle.sf_drive.specs.declared.line.DriveLine.{DriveLine}
-use Rattle.sf_drive.specs.declared.report.DriveEnding.{DriveEnding}
-use Rattle.sf_drive.specs.declared.report.DriveEnding.TheVariants.{OutOfMemory}
-use Rattle.sf_drive.specs.declared.report.Report.{Report}
-use Rattle.sf_drive.specs.Found.{DriveEvent, IsFound, IsSaid, said_text}
-use Rattle.sf_drive.specs.Reports.{ending_of, status_of}
+use Rattle.sf_cli_engines.specs.declared.ending.Ending.{Ending}
+use Rattle.sf_cli_engines.specs.declared.ending.Outcome.TheVariants.{Failed, Usage}
+use Rattle.sf_cli_engines.specs.Ending.{exit_status_of, outcome_of}
+use Rattle.sf_cli_engines.specs.Engines.{IsWrittenBy, IsAnswerOf}
+use Rattle.sf_cli_engines.specs.declared.engine.Engine as engine
+use Rattle.sf_cli_drive.specs.declared.line.DriveLine.{DriveLine}
+use Rattle.sf_cli_drive.specs.declared.report.DriveEnding.{DriveEnding}
+use Rattle.sf_cli_drive.specs.declared.report.DriveEnding.TheVariants.{OutOfMemory}
+use Rattle.sf_cli_drive.specs.declared.report.Report.{Report}
+use Rattle.sf_cli_drive.specs.Found.{DriveEvent, IsFound, IsSaid, said_text}
+use Rattle.sf_cli_drive.specs.Reports.{ending_of, status_of}
 use Rattle.sf_cli.specs.declared.usage.Subcommand.{Subcommand}
 use Rattle.sf_cli.specs.declared.usage.Subcommand.TheVariants.{Engine, Drive}
 use Rattle.sf_cli.specs.declared.usage.Usage as usage

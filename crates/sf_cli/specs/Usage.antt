@@ -4,9 +4,9 @@ use Rattle.clap.specs.Words.{HasKind, Kinds, fault_of, kind_of}
 use Rattle.clap.specs.declared.error.Error.{Error}
 use Rattle.clap.specs.declared.error.kind.ErrorKind.{ErrorKind}
 use Rattle.clap.specs.declared.error.kind.ErrorKind.TheVariants.{DisplayHelp, DisplayVersion, OutOfMemory}
-use Rattle.sf_engines.specs.Engines.{name_of, shown_by}
-use Rattle.sf_engines.specs.declared.engine.Engine as engine
-use Rattle.sf_drive.specs.Words.{IsAskedLine, drive_app}
+use Rattle.sf_cli_engines.specs.Engines.{name_of, shown_by}
+use Rattle.sf_cli_engines.specs.declared.engine.Engine as engine
+use Rattle.sf_cli_drive.specs.Words.{IsAskedLine, drive_app}
 use Rattle.sf_cli.specs.Work.{options_of}
 use Rattle.sf_cli.specs.declared.usage.Mistake.TheVariants.{Said}
 use Rattle.sf_cli.specs.declared.usage.Subcommand.{Subcommand}

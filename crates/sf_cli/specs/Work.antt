@@ -1,9 +1,9 @@
 -- the subcommands by their names, and the words that say what an engine is to show
 use Rattle.std.specs.Prelude.{ℕ, false, List, [], ◌∷◌, codes}
-use Rattle.sf_engines.specs.Engines.{name_of}
-use Rattle.sf_engines.specs.declared.engine.Engine.TheVariants as engine
-use Rattle.sf_engines.specs.declared.engine.Shown.{Shown}
-use Rattle.sf_engines.specs.declared.engine.Shown.TheVariants.{Lines, History, Picture}
+use Rattle.sf_cli_engines.specs.Engines.{name_of}
+use Rattle.sf_cli_engines.specs.declared.engine.Engine.TheVariants as engine
+use Rattle.sf_cli_engines.specs.declared.engine.Shown.{Shown}
+use Rattle.sf_cli_engines.specs.declared.engine.Shown.TheVariants.{Lines, History, Picture}
 use Rattle.sf_cli.specs.declared.table.Work.{Work}
 use Rattle.sf_cli.specs.declared.table.Work.TheVariants.{Engine, Drive, Bench}
 

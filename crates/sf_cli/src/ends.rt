@@ -2,10 +2,10 @@
 
 ghost use Rattle.std.specs.Prelude.{◌≡◌, Result};
 ghost use Rattle.sf_cli.specs.Served.{drive_exit_status_of, help_exit_status_of};
-ghost use Rattle.sf_engines.specs.Ending.{exit_status_of, outcome_of};
+ghost use Rattle.sf_cli_engines.specs.Ending.{exit_status_of, outcome_of};
 
-use sf_drive::{DriveEnding, status as drive_status};
-use sf_engines::{Ending, Outcome, exit_status};
+use sf_cli_drive::{DriveEnding, status as drive_status};
+use sf_cli_engines::{Ending, Outcome, exit_status};
 use sf_text::StreamFault;
 use std::fmt::Display;
 

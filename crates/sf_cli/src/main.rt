@@ -12,12 +12,12 @@ ghost use Rattle.sf_cli.specs.Served.{HasEnded, IsStatusOf};
 ghost use Rattle.sf_cli.specs.Usage.{IsAskedBy};
 ghost use Rattle.sf_cli.specs.declared.usage.Subcommand as asking;
 ghost use Rattle.sf_cli.specs.declared.usage.Usage as refusing;
-ghost use Rattle.sf_engines.specs.Ending.{exit_status_of, outcome_of};
+ghost use Rattle.sf_cli_engines.specs.Ending.{exit_status_of, outcome_of};
 
 use crate::ends::{driven, ended, helped, misused};
 use crate::usage::{Mistake, Subcommand, Usage, parse};
-use sf_drive::drive;
-use sf_engines::{Ending, Engine};
+use sf_cli_drive::drive;
+use sf_cli_engines::{Ending, Engine};
 use sf_text::{StreamFault, write_all};
 use std::io::{IsTerminal, Read, Write};
 use std::process::ExitCode;

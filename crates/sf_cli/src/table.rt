@@ -1,12 +1,12 @@
 //! The one table of subcommands: the name, what help says, the options, and what each does.
 
 ghost use Rattle.std.specs.Prelude.{◌≡◌, ◌≢◌, [], ◌∷◌, IfSome, IfNone, Contains, All, map, string_bytes};
-ghost use Rattle.sf_engines.specs.declared.engine.Shown.{Shown};
+ghost use Rattle.sf_cli_engines.specs.declared.engine.Shown.{Shown};
 ghost use Rattle.sf_cli.specs.Work.{work_name_of, works, options_of};
 
 use clap::{Arg, ArgAction, Command};
-use sf_drive::{DRIVE_ABOUT, DRIVE_HELP, switch, with_drive_options};
-use sf_engines::{Engine, Shown};
+use sf_cli_drive::{DRIVE_ABOUT, DRIVE_HELP, switch, with_drive_options};
+use sf_cli_engines::{Engine, Shown};
 use std::alloc::{AllocError, Global};
 
 /// What a subcommand does.

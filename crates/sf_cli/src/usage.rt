@@ -2,16 +2,16 @@
 
 ghost use Rattle.std.specs.Prelude.{◌≡◌, ◌≢◌, [], IfSome, IfNone, IfOk, IfErr, map, string_bytes};
 ghost use Rattle.clap.specs.Words.{fault_of, kind_of};
-ghost use Rattle.sf_engines.specs.Engines.{name_of, shown_by};
-ghost use Rattle.sf_engines.specs.declared.engine.Engine as engines;
+ghost use Rattle.sf_cli_engines.specs.Engines.{name_of, shown_by};
+ghost use Rattle.sf_cli_engines.specs.declared.engine.Engine as engines;
 ghost use Rattle.sf_cli.specs.Work.{options_of};
-ghost use Rattle.sf_drive.specs.Words.{IsAskedLine, drive_app};
+ghost use Rattle.sf_cli_drive.specs.Words.{IsAskedLine, drive_app};
 ghost use Rattle.sf_cli.specs.Usage.{IsAskedBy, IsRefusedBy, IsUsageOf, IsWantOfMemory};
 
 use crate::table::{Work, named, program, shown};
 use clap::Error;
-use sf_drive::{DriveLine, drive_line};
-use sf_engines::Engine;
+use sf_cli_drive::{DriveLine, drive_line};
+use sf_cli_engines::Engine;
 use std::alloc::{AllocError, Global};
 use std::fmt;
 

@@ -2,29 +2,29 @@
 use Rattle.std.proofs.Common.{◌≡◌, ℕ, List, Option, Some, None, IfSome, Result, Ok, Err, IfOk, false, inl, refl, sym, ap, ◌∙◌, subst}
 use Rattle.std.specs.Option.{option_map}
 use Rattle.std.specs.declared.alloc.AllocError.{AllocError}
-use Rattle.sf_calls.specs.Tokens.{CallerValue, LetterValue}
+use Rattle.sf_group_rows.specs.Tokens.{CallerValue, LetterValue}
 use Rattle.sf_history.specs.declared.call.CallId.{CallId}
 use Rattle.sf_loaders.specs.declared.faults.LocalFault.{LocalFault}
 use Rattle.sf_loaders.specs.declared.faults.LocalFault.TheVariants as local
-use Rattle.sf_spots.specs.declared.key_place.KeyPlace.{KeyPlace}
-use Rattle.sf_spots.specs.declared.key_space.KeyDesk.{KeyDesk}
-use Rattle.sf_spots.specs.Spaces.{SpaceId}
-use Rattle.sf_spots.specs.Spots.{place_at, spot_key}
-use Rattle.sf_counters.specs.declared.totals.Totals.{Totals}
-use Rattle.sf_letters.specs.declared.fault.LoadFault.{LoadFault}
-use Rattle.sf_letters.specs.declared.fault.LoadFault.TheVariants as fault
-use Rattle.sf_store.specs.declared.standing.Standing.{Standing}
-use Rattle.sf_store.specs.declared.standing.Standing.TheVariants.{Free}
-use Rattle.sf_near.specs.Bytes.{AreBytesOf, FindsBytes}
+use Rattle.sf_fill_keys.specs.declared.key_place.KeyPlace.{KeyPlace}
+use Rattle.sf_fill_keys.specs.declared.key_space.KeyDesk.{KeyDesk}
+use Rattle.sf_fill_keys.specs.Spaces.{SpaceId}
+use Rattle.sf_fill_keys.specs.Spots.{place_at, spot_key}
+use Rattle.sf_fill_counters.specs.declared.totals.Totals.{Totals}
+use Rattle.sf_fill_values.specs.declared.fault.LoadFault.{LoadFault}
+use Rattle.sf_fill_values.specs.declared.fault.LoadFault.TheVariants as fault
+use Rattle.sf_fill_store.specs.declared.standing.Standing.{Standing}
+use Rattle.sf_fill_store.specs.declared.standing.Standing.TheVariants.{Free}
+use Rattle.sf_fill_near.specs.Bytes.{AreBytesOf, FindsBytes}
 use Rattle.sf_fill.specs.Bytes.{BringsBytes, LooksForBytes, bytes_by, bytes_in}
-use Rattle.sf_letters.specs.FillValue.{Filled}
-use Rattle.sf_counters.specs.GetCounts.{hit_counts}
-use Rattle.sf_letters.specs.Answers.{GetAnswer, IsLoadedFor, answer_by}
+use Rattle.sf_fill_values.specs.FillValue.{Filled}
+use Rattle.sf_fill_counters.specs.GetCounts.{hit_counts}
+use Rattle.sf_fill_values.specs.Answers.{GetAnswer, IsLoadedFor, answer_by}
 use Rattle.sf_fill.specs.GetterValue.{GetterValue}
-use Rattle.sf_store.specs.Standings.{is_owing}
+use Rattle.sf_fill_store.specs.Standings.{is_owing}
 use Rattle.sf_fill.specs.Hits.{IsAtHand, IsNoneAtHand, IsPresent, LooksAtHand, hit_answer}
-use Rattle.sf_store.specs.Logs.{LogValue}
-use Rattle.sf_counters.specs.Totals.{with_counts}
+use Rattle.sf_fill_store.specs.Logs.{LogValue}
+use Rattle.sf_fill_counters.specs.Totals.{with_counts}
 use Rattle.sf_fill.proofs.Once.{found_at_hand, looks_at_hand_on, present_fresh}
 
 -- a get's bytes, where a want of memory is a fault of its own

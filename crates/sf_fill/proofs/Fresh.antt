@@ -11,55 +11,55 @@ use Rattle.sf_history.specs.declared.event.Event.{Event}
 use Rattle.sf_history.specs.declared.event.Event.TheVariants as event
 use Rattle.sf_history.specs.History.{current_call}
 use Rattle.sf_history.specs.Legal.{IsLegal}
-use Rattle.sf_calls.specs.declared.outcomes.Finished.{Finished}
-use Rattle.sf_calls.specs.declared.outcomes.Finished.TheVariants.{Done, Held}
-use Rattle.sf_calls.specs.Tokens.{GroupValue, CallerValue, FlightValue, SettledValue, TicketValue, LetterValue}
-use Rattle.sf_calls.specs.Seen.{StartsWith, Stands, Grows, Adds}
-use Rattle.sf_calls.specs.Same.{HasNothing, IsStill, call_of}
-use Rattle.sf_calls.specs.Notes.{HasLent}
-use Rattle.sf_calls.specs.Begins.{HasJoined, IsRefusedSpent}
-use Rattle.sf_calls.specs.Finishes.{IsReady}
-use Rattle.sf_calls.proofs.AddsAgain.{starts_again, grows_again, grows_none, adds_again}
+use Rattle.sf_group_rows.specs.declared.outcomes.Finished.{Finished}
+use Rattle.sf_group_rows.specs.declared.outcomes.Finished.TheVariants.{Done, Held}
+use Rattle.sf_group_rows.specs.Tokens.{GroupValue, CallerValue, FlightValue, SettledValue, TicketValue, LetterValue}
+use Rattle.sf_group_rows.specs.Seen.{StartsWith, Stands, Grows, Adds}
+use Rattle.sf_group_rows.specs.Same.{HasNothing, IsStill, call_of}
+use Rattle.sf_group_rows.specs.Notes.{HasLent}
+use Rattle.sf_group_rows.specs.Begins.{HasJoined, IsRefusedSpent}
+use Rattle.sf_group_rows.specs.Finishes.{IsReady}
+use Rattle.sf_group_rows.proofs.AddsAgain.{starts_again, grows_again, grows_none, adds_again}
 use Rattle.sf_dir.specs.Known.{DirectoryId}
 use Rattle.sf_dir.specs.declared.refusal.Refusal.{Refusal}
 use Rattle.sf_dir.specs.declared.refusal.Refusal.TheVariants as refusal
 use Rattle.sf_loaders.specs.LoadPath.{LoadAnswer}
 use Rattle.sf_loaders.specs.declared.faults.LocalFault.{LocalFault}
 use Rattle.sf_loaders.specs.declared.faults.LocalFault.TheVariants as local
-use Rattle.sf_spots.specs.declared.key_space.KeyDesk.{KeyDesk}
-use Rattle.sf_spots.specs.declared.spot.Spot.{Spot}
-use Rattle.sf_spots.specs.declared.spot.Spot.TheVariants as spot
-use Rattle.sf_spots.specs.Spaces.{SpaceId}
-use Rattle.sf_spots.specs.Spots.{IsInSpace, IsOther, spot_place}
-use Rattle.sf_letters.specs.declared.fault.LoadFault.{LoadFault}
-use Rattle.sf_letters.specs.declared.fault.LoadFault.TheVariants as fault
-use Rattle.sf_store.specs.declared.forget.Forgot.{Forgot}
-use Rattle.sf_store.specs.declared.forget.Forgot.TheVariants as forgot
-use Rattle.sf_store.specs.declared.standing.Standing.{Standing}
-use Rattle.sf_store.specs.declared.standing.Standing.TheVariants.{Free, Owing}
-use Rattle.sf_counters.specs.declared.totals.GetCounts.{GetCounts}
-use Rattle.sf_counters.specs.declared.totals.Totals.{Totals}
+use Rattle.sf_fill_keys.specs.declared.key_space.KeyDesk.{KeyDesk}
+use Rattle.sf_fill_keys.specs.declared.spot.Spot.{Spot}
+use Rattle.sf_fill_keys.specs.declared.spot.Spot.TheVariants as spot
+use Rattle.sf_fill_keys.specs.Spaces.{SpaceId}
+use Rattle.sf_fill_keys.specs.Spots.{IsInSpace, IsOther, spot_place}
+use Rattle.sf_fill_values.specs.declared.fault.LoadFault.{LoadFault}
+use Rattle.sf_fill_values.specs.declared.fault.LoadFault.TheVariants as fault
+use Rattle.sf_fill_store.specs.declared.forget.Forgot.{Forgot}
+use Rattle.sf_fill_store.specs.declared.forget.Forgot.TheVariants as forgot
+use Rattle.sf_fill_store.specs.declared.standing.Standing.{Standing}
+use Rattle.sf_fill_store.specs.declared.standing.Standing.TheVariants.{Free, Owing}
+use Rattle.sf_fill_counters.specs.declared.totals.GetCounts.{GetCounts}
+use Rattle.sf_fill_counters.specs.declared.totals.Totals.{Totals}
 use Rattle.sf_fill.specs.Counted.{has_asking, is_asking, askings_in, IsCounted}
-use Rattle.sf_letters.specs.FillValue.{Filled, FitsFill, fill_lasts}
-use Rattle.sf_counters.specs.GetCounts.{get_alone}
-use Rattle.sf_store.specs.Found.{Found, Kept, Uncopied, Unmade, Spent, Joined, Led, HasFound, HasFoundFrom, HasMissed, HasRun, IsMiss, IsSource}
+use Rattle.sf_fill_values.specs.FillValue.{Filled, FitsFill, fill_lasts}
+use Rattle.sf_fill_counters.specs.GetCounts.{get_alone}
+use Rattle.sf_fill_store.specs.Found.{Found, Kept, Uncopied, Unmade, Spent, Joined, Led, HasFound, HasFoundFrom, HasMissed, HasRun, IsMiss, IsSource}
 use Rattle.sf_fill.specs.Fresh.{HasAdded, handed_by, delivered_by, IsFresh, IsAsking, IsAnswer, IsMissedEnter, AreMissed, IsUnanswered, IsOutdated, IsFreshGet, ForgetsOnce, IsReloading}
-use Rattle.sf_store.specs.Forgets.{forgot_by}
-use Rattle.sf_letters.specs.Answers.{GetAnswer, refusal_of, answer_by}
+use Rattle.sf_fill_store.specs.Forgets.{forgot_by}
+use Rattle.sf_fill_values.specs.Answers.{GetAnswer, refusal_of, answer_by}
 use Rattle.sf_fill.specs.Gets.{IsFoundGet, GetsFrom, HasGot}
-use Rattle.sf_store.specs.Replies.{Reply, reply_of}
+use Rattle.sf_fill_store.specs.Replies.{Reply, reply_of}
 use Rattle.sf_fill.specs.GetterValue.{GetterValue}
-use Rattle.sf_store.specs.Standings.{IsOfGroup, number_of, group_of, seen_of, is_owing}
-use Rattle.sf_store.specs.Logs.{logged_by}
+use Rattle.sf_fill_store.specs.Standings.{IsOfGroup, number_of, group_of, seen_of, is_owing}
+use Rattle.sf_fill_store.specs.Logs.{logged_by}
 use Rattle.sf_fill.specs.Owing.{HasDelivered}
 use Rattle.sf_fill.specs.Reloads.{ReloadsFrom, HasReloaded}
-use Rattle.sf_store.specs.Forgets.{HasForgotNamed, ForgetsNamed}
-use Rattle.sf_calls.specs.Unforgotten.{IsUnforgotten}
-use Rattle.sf_letters.specs.Settled.{HasOnlyLooked, IsSettled}
-use Rattle.sf_letters.proofs.Looks.{looked_again, still_looked}
+use Rattle.sf_fill_store.specs.Forgets.{HasForgotNamed, ForgetsNamed}
+use Rattle.sf_group_rows.specs.Unforgotten.{IsUnforgotten}
+use Rattle.sf_fill_values.specs.Settled.{HasOnlyLooked, IsSettled}
+use Rattle.sf_fill_values.proofs.Looks.{looked_again, still_looked}
 use Rattle.sf_fill.proofs.Outdated.{outdated}
-use Rattle.sf_calls.proofs.Moments.{first_added, led_current, entered_current, stands_more}
-use Rattle.sf_letters.proofs.Rooting.{root_unforgotten}
+use Rattle.sf_group_rows.proofs.Moments.{first_added, led_current, entered_current, stands_more}
+use Rattle.sf_fill_values.proofs.Rooting.{root_unforgotten}
 
 abbrev Seen : Type 0
 Seen = List (Event ℕ Filled)

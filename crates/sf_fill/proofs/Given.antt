@@ -1,29 +1,29 @@
 -- gets whose loaders give known bytes
 use Rattle.std.proofs.Common.{◌≡◌, ℕ, inl, inr, List, Some, None, Result, Ok, Err, refl, sym, ap, ◌∙◌, subst}
-use Rattle.sf_calls.specs.declared.outcomes.Finished.TheVariants.{Done, Held}
-use Rattle.sf_calls.specs.Tokens.{CallerValue, LetterValue}
+use Rattle.sf_group_rows.specs.declared.outcomes.Finished.TheVariants.{Done, Held}
+use Rattle.sf_group_rows.specs.Tokens.{CallerValue, LetterValue}
 use Rattle.sf_loaders.specs.declared.faults.LocalFault.{LocalFault}
 use Rattle.sf_loaders.specs.declared.faults.LocalFault.TheVariants as local
 use Rattle.sf_loaders.specs.Given.{KnownBytes, GivesKnown}
 use Rattle.sf_loaders.specs.LoadPath.{LoadAnswer}
-use Rattle.sf_spots.specs.declared.key_space.KeyDesk.{KeyDesk}
-use Rattle.sf_spots.specs.declared.spot.Spot.{Spot}
-use Rattle.sf_spots.specs.Spaces.{SpaceId}
-use Rattle.sf_letters.specs.declared.fault.LoadFault.{LoadFault}
-use Rattle.sf_store.specs.declared.standing.Standing.{Standing}
-use Rattle.sf_store.specs.declared.standing.Standing.TheVariants.{Free, Owing}
+use Rattle.sf_fill_keys.specs.declared.key_space.KeyDesk.{KeyDesk}
+use Rattle.sf_fill_keys.specs.declared.spot.Spot.{Spot}
+use Rattle.sf_fill_keys.specs.Spaces.{SpaceId}
+use Rattle.sf_fill_values.specs.declared.fault.LoadFault.{LoadFault}
+use Rattle.sf_fill_store.specs.declared.standing.Standing.{Standing}
+use Rattle.sf_fill_store.specs.declared.standing.Standing.TheVariants.{Free, Owing}
 use Rattle.sf_fill.specs.declared.put.Put.TheVariants.{Settled, Met}
-use Rattle.sf_counters.specs.declared.totals.GetCounts.{GetCounts}
-use Rattle.sf_counters.specs.declared.totals.Totals.{Totals}
+use Rattle.sf_fill_counters.specs.declared.totals.GetCounts.{GetCounts}
+use Rattle.sf_fill_counters.specs.declared.totals.Totals.{Totals}
 use Rattle.sf_fill.specs.Counted.{IsCounted}
-use Rattle.sf_letters.specs.FillValue.{Filled}
-use Rattle.sf_store.specs.Found.{Found, Kept, Uncopied, Unmade, Spent, Joined, Led, HasFoundFrom, HasRun, bytes_in}
+use Rattle.sf_fill_values.specs.FillValue.{Filled}
+use Rattle.sf_fill_store.specs.Found.{Found, Kept, Uncopied, Unmade, Spent, Joined, Led, HasFoundFrom, HasRun, bytes_in}
 use Rattle.sf_fill.specs.Fresh.{IsFreshGet}
-use Rattle.sf_letters.specs.Answers.{GetAnswer, answer_by}
+use Rattle.sf_fill_values.specs.Answers.{GetAnswer, answer_by}
 use Rattle.sf_fill.specs.Gets.{GetsFrom, HasGot}
-use Rattle.sf_store.specs.Replies.{Reply, reply_of}
+use Rattle.sf_fill_store.specs.Replies.{Reply, reply_of}
 use Rattle.sf_fill.specs.GetterValue.{GetterValue, with_loaders}
-use Rattle.sf_store.specs.Logs.{LogValue}
+use Rattle.sf_fill_store.specs.Logs.{LogValue}
 use Rattle.sf_fill.specs.Puts.{GetsGiven, HasBytes, PutAnswer, got_by}
 
 -- the letter has the bytes, of its own call's run

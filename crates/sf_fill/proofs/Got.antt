@@ -1,14 +1,14 @@
 -- gets and reloads, over the parts of their getters
 use Rattle.std.proofs.Common.{◌≡◌, ℕ, List, Result, sym, subst, refl}
-use Rattle.sf_spots.specs.declared.key_space.KeyDesk.{KeyDesk}
-use Rattle.sf_spots.specs.Spaces.{SpaceId}
-use Rattle.sf_letters.specs.declared.fault.LoadFault.{LoadFault}
-use Rattle.sf_store.specs.declared.forget.Forgot.{Forgot}
-use Rattle.sf_store.specs.declared.standing.Standing.{Standing}
-use Rattle.sf_counters.specs.declared.totals.Totals.{Totals}
-use Rattle.sf_letters.specs.FillValue.{Filled}
+use Rattle.sf_fill_keys.specs.declared.key_space.KeyDesk.{KeyDesk}
+use Rattle.sf_fill_keys.specs.Spaces.{SpaceId}
+use Rattle.sf_fill_values.specs.declared.fault.LoadFault.{LoadFault}
+use Rattle.sf_fill_store.specs.declared.forget.Forgot.{Forgot}
+use Rattle.sf_fill_store.specs.declared.standing.Standing.{Standing}
+use Rattle.sf_fill_counters.specs.declared.totals.Totals.{Totals}
+use Rattle.sf_fill_values.specs.FillValue.{Filled}
 use Rattle.sf_fill.specs.GetterValue.{GetterValue}
-use Rattle.sf_store.specs.Logs.{LogValue}
+use Rattle.sf_fill_store.specs.Logs.{LogValue}
 use Rattle.sf_fill.specs.Owing.{HasSettledUp}
 use Rattle.sf_fill.specs.Reloads.{ReloadsFrom, HasReloaded}
 

@@ -1,21 +1,21 @@
 -- what each step of a getter logs is what it added
 use Rattle.std.proofs.Common.{◌≡◌, ℕ, List, sym, ap, ◌∙◌, subst}
 use Rattle.sf_history.specs.declared.event.Event.{Event}
-use Rattle.sf_calls.specs.Tokens.{CallerValue}
-use Rattle.sf_spots.specs.declared.key_space.KeyDesk.{KeyDesk}
-use Rattle.sf_counters.specs.declared.totals.Totals.{Totals}
-use Rattle.sf_store.specs.declared.standing.Standing.{Standing}
-use Rattle.sf_store.specs.declared.forget.Forgot.{Forgot}
-use Rattle.sf_letters.specs.FillValue.{Filled}
+use Rattle.sf_group_rows.specs.Tokens.{CallerValue}
+use Rattle.sf_fill_keys.specs.declared.key_space.KeyDesk.{KeyDesk}
+use Rattle.sf_fill_counters.specs.declared.totals.Totals.{Totals}
+use Rattle.sf_fill_store.specs.declared.standing.Standing.{Standing}
+use Rattle.sf_fill_store.specs.declared.forget.Forgot.{Forgot}
+use Rattle.sf_fill_values.specs.FillValue.{Filled}
 use Rattle.sf_fill.specs.Fresh.{HasAdded, delivered_by}
-use Rattle.sf_store.specs.Forgets.{forgot_by}
+use Rattle.sf_fill_store.specs.Forgets.{forgot_by}
 use Rattle.sf_fill.specs.GetterValue.{GetterValue}
-use Rattle.sf_store.specs.Standings.{number_of, seen_of}
-use Rattle.sf_store.specs.Logs.{LogValue, HasLogged, logged_by}
+use Rattle.sf_fill_store.specs.Standings.{number_of, seen_of}
+use Rattle.sf_fill_store.specs.Logs.{LogValue, HasLogged, logged_by}
 use Rattle.sf_fill.specs.Owing.{HasDelivered, HasSettledUp}
-use Rattle.sf_store.specs.Forgets.{ForgetsNamed}
+use Rattle.sf_fill_store.specs.Forgets.{ForgetsNamed}
 use Rattle.sf_fill.proofs.Fresh.{delivered, forget_moved}
-use Rattle.sf_store.proofs.Logging.{logs_again, logs_added, logs_these}
+use Rattle.sf_fill_store.proofs.Logging.{logs_again, logs_added, logs_these}
 
 abbrev Seen : Type 0
 Seen = List (Event ℕ Filled)

@@ -2,39 +2,39 @@
 use Rattle.std.proofs.Common.{◌≡◌, ℕ, List, true, false, Option, Some, None, IfSome, Result, Ok, Err, inl, inr, refl, sym, ap, ◌∙◌, subst}
 use Rattle.sf_history.specs.declared.call.CallId.{CallId}
 use Rattle.std.specs.declared.alloc.AllocError.{AllocError}
-use Rattle.sf_calls.specs.Tokens.{GroupValue, CallerValue, LetterValue}
+use Rattle.sf_group_rows.specs.Tokens.{GroupValue, CallerValue, LetterValue}
 use Rattle.sf_dir.specs.declared.refusal.Refusal.{Refusal}
-use Rattle.sf_spots.specs.declared.key_place.KeyPlace.{KeyPlace}
-use Rattle.sf_spots.specs.declared.key_space.KeyDesk.{KeyDesk}
-use Rattle.sf_spots.specs.declared.spot.Spot.{Spot}
-use Rattle.sf_spots.specs.Spaces.{SpaceId}
-use Rattle.sf_spots.specs.Spots.{IsRefusedSpot, IsSeeingSpace, IsSpotOfKey, place_at, spot_place}
+use Rattle.sf_fill_keys.specs.declared.key_place.KeyPlace.{KeyPlace}
+use Rattle.sf_fill_keys.specs.declared.key_space.KeyDesk.{KeyDesk}
+use Rattle.sf_fill_keys.specs.declared.spot.Spot.{Spot}
+use Rattle.sf_fill_keys.specs.Spaces.{SpaceId}
+use Rattle.sf_fill_keys.specs.Spots.{IsRefusedSpot, IsSeeingSpace, IsSpotOfKey, place_at, spot_place}
 use Rattle.sf_loaders.specs.LoadPath.{LoadAnswer}
-use Rattle.sf_counters.specs.declared.totals.GetCounts.{GetCounts}
-use Rattle.sf_counters.specs.declared.totals.Totals.{Totals}
-use Rattle.sf_letters.specs.declared.fault.LoadFault.{LoadFault}
-use Rattle.sf_letters.specs.declared.fault.LoadFault.TheVariants as fault
-use Rattle.sf_store.specs.declared.standing.Standing.{Standing}
-use Rattle.sf_store.specs.declared.standing.Standing.TheVariants.{Free, Owing}
-use Rattle.sf_letters.specs.FillValue.{Filled}
-use Rattle.sf_counters.specs.GetCounts.{get_alone, hit_counts}
-use Rattle.sf_store.specs.Found.{Found, HasFoundFrom, Kept, Uncopied}
+use Rattle.sf_fill_counters.specs.declared.totals.GetCounts.{GetCounts}
+use Rattle.sf_fill_counters.specs.declared.totals.Totals.{Totals}
+use Rattle.sf_fill_values.specs.declared.fault.LoadFault.{LoadFault}
+use Rattle.sf_fill_values.specs.declared.fault.LoadFault.TheVariants as fault
+use Rattle.sf_fill_store.specs.declared.standing.Standing.{Standing}
+use Rattle.sf_fill_store.specs.declared.standing.Standing.TheVariants.{Free, Owing}
+use Rattle.sf_fill_values.specs.FillValue.{Filled}
+use Rattle.sf_fill_counters.specs.GetCounts.{get_alone, hit_counts}
+use Rattle.sf_fill_store.specs.Found.{Found, HasFoundFrom, Kept, Uncopied}
 use Rattle.sf_fill.specs.Fresh.{IsFreshGet, delivered_by}
-use Rattle.sf_letters.specs.Answers.{GetAnswer, answer_in, refusal_of}
+use Rattle.sf_fill_values.specs.Answers.{GetAnswer, answer_in, refusal_of}
 use Rattle.sf_fill.specs.Gets.{GetsFrom, GetsOnce, HasAsked, HasGot, IsFoundGet, LooksFrom}
-use Rattle.sf_store.specs.Replies.{Reply, reply_of}
+use Rattle.sf_fill_store.specs.Replies.{Reply, reply_of}
 use Rattle.sf_fill.specs.Hits.{IsAbsent, IsAtHand, IsNoneAtHand, IsPresent, LooksAtHand, hit_answer}
 use Rattle.sf_fill.specs.GetterValue.{GetterValue}
-use Rattle.sf_store.specs.Standings.{IsOfGroup, is_owing, number_of, seen_of}
-use Rattle.sf_store.specs.Logs.{LogValue, HasLogged, logged_by}
+use Rattle.sf_fill_store.specs.Standings.{IsOfGroup, is_owing, number_of, seen_of}
+use Rattle.sf_fill_store.specs.Logs.{LogValue, HasLogged, logged_by}
 use Rattle.sf_fill.specs.Owing.{HasDelivered, HasSettledUp}
-use Rattle.sf_letters.specs.Settled.{HasLookedOn, HasOnlyLooked}
-use Rattle.sf_counters.specs.Totals.{with_counts}
+use Rattle.sf_fill_values.specs.Settled.{HasLookedOn, HasOnlyLooked}
+use Rattle.sf_fill_counters.specs.Totals.{with_counts}
 use Rattle.sf_fill.proofs.Fresh.{fresh, group_found}
-use Rattle.sf_store.proofs.Logging.{logs_none}
+use Rattle.sf_fill_store.proofs.Logging.{logs_none}
 use Rattle.sf_fill.proofs.LogSteps.{logs_once}
-use Rattle.sf_store.proofs.LogSteps.{logs_looked}
-use Rattle.sf_letters.proofs.Looks.{looked_again, looked_on, looked_twice, still_looked}
+use Rattle.sf_fill_store.proofs.LogSteps.{logs_looked}
+use Rattle.sf_fill_values.proofs.Looks.{looked_again, looked_on, looked_twice, still_looked}
 
 module _ {E : Type 0} where
   only_looked : (c d : CallerValue Filled) (place : ℕ) (found : Option (Result (LetterValue Filled) E)) → HasLookedOn c place found d → HasOnlyLooked c d

@@ -14,15 +14,15 @@ use Rattle.sf_history.specs.History.{names, holds_call, own_events, current_call
 use Rattle.sf_history.specs.Legal.{IsLegal}
 use Rattle.sf_history.proofs.Currents.{current_past_longer, current_is_last_led, forgotten_is_past}
 use Rattle.sf_history.proofs.LegalHistories.{same_call_is, same_call_self}
-use Rattle.sf_calls.specs.Tokens.{CallerValue}
-use Rattle.sf_calls.specs.Seen.{StartsWith}
-use Rattle.sf_calls.proofs.AddsAgain.{starts_again}
-use Rattle.sf_calls.proofs.Moments.{current_unforgotten, first_added, legal_before}
-use Rattle.sf_store.specs.declared.forget.Forgot.{Forgot}
-use Rattle.sf_store.specs.declared.forget.Forgot.TheVariants as forgot
-use Rattle.sf_letters.specs.FillValue.{Filled}
+use Rattle.sf_group_rows.specs.Tokens.{CallerValue}
+use Rattle.sf_group_rows.specs.Seen.{StartsWith}
+use Rattle.sf_group_rows.proofs.AddsAgain.{starts_again}
+use Rattle.sf_group_rows.proofs.Moments.{current_unforgotten, first_added, legal_before}
+use Rattle.sf_fill_store.specs.declared.forget.Forgot.{Forgot}
+use Rattle.sf_fill_store.specs.declared.forget.Forgot.TheVariants as forgot
+use Rattle.sf_fill_values.specs.FillValue.{Filled}
 use Rattle.sf_fill.specs.Fresh.{IsOutdated}
-use Rattle.sf_store.specs.Forgets.{HasForgotNamed, ForgetsNamed}
+use Rattle.sf_fill_store.specs.Forgets.{HasForgotNamed, ForgetsNamed}
 
 abbrev Seen : Type 0
 Seen = List (Event ℕ Filled)

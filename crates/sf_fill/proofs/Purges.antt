@@ -2,21 +2,21 @@
 use Rattle.std.proofs.Common.{◌≡◌, ℕ, suc, ◌+◌, ◌≤◌, ◌<◌, true, false, List, [], ◌++◌, Result, Ok, Err, refl, sym, ap, ◌∙◌, subst, append_assoc, arith, inl, inr, ◌⊎◌}
 use Rattle.std.proofs.Math.Nat.{eq-or-lt_of_le}
 use Rattle.sf_history.specs.declared.event.Event.{Event}
-use Rattle.sf_calls.specs.Tokens.{GroupValue, CallerValue, SettledValue}
-use Rattle.sf_spots.specs.declared.key_space.KeyDesk.{KeyDesk}
-use Rattle.sf_store.specs.declared.forget.Forgot.{Forgot}
-use Rattle.sf_store.specs.declared.standing.Standing.{Standing}
-use Rattle.sf_store.specs.declared.standing.Standing.TheVariants.{Free, Owing}
-use Rattle.sf_letters.specs.FillValue.{Filled}
+use Rattle.sf_group_rows.specs.Tokens.{GroupValue, CallerValue, SettledValue}
+use Rattle.sf_fill_keys.specs.declared.key_space.KeyDesk.{KeyDesk}
+use Rattle.sf_fill_store.specs.declared.forget.Forgot.{Forgot}
+use Rattle.sf_fill_store.specs.declared.standing.Standing.{Standing}
+use Rattle.sf_fill_store.specs.declared.standing.Standing.TheVariants.{Free, Owing}
+use Rattle.sf_fill_values.specs.FillValue.{Filled}
 use Rattle.sf_fill.specs.Fresh.{HasAdded, IsOutdated, delivered_by, handed_by}
-use Rattle.sf_store.specs.Forgets.{forgot_by}
+use Rattle.sf_fill_store.specs.Forgets.{forgot_by}
 use Rattle.sf_fill.specs.GetterValue.{GetterValue}
-use Rattle.sf_store.specs.Standings.{number_of, seen_of}
-use Rattle.sf_store.specs.Logs.{LogValue, logged_by}
+use Rattle.sf_fill_store.specs.Standings.{number_of, seen_of}
+use Rattle.sf_fill_store.specs.Logs.{LogValue, logged_by}
 use Rattle.sf_fill.specs.Purges.{ForgetsAll, HasForgottenFirst}
-use Rattle.sf_counters.specs.declared.totals.Totals.{Totals}
+use Rattle.sf_fill_counters.specs.declared.totals.Totals.{Totals}
 use Rattle.sf_fill.specs.Owing.{HasSettledUp}
-use Rattle.sf_store.specs.Forgets.{ForgetsNamed}
+use Rattle.sf_fill_store.specs.Forgets.{ForgetsNamed}
 use Rattle.sf_fill.proofs.Fresh.{added_none, added_more, forget_moved, none_forgot}
 use Rattle.sf_fill.proofs.Outdated.{current_names, names_more, outdated, past_after}
 

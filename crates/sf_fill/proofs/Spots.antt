@@ -1,12 +1,12 @@
 -- spots of one key
 use Rattle.std.proofs.Common.{◌≡◌, ℕ, List, Result, Ok, IfOk, inl, inr, sym, ◌∙◌, subst}
 use Rattle.sf_dir.specs.declared.refusal.Refusal.{Refusal}
-use Rattle.sf_spots.specs.declared.key_place.KeyPlace.{KeyPlace}
-use Rattle.sf_spots.specs.declared.key_space.KeyDesk.{KeyDesk}
-use Rattle.sf_spots.specs.declared.spot.Spot.{Spot}
-use Rattle.sf_spots.specs.declared.spot.Spot.TheVariants.{Directory, Hashed}
-use Rattle.sf_spots.specs.Spaces.{SpaceId}
-use Rattle.sf_spots.specs.Spots.{AreOfOneSpace, IsInSpace, IsSpotOfKey, MayBe, spot_at, spot_key}
+use Rattle.sf_fill_keys.specs.declared.key_place.KeyPlace.{KeyPlace}
+use Rattle.sf_fill_keys.specs.declared.key_space.KeyDesk.{KeyDesk}
+use Rattle.sf_fill_keys.specs.declared.spot.Spot.{Spot}
+use Rattle.sf_fill_keys.specs.declared.spot.Spot.TheVariants.{Directory, Hashed}
+use Rattle.sf_fill_keys.specs.Spaces.{SpaceId}
+use Rattle.sf_fill_keys.specs.Spots.{AreOfOneSpace, IsInSpace, IsSpotOfKey, MayBe, spot_at, spot_key}
 
 -- two spots of one space
 pub of_one_space : (s : SpaceId) (p q : Spot) → IsInSpace s p → IsInSpace s q → AreOfOneSpace p q

@@ -3,8 +3,8 @@ use Rattle.std.proofs.Common.{◌≡◌, ℕ, ◌+◌, List, [], ◌∷◌, ◌+
 use Rattle.std.proofs.lemmas.List.{map-append}
 use Rattle.std.proofs.lemmas.List.Sums.{sum_by-append, sum_by-cons}
 use Rattle.std.specs.List.{sum_by}
-use Rattle.sf_counters.specs.declared.totals.Totals.{Totals}
-use Rattle.sf_counters.specs.Totals.{same_each, sums_of, plus}
+use Rattle.sf_fill_counters.specs.declared.totals.Totals.{Totals}
+use Rattle.sf_fill_counters.specs.Totals.{same_each, sums_of, plus}
 use Rattle.sf_fill.specs.GetterValue.{GetterValue}
 
 sum_last : (f : Totals → ℕ) (xs : List Totals) (x : Totals) (all : ℕ) → (all + f x) + sum_by f xs ≡ all + sum_by f (xs ++ x ∷ [])

@@ -9,17 +9,17 @@ use Rattle.sf_history.specs.declared.event.Event.TheVariants.{Lead, ForgetCall}
 use Rattle.sf_history.specs.declared.event.Hit.TheVariants as hit
 use Rattle.sf_history.specs.History.{own_events, current_call}
 use Rattle.sf_history.specs.Legal.{IsLegal}
-use Rattle.sf_calls.specs.Seen.{StartsWith, Stands}
-use Rattle.sf_calls.specs.Unforgotten.{forgets, IsUnforgotten}
-use Rattle.sf_calls.proofs.AddsAgain.{starts_again}
-use Rattle.sf_calls.proofs.Moments.{legal_before, stands_more, stands_own}
-use Rattle.sf_store.specs.declared.forget.Forgot.{Forgot}
-use Rattle.sf_store.specs.declared.forget.Forgot.TheVariants as forgot
-use Rattle.sf_letters.specs.FillValue.{Filled}
+use Rattle.sf_group_rows.specs.Seen.{StartsWith, Stands}
+use Rattle.sf_group_rows.specs.Unforgotten.{forgets, IsUnforgotten}
+use Rattle.sf_group_rows.proofs.AddsAgain.{starts_again}
+use Rattle.sf_group_rows.proofs.Moments.{legal_before, stands_more, stands_own}
+use Rattle.sf_fill_store.specs.declared.forget.Forgot.{Forgot}
+use Rattle.sf_fill_store.specs.declared.forget.Forgot.TheVariants as forgot
+use Rattle.sf_fill_values.specs.FillValue.{Filled}
 use Rattle.sf_fill.specs.Fresh.{handed_by}
-use Rattle.sf_store.specs.Forgets.{forgot_by}
-use Rattle.sf_spots.specs.Spots.{spot_place}
-use Rattle.sf_store.specs.Standings.{number_of, seen_of}
+use Rattle.sf_fill_store.specs.Forgets.{forgot_by}
+use Rattle.sf_fill_keys.specs.Spots.{spot_place}
+use Rattle.sf_fill_store.specs.Standings.{number_of, seen_of}
 use Rattle.sf_fill.specs.Notes.{IsLedAfter, IsLoadedAfter, NotesCarryReloads, NotesCarryPurges}
 use Rattle.sf_fill.proofs.Outdated.{current_names, names_more, past_after}
 

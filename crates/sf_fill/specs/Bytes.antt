@@ -1,18 +1,18 @@
 -- the bytes alone of what is answered
 use Rattle.std.specs.Prelude.{◌≡◌, ℕ, List, Option, Result, Ok, Err, IfOk}
 use Rattle.std.specs.Option.{option_map}
-use Rattle.sf_calls.specs.Tokens.{LetterValue}
+use Rattle.sf_group_rows.specs.Tokens.{LetterValue}
 use Rattle.sf_history.specs.declared.call.CallId.{CallId}
 use Rattle.sf_loaders.specs.declared.faults.LocalFault.{LocalFault}
 use Rattle.sf_loaders.specs.declared.faults.LocalFault.TheVariants as local
-use Rattle.sf_spots.specs.declared.key_place.KeyPlace.{KeyPlace}
-use Rattle.sf_spots.specs.Spaces.{SpaceId}
-use Rattle.sf_spots.specs.Spots.{spot_key}
-use Rattle.sf_letters.specs.declared.fault.LoadFault.{LoadFault}
-use Rattle.sf_letters.specs.declared.fault.LoadFault.TheVariants as fault
-use Rattle.sf_letters.specs.FillValue.{Filled}
+use Rattle.sf_fill_keys.specs.declared.key_place.KeyPlace.{KeyPlace}
+use Rattle.sf_fill_keys.specs.Spaces.{SpaceId}
+use Rattle.sf_fill_keys.specs.Spots.{spot_key}
+use Rattle.sf_fill_values.specs.declared.fault.LoadFault.{LoadFault}
+use Rattle.sf_fill_values.specs.declared.fault.LoadFault.TheVariants as fault
+use Rattle.sf_fill_values.specs.FillValue.{Filled}
 use Rattle.sf_fill.specs.Fresh.{IsFreshGet}
-use Rattle.sf_letters.specs.Answers.{GetAnswer, IsLoadedFor}
+use Rattle.sf_fill_values.specs.Answers.{GetAnswer, IsLoadedFor}
 use Rattle.sf_fill.specs.GetterValue.{GetterValue}
 use Rattle.sf_fill.specs.Hits.{IsPresent, LooksAtHand}
 

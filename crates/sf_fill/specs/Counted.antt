@@ -4,11 +4,11 @@ use Rattle.std.specs.List.{list_any, sum_by}
 use Rattle.sf_history.specs.declared.event.Event.{Event}
 use Rattle.sf_history.specs.declared.event.Event.TheVariants.{Lead, Enter, Forget, ForgetCall, Settle, Handed}
 use Rattle.sf_history.specs.History.{own_events}
-use Rattle.sf_calls.specs.Seen.{StartsWith}
-use Rattle.sf_letters.specs.FillValue.{Filled}
-use Rattle.sf_letters.specs.Answers.{GetAnswer}
+use Rattle.sf_group_rows.specs.Seen.{StartsWith}
+use Rattle.sf_fill_values.specs.FillValue.{Filled}
+use Rattle.sf_fill_values.specs.Answers.{GetAnswer}
 use Rattle.sf_fill.specs.GetterValue.{GetterValue}
-use Rattle.sf_store.specs.Standings.{number_of, seen_of}
+use Rattle.sf_fill_store.specs.Standings.{number_of, seen_of}
 
 module _ {V : Type 0} where
   -- the event asks: it leads a call, or joins one

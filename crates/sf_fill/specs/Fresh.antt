@@ -4,25 +4,25 @@ use Rattle.sf_history.specs.declared.call.CallId.{CallId}
 use Rattle.sf_history.specs.declared.event.Event.{Event}
 use Rattle.sf_history.specs.declared.event.Event.TheVariants.{Lead, Enter, Settle, Handed}
 use Rattle.sf_history.specs.History.{current_call}
-use Rattle.sf_calls.specs.Tokens.{LetterValue}
-use Rattle.sf_calls.specs.Seen.{StartsWith, Stands, IsLawful, Grows}
-use Rattle.sf_spots.specs.declared.spot.Spot.{Spot}
-use Rattle.sf_spots.specs.Spaces.{SpaceId}
-use Rattle.sf_spots.specs.Spots.{IsOther, IsSpotOfKey, spot_place}
+use Rattle.sf_group_rows.specs.Tokens.{LetterValue}
+use Rattle.sf_group_rows.specs.Seen.{StartsWith, Stands, IsLawful, Grows}
+use Rattle.sf_fill_keys.specs.declared.spot.Spot.{Spot}
+use Rattle.sf_fill_keys.specs.Spaces.{SpaceId}
+use Rattle.sf_fill_keys.specs.Spots.{IsOther, IsSpotOfKey, spot_place}
 use Rattle.sf_loaders.specs.declared.faults.LocalFault.TheVariants as local
-use Rattle.sf_letters.specs.declared.fault.LoadFault.{LoadFault}
-use Rattle.sf_letters.specs.declared.fault.LoadFault.TheVariants as fault
-use Rattle.sf_store.specs.declared.forget.Forgot.{Forgot}
-use Rattle.sf_store.specs.declared.standing.Standing.{Standing}
-use Rattle.sf_store.specs.declared.standing.Standing.TheVariants.{Free, Owing}
+use Rattle.sf_fill_values.specs.declared.fault.LoadFault.{LoadFault}
+use Rattle.sf_fill_values.specs.declared.fault.LoadFault.TheVariants as fault
+use Rattle.sf_fill_store.specs.declared.forget.Forgot.{Forgot}
+use Rattle.sf_fill_store.specs.declared.standing.Standing.{Standing}
+use Rattle.sf_fill_store.specs.declared.standing.Standing.TheVariants.{Free, Owing}
 use Rattle.sf_fill.specs.Counted.{askings_in}
-use Rattle.sf_letters.specs.FillValue.{Filled}
-use Rattle.sf_letters.specs.Answers.{GetAnswer}
-use Rattle.sf_store.specs.Logs.{logged_by}
-use Rattle.sf_store.specs.Forgets.{forgot_by}
+use Rattle.sf_fill_values.specs.FillValue.{Filled}
+use Rattle.sf_fill_values.specs.Answers.{GetAnswer}
+use Rattle.sf_fill_store.specs.Logs.{logged_by}
+use Rattle.sf_fill_store.specs.Forgets.{forgot_by}
 use Rattle.sf_fill.specs.GetterValue.{GetterValue}
-use Rattle.sf_store.specs.Standings.{number_of, group_of, seen_of, is_owing}
-use Rattle.sf_calls.specs.Unforgotten.{IsUnforgotten}
+use Rattle.sf_fill_store.specs.Standings.{number_of, group_of, seen_of, is_owing}
+use Rattle.sf_group_rows.specs.Unforgotten.{IsUnforgotten}
 
 -- A caller that stays the same has seen more, in which it made these events, with a generation for each asking among them. All
 -- that it has seen is a legal history of the group's callers, or what it was.

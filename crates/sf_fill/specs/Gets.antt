@@ -1,26 +1,26 @@
 -- how gets end
 use Rattle.std.specs.Prelude.{◌≡◌, ℕ, ◌⊎◌, List, Option, None, Result, Err}
 use Rattle.sf_history.specs.declared.call.CallId.{CallId}
-use Rattle.sf_calls.specs.Tokens.{CallerValue, LetterValue}
-use Rattle.sf_spots.specs.declared.key_space.KeyDesk.{KeyDesk}
-use Rattle.sf_spots.specs.declared.spot.Spot.{Spot}
-use Rattle.sf_spots.specs.Spaces.{SpaceId}
-use Rattle.sf_spots.specs.Spots.{IsSpotOfKey, IsRefusedSpot, IsSeeingSpace}
+use Rattle.sf_group_rows.specs.Tokens.{CallerValue, LetterValue}
+use Rattle.sf_fill_keys.specs.declared.key_space.KeyDesk.{KeyDesk}
+use Rattle.sf_fill_keys.specs.declared.spot.Spot.{Spot}
+use Rattle.sf_fill_keys.specs.Spaces.{SpaceId}
+use Rattle.sf_fill_keys.specs.Spots.{IsSpotOfKey, IsRefusedSpot, IsSeeingSpace}
 use Rattle.sf_dir.specs.declared.refusal.Refusal.{Refusal}
 use Rattle.sf_loaders.specs.LoadPath.{LoadAnswer}
-use Rattle.sf_letters.specs.declared.fault.LoadFault.TheVariants as fault
-use Rattle.sf_store.specs.declared.standing.Standing.{Standing}
-use Rattle.sf_store.specs.declared.standing.Standing.TheVariants.{Free, Owing}
-use Rattle.sf_counters.specs.declared.totals.GetCounts.{GetCounts}
-use Rattle.sf_letters.specs.Answers.{GetAnswer, refusal_of}
-use Rattle.sf_letters.specs.FillValue.{Filled}
-use Rattle.sf_counters.specs.GetCounts.{get_alone}
-use Rattle.sf_store.specs.Found.{Found, HasFound, HasFoundFrom}
-use Rattle.sf_store.specs.Replies.{Reply, reply_of}
+use Rattle.sf_fill_values.specs.declared.fault.LoadFault.TheVariants as fault
+use Rattle.sf_fill_store.specs.declared.standing.Standing.{Standing}
+use Rattle.sf_fill_store.specs.declared.standing.Standing.TheVariants.{Free, Owing}
+use Rattle.sf_fill_counters.specs.declared.totals.GetCounts.{GetCounts}
+use Rattle.sf_fill_values.specs.Answers.{GetAnswer, refusal_of}
+use Rattle.sf_fill_values.specs.FillValue.{Filled}
+use Rattle.sf_fill_counters.specs.GetCounts.{get_alone}
+use Rattle.sf_fill_store.specs.Found.{Found, HasFound, HasFoundFrom}
+use Rattle.sf_fill_store.specs.Replies.{Reply, reply_of}
 use Rattle.sf_fill.specs.GetterValue.{GetterValue}
 use Rattle.sf_fill.specs.Owing.{HasSettledUp}
-use Rattle.sf_letters.specs.Settled.{HasLookedOn}
-use Rattle.sf_counters.specs.Totals.{with_counts}
+use Rattle.sf_fill_values.specs.Settled.{HasLookedOn}
+use Rattle.sf_fill_counters.specs.Totals.{with_counts}
 
 -- a look for letters, which only a free caller makes
 module _ {E : Type 0} where

@@ -1,13 +1,13 @@
 -- what contracts see of a getter
 use Rattle.std.specs.Prelude.{ℕ}
-use Rattle.sf_calls.specs.Tokens.{CallerValue}
-use Rattle.sf_spots.specs.declared.key_space.KeyDesk.{KeyDesk}
-use Rattle.sf_store.specs.declared.standing.Standing.{Standing}
-use Rattle.sf_store.specs.declared.standing.Standing.TheVariants.{Free}
-use Rattle.sf_counters.specs.declared.totals.Totals.{Totals}
-use Rattle.sf_letters.specs.FillValue.{Filled}
-use Rattle.sf_counters.specs.Ledgers.{nothing_counted}
-use Rattle.sf_store.specs.Logs.{LogValue, empty_log}
+use Rattle.sf_group_rows.specs.Tokens.{CallerValue}
+use Rattle.sf_fill_keys.specs.declared.key_space.KeyDesk.{KeyDesk}
+use Rattle.sf_fill_store.specs.declared.standing.Standing.{Standing}
+use Rattle.sf_fill_store.specs.declared.standing.Standing.TheVariants.{Free}
+use Rattle.sf_fill_counters.specs.declared.totals.Totals.{Totals}
+use Rattle.sf_fill_values.specs.FillValue.{Filled}
+use Rattle.sf_fill_counters.specs.Ledgers.{nothing_counted}
+use Rattle.sf_fill_store.specs.Logs.{LogValue, empty_log}
 
 -- its desk, its caller, which is free or owes letters, its loaders, what it has counted, and its log
 pub record GetterValue (L : Type 0) : Type 0 where

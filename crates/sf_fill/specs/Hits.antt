@@ -1,19 +1,19 @@
 -- gets that a letter at hand answers, and looks that find none
 use Rattle.std.specs.Prelude.{◌≡◌, ℕ, List, Option, None, Some, Result, Ok, Err, IfOk, IfSome}
 use Rattle.std.specs.declared.alloc.AllocError.{AllocError}
-use Rattle.sf_calls.specs.Tokens.{LetterValue}
+use Rattle.sf_group_rows.specs.Tokens.{LetterValue}
 use Rattle.sf_history.specs.declared.call.CallId.{CallId}
-use Rattle.sf_spots.specs.declared.key_place.KeyPlace.{KeyPlace}
-use Rattle.sf_spots.specs.declared.spot.Spot.{Spot}
-use Rattle.sf_spots.specs.Spaces.{SpaceId}
-use Rattle.sf_spots.specs.Spots.{IsSeeingSpace, IsSpotOfKey, place_at, spot_key, spot_place}
-use Rattle.sf_letters.specs.declared.fault.LoadFault.TheVariants as fault
-use Rattle.sf_letters.specs.FillValue.{Filled}
-use Rattle.sf_counters.specs.GetCounts.{hit_counts}
-use Rattle.sf_letters.specs.Answers.{GetAnswer, IsLoadedFor, answer_in}
+use Rattle.sf_fill_keys.specs.declared.key_place.KeyPlace.{KeyPlace}
+use Rattle.sf_fill_keys.specs.declared.spot.Spot.{Spot}
+use Rattle.sf_fill_keys.specs.Spaces.{SpaceId}
+use Rattle.sf_fill_keys.specs.Spots.{IsSeeingSpace, IsSpotOfKey, place_at, spot_key, spot_place}
+use Rattle.sf_fill_values.specs.declared.fault.LoadFault.TheVariants as fault
+use Rattle.sf_fill_values.specs.FillValue.{Filled}
+use Rattle.sf_fill_counters.specs.GetCounts.{hit_counts}
+use Rattle.sf_fill_values.specs.Answers.{GetAnswer, IsLoadedFor, answer_in}
 use Rattle.sf_fill.specs.Gets.{LooksFrom}
 use Rattle.sf_fill.specs.GetterValue.{GetterValue}
-use Rattle.sf_counters.specs.Totals.{with_counts}
+use Rattle.sf_fill_counters.specs.Totals.{with_counts}
 
 -- what is answered of a letter at hand; its copy may have been refused memory
 abbrev pub hit_answer : Result (LetterValue Filled) AllocError → GetAnswer

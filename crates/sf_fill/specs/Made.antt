@@ -1,13 +1,13 @@
 -- how a fill is made
 use Rattle.std.specs.Prelude.{◌≡◌, ℕ, ◌≤◌, List, [], ◌∷◌, All, vec_len}
 use Rattle.sf_words.specs.declared.limits.TheConstants.{LARGEST_PLACE, LARGEST_CALLER}
-use Rattle.sf_calls.specs.Tokens.{GroupValue, CallerValue}
-use Rattle.sf_spots.specs.declared.key_space.KeyDesk.{KeyDesk}
-use Rattle.sf_spots.specs.Spaces.{SpaceId, AreDesksOf, places_in}
+use Rattle.sf_group_rows.specs.Tokens.{GroupValue, CallerValue}
+use Rattle.sf_fill_keys.specs.declared.key_space.KeyDesk.{KeyDesk}
+use Rattle.sf_fill_keys.specs.Spaces.{SpaceId, AreDesksOf, places_in}
 use Rattle.sf_fill.specs.declared.parts.FillParts.{FillParts}
-use Rattle.sf_counters.specs.Names.{LedgerNames}
-use Rattle.sf_counters.specs.Totals.{AreNamed}
-use Rattle.sf_letters.specs.FillValue.{Filled}
+use Rattle.sf_fill_counters.specs.Names.{LedgerNames}
+use Rattle.sf_fill_counters.specs.Totals.{AreNamed}
+use Rattle.sf_fill_values.specs.FillValue.{Filled}
 use Rattle.sf_fill.specs.GetterValue.{GetterValue, new_getter}
 
 module _ {L : Type 0} where

@@ -6,18 +6,18 @@ use Rattle.sf_history.specs.declared.event.Event.TheVariants.{Lead, ForgetCall}
 use Rattle.sf_history.specs.declared.event.Hit.TheVariants as hit
 use Rattle.sf_history.specs.History.{current_call}
 use Rattle.sf_history.specs.Legal.{IsLegal}
-use Rattle.sf_calls.specs.Tokens.{NoteValue, LetterValue}
-use Rattle.sf_calls.specs.Seen.{StartsWith, Stands}
-use Rattle.sf_spots.specs.Spaces.{SpaceId}
-use Rattle.sf_spots.specs.Spots.{spot_place}
-use Rattle.sf_store.specs.declared.forget.Forgot.{Forgot}
-use Rattle.sf_store.specs.declared.forget.Forgot.TheVariants as forgot
-use Rattle.sf_letters.specs.FillValue.{Filled}
+use Rattle.sf_group_rows.specs.Tokens.{NoteValue, LetterValue}
+use Rattle.sf_group_rows.specs.Seen.{StartsWith, Stands}
+use Rattle.sf_fill_keys.specs.Spaces.{SpaceId}
+use Rattle.sf_fill_keys.specs.Spots.{spot_place}
+use Rattle.sf_fill_store.specs.declared.forget.Forgot.{Forgot}
+use Rattle.sf_fill_store.specs.declared.forget.Forgot.TheVariants as forgot
+use Rattle.sf_fill_values.specs.FillValue.{Filled}
 use Rattle.sf_fill.specs.Fresh.{HasAdded, IsFresh, IsForgetOf}
-use Rattle.sf_calls.specs.Unforgotten.{forgets}
+use Rattle.sf_group_rows.specs.Unforgotten.{forgets}
 use Rattle.sf_fill.specs.Purges.{HasForgottenFirst}
 use Rattle.sf_fill.specs.GetterValue.{GetterValue}
-use Rattle.sf_store.specs.Standings.{group_of, number_of, seen_of, is_owing}
+use Rattle.sf_fill_store.specs.Standings.{group_of, number_of, seen_of, is_owing}
 
 module _ {L : Type 0} where
   -- the getter stays as it was, and the note shows what it has seen

@@ -1,11 +1,11 @@
 -- how an owed delivery goes on
 use Rattle.std.specs.Prelude.{◌≡◌}
-use Rattle.sf_calls.specs.declared.outcomes.Finished.TheVariants.{Done, Held}
-use Rattle.sf_calls.specs.Tokens.{LetterValue}
-use Rattle.sf_calls.specs.Finishes.{HasGoneOn}
-use Rattle.sf_store.specs.declared.standing.Standing.{Standing}
-use Rattle.sf_store.specs.declared.standing.Standing.TheVariants.{Free, Owing}
-use Rattle.sf_letters.specs.FillValue.{Filled, FitsFill}
+use Rattle.sf_group_rows.specs.declared.outcomes.Finished.TheVariants.{Done, Held}
+use Rattle.sf_group_rows.specs.Tokens.{LetterValue}
+use Rattle.sf_group_rows.specs.Finishes.{HasGoneOn}
+use Rattle.sf_fill_store.specs.declared.standing.Standing.{Standing}
+use Rattle.sf_fill_store.specs.declared.standing.Standing.TheVariants.{Free, Owing}
+use Rattle.sf_fill_values.specs.FillValue.{Filled, FitsFill}
 use Rattle.sf_fill.specs.GetterValue.{GetterValue}
 
 -- a caller that owes nothing stays; a delivery that is owed goes on, and is done or is owed still

@@ -1,14 +1,14 @@
 -- how a Forget of all places ends
 use Rattle.std.specs.Prelude.{◌≡◌, ℕ, zero, suc, ◌≤◌, true, false, List, [], ◌++◌, Result, Ok, Err}
 use Rattle.sf_history.specs.declared.event.Event.{Event}
-use Rattle.sf_store.specs.declared.standing.Standing.{Standing}
-use Rattle.sf_store.specs.declared.forget.Forgot.{Forgot}
-use Rattle.sf_letters.specs.FillValue.{Filled}
+use Rattle.sf_fill_store.specs.declared.standing.Standing.{Standing}
+use Rattle.sf_fill_store.specs.declared.forget.Forgot.{Forgot}
+use Rattle.sf_fill_values.specs.FillValue.{Filled}
 use Rattle.sf_fill.specs.Fresh.{HasAdded, IsOutdated, handed_by}
-use Rattle.sf_store.specs.Forgets.{forgot_by}
-use Rattle.sf_store.specs.Logs.{logged_by}
+use Rattle.sf_fill_store.specs.Forgets.{forgot_by}
+use Rattle.sf_fill_store.specs.Logs.{logged_by}
 use Rattle.sf_fill.specs.GetterValue.{GetterValue}
-use Rattle.sf_store.specs.Standings.{number_of, seen_of}
+use Rattle.sf_fill_store.specs.Standings.{number_of, seen_of}
 
 -- of the first places in turn, the Forget of the call that each named, if it named one
 abbrev pub AreForgets : ℕ → ℕ → List (Event ℕ Filled) → Type 0

@@ -1,18 +1,18 @@
 -- how puts of known bytes end
 use Rattle.std.specs.Prelude.{◌≡◌, ℕ, ◌-◌, ◌<◌, ◌^◌, List, Some, Result, Ok, Err}
-use Rattle.sf_calls.specs.Tokens.{LetterValue}
+use Rattle.sf_group_rows.specs.Tokens.{LetterValue}
 use Rattle.sf_loaders.specs.Given.{KnownBytes}
-use Rattle.sf_spots.specs.Spaces.{SpaceId}
-use Rattle.sf_letters.specs.declared.fault.GetRefusal.TheVariants as refused
-use Rattle.sf_letters.specs.declared.fault.LoadFault.{LoadFault}
-use Rattle.sf_letters.specs.declared.fault.LoadFault.TheVariants as fault
+use Rattle.sf_fill_keys.specs.Spaces.{SpaceId}
+use Rattle.sf_fill_values.specs.declared.fault.GetRefusal.TheVariants as refused
+use Rattle.sf_fill_values.specs.declared.fault.LoadFault.{LoadFault}
+use Rattle.sf_fill_values.specs.declared.fault.LoadFault.TheVariants as fault
 use Rattle.sf_fill.specs.declared.put.Put.{Put}
 use Rattle.sf_fill.specs.declared.put.Put.TheVariants.{Settled, Met}
-use Rattle.sf_store.specs.declared.forget.Forgot.{Forgot}
+use Rattle.sf_fill_store.specs.declared.forget.Forgot.{Forgot}
 use Rattle.sf_fill.specs.Counted.{IsCounted}
-use Rattle.sf_letters.specs.FillValue.{Filled}
+use Rattle.sf_fill_values.specs.FillValue.{Filled}
 use Rattle.sf_fill.specs.Fresh.{IsFreshGet, IsReloading}
-use Rattle.sf_letters.specs.Answers.{GetAnswer}
+use Rattle.sf_fill_values.specs.Answers.{GetAnswer}
 use Rattle.sf_fill.specs.GetterValue.{GetterValue, with_loaders}
 
 abbrev pub PutAnswer : Type 0

@@ -1,21 +1,21 @@
 -- how reloads end
 use Rattle.std.specs.Prelude.{◌≡◌, ℕ, ◌⊎◌, List, Result, Ok, Err}
-use Rattle.sf_calls.specs.Tokens.{CallerValue}
-use Rattle.sf_spots.specs.declared.key_space.KeyDesk.{KeyDesk}
-use Rattle.sf_spots.specs.declared.spot.Spot.{Spot}
-use Rattle.sf_spots.specs.Spaces.{SpaceId}
-use Rattle.sf_spots.specs.Spots.{IsSpotOfKey, IsRefusedSpot, IsSeeingSpace, spot_place}
+use Rattle.sf_group_rows.specs.Tokens.{CallerValue}
+use Rattle.sf_fill_keys.specs.declared.key_space.KeyDesk.{KeyDesk}
+use Rattle.sf_fill_keys.specs.declared.spot.Spot.{Spot}
+use Rattle.sf_fill_keys.specs.Spaces.{SpaceId}
+use Rattle.sf_fill_keys.specs.Spots.{IsSpotOfKey, IsRefusedSpot, IsSeeingSpace, spot_place}
 use Rattle.sf_dir.specs.declared.refusal.Refusal.{Refusal}
-use Rattle.sf_letters.specs.declared.fault.LoadFault.{LoadFault}
-use Rattle.sf_letters.specs.declared.fault.LoadFault.TheVariants as fault
-use Rattle.sf_store.specs.declared.forget.Forgot.{Forgot}
-use Rattle.sf_store.specs.declared.standing.Standing.{Standing}
-use Rattle.sf_store.specs.declared.standing.Standing.TheVariants.{Free, Owing}
-use Rattle.sf_letters.specs.FillValue.{Filled}
-use Rattle.sf_letters.specs.Answers.{refusal_of}
+use Rattle.sf_fill_values.specs.declared.fault.LoadFault.{LoadFault}
+use Rattle.sf_fill_values.specs.declared.fault.LoadFault.TheVariants as fault
+use Rattle.sf_fill_store.specs.declared.forget.Forgot.{Forgot}
+use Rattle.sf_fill_store.specs.declared.standing.Standing.{Standing}
+use Rattle.sf_fill_store.specs.declared.standing.Standing.TheVariants.{Free, Owing}
+use Rattle.sf_fill_values.specs.FillValue.{Filled}
+use Rattle.sf_fill_values.specs.Answers.{refusal_of}
 use Rattle.sf_fill.specs.GetterValue.{GetterValue}
 use Rattle.sf_fill.specs.Owing.{HasSettledUp}
-use Rattle.sf_store.specs.Forgets.{ForgetsNamed}
+use Rattle.sf_fill_store.specs.Forgets.{ForgetsNamed}
 
 module _ (space : SpaceId) (key : List ℕ) where
   -- the key is refused, and nothing is forgotten

@@ -1,10 +1,10 @@
 -- how a getter gets another caller
 use Rattle.std.specs.Prelude.{◌≡◌, Bool, true, false}
-use Rattle.sf_calls.specs.Tokens.{CallerValue}
-use Rattle.sf_calls.specs.Notes.{HasMet}
-use Rattle.sf_store.specs.declared.standing.Standing.TheVariants.{Free}
-use Rattle.sf_store.specs.Standings.{is_owing}
-use Rattle.sf_letters.specs.FillValue.{Filled}
+use Rattle.sf_group_rows.specs.Tokens.{CallerValue}
+use Rattle.sf_group_rows.specs.Notes.{HasMet}
+use Rattle.sf_fill_store.specs.declared.standing.Standing.TheVariants.{Free}
+use Rattle.sf_fill_store.specs.Standings.{is_owing}
+use Rattle.sf_fill_values.specs.FillValue.{Filled}
 use Rattle.sf_fill.specs.GetterValue.{GetterValue}
 
 module _ {L : Type 0} where

@@ -1,22 +1,22 @@
 //! Fills, and what lies under their lock.
 ghost use Rattle.std.specs.Prelude.{◌≡◌, ◌<◌, ◌≤◌, IfErr, IfOk, IfSome, map, vec_len};
-ghost use Rattle.sf_caches.specs.Trimming.{room_of};
-ghost use Rattle.sf_counters.specs.Totals.{sums_of};
+ghost use Rattle.sf_fill_caches.specs.Trimming.{room_of};
+ghost use Rattle.sf_fill_counters.specs.Totals.{sums_of};
 ghost use Rattle.sf_dir.specs.declared.refusal.Refusal.{Refusal};
-ghost use Rattle.sf_letters.specs.Answers.{refusal_of};
-ghost use Rattle.sf_letters.specs.Settled.{CopiesFollowed};
-ghost use Rattle.sf_spots.specs.declared.spot.Spot.{Spot};
-ghost use Rattle.sf_spots.specs.Spots.{IsRefusedSpot, IsSpotOfKey, MayBe};
+ghost use Rattle.sf_fill_values.specs.Answers.{refusal_of};
+ghost use Rattle.sf_fill_values.specs.Settled.{CopiesFollowed};
+ghost use Rattle.sf_fill_keys.specs.declared.spot.Spot.{Spot};
+ghost use Rattle.sf_fill_keys.specs.Spots.{IsRefusedSpot, IsSpotOfKey, MayBe};
 ghost use Rattle.sf_fill.specs.GetterValue.{GetterValue};
 
 use crate::getter::Getter;
-use sf_caches::{CacheStats, Which};
-use sf_counters::{AllParts, Naming, Totals};
+use sf_fill_caches::{CacheStats, Which};
+use sf_fill_counters::{AllParts, Naming, Totals};
+use sf_fill_keys::KeySpace;
+use sf_fill_store::Store;
+use sf_fill_values::{FillValue, InCache, LoadFault, of_key};
 use sf_group::{Flight, Group, Letter, Memory};
-use sf_letters::{FillValue, InCache, LoadFault, of_key};
 use sf_loaders::Origin;
-use sf_spots::KeySpace;
-use sf_store::Store;
 use std::alloc::Global;
 use std::marker::Model;
 use std::sync::Wait;
@@ -33,8 +33,8 @@ pub struct Fill<'d, D: Naming, N: Naming, O: Origin> {
 impl<'d, D: Naming, N: Naming, O: Origin> Model for Fill<'d, D, N, O> {
     ghost use Rattle.std.specs.Prelude.{◌≡◌, ◌≤◌};
     ghost use Rattle.sf_words.specs.declared.limits.TheConstants.{LARGEST_PLACE};
-    ghost use Rattle.sf_calls.specs.Tokens.{GroupValue};
-    ghost use Rattle.sf_spots.specs.Spaces.{places_in, space_of};
+    ghost use Rattle.sf_group_rows.specs.Tokens.{GroupValue};
+    ghost use Rattle.sf_fill_keys.specs.Spaces.{places_in, space_of};
 
     ghost Value = { GroupValue };
 

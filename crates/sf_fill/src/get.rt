@@ -1,29 +1,29 @@
 //! Gets.
 ghost use Rattle.std.specs.Prelude.{◌≡◌, ◌<◌, ◌-◌, ◌^◌, ◌⊎◌, Err, IfOk, IfSome, None, false, true};
-ghost use Rattle.sf_calls.specs.Same.{IsPlaceOf};
-ghost use Rattle.sf_spots.specs.Spots.{IsInSpace, place_at, spot_at, spot_key};
-ghost use Rattle.sf_letters.specs.declared.fault.LoadFault.{LoadFault};
-ghost use Rattle.sf_letters.specs.declared.fault.GetRefusal.{GetRefusal};
-ghost use Rattle.sf_store.specs.Found.{DrawsWithin, Led, found_by};
+ghost use Rattle.sf_group_rows.specs.Same.{IsPlaceOf};
+ghost use Rattle.sf_fill_keys.specs.Spots.{IsInSpace, place_at, spot_at, spot_key};
+ghost use Rattle.sf_fill_values.specs.declared.fault.LoadFault.{LoadFault};
+ghost use Rattle.sf_fill_values.specs.declared.fault.GetRefusal.{GetRefusal};
+ghost use Rattle.sf_fill_store.specs.Found.{DrawsWithin, Led, found_by};
 ghost use Rattle.sf_fill.specs.Bytes.{BringsBytes, LooksForBytes};
 ghost use Rattle.sf_fill.specs.Counted.{IsCounted};
 ghost use Rattle.sf_fill.specs.Fresh.{IsFreshGet};
-ghost use Rattle.sf_letters.specs.Answers.{IsLoadedFor};
+ghost use Rattle.sf_fill_values.specs.Answers.{IsLoadedFor};
 ghost use Rattle.sf_fill.specs.Gets.{GetsOnce, HasAsked, HasGot};
-ghost use Rattle.sf_store.specs.Replies.{IsOfKey, IsOfPlace, counts_of, reply_of};
+ghost use Rattle.sf_fill_store.specs.Replies.{IsOfKey, IsOfPlace, counts_of, reply_of};
 ghost use Rattle.sf_fill.specs.Hits.{IsAbsent, IsPresent, LooksAtHand};
-ghost use Rattle.sf_store.specs.Standings.{is_owing, number_of, seen_of};
-ghost use Rattle.sf_store.specs.Logs.{HasLogged};
+ghost use Rattle.sf_fill_store.specs.Standings.{is_owing, number_of, seen_of};
+ghost use Rattle.sf_fill_store.specs.Logs.{HasLogged};
 
 use crate::fill::Fill;
 use crate::getter::Getter;
 use bytes::Bytes;
-use sf_counters::{GetCounts, NO_RUN, Naming};
+use sf_fill_counters::{GetCounts, NO_RUN, Naming};
 use sf_group::{Finished, Memory, Spent};
-use sf_letters::{FillValue, GetRefusal, LoadFault, View, of_key, show};
+use sf_fill_values::{FillValue, GetRefusal, LoadFault, View, of_key, show};
 use sf_loaders::{LoadPath, Origin};
-use sf_spots::KeyPlace;
-use sf_store::{Asked, Standing};
+use sf_fill_keys::KeyPlace;
+use sf_fill_store::{Asked, Standing};
 use std::sync::Wait;
 
 const GET_ALONE: GetCounts = GetCounts {

@@ -1,23 +1,23 @@
 //! Getters: what they owe, and what they tell each other.
 ghost use Rattle.std.specs.Prelude.{IfSome, ◌≡◌, ◌↔◌, ◌-◌, ◌<◌, ◌^◌, IsTrue, false, is_ok, not};
-ghost use Rattle.sf_store.specs.Standings.{IsOfGroup, free_caller, is_owing, seen_of};
-ghost use Rattle.sf_calls.specs.Seen.{StartsWith};
+ghost use Rattle.sf_fill_store.specs.Standings.{IsOfGroup, free_caller, is_owing, seen_of};
+ghost use Rattle.sf_group_rows.specs.Seen.{StartsWith};
 ghost use Rattle.sf_fill.specs.GetterValue.{with_loaders};
 ghost use Rattle.sf_fill.specs.Renewing.{Renews};
 ghost use Rattle.sf_fill.specs.Fresh.{HasAdded, delivered_by};
-ghost use Rattle.sf_store.specs.Logs.{empty_log, logged_by};
+ghost use Rattle.sf_fill_store.specs.Logs.{empty_log, logged_by};
 ghost use Rattle.sf_fill.specs.Owing.{HasDelivered, HasSettledUp};
-ghost use Rattle.sf_calls.specs.Notes.{HasGrown};
+ghost use Rattle.sf_group_rows.specs.Notes.{HasGrown};
 ghost use Rattle.sf_fill.specs.Notes.{HasToldNote, HasLearntNote, NotesCarryPurges, NotesCarryReloads};
 
 use crate::fill::Fill;
-use sf_counters::{Naming, Tallies};
+use sf_fill_counters::{Naming, Tallies};
+use sf_fill_keys::KeyDesk;
+use sf_fill_near::Near;
+use sf_fill_store::{Log, Standing};
+use sf_fill_values::FillValue;
 use sf_group::{Caller, Event, Finished, Memory, Note};
-use sf_letters::FillValue;
 use sf_loaders::Origin;
-use sf_near::Near;
-use sf_spots::KeyDesk;
-use sf_store::{Log, Standing};
 use sf_words::PlaceNo;
 use std::marker::Model;
 use std::mem;
@@ -34,9 +34,9 @@ pub struct Getter<'d, D: Naming, N: Naming, O: Origin, L> {
 }
 
 impl<'d, D: Naming, N: Naming, O: Origin, L> Model for Getter<'d, D, N, O, L> {
-    ghost use Rattle.sf_spots.specs.Spaces.{IsDeskOf};
+    ghost use Rattle.sf_fill_keys.specs.Spaces.{IsDeskOf};
     ghost use Rattle.sf_fill.specs.GetterValue.{GetterValue};
-    ghost use Rattle.sf_store.specs.Standings.{IsOfGroup};
+    ghost use Rattle.sf_fill_store.specs.Standings.{IsOfGroup};
 
     ghost Value = { GetterValue L };
 

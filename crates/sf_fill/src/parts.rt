@@ -1,24 +1,24 @@
 //! What a fill is made of, and how it is made.
 ghost use Rattle.std.specs.Prelude.{◌≡◌, ◌≤◌, [], All, IfOk, IfErr, vec_len, vec_capacity};
-ghost use Rattle.sf_calls.specs.Making.{IsNewCaller};
-ghost use Rattle.sf_caches.specs.Trimming.{no_entries, room_of};
+ghost use Rattle.sf_group_rows.specs.Making.{IsNewCaller};
+ghost use Rattle.sf_fill_caches.specs.Trimming.{no_entries, room_of};
 ghost use Rattle.sf_words.specs.declared.limits.TheConstants.{LARGEST_PLACE, LARGEST_CALLER};
-ghost use Rattle.sf_spots.specs.Spaces.{AreDesksOf, places_in, space_of};
-ghost use Rattle.sf_counters.specs.Ledgers.{nothing_counted};
-ghost use Rattle.sf_store.specs.Logs.{empty_log};
+ghost use Rattle.sf_fill_keys.specs.Spaces.{AreDesksOf, places_in, space_of};
+ghost use Rattle.sf_fill_counters.specs.Ledgers.{nothing_counted};
+ghost use Rattle.sf_fill_store.specs.Logs.{empty_log};
 ghost use Rattle.sf_fill.specs.Made.{AreOfGroup, AreParts, new_getters};
-ghost use Rattle.sf_counters.specs.Totals.{names_of};
+ghost use Rattle.sf_fill_counters.specs.Totals.{names_of};
 
 use crate::fill::Fill;
 use crate::getter::Getter;
 use crate::sizes::Sizes;
-use sf_counters::{Accounts, AllParts, Ledgers, Naming};
+use sf_fill_counters::{Accounts, AllParts, Ledgers, Naming};
+use sf_fill_keys::{KeyDesk, KeySpace};
+use sf_fill_near::Near;
+use sf_fill_store::{Log, Standing, Store};
+use sf_fill_values::{FillValue, Kept};
 use sf_group::{Caller, Group, Memory};
-use sf_letters::{FillValue, Kept};
 use sf_loaders::Origin;
-use sf_near::Near;
-use sf_spots::{KeyDesk, KeySpace};
-use sf_store::{Log, Standing, Store};
 use std::alloc::Global;
 
 /// What a fill is made of, which comes back where memory is refused.

@@ -6,8 +6,8 @@ ghost use Rattle.sf_fill.specs.Puts.{GetsGiven, HasPut};
 use crate::fill::Fill;
 use crate::getter::Getter;
 use bytes::Bytes;
-use sf_counters::Naming;
-use sf_letters::{GetRefusal, LoadFault, View};
+use sf_fill_counters::Naming;
+use sf_fill_values::{GetRefusal, LoadFault, View};
 use sf_loaders::{Given, Origin};
 use std::sync::Wait;
 

@@ -1,20 +1,20 @@
 //! Reloads.
 ghost use Rattle.sf_fill.specs.Reloads.{HasReloaded, ReloadsFrom};
-ghost use Rattle.sf_spots.specs.Spaces.{IsDeskOf};
+ghost use Rattle.sf_fill_keys.specs.Spaces.{IsDeskOf};
 ghost use Rattle.sf_fill.specs.Fresh.{IsReloading};
 ghost use Rattle.sf_fill.specs.Purges.{ForgetsAll};
-ghost use Rattle.sf_store.specs.Standings.{IsOfGroup, number_of, seen_of};
-ghost use Rattle.sf_store.specs.Logs.{HasLogged};
+ghost use Rattle.sf_fill_store.specs.Standings.{IsOfGroup, number_of, seen_of};
+ghost use Rattle.sf_fill_store.specs.Logs.{HasLogged};
 
 use crate::fill::Fill;
 use crate::getter::Getter;
-use sf_counters::Naming;
+use sf_fill_counters::Naming;
+use sf_fill_keys::KeyDesk;
+use sf_fill_near::Near;
+use sf_fill_store::{Forgot, Log, Standing};
+use sf_fill_values::{FillValue, LoadFault, of_key};
 use sf_group::Memory;
-use sf_letters::{FillValue, LoadFault, of_key};
 use sf_loaders::Origin;
-use sf_near::Near;
-use sf_spots::KeyDesk;
-use sf_store::{Forgot, Log, Standing};
 use sf_words::PlaceNo;
 use std::sync::Wait;
 

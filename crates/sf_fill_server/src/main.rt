@@ -7,8 +7,8 @@ ghost use Rattle.std.specs.Prelude.{◌≡◌, vec_len};
 mod pages;
 
 use crate::pages::{Pages, loaders};
-use sf_door::{FillSizes, Keys, Places, Team, with_team};
 use sf_fill::{Fill, Getter, Naming, Totals};
+use sf_fill_open::{FillSizes, Keys, Places, Team, with_team};
 use sf_loaders::{LoadPath, Origin};
 use std::io;
 use std::process::ExitCode;

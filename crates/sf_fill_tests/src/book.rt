@@ -1,10 +1,10 @@
 //! How far the book is behind a getter: no get, unless near letters answer some.
 ghost use Rattle.std.specs.Prelude.{◌≡◌, All, vec_len};
-ghost use Rattle.sf_door.specs.Opened.{IsNewGetter};
+ghost use Rattle.sf_fill_open.specs.Opened.{IsNewGetter};
 
 use crate::leaders::loaders;
-use sf_door::{Body, DirectoryKeys, FillSizes, Keys, Sizes, with_fill};
 use sf_fill::{Fill, Getter, Naming};
+use sf_fill_open::{Body, DirectoryKeys, FillSizes, Keys, Sizes, with_fill};
 use sf_group::Memory;
 use sf_loaders::{LoadPath, Origin};
 use std::alloc::Global;

@@ -1,7 +1,7 @@
 //! Drives, and the words that ask for one.
 
-use sf_checker::{Cause, Verdict};
-use sf_drive::{DriveLine, ProgressLine, Report, drive, drive_line, status};
+use sf_cli_drive::{DriveLine, ProgressLine, Report, drive, drive_line, status};
+use sf_replay_check::{Cause, Verdict};
 use std::alloc::{AllocError, Global};
 use std::process::Abort;
 use std::sync::Wait;

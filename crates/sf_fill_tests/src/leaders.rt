@@ -1,12 +1,12 @@
 //! What a leader's second look finds. No getters can be made to show it by turns, since the first look of a get finds the same
 //! letters; so a caller of the group that is no getter leads.
 ghost use Rattle.std.specs.Prelude.{◌≡◌, All, vec_len};
-ghost use Rattle.sf_calls.specs.Same.{IsPlaceOf};
-ghost use Rattle.sf_door.specs.Opened.{IsNewGetter};
+ghost use Rattle.sf_group_rows.specs.Same.{IsPlaceOf};
+ghost use Rattle.sf_fill_open.specs.Opened.{IsNewGetter};
 
 use bytes::Bytes;
-use sf_door::{Body, FillSizes, Keys, Places, with_fill};
 use sf_fill::{Fill, FillValue, Getter, Naming};
+use sf_fill_open::{Body, FillSizes, Keys, Places, with_fill};
 use sf_group::{Begun, Caller, Forgotten, Memory};
 use sf_history::CallId;
 use sf_loaders::scripted::{Answer, FixedPicker, RoundChance, Script};

@@ -1,16 +1,16 @@
 //! A reload that misses its call, since a caller that is no getter's leads the next one meanwhile.
 ghost use Rattle.std.specs.Prelude.{◌≡◌, ◌≤◌, vec_len, pos};
-ghost use Rattle.sf_calls.specs.Same.{IsPlaceOf};
+ghost use Rattle.sf_group_rows.specs.Same.{IsPlaceOf};
 ghost use Rattle.sf_words.specs.declared.limits.TheConstants.{LARGEST_PLACE};
-ghost use Rattle.sf_spots.specs.Spaces.{AreDesksOf, places_in, space_of};
+ghost use Rattle.sf_fill_keys.specs.Spaces.{AreDesksOf, places_in, space_of};
 ghost use Rattle.sf_fill.specs.Made.{AreParts};
 
 use crate::leaders::{both, loaders};
 use sf_fill::{Fill, FillParts, FillValue, Forgot, Getter, Naming, Sizes};
+use sf_fill_keys::{KeyDesk, KeySpace, open_directory};
 use sf_group::{Begun, Caller, Memory};
 use sf_loaders::Loaders;
 use sf_loaders::scripted::{AnyValue, FixedPicker, RoundChance, Script};
-use sf_spots::{KeyDesk, KeySpace, open_directory};
 use sf_wait::begin_wait;
 use std::alloc::Global;
 use std::marker::{Brand, Model};
@@ -86,7 +86,7 @@ struct Leader<'a, 'd, 'f, D: Naming, N: Naming> {
 
 impl<'a, 'd, 'f, D: Naming, N: Naming> Model for Leader<'a, 'd, 'f, D, N> {
     ghost use Rattle.std.specs.Prelude.{◌≡◌};
-    ghost use Rattle.sf_calls.specs.Same.{IsPlaceOf};
+    ghost use Rattle.sf_group_rows.specs.Same.{IsPlaceOf};
 
     ghost Value = { Unit {0} };
 

@@ -1,15 +1,15 @@
 //! Getters that are added while a fill runs, and one whose caller is spent and that goes on with a spare one.
 ghost use Rattle.std.specs.Prelude.{◌≡◌, ◌≤◌, vec_len, pos};
 ghost use Rattle.sf_words.specs.declared.limits.TheConstants.{LARGEST_PLACE};
-ghost use Rattle.sf_spots.specs.Spaces.{AreDesksOf, places_in, space_of};
+ghost use Rattle.sf_fill_keys.specs.Spaces.{AreDesksOf, places_in, space_of};
 ghost use Rattle.sf_fill.specs.Made.{AreParts};
 
 use crate::leaders::loaders;
 use sf_fill::{Fill, FillParts, Getter, LoadFault, Naming, Sizes, Totals, View};
+use sf_fill_keys::{KeyDesk, KeySpace, open_directory};
 use sf_group::{CallId, Memory};
 use sf_loaders::Loaders;
 use sf_loaders::scripted::{AnyValue, FixedPicker, RoundChance, Script};
-use sf_spots::{KeyDesk, KeySpace, open_directory};
 use std::alloc::Global;
 use std::fmt::Write;
 use std::marker::Brand;

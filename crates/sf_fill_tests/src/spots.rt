@@ -1,11 +1,11 @@
 //! Where keys have their places, by a directory and by a hash.
 ghost use Rattle.std.specs.Prelude.{◌≤◌};
 ghost use Rattle.sf_words.specs.declared.limits.TheConstants.{LARGEST_PLACE};
-ghost use Rattle.sf_spots.specs.Spaces.{IsDeskOf, places_in, space_of};
+ghost use Rattle.sf_fill_keys.specs.Spaces.{IsDeskOf, places_in, space_of};
 
 use sf_dir::Refusal;
+use sf_fill_keys::{KeyDesk, KeySpace, Spot, hash_desks, open_directory};
 use sf_keys::Places;
-use sf_spots::{KeyDesk, KeySpace, Spot, hash_desks, open_directory};
 use std::process::Abort;
 use std::test::Fail;
 

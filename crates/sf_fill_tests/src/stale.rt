@@ -1,11 +1,11 @@
 //! What a look takes out of a cache: an entry whose call a caller of the group forgot that is no getter, so that no reload took
 //! it out.
 ghost use Rattle.std.specs.Prelude.{◌≡◌, All, vec_len};
-ghost use Rattle.sf_door.specs.Opened.{IsNewGetter};
+ghost use Rattle.sf_fill_open.specs.Opened.{IsNewGetter};
 
 use crate::leaders::both;
 use bytes::{ByteStr, Bytes};
-use sf_door::{Body, FillSizes, Keys, Places, with_fill};
+use sf_fill_open::{Body, FillSizes, Keys, Places, with_fill};
 use sf_fill::{Fill, FillValue, Getter, Naming, Which};
 use sf_group::{Caller, Memory};
 use sf_loaders::scripted::{Answer, FixedPicker, RoundChance, Script};

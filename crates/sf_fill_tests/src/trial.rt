@@ -33,13 +33,13 @@
 //! These numbers hold, and `local value`, where the script says nothing.
 ghost use Rattle.std.specs.Prelude.{◌≡◌, ◌<◌, ◌≤◌, IfOk, vec_len};
 ghost use Rattle.sf_words.specs.declared.limits.TheConstants.{LARGEST_PLACE};
-ghost use Rattle.sf_door.specs.Opened.{places_for};
+ghost use Rattle.sf_fill_open.specs.Opened.{places_for};
 ghost use Rattle.sf_fill_tests.specs.Origins.{IsOpenOrigin};
 
 use crate::loaders::{Flags, TestLoaders, TestLocal};
 use crate::steps::{Steps, run};
 use bytes::{ByteStr, Bytes};
-use sf_door::{DirectoryKeys, FillSizes, Keys, Places, Sizes, Team, with_team};
+use sf_fill_open::{DirectoryKeys, FillSizes, Keys, Places, Sizes, Team, with_team};
 use sf_fill::{Fill, Getter, Naming, Totals};
 use sf_group::Memory;
 use sf_loaders::scripted::{Answer, FixedPicker, RoundChance, Script};

@@ -5,22 +5,22 @@ use Rattle.sf_history.specs.declared.call.CallId.{CallId}
 use Rattle.sf_history.specs.declared.event.Event.{Event}
 use Rattle.sf_history.specs.declared.event.Event.TheVariants as event
 use Rattle.sf_history.specs.History.{next_generation, own_events}
-use Rattle.sf_schedules.specs.declared.operation.Stage.{Stage}
-use Rattle.sf_schedules.specs.declared.operation.Stage.TheVariants as stage
-use Rattle.sf_calls.specs.declared.sizes.Sizes.{Sizes}
-use Rattle.sf_calls.specs.Seen.{StartsWith, Stands, Adds}
-use Rattle.sf_calls.specs.Same.{call_of}
-use Rattle.sf_calls.specs.Begins.{HasLedChan, HasJoinedChan, AreRefusedSpent, AreRefusedBusy}
-use Rattle.sf_word_steps.specs.declared.view.View.{View}
-use Rattle.sf_word_steps.specs.View.{sizes_of, history_of}
-use Rattle.sf_word_steps.specs.Stands.{Sits, next_in, Goes}
-use Rattle.sf_word_chans.specs.Changes.{HaveChanged}
-use Rattle.sf_word_steps.proofs.Trying.{goes_none}
+use Rattle.sf_steps_laws.specs.declared.operation.Stage.{Stage}
+use Rattle.sf_steps_laws.specs.declared.operation.Stage.TheVariants as stage
+use Rattle.sf_group_rows.specs.declared.sizes.Sizes.{Sizes}
+use Rattle.sf_group_rows.specs.Seen.{StartsWith, Stands, Adds}
+use Rattle.sf_group_rows.specs.Same.{call_of}
+use Rattle.sf_group_rows.specs.Begins.{HasLedChan, HasJoinedChan, AreRefusedSpent, AreRefusedBusy}
+use Rattle.sf_group_steps.specs.declared.view.View.{View}
+use Rattle.sf_group_steps.specs.View.{sizes_of, history_of}
+use Rattle.sf_group_steps.specs.Stands.{Sits, next_in, Goes}
+use Rattle.sf_group_chans.specs.Changes.{HaveChanged}
+use Rattle.sf_group_steps.proofs.Trying.{goes_none}
 use Rattle.sf_group.specs.Known.{group_of, caller_of, flight_of, ticket_of}
-use Rattle.sf_word_steps.specs.Exchanges.{HasExchanged}
+use Rattle.sf_group_steps.specs.Exchanges.{HasExchanged}
 use Rattle.sf_group.specs.Calls.{HaveSeenChanges}
 use Rattle.sf_group.proofs.Rows.{next_is, sizes_are, group_is, added, nothing_row, few_row, just_row}
-use Rattle.sf_calls.proofs.Moments.{stands_own}
+use Rattle.sf_group_rows.proofs.Moments.{stands_own}
 
 -- the call or member of this caller and generation
 abbrev id : ℕ → ℕ → CallId

@@ -4,15 +4,15 @@ use Rattle.std.specs.List.{range_with_len}
 use Rattle.std.proofs.lemmas.List.{map-append, map-id}
 use Rattle.std.proofs.lemmas.List.FromFn.{map-range_with_len_more}
 use Rattle.atomic_table.specs.Seated.{TableId}
-use Rattle.sf_schedules.specs.declared.operation.Stage.TheVariants as stage
-use Rattle.sf_calls.specs.declared.sizes.Sizes.{Sizes}
-use Rattle.sf_word_steps.specs.declared.view.Claim.{Claim}
-use Rattle.sf_word_steps.specs.declared.view.View.{View}
-use Rattle.sf_calls.specs.Tokens.{CallerValue}
-use Rattle.sf_word_steps.specs.View.{claim, rest_of, first_of_all, first_view, without_first, first_alone, sizes_of}
-use Rattle.sf_word_steps.specs.Stands.{Sits, next_in}
+use Rattle.sf_steps_laws.specs.declared.operation.Stage.TheVariants as stage
+use Rattle.sf_group_rows.specs.declared.sizes.Sizes.{Sizes}
+use Rattle.sf_group_steps.specs.declared.view.Claim.{Claim}
+use Rattle.sf_group_steps.specs.declared.view.View.{View}
+use Rattle.sf_group_rows.specs.Tokens.{CallerValue}
+use Rattle.sf_group_steps.specs.View.{claim, rest_of, first_of_all, first_view, without_first, first_alone, sizes_of}
+use Rattle.sf_group_steps.specs.Stands.{Sits, next_in}
 use Rattle.sf_group.specs.Dealing.{IsDealing}
-use Rattle.sf_calls.specs.Making.{new_caller, numbers_of}
+use Rattle.sf_group_rows.specs.Making.{new_caller, numbers_of}
 use Rattle.sf_group.specs.Known.{caller_of}
 
 -- the numbers that are left begin with the next

@@ -6,28 +6,28 @@ use Rattle.sf_history.specs.declared.call.CallId.{CallId}
 use Rattle.sf_history.specs.declared.event.Event.{Event}
 use Rattle.sf_history.specs.declared.event.Event.TheVariants as event
 use Rattle.sf_history.specs.History.{is_handed, own_events}
-use Rattle.sf_schedules.specs.declared.letter.Letter.{Letter}
-use Rattle.sf_schedules.specs.declared.operation.Stage.{Stage}
-use Rattle.sf_schedules.specs.declared.operation.Stage.TheVariants as stage
-use Rattle.sf_schedules.specs.declared.turn.Turn.{Turn}
-use Rattle.sf_schedules.specs.Turns.{at_members}
-use Rattle.sf_schedules.specs.World.{first_world}
-use Rattle.sf_schedules.specs.Schedules.{IsSchedule}
-use Rattle.sf_schedules.proofs.Closings.{closes_are_few, closes_add}
-use Rattle.sf_calls.specs.declared.sizes.Sizes.{Sizes}
-use Rattle.sf_calls.specs.declared.outcomes.Finished.{Finished}
-use Rattle.sf_calls.specs.declared.outcomes.Finished.TheVariants.{Done, Held}
-use Rattle.sf_calls.specs.Fitting.{FitOf}
-use Rattle.sf_calls.specs.Tokens.{GroupValue, CallerValue, FlightValue, SettledValue, LetterValue}
-use Rattle.sf_calls.specs.Seen.{Stands, Adds}
-use Rattle.sf_calls.specs.Finishes.{IsDone, IsHeld, IsDoneAtLast, IsHeldStill, IsReady, IsPending, HasFinished, HasGoneOn}
-use Rattle.sf_word_steps.specs.declared.view.View.{View}
-use Rattle.sf_word_steps.specs.View.{setting_of, sizes_of, history_of}
-use Rattle.sf_word_steps.specs.Stands.{Sits, next_in, Goes}
-use Rattle.sf_word_steps.specs.Delivers.{IsOwed, handed_later}
-use Rattle.sf_word_steps.specs.Collects.{IsAnswer}
-use Rattle.sf_calls.proofs.Moments.{stands_longer, stands_own}
-use Rattle.sf_word_steps.proofs.Trying.{adds_again}
+use Rattle.sf_steps_laws.specs.declared.letter.Letter.{Letter}
+use Rattle.sf_steps_laws.specs.declared.operation.Stage.{Stage}
+use Rattle.sf_steps_laws.specs.declared.operation.Stage.TheVariants as stage
+use Rattle.sf_steps_laws.specs.declared.turn.Turn.{Turn}
+use Rattle.sf_steps_laws.specs.Turns.{at_members}
+use Rattle.sf_steps_laws.specs.World.{first_world}
+use Rattle.sf_steps_laws.specs.Schedules.{IsSchedule}
+use Rattle.sf_steps_laws.proofs.Closings.{closes_are_few, closes_add}
+use Rattle.sf_group_rows.specs.declared.sizes.Sizes.{Sizes}
+use Rattle.sf_group_rows.specs.declared.outcomes.Finished.{Finished}
+use Rattle.sf_group_rows.specs.declared.outcomes.Finished.TheVariants.{Done, Held}
+use Rattle.sf_group_rows.specs.Fitting.{FitOf}
+use Rattle.sf_group_rows.specs.Tokens.{GroupValue, CallerValue, FlightValue, SettledValue, LetterValue}
+use Rattle.sf_group_rows.specs.Seen.{Stands, Adds}
+use Rattle.sf_group_rows.specs.Finishes.{IsDone, IsHeld, IsDoneAtLast, IsHeldStill, IsReady, IsPending, HasFinished, HasGoneOn}
+use Rattle.sf_group_steps.specs.declared.view.View.{View}
+use Rattle.sf_group_steps.specs.View.{setting_of, sizes_of, history_of}
+use Rattle.sf_group_steps.specs.Stands.{Sits, next_in, Goes}
+use Rattle.sf_group_steps.specs.Delivers.{IsOwed, handed_later}
+use Rattle.sf_group_steps.specs.Collects.{IsAnswer}
+use Rattle.sf_group_rows.proofs.Moments.{stands_longer, stands_own}
+use Rattle.sf_group_steps.proofs.Trying.{adds_again}
 use Rattle.sf_group.specs.Known.{caller_of, settled_of, ticket_of, letter_of}
 use Rattle.sf_group.specs.Calls.{ClosesSeldom, HasClosed, KnowsSince, HasKnown}
 use Rattle.sf_group.proofs.Finishes.{call_is}

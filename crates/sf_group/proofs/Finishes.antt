@@ -6,23 +6,23 @@ use Rattle.atomic_table.specs.Seated.{TableId}
 use Rattle.sf_history.specs.declared.call.CallId.{CallId}
 use Rattle.sf_history.specs.declared.event.Event.{Event}
 use Rattle.sf_history.specs.declared.event.Event.TheVariants as event
-use Rattle.sf_schedules.specs.declared.operation.Stage.{Stage}
-use Rattle.sf_schedules.specs.World.{first_world}
-use Rattle.sf_schedules.specs.Turns.{at_members}
-use Rattle.sf_schedules.specs.Events.{settled}
-use Rattle.sf_schedules.specs.Schedules.{IsSchedule}
-use Rattle.sf_schedules.proofs.Closings.{closes_are_few, closes_add}
-use Rattle.sf_calls.specs.declared.sizes.Sizes.{Sizes}
-use Rattle.sf_calls.specs.Seen.{Stands, Adds}
+use Rattle.sf_steps_laws.specs.declared.operation.Stage.{Stage}
+use Rattle.sf_steps_laws.specs.World.{first_world}
+use Rattle.sf_steps_laws.specs.Turns.{at_members}
+use Rattle.sf_steps_laws.specs.Events.{settled}
+use Rattle.sf_steps_laws.specs.Schedules.{IsSchedule}
+use Rattle.sf_steps_laws.proofs.Closings.{closes_are_few, closes_add}
+use Rattle.sf_group_rows.specs.declared.sizes.Sizes.{Sizes}
+use Rattle.sf_group_rows.specs.Seen.{Stands, Adds}
 use Rattle.sf_history.specs.History.{own_events}
-use Rattle.sf_calls.specs.Fitting.{FitOf}
-use Rattle.sf_calls.specs.Finishes.{IsDone, IsHeld}
-use Rattle.sf_word_steps.specs.declared.view.View.{View}
-use Rattle.sf_word_steps.specs.View.{setting_of, sizes_of, history_of}
-use Rattle.sf_word_steps.specs.Stands.{Goes}
-use Rattle.sf_word_steps.specs.Settles.{IsJoined}
-use Rattle.sf_word_steps.specs.Delivers.{IsOwed}
-use Rattle.sf_calls.proofs.Moments.{stands_own}
+use Rattle.sf_group_rows.specs.Fitting.{FitOf}
+use Rattle.sf_group_rows.specs.Finishes.{IsDone, IsHeld}
+use Rattle.sf_group_steps.specs.declared.view.View.{View}
+use Rattle.sf_group_steps.specs.View.{setting_of, sizes_of, history_of}
+use Rattle.sf_group_steps.specs.Stands.{Goes}
+use Rattle.sf_group_steps.specs.Settles.{IsJoined}
+use Rattle.sf_group_steps.specs.Delivers.{IsOwed}
+use Rattle.sf_group_rows.proofs.Moments.{stands_own}
 use Rattle.sf_group.specs.Known.{caller_of, flight_of, settled_of, letter_of}
 use Rattle.sf_group.specs.Calls.{ClosesSeldom}
 use Rattle.sf_group.proofs.Rows.{group_is, added}

@@ -13,19 +13,19 @@ use Rattle.sf_history.specs.Calls.{same_call}
 use Rattle.sf_history.specs.History.{last_led, leads_last}
 use Rattle.sf_history.proofs.LegalHistories.{same_call_self, fold_push}
 use Rattle.sf_history.proofs.Currents.{current_is_last_led}
-use Rattle.sf_schedules.specs.declared.operation.Stage.{Stage}
-use Rattle.sf_schedules.specs.declared.operation.Stage.TheVariants as stage
-use Rattle.sf_schedules.specs.Turns.{at_members}
-use Rattle.sf_schedules.specs.Schedules.{leads_on, was_led_on}
-use Rattle.sf_schedules.proofs.Sound.{Good, call_of}
-use Rattle.sf_schedules.proofs.RightAnswers.{always}
-use Rattle.sf_calls.specs.declared.sizes.Sizes.{Sizes}
-use Rattle.sf_calls.specs.Afters.{FollowsCall}
-use Rattle.sf_word_steps.specs.declared.view.View.{View}
-use Rattle.sf_word_steps.specs.View.{setting_of, sizes_of, world_of, history_of}
-use Rattle.sf_word_steps.specs.Stands.{Sits, Goes}
-use Rattle.sf_word_steps.specs.Delivers.{IsOwed}
-use Rattle.sf_word_steps.proofs.QuestionSteps.{led_longer, led_known}
+use Rattle.sf_steps_laws.specs.declared.operation.Stage.{Stage}
+use Rattle.sf_steps_laws.specs.declared.operation.Stage.TheVariants as stage
+use Rattle.sf_steps_laws.specs.Turns.{at_members}
+use Rattle.sf_steps_laws.specs.Schedules.{leads_on, was_led_on}
+use Rattle.sf_steps_laws.proofs.Sound.{Good, call_of}
+use Rattle.sf_steps_laws.proofs.RightAnswers.{always}
+use Rattle.sf_group_rows.specs.declared.sizes.Sizes.{Sizes}
+use Rattle.sf_group_rows.specs.Afters.{FollowsCall}
+use Rattle.sf_group_steps.specs.declared.view.View.{View}
+use Rattle.sf_group_steps.specs.View.{setting_of, sizes_of, world_of, history_of}
+use Rattle.sf_group_steps.specs.Stands.{Sits, Goes}
+use Rattle.sf_group_steps.specs.Delivers.{IsOwed}
+use Rattle.sf_group_steps.proofs.QuestionSteps.{led_longer, led_known}
 use Rattle.sf_group.specs.Known.{IsPlaceIn, flight_of}
 use Rattle.sf_group.proofs.Finishes.{call_is}
 use Rattle.sf_group.proofs.Rows.{sizes_are, added}

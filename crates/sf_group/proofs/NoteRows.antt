@@ -2,26 +2,26 @@
 use Rattle.std.proofs.Common.{◌≡◌, ℕ, List, [], ◌∷◌, ◌++◌, Option, refl, sym, ◌∙◌, ap, subst, arith}
 use Rattle.atomic_table.specs.Seated.{TableId}
 use Rattle.sf_history.specs.declared.call.CallId.{CallId}
-use Rattle.sf_schedules.specs.declared.turn.Turn.{Turn}
-use Rattle.sf_schedules.specs.declared.operation.Stage.{Stage}
-use Rattle.sf_schedules.specs.declared.operation.Stage.TheVariants as stage
-use Rattle.sf_schedules.specs.World.{first_world}
-use Rattle.sf_schedules.specs.Events.{adds}
-use Rattle.sf_schedules.proofs.Named.{IsAlone}
-use Rattle.sf_schedules.proofs.RightAnswers.{adds_append}
-use Rattle.sf_calls.specs.declared.sizes.Sizes.{Sizes}
-use Rattle.sf_calls.specs.Seen.{StartsWith}
-use Rattle.sf_calls.specs.Notes.{HasTold, HasLearnt, HasLearntLeading}
-use Rattle.sf_word_steps.specs.declared.view.View.{View}
-use Rattle.sf_word_steps.specs.View.{sizes_of, world_of, history_of, note_of}
-use Rattle.sf_word_steps.specs.Plays.{Made}
-use Rattle.sf_word_steps.specs.Stands.{Sits, next_in, Goes}
-use Rattle.sf_word_steps.specs.Hears.{BeginsWith, HasHeard}
-use Rattle.sf_word_steps.proofs.Trying.{goes_none}
-use Rattle.sf_word_steps.proofs.LookSteps.{free_alone}
-use Rattle.sf_word_steps.proofs.HearSteps.{heard_goes}
-use Rattle.sf_calls.specs.Afters.{FollowsCall}
-use Rattle.sf_calls.proofs.AddsAgain.{starts_again}
+use Rattle.sf_steps_laws.specs.declared.turn.Turn.{Turn}
+use Rattle.sf_steps_laws.specs.declared.operation.Stage.{Stage}
+use Rattle.sf_steps_laws.specs.declared.operation.Stage.TheVariants as stage
+use Rattle.sf_steps_laws.specs.World.{first_world}
+use Rattle.sf_steps_laws.specs.Events.{adds}
+use Rattle.sf_steps_laws.proofs.Named.{IsAlone}
+use Rattle.sf_steps_laws.proofs.RightAnswers.{adds_append}
+use Rattle.sf_group_rows.specs.declared.sizes.Sizes.{Sizes}
+use Rattle.sf_group_rows.specs.Seen.{StartsWith}
+use Rattle.sf_group_rows.specs.Notes.{HasTold, HasLearnt, HasLearntLeading}
+use Rattle.sf_group_steps.specs.declared.view.View.{View}
+use Rattle.sf_group_steps.specs.View.{sizes_of, world_of, history_of, note_of}
+use Rattle.sf_group_steps.specs.Plays.{Made}
+use Rattle.sf_group_steps.specs.Stands.{Sits, next_in, Goes}
+use Rattle.sf_group_steps.specs.Hears.{BeginsWith, HasHeard}
+use Rattle.sf_group_steps.proofs.Trying.{goes_none}
+use Rattle.sf_group_steps.proofs.LookSteps.{free_alone}
+use Rattle.sf_group_steps.proofs.HearSteps.{heard_goes}
+use Rattle.sf_group_rows.specs.Afters.{FollowsCall}
+use Rattle.sf_group_rows.proofs.AddsAgain.{starts_again}
 use Rattle.sf_history.specs.declared.event.Event.{Event}
 use Rattle.sf_history.specs.declared.event.Event.TheVariants as event
 use Rattle.sf_group.specs.Known.{IsPlaceIn, group_of, caller_of, flight_of, note_value}

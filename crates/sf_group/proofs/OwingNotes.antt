@@ -1,14 +1,14 @@
 -- notes of callers that owe letters
 use Rattle.std.proofs.Common.{ℕ, List, [], Option, Some, None}
 use Rattle.sf_history.specs.declared.call.CallId.{CallId}
-use Rattle.sf_schedules.specs.declared.turn.Turn.{Turn}
-use Rattle.sf_schedules.specs.Turns.{at_members}
-use Rattle.sf_schedules.proofs.Named.{IsAlone}
-use Rattle.sf_word_steps.specs.declared.view.View.{View}
-use Rattle.sf_word_steps.specs.View.{sizes_of}
-use Rattle.sf_word_steps.specs.Stands.{Sits, Goes}
-use Rattle.sf_word_steps.specs.Hears.{HasHeard}
-use Rattle.sf_word_steps.proofs.HearSteps.{heard_goes}
+use Rattle.sf_steps_laws.specs.declared.turn.Turn.{Turn}
+use Rattle.sf_steps_laws.specs.Turns.{at_members}
+use Rattle.sf_steps_laws.proofs.Named.{IsAlone}
+use Rattle.sf_group_steps.specs.declared.view.View.{View}
+use Rattle.sf_group_steps.specs.View.{sizes_of}
+use Rattle.sf_group_steps.specs.Stands.{Sits, Goes}
+use Rattle.sf_group_steps.specs.Hears.{HasHeard}
+use Rattle.sf_group_steps.proofs.HearSteps.{heard_goes}
 
 module _ {V : Type 0} where
   -- who owes letters is nobody's second

@@ -5,20 +5,20 @@ use Rattle.atomic_table.specs.Seated.{TableId}
 use Rattle.sf_history.specs.declared.call.CallId.{CallId}
 use Rattle.sf_history.specs.declared.event.Event.{Event}
 use Rattle.sf_history.specs.History.{current_call}
-use Rattle.sf_schedules.specs.declared.operation.Stage.TheVariants as stage
-use Rattle.sf_calls.specs.declared.sizes.Sizes.{Sizes}
-use Rattle.sf_calls.specs.Tokens.{CallerValue, NoteValue, LetterValue}
-use Rattle.sf_calls.specs.Seen.{StartsWith}
-use Rattle.sf_calls.specs.Same.{HasNothing, IsStill}
-use Rattle.sf_calls.specs.Notes.{HasLearnt, HasGrown, HasLent}
-use Rattle.sf_calls.specs.Currents.{HasQuestioned}
-use Rattle.sf_calls.specs.Forgets.{IsNamedBy, HasNamed}
-use Rattle.sf_calls.proofs.AddsAgain.{starts_again, nothing_after}
-use Rattle.sf_word_steps.specs.declared.view.View.{View}
-use Rattle.sf_word_steps.specs.View.{sizes_of, history_of}
-use Rattle.sf_word_steps.specs.Stands.{Goes}
-use Rattle.sf_schedules.specs.Naming.{IsNamed}
-use Rattle.sf_word_steps.specs.Questions.{WasCurrent}
+use Rattle.sf_steps_laws.specs.declared.operation.Stage.TheVariants as stage
+use Rattle.sf_group_rows.specs.declared.sizes.Sizes.{Sizes}
+use Rattle.sf_group_rows.specs.Tokens.{CallerValue, NoteValue, LetterValue}
+use Rattle.sf_group_rows.specs.Seen.{StartsWith}
+use Rattle.sf_group_rows.specs.Same.{HasNothing, IsStill}
+use Rattle.sf_group_rows.specs.Notes.{HasLearnt, HasGrown, HasLent}
+use Rattle.sf_group_rows.specs.Currents.{HasQuestioned}
+use Rattle.sf_group_rows.specs.Forgets.{IsNamedBy, HasNamed}
+use Rattle.sf_group_rows.proofs.AddsAgain.{starts_again, nothing_after}
+use Rattle.sf_group_steps.specs.declared.view.View.{View}
+use Rattle.sf_group_steps.specs.View.{sizes_of, history_of}
+use Rattle.sf_group_steps.specs.Stands.{Goes}
+use Rattle.sf_steps_laws.specs.Naming.{IsNamed}
+use Rattle.sf_group_steps.specs.Questions.{WasCurrent}
 use Rattle.sf_group.specs.Known.{caller_of}
 use Rattle.sf_group.proofs.Rows.{sizes_are, nothing_row}
 use Rattle.sf_group.proofs.NoteRows.{events_begin}

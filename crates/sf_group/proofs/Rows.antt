@@ -7,27 +7,27 @@ use Rattle.sf_history.specs.declared.event.Event.{Event}
 use Rattle.sf_history.specs.declared.event.Event.TheVariants as event
 use Rattle.sf_history.specs.declared.event.Hit.{Hit}
 use Rattle.sf_history.specs.History.{next_generation}
-use Rattle.sf_schedules.specs.declared.operation.Stage.{Stage}
-use Rattle.sf_schedules.specs.declared.operation.Stage.TheVariants as stage
-use Rattle.sf_schedules.proofs.RightAnswers.{always}
-use Rattle.sf_calls.specs.declared.sizes.Sizes.{Sizes}
-use Rattle.sf_word_steps.specs.declared.view.View.{View}
-use Rattle.sf_calls.specs.declared.outcomes.NotBegun.TheVariants as not_begun
-use Rattle.sf_word_steps.specs.View.{setting_of, sizes_of, history_of}
-use Rattle.sf_calls.specs.Tokens.{GroupValue}
-use Rattle.sf_calls.specs.Seen.{Adds}
-use Rattle.sf_word_steps.specs.Stands.{Sits, next_in, GoesWith, Goes}
-use Rattle.sf_word_steps.specs.Changes.{Tries}
-use Rattle.sf_word_steps.specs.Exchanges.{exchanges_of, HasExchanged}
-use Rattle.sf_word_steps.specs.Attempts.{IsAfter}
-use Rattle.sf_calls.specs.Afters.{FollowsCall}
+use Rattle.sf_steps_laws.specs.declared.operation.Stage.{Stage}
+use Rattle.sf_steps_laws.specs.declared.operation.Stage.TheVariants as stage
+use Rattle.sf_steps_laws.proofs.RightAnswers.{always}
+use Rattle.sf_group_rows.specs.declared.sizes.Sizes.{Sizes}
+use Rattle.sf_group_steps.specs.declared.view.View.{View}
+use Rattle.sf_group_rows.specs.declared.outcomes.NotBegun.TheVariants as not_begun
+use Rattle.sf_group_steps.specs.View.{setting_of, sizes_of, history_of}
+use Rattle.sf_group_rows.specs.Tokens.{GroupValue}
+use Rattle.sf_group_rows.specs.Seen.{Adds}
+use Rattle.sf_group_steps.specs.Stands.{Sits, next_in, GoesWith, Goes}
+use Rattle.sf_group_steps.specs.Changes.{Tries}
+use Rattle.sf_group_steps.specs.Exchanges.{exchanges_of, HasExchanged}
+use Rattle.sf_group_steps.specs.Attempts.{IsAfter}
+use Rattle.sf_group_rows.specs.Afters.{FollowsCall}
 use Rattle.sf_group.specs.Known.{IsPlaceIn, group_of, caller_of, flight_of, ticket_of}
-use Rattle.sf_calls.specs.Same.{call_of, HasNothing}
-use Rattle.sf_calls.specs.Begins.{HasLed, HasJoined, IsRefusedSpent}
-use Rattle.sf_calls.specs.Forgets.{HasForgot, HasForgotCall}
+use Rattle.sf_group_rows.specs.Same.{call_of, HasNothing}
+use Rattle.sf_group_rows.specs.Begins.{HasLed, HasJoined, IsRefusedSpent}
+use Rattle.sf_group_rows.specs.Forgets.{HasForgot, HasForgotCall}
 use Rattle.sf_group.specs.Calls.{HasTriedJust, HasTriedAtMost, HasNotBegun, HasNotForgotten}
-use Rattle.sf_word_steps.proofs.Trying.{goes_none, busy_after}
-use Rattle.sf_word_steps.proofs.Exchanging.{tries_at_most, tries_just}
+use Rattle.sf_group_steps.proofs.Trying.{goes_none, busy_after}
+use Rattle.sf_group_steps.proofs.Exchanging.{tries_at_most, tries_just}
 
 module _ {V : Type 0} where
   -- the next generation, as the history says it

@@ -4,16 +4,16 @@ use Rattle.std.specs.Prelude.{nat_eq, IsTrue, IsFalse, Some, None}
 use Rattle.atomic_table.specs.Seated.{TableId}
 use Rattle.sf_history.specs.declared.call.CallId.{CallId}
 use Rattle.sf_history.specs.History.{current_call}
-use Rattle.sf_schedules.specs.declared.operation.Stage.{Stage}
-use Rattle.sf_schedules.specs.declared.operation.Stage.TheVariants as stage
-use Rattle.sf_schedules.specs.Turns.{at_members}
-use Rattle.sf_calls.specs.declared.sizes.Sizes.{Sizes}
-use Rattle.sf_calls.specs.Same.{IsSameFlight, IsStillTicket}
-use Rattle.sf_calls.specs.Currents.{WasCurrent, IsStillSaid}
-use Rattle.sf_word_steps.specs.declared.view.View.{View}
-use Rattle.sf_word_steps.specs.View.{sizes_of, history_of}
-use Rattle.sf_word_steps.specs.Stands.{Sits, Goes}
-use Rattle.sf_word_steps.specs.StillCurrents.{Stays}
+use Rattle.sf_steps_laws.specs.declared.operation.Stage.{Stage}
+use Rattle.sf_steps_laws.specs.declared.operation.Stage.TheVariants as stage
+use Rattle.sf_steps_laws.specs.Turns.{at_members}
+use Rattle.sf_group_rows.specs.declared.sizes.Sizes.{Sizes}
+use Rattle.sf_group_rows.specs.Same.{IsSameFlight, IsStillTicket}
+use Rattle.sf_group_rows.specs.Currents.{WasCurrent, IsStillSaid}
+use Rattle.sf_group_steps.specs.declared.view.View.{View}
+use Rattle.sf_group_steps.specs.View.{sizes_of, history_of}
+use Rattle.sf_group_steps.specs.Stands.{Sits, Goes}
+use Rattle.sf_group_steps.specs.StillCurrents.{Stays}
 use Rattle.sf_group.specs.Known.{flight_of, ticket_of}
 use Rattle.sf_group.proofs.Rows.{sizes_are, group_is, added}
 

@@ -1,23 +1,23 @@
 -- what calls over words say beside the table of calls: whose changes each failed try was, and how often a call tried
 use Rattle.std.specs.Prelude.{◌≡◌, ◌≤◌, ◌+◌, ℕ, List, ◌++◌, None}
-use Rattle.sf_calls.specs.declared.outcomes.NotBegun.{NotBegun}
-use Rattle.sf_calls.specs.declared.outcomes.NotBegun.TheVariants.{Busy, Spent}
-use Rattle.sf_calls.specs.declared.outcomes.Begun.{Begun}
-use Rattle.sf_calls.specs.declared.outcomes.Begun.TheVariants.{Lead, Join}
-use Rattle.sf_calls.specs.declared.outcomes.ChanBegun.{ChanBegun}
-use Rattle.sf_calls.specs.declared.outcomes.ChanBegun.TheVariants.{Led, Joined}
-use Rattle.sf_calls.specs.declared.outcomes.Finished.{Finished}
-use Rattle.sf_calls.specs.declared.outcomes.Finished.TheVariants.{Done, Held}
-use Rattle.sf_calls.specs.Tokens.{CallerValue, FlightValue, SettledValue, TicketValue, LetterValue}
-use Rattle.sf_calls.specs.Same.{HasNothing}
-use Rattle.sf_calls.specs.Begins.{IsRefusedSpent, AreRefusedSpent, IsRefusedBusy, AreRefusedBusy}
-use Rattle.sf_schedules.specs.declared.turn.Turn.{Turn}
-use Rattle.sf_schedules.specs.Closes.{closes}
-use Rattle.sf_schedules.specs.Schedules.{IsSchedule}
-use Rattle.sf_word_steps.specs.View.{setting_of, world_of}
-use Rattle.sf_word_steps.specs.Changes.{HasChanged}
-use Rattle.sf_word_steps.specs.Exchanges.{TriesAtMost, TriesJust}
-use Rattle.sf_word_chans.specs.Changes.{HaveChanged}
+use Rattle.sf_group_rows.specs.declared.outcomes.NotBegun.{NotBegun}
+use Rattle.sf_group_rows.specs.declared.outcomes.NotBegun.TheVariants.{Busy, Spent}
+use Rattle.sf_group_rows.specs.declared.outcomes.Begun.{Begun}
+use Rattle.sf_group_rows.specs.declared.outcomes.Begun.TheVariants.{Lead, Join}
+use Rattle.sf_group_rows.specs.declared.outcomes.ChanBegun.{ChanBegun}
+use Rattle.sf_group_rows.specs.declared.outcomes.ChanBegun.TheVariants.{Led, Joined}
+use Rattle.sf_group_rows.specs.declared.outcomes.Finished.{Finished}
+use Rattle.sf_group_rows.specs.declared.outcomes.Finished.TheVariants.{Done, Held}
+use Rattle.sf_group_rows.specs.Tokens.{CallerValue, FlightValue, SettledValue, TicketValue, LetterValue}
+use Rattle.sf_group_rows.specs.Same.{HasNothing}
+use Rattle.sf_group_rows.specs.Begins.{IsRefusedSpent, AreRefusedSpent, IsRefusedBusy, AreRefusedBusy}
+use Rattle.sf_steps_laws.specs.declared.turn.Turn.{Turn}
+use Rattle.sf_steps_laws.specs.Closes.{closes}
+use Rattle.sf_steps_laws.specs.Schedules.{IsSchedule}
+use Rattle.sf_group_steps.specs.View.{setting_of, world_of}
+use Rattle.sf_group_steps.specs.Changes.{HasChanged}
+use Rattle.sf_group_steps.specs.Exchanges.{TriesAtMost, TriesJust}
+use Rattle.sf_group_chans.specs.Changes.{HaveChanged}
 
 module _ {V : Type 0} where
   -- beyond what the caller knew it knows so many turns of others that changed the place's key word, or a call word that it tried

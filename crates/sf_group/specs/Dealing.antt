@@ -1,8 +1,8 @@
 -- the seat that stands for the callers that are not dealt out yet
 use Rattle.std.specs.Prelude.{◌≡◌, ℕ, ◌+◌, ◌-◌, [], Some}
 use Rattle.std.specs.List.{range_with_len}
-use Rattle.sf_calls.specs.declared.sizes.Sizes.{Sizes}
-use Rattle.sf_word_steps.specs.declared.view.View.{View}
+use Rattle.sf_group_rows.specs.declared.sizes.Sizes.{Sizes}
+use Rattle.sf_group_steps.specs.declared.view.View.{View}
 
 module _ {V : Type 0} where
   -- the seat that stands for the callers from this one on, which know nothing

@@ -2,10 +2,10 @@
 use Rattle.std.specs.Prelude.{◌≡◌, ℕ, ◌-◌, ◌≤◌, [], Option, Some}
 use Rattle.atomic_table.specs.Seated.{TableId}
 use Rattle.sf_history.specs.declared.call.CallId.{CallId}
-use Rattle.sf_calls.specs.declared.sizes.Sizes.{Sizes}
-use Rattle.sf_calls.specs.Tokens.{GroupValue, CallerValue, FlightValue, SettledValue, TicketValue, NoteValue, LetterValue}
-use Rattle.sf_word_steps.specs.declared.view.View.{View}
-use Rattle.sf_word_steps.specs.View.{sizes_of, history_of}
+use Rattle.sf_group_rows.specs.declared.sizes.Sizes.{Sizes}
+use Rattle.sf_group_rows.specs.Tokens.{GroupValue, CallerValue, FlightValue, SettledValue, TicketValue, NoteValue, LetterValue}
+use Rattle.sf_group_steps.specs.declared.view.View.{View}
+use Rattle.sf_group_steps.specs.View.{sizes_of, history_of}
 
 abbrev pub IsPlaceIn : Sizes → ℕ → Type 0
 IsPlaceIn z k = (1 ≤ k) × (k ≤ z.places)

@@ -1,15 +1,15 @@
 //! Askings: begin, and begin_chan with a second caller.
 ghost use Rattle.std.specs.Prelude.{◌≡◌, ◌<◌, ◌≤◌, ◌⊎◌, IfOk, IfErr, IfSome, IfNone};
-ghost use Rattle.sf_calls.specs.Same.{IsPlaceOf};
-ghost use Rattle.sf_calls.specs.Begins.{HasBegun, HasChanBegun};
+ghost use Rattle.sf_group_rows.specs.Same.{IsPlaceOf};
+ghost use Rattle.sf_group_rows.specs.Begins.{HasBegun, HasChanBegun};
 ghost use Rattle.sf_group.specs.Calls.{HasTriedToBegin, HasNotBegun, HaveTriedToBegin, HasNotBegunChan};
 
 use crate::group::{Group, MOST_TRIES};
 use crate::tokens::{Caller, Flight, Ticket};
-use sf_calls::{Begun, ChanBegun, Fit, NotBegun};
+use sf_group_chans::{Askers, ask_together};
+use sf_group_rows::{Begun, ChanBegun, Fit, NotBegun};
+use sf_group_steps::{Actor, AskAttempt, ask_often};
 use sf_history::CallId;
-use sf_word_chans::{Askers, ask_together};
-use sf_word_steps::{Actor, AskAttempt, ask_often};
 
 // The generations that two callers use next. None where either is spent.
 fn generations(next: u64, second_next: u64) -> Option<(u32, u32)>

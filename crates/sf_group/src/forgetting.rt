@@ -1,14 +1,14 @@
 //! Forgets: of a place, and of one call.
 ghost use Rattle.std.specs.Prelude.{◌≡◌, ◌≤◌, IfOk, IfErr};
-ghost use Rattle.sf_calls.specs.Same.{IsPlaceOf};
-ghost use Rattle.sf_calls.specs.Forgets.{HasForgotten, HasForgotCall};
+ghost use Rattle.sf_group_rows.specs.Same.{IsPlaceOf};
+ghost use Rattle.sf_group_rows.specs.Forgets.{HasForgotten, HasForgotCall};
 ghost use Rattle.sf_group.specs.Calls.{HasTriedAtMost, HasNotForgotten};
 
 use crate::group::{Group, MOST_TRIES};
 use crate::tokens::Caller;
-use sf_calls::{Busy, Fit};
+use sf_group_rows::{Busy, Fit};
+use sf_group_steps::{Actor, ForgetAttempt, forget_often};
 use sf_history::{CallId, Forgotten, Hit};
-use sf_word_steps::{Actor, ForgetAttempt, forget_often};
 
 impl<V: Fit> Group<V> {
     /// The caller forgets the place: it closes the place's open call, or finds none. Refused as busy is one whose

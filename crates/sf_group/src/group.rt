@@ -1,16 +1,16 @@
 //! The group: how it is made, and how large it is.
 ghost use Rattle.std.specs.Prelude.{◌≡◌, ◌+◌, ◌≤◌, ◌↔◌, [], IfOk, IfErr, IsTrue};
 ghost use Rattle.std.specs.List.{All, range_with_len};
-ghost use Rattle.sf_calls.specs.Same.{IsPlaceOf};
-ghost use Rattle.sf_calls.specs.Making.{IsNewCaller, new_caller, numbers_of};
-ghost use Rattle.sf_word_steps.specs.Stands.{IsSeatOf};
+ghost use Rattle.sf_group_rows.specs.Same.{IsPlaceOf};
+ghost use Rattle.sf_group_rows.specs.Making.{IsNewCaller, new_caller, numbers_of};
+ghost use Rattle.sf_group_steps.specs.Stands.{IsSeatOf};
 ghost use Rattle.sf_group.specs.Dealing.{IsDealing};
 
 use crate::tokens::{Caller, Seated};
 use atomic_table::Table;
-use sf_calls::{Fit, MOST_CALLERS, MOST_PLACES, Sizes};
-use sf_schedules::Letter as Cell;
-use sf_word_steps::{Deals, Law, Resting, View, WordSeat, Words, word_count};
+use sf_group_rows::{Fit, MOST_CALLERS, MOST_PLACES, Sizes};
+use sf_steps_laws::Letter as Cell;
+use sf_group_steps::{Deals, Law, Resting, View, WordSeat, Words, word_count};
 use std::alloc::{AllocError, Global};
 use std::marker::Model;
 
@@ -29,10 +29,10 @@ pub struct Group<V: Fit> {
 }
 
 impl<V: Fit> Model for Group<V> {
-    ghost use Rattle.sf_calls.specs.declared.limits.TheConstants.{MOST_CALLERS};
+    ghost use Rattle.sf_group_rows.specs.declared.limits.TheConstants.{MOST_CALLERS};
     ghost use Rattle.std.specs.Prelude.{◌≡◌, ◌+◌, ◌≤◌};
-    ghost use Rattle.sf_word_steps.specs.Words.{words_in};
-    ghost use Rattle.sf_calls.specs.Tokens.{GroupValue};
+    ghost use Rattle.sf_group_steps.specs.Words.{words_in};
+    ghost use Rattle.sf_group_rows.specs.Tokens.{GroupValue};
 
     ghost Value = { GroupValue };
 

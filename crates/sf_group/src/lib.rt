@@ -6,7 +6,7 @@
 //! settles within one try more than there are callers. Letters lie in cells of the group's table, one a caller: the
 //! leader writes its members' cells, and each takes its letter by `poll`. What a caller has seen is a beginning of one
 //! legal history of the group, and the contract of each call says what it adds to it, by the table of calls in
-//! `sf_calls`.
+//! `sf_group_rows`.
 //!
 //! # The tokens
 //!
@@ -51,6 +51,6 @@ mod tokens;
 
 pub use group::{Group, MOST_TRIES};
 pub use outcomes::{Begun, ChanBegun, Finished, Polled};
-pub use sf_calls::{Busy, Fit, MOST_CALLERS, MOST_PLACES, NotBegun, Sizes, Spent};
+pub use sf_group_rows::{Busy, Fit, MOST_CALLERS, MOST_PLACES, NotBegun, Sizes, Spent};
 pub use sf_history::{CallId, Event, Forgotten, Hit, Memory, Share};
 pub use tokens::{Caller, Flight, Letter, Note, Settled, Ticket};

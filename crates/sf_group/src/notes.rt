@@ -1,15 +1,15 @@
 //! Notes and letters pass on what one has seen. None of these calls waits or changes a word, and none takes memory but a
 //! copy.
 ghost use Rattle.std.specs.Prelude.{◌≡◌, IfOk, IfErr};
-ghost use Rattle.sf_calls.specs.Seen.{StartsWith};
-ghost use Rattle.sf_calls.specs.Finishes.{IsHeldStill};
-ghost use Rattle.sf_calls.specs.Notes.{HasTold, HasLearnt, HasLearntLeading, HasGrown, HasMet, HasLent, HasCopied};
+ghost use Rattle.sf_group_rows.specs.Seen.{StartsWith};
+ghost use Rattle.sf_group_rows.specs.Finishes.{IsHeldStill};
+ghost use Rattle.sf_group_rows.specs.Notes.{HasTold, HasLearnt, HasLearntLeading, HasGrown, HasMet, HasLent, HasCopied};
 
 use crate::group::Group;
 use crate::tokens::{Caller, Flight, Letter, Note, Settled};
-use sf_calls::Fit;
+use sf_group_rows::Fit;
+use sf_group_steps::{Tells, hear_note};
 use sf_history::Memory;
-use sf_word_steps::{Tells, hear_note};
 
 impl<V: Fit> Group<V> {
     /// A note that shows what the caller has seen.

@@ -1,11 +1,11 @@
 //! Calls by which letters come: poll, and the rest between two.
 ghost use Rattle.std.specs.Prelude.{◌≡◌};
-ghost use Rattle.sf_calls.specs.Finishes.{HasPolled};
+ghost use Rattle.sf_group_rows.specs.Finishes.{HasPolled};
 
 use crate::group::Group;
 use crate::tokens::{Caller, Letter, Ticket};
-use sf_calls::{Fit, Polled};
-use sf_word_steps::{Actor, collect};
+use sf_group_rows::{Fit, Polled};
+use sf_group_steps::{Actor, collect};
 use std::sync::Wait;
 
 impl<V: Fit> Group<V> {

@@ -1,15 +1,15 @@
 //! The questions whether a letter's call, or a call of any numbers, is its place's current one, and which call a place names.
 ghost use Rattle.std.specs.Prelude.{◌≡◌};
-ghost use Rattle.sf_calls.specs.Same.{IsPlaceOf, HasNothing, IsSameFlight, IsStillTicket};
-ghost use Rattle.sf_calls.specs.Currents.{HasQuestioned, IsStillSaid};
-ghost use Rattle.sf_calls.specs.Finishes.{IsHeldStill};
-ghost use Rattle.sf_calls.specs.Forgets.{HasNamed};
+ghost use Rattle.sf_group_rows.specs.Same.{IsPlaceOf, HasNothing, IsSameFlight, IsStillTicket};
+ghost use Rattle.sf_group_rows.specs.Currents.{HasQuestioned, IsStillSaid};
+ghost use Rattle.sf_group_rows.specs.Finishes.{IsHeldStill};
+ghost use Rattle.sf_group_rows.specs.Forgets.{HasNamed};
 
 use crate::group::Group;
 use crate::tokens::{Caller, Flight, Letter, Settled, Ticket};
-use sf_calls::Fit;
+use sf_group_rows::Fit;
+use sf_group_steps::{Actor, ask_current, ask_named, is_still_current};
 use sf_history::CallId;
-use sf_word_steps::{Actor, ask_current, ask_named, is_still_current};
 
 impl<V: Fit> Group<V> {
     /// Whether the letter's call is its place's current one. The caller learns what the letter's note shows first, so a yes

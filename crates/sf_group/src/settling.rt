@@ -1,16 +1,16 @@
 //! Calls that settle and hand letters out: settle, finish and go_on.
 ghost use Rattle.std.specs.Prelude.{◌≡◌, ◌≤◌, true, Some};
-ghost use Rattle.sf_schedules.specs.Schedules.{was_led_on};
-ghost use Rattle.sf_calls.specs.Finishes.{HasFinished, HasGoneOn};
-ghost use Rattle.sf_word_steps.specs.View.{sizes_of, history_of};
+ghost use Rattle.sf_steps_laws.specs.Schedules.{was_led_on};
+ghost use Rattle.sf_group_rows.specs.Finishes.{HasFinished, HasGoneOn};
+ghost use Rattle.sf_group_steps.specs.View.{sizes_of, history_of};
 ghost use Rattle.sf_group.specs.Calls.{HasClosed, HasKnown, HasOwedNone};
 ghost use Rattle.sf_group.specs.Known.{IsPlaceIn, letter_of};
 
 use crate::group::Group;
 use crate::tokens::{Caller, Flight, Leader, Letter, MaybeNumber, Note, Settled};
-use sf_calls::{Finished, Fit};
+use sf_group_rows::{Finished, Fit};
+use sf_group_steps::{
 use sf_history::CallId;
-use sf_word_steps::{
     Actor, Delivery, Tells, Unrested, Wakes, WordSeat, hand_out, settle_and_count,
 };
 

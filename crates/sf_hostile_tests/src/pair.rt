@@ -3,8 +3,8 @@
 ghost use Rattle.std.proofs.Common.{inl};
 ghost use Rattle.std.specs.Prelude.{◌≡◌, ◌≤◌, IfOk, vec_len, pos};
 ghost use Rattle.sf_words.specs.declared.limits.TheConstants.{LARGEST_PLACE};
-ghost use Rattle.sf_spots.specs.Spaces.{AreDesksOf, places_in, space_of};
-ghost use Rattle.sf_counters.specs.Totals.{names_of};
+ghost use Rattle.sf_fill_keys.specs.Spaces.{AreDesksOf, places_in, space_of};
+ghost use Rattle.sf_fill_counters.specs.Totals.{names_of};
 ghost use Rattle.sf_fill.specs.Made.{AreParts};
 
 use crate::meeting::{Flags, PairLoaders, loaders};
@@ -12,9 +12,9 @@ use crate::spare::{Spare, take_letter};
 use crate::tried::{PairGetter, Tried};
 use sf_dir::Directory;
 use sf_fill::{Fill, FillParts, Naming, RefusedParts, Sizes};
+use sf_fill_keys::{KeyDesk, KeySpace, open_directory};
 use sf_group::Memory;
 use sf_loaders::scripted::AnyValue;
-use sf_spots::{KeyDesk, KeySpace, open_directory};
 use std::alloc::Global;
 use std::marker::Brand;
 use std::process::Abort;

@@ -1,6 +1,6 @@
 //! A spare caller, which joins the load of a fill's first getter.
 ghost use Rattle.std.specs.Prelude.{◌≡◌, IfSome};
-ghost use Rattle.sf_calls.specs.Same.{IsPlaceOf};
+ghost use Rattle.sf_group_rows.specs.Same.{IsPlaceOf};
 
 use crate::meeting::Flags;
 use sf_fill::{Fill, FillValue, Naming};
@@ -42,7 +42,7 @@ pub(crate) struct Spare<'a, 'd, 'f, D: Naming, N: Naming> {
 
 impl<'a, 'd, 'f, D: Naming, N: Naming> Model for Spare<'a, 'd, 'f, D, N> {
     ghost use Rattle.std.specs.Prelude.{◌≡◌};
-    ghost use Rattle.sf_calls.specs.Same.{IsPlaceOf};
+    ghost use Rattle.sf_group_rows.specs.Same.{IsPlaceOf};
 
     ghost Value = { Unit {0} };
 

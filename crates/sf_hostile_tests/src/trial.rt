@@ -24,11 +24,11 @@
 //! These numbers hold where the script says nothing.
 ghost use Rattle.std.specs.Prelude.{◌≡◌, ◌≤◌, All, vec_len};
 ghost use Rattle.sf_words.specs.declared.limits.TheConstants.{LARGEST_PLACE};
-ghost use Rattle.sf_door.specs.Opened.{IsNewGetter, places_for};
+ghost use Rattle.sf_fill_open.specs.Opened.{IsNewGetter, places_for};
 
 use bytes::{ByteStr, Bytes};
-use sf_door::{Body, DirectoryKeys, FillSizes, Keys, Sizes, with_fill};
 use sf_fill::{Fill, Getter, LoadFault, Naming, Totals, View};
+use sf_fill_open::{Body, DirectoryKeys, FillSizes, Keys, Sizes, with_fill};
 use sf_group::Memory;
 use sf_loaders::scripted::{Answer, FixedPicker, RoundChance, Script};
 use sf_loaders::{LoadPath, Loaders, Origin};

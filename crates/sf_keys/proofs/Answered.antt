@@ -4,16 +4,16 @@ use Rattle.std.proofs.lemmas.List.{append-nil}
 use Rattle.sf_history.specs.declared.call.CallId.{CallId}
 use Rattle.sf_history.specs.declared.event.Event.{Event}
 use Rattle.sf_history.specs.declared.event.Event.TheVariants.{Lead, Enter, Settle}
-use Rattle.sf_calls.specs.Tokens.{GroupValue, CallerValue, FlightValue, LetterValue, SettledValue}
-use Rattle.sf_calls.specs.Seen.{StartsWith, Stands}
-use Rattle.sf_calls.specs.Fitting.{FitOf}
-use Rattle.sf_calls.specs.Same.{call_of}
-use Rattle.sf_calls.specs.Begins.{HasLed, IsRefusedSpent}
-use Rattle.sf_calls.specs.Finishes.{IsDone, IsLetter}
-use Rattle.sf_calls.proofs.AddsAgain.{starts_again}
+use Rattle.sf_group_rows.specs.Tokens.{GroupValue, CallerValue, FlightValue, LetterValue, SettledValue}
+use Rattle.sf_group_rows.specs.Seen.{StartsWith, Stands}
+use Rattle.sf_group_rows.specs.Fitting.{FitOf}
+use Rattle.sf_group_rows.specs.Same.{call_of}
+use Rattle.sf_group_rows.specs.Begins.{HasLed, IsRefusedSpent}
+use Rattle.sf_group_rows.specs.Finishes.{IsDone, IsLetter}
+use Rattle.sf_group_rows.proofs.AddsAgain.{starts_again}
 use Rattle.sf_wait.specs.Doing.{HasLoaded, HasWaited, OwesLoaded}
 use Rattle.sf_keys.specs.Answers.{IsFresh, HasMissed, HasLetter, IsAlone, IsSpentAsking, OwesLetters}
-use Rattle.sf_calls.proofs.Moments.{first_added, led_current, entered_current, stands_more}
+use Rattle.sf_group_rows.proofs.Moments.{first_added, led_current, entered_current, stands_more}
 use Rattle.sf_keys.proofs.Newer.{newer}
 
 module _ {V : Type 0} where

@@ -8,9 +8,9 @@ use Rattle.sf_history.specs.declared.event.Event.{Event}
 use Rattle.sf_history.specs.declared.event.Event.TheVariants.{Lead}
 use Rattle.sf_history.specs.History.{current_call}
 use Rattle.sf_history.specs.Legal.{IsLegal}
-use Rattle.sf_calls.specs.Seen.{StartsWith}
-use Rattle.sf_calls.specs.Unforgotten.{forgets}
-use Rattle.sf_calls.proofs.Moments.{current_unforgotten, led_once, legal_before}
+use Rattle.sf_group_rows.specs.Seen.{StartsWith}
+use Rattle.sf_group_rows.specs.Unforgotten.{forgets}
+use Rattle.sf_group_rows.proofs.Moments.{current_unforgotten, led_once, legal_before}
 use Rattle.sf_keys.specs.Answers.{IsNewer}
 
 module _ {V : Type 0} where

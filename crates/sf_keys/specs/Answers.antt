@@ -4,11 +4,11 @@ use Rattle.sf_history.specs.declared.call.CallId.{CallId}
 use Rattle.sf_history.specs.declared.event.Event.{Event}
 use Rattle.sf_history.specs.declared.event.Event.TheVariants.{Lead, Settle}
 use Rattle.sf_history.specs.History.{current_call}
-use Rattle.sf_calls.specs.Tokens.{CallerValue, FlightValue, LetterValue, SettledValue}
-use Rattle.sf_calls.specs.Seen.{StartsWith, Stands}
-use Rattle.sf_calls.specs.Unforgotten.{forgets}
-use Rattle.sf_calls.specs.Fitting.{FitOf}
-use Rattle.sf_calls.specs.Begins.{HasLed, IsRefusedSpent}
+use Rattle.sf_group_rows.specs.Tokens.{CallerValue, FlightValue, LetterValue, SettledValue}
+use Rattle.sf_group_rows.specs.Seen.{StartsWith, Stands}
+use Rattle.sf_group_rows.specs.Unforgotten.{forgets}
+use Rattle.sf_group_rows.specs.Fitting.{FitOf}
+use Rattle.sf_group_rows.specs.Begins.{HasLed, IsRefusedSpent}
 use Rattle.sf_wait.specs.Doing.{HasLoaded, HasWaited, HasDone, OwesLoaded}
 use Rattle.sf_wait.specs.declared.doing.DoFault.{DoFault}
 use Rattle.sf_wait.specs.declared.doing.DoFault.TheVariants as fault

@@ -1,8 +1,8 @@
 //! Places of keys.
 ghost use Rattle.std.specs.Prelude.{◌≤◌};
-ghost use Rattle.sf_calls.specs.declared.limits.TheConstants.{MOST_PLACES};
+ghost use Rattle.sf_group_rows.specs.declared.limits.TheConstants.{MOST_PLACES};
 
-use sf_calls::MOST_PLACES;
+use sf_group_rows::MOST_PLACES;
 
 /// Which place a key has, of so many. The two seeds are to be drawn at random and kept secret, so that nobody can choose
 /// keys of one place.

@@ -2,7 +2,7 @@
 
 ghost use Rattle.std.specs.Prelude.{◌≡◌, ◌≤◌};
 
-use sf_caches::{Caches, Which};
+use sf_fill_caches::{Caches, Which};
 use std::alloc::{AllocError, Global};
 use std::process::Abort;
 

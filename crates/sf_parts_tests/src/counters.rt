@@ -1,9 +1,9 @@
 //! The counters of a fill.
 
 ghost use Rattle.std.specs.Prelude.{◌≡◌, ◌-◌, ◌<◌, ◌^◌};
-ghost use Rattle.sf_counters.specs.Totals.{AreNamed, IsOfOneGet};
+ghost use Rattle.sf_fill_counters.specs.Totals.{AreNamed, IsOfOneGet};
 
-use sf_counters::{Accounts, GetCounts, Ledgers, Naming, Tallies, Totals};
+use sf_fill_counters::{Accounts, GetCounts, Ledgers, Naming, Tallies, Totals};
 use sf_loaders::Counts;
 use std::marker::Brand;
 use std::process::Abort;

@@ -1,9 +1,9 @@
 //! Histories of numbers, as lines: what is merged of them, and whether it is legal.
 
 use crate::reading::{first_word, number};
-use sf_checker::{Verdict, check};
 use sf_history::{CallId, Event, History, Hit};
 use sf_replay::merge;
+use sf_replay_check::{Verdict, check};
 use std::alloc::{AllocError, Global};
 use std::process::Abort;
 use std::test::Fail;

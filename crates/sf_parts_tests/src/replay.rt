@@ -1,7 +1,7 @@
 //! The rows of the records, and what is written for a history.
 
-use sf_checker::{Verdict, check, check_indexed};
 use sf_replay::{RecordRefusal, read, write};
+use sf_replay_check::{Verdict, check, check_indexed};
 use std::alloc::{AllocError, Global};
 use std::process::Abort;
 use std::test::Fail;

@@ -4,8 +4,8 @@ ghost use Rattle.std.specs.Prelude.{◌≤◌};
 
 use crate::reading::{first_word, number, text};
 use sf_history::CallId;
-use sf_plays::{ScheduleRefusal, play, step_text, trace_text};
 use sf_steps::{Op, Step, World, laws};
+use sf_steps_text::{ScheduleRefusal, play, step_text, trace_text};
 use sf_text::Outcome;
 use std::alloc::Global;
 use std::process::Abort;

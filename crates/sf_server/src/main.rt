@@ -3,7 +3,7 @@
 #![tactic(auto)]
 
 ghost use Rattle.std.specs.Prelude.{◌≡◌, All, IfSome};
-ghost use Rattle.sf_calls.specs.Same.{IsPlaceOf};
+ghost use Rattle.sf_group_rows.specs.Same.{IsPlaceOf};
 
 use sf_dir::Directory;
 use sf_group::{Caller, Fit, Group, Memory, Note, Share};

@@ -7,13 +7,13 @@ use Rattle.std.specs.Prelude.{cond, replicate}
 use Rattle.sf_words.specs.declared.key_word.KeyState.{KeyState}
 use Rattle.sf_words.specs.declared.call_word.CallState.{CallState}
 use Rattle.sf_words.specs.declared.call_word.LeaderState.{LeaderState}
-use Rattle.sf_schedules.specs.declared.letter.Letter.{Letter}
-use Rattle.sf_schedules.specs.declared.operation.Stage.{Stage}
-use Rattle.sf_schedules.specs.declared.operation.Stage.TheVariants.{Free}
-use Rattle.sf_schedules.specs.Stages.{is_asking, second_in, first_in}
+use Rattle.sf_steps_laws.specs.declared.letter.Letter.{Letter}
+use Rattle.sf_steps_laws.specs.declared.operation.Stage.{Stage}
+use Rattle.sf_steps_laws.specs.declared.operation.Stage.TheVariants.{Free}
+use Rattle.sf_steps_laws.specs.Stages.{is_asking, second_in, first_in}
 use Rattle.sf_steps.specs.Rows.{first_row, row_at, IsLawful, ArePaired}
 use Rattle.sf_steps.specs.declared.caller_row.CallerRow.{CallerRow}
-use Rattle.sf_schedules.specs.World.{World, is_open_with, with_call, with_next, with_cell, with_stage, with_used}
+use Rattle.sf_steps_laws.specs.World.{World, is_open_with, with_call, with_next, with_cell, with_stage, with_used}
 use Rattle.sf_lists.specs.Functions.{put}
 use Rattle.sf_steps.specs.Running.{of_rows}
 use Rattle.sf_lists.proofs.Functions.{put_here, put_else}

@@ -1,11 +1,11 @@
 -- the seconds of chans: who they are, and that they have a generation left
 use Rattle.std.proofs.Common.{◌≡◌, ◌≢◌, ℕ, ◌<◌, ◌≤◌, true, Option, Some, None, inl, inr, refl, ◌∙◌, ap}
 use Rattle.std.proofs.lemmas.Bool.{cases_lt}
-use Rattle.sf_schedules.specs.declared.operation.Stage.{Stage}
-use Rattle.sf_schedules.specs.declared.operation.Stage.TheVariants.{Free, Leading, Holding, Polling, Seconding, Asking, Settling, Forgetting, Naming, Questioning}
-use Rattle.sf_schedules.specs.declared.operation.AskStep.{AskStep}
-use Rattle.sf_schedules.specs.Stages.{is_asking, second_in, first_in}
-use Rattle.sf_schedules.specs.Askings.{joiner}
+use Rattle.sf_steps_laws.specs.declared.operation.Stage.{Stage}
+use Rattle.sf_steps_laws.specs.declared.operation.Stage.TheVariants.{Free, Leading, Holding, Polling, Seconding, Asking, Settling, Forgetting, Naming, Questioning}
+use Rattle.sf_steps_laws.specs.declared.operation.AskStep.{AskStep}
+use Rattle.sf_steps_laws.specs.Stages.{is_asking, second_in, first_in}
+use Rattle.sf_steps_laws.specs.Askings.{joiner}
 use Rattle.sf_steps.specs.Rows.{ArePaired}
 use Rattle.sf_steps.proofs.Rows.{none_some}
 

@@ -9,15 +9,15 @@ use Rattle.sf_words.specs.declared.key_word.KeyState.TheVariants.{Names}
 use Rattle.sf_words.specs.declared.call_word.LeaderState.{LeaderState}
 use Rattle.sf_words.specs.declared.call_word.CallState.{CallState}
 use Rattle.sf_words.specs.declared.call_word.CallState.TheVariants as word
-use Rattle.sf_schedules.specs.declared.letter.Letter.{Letter}
-use Rattle.sf_schedules.specs.declared.operation.Stage.{Stage}
-use Rattle.sf_schedules.specs.declared.operation.Stage.TheVariants.{Free, Leading, Holding, Settling}
-use Rattle.sf_schedules.specs.declared.operation.SettleStep.{SettleStep}
-use Rattle.sf_schedules.specs.declared.operation.SettleStep.TheVariants as settle
-use Rattle.sf_schedules.specs.World.{World, with_key, with_call, with_stage, with_used, next_id, key_of, same_key, is_open_with, count}
-use Rattle.sf_schedules.specs.Askings.{joiner, with_top, own_of, holds_own, after_lead, after_enter}
-use Rattle.sf_schedules.specs.Turns.{after_own_peek, at_members, at_count, cleared, delivered, stepped}
-use Rattle.sf_schedules.specs.Events.{lead_events}
+use Rattle.sf_steps_laws.specs.declared.letter.Letter.{Letter}
+use Rattle.sf_steps_laws.specs.declared.operation.Stage.{Stage}
+use Rattle.sf_steps_laws.specs.declared.operation.Stage.TheVariants.{Free, Leading, Holding, Settling}
+use Rattle.sf_steps_laws.specs.declared.operation.SettleStep.{SettleStep}
+use Rattle.sf_steps_laws.specs.declared.operation.SettleStep.TheVariants as settle
+use Rattle.sf_steps_laws.specs.World.{World, with_key, with_call, with_stage, with_used, next_id, key_of, same_key, is_open_with, count}
+use Rattle.sf_steps_laws.specs.Askings.{joiner, with_top, own_of, holds_own, after_lead, after_enter}
+use Rattle.sf_steps_laws.specs.Turns.{after_own_peek, at_members, at_count, cleared, delivered, stepped}
+use Rattle.sf_steps_laws.specs.Events.{lead_events}
 use Rattle.sf_steps.specs.Settling.{result_in, settling_at, members_at, count_at}
 use Rattle.sf_steps.proofs.Rows.{put_apart, staged_again}
 

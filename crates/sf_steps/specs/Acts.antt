@@ -1,20 +1,20 @@
 -- what a step does, as a trace prints it: which caller, what it loaded, stored or exchanged
 use Rattle.std.specs.Prelude.{ℕ, true, false, Option, Some, None}
 use Rattle.sf_history.specs.declared.call.CallId.{CallId}
-use Rattle.sf_schedules.specs.declared.operation.Stage.{Stage}
-use Rattle.sf_schedules.specs.declared.operation.Stage.TheVariants.{Polling, Asking, Settling, Forgetting, Naming, Questioning}
-use Rattle.sf_schedules.specs.declared.operation.AskStep.{AskStep}
-use Rattle.sf_schedules.specs.declared.operation.AskStep.TheVariants as ask
-use Rattle.sf_schedules.specs.declared.operation.SettleStep.{SettleStep}
-use Rattle.sf_schedules.specs.declared.operation.SettleStep.TheVariants as settle
-use Rattle.sf_schedules.specs.declared.operation.ForgetStep.{ForgetStep}
-use Rattle.sf_schedules.specs.declared.operation.ForgetStep.TheVariants as forget
-use Rattle.sf_schedules.specs.declared.operation.CurrentStep.{CurrentStep}
-use Rattle.sf_schedules.specs.declared.operation.CurrentStep.TheVariants as current
+use Rattle.sf_steps_laws.specs.declared.operation.Stage.{Stage}
+use Rattle.sf_steps_laws.specs.declared.operation.Stage.TheVariants.{Polling, Asking, Settling, Forgetting, Naming, Questioning}
+use Rattle.sf_steps_laws.specs.declared.operation.AskStep.{AskStep}
+use Rattle.sf_steps_laws.specs.declared.operation.AskStep.TheVariants as ask
+use Rattle.sf_steps_laws.specs.declared.operation.SettleStep.{SettleStep}
+use Rattle.sf_steps_laws.specs.declared.operation.SettleStep.TheVariants as settle
+use Rattle.sf_steps_laws.specs.declared.operation.ForgetStep.{ForgetStep}
+use Rattle.sf_steps_laws.specs.declared.operation.ForgetStep.TheVariants as forget
+use Rattle.sf_steps_laws.specs.declared.operation.CurrentStep.{CurrentStep}
+use Rattle.sf_steps_laws.specs.declared.operation.CurrentStep.TheVariants as current
 use Rattle.sf_steps.specs.declared.trace.Act.{Act}
 use Rattle.sf_steps.specs.declared.trace.Act.TheVariants.{Look, Peek, Ready, Lead, Link, Enter, Close, Clear, Follow, Deliver, Collect}
-use Rattle.sf_schedules.specs.World.{World, next_id, key_of, same_key, is_open_with, is_full}
-use Rattle.sf_schedules.specs.Askings.{joiner}
+use Rattle.sf_steps_laws.specs.World.{World, next_id, key_of, same_key, is_open_with, is_full}
+use Rattle.sf_steps_laws.specs.Askings.{joiner}
 
 -- the caller whose word a step is about: a second makes its own words ready, links and enters
 abbrev pub ask_stepper : ℕ → Option ℕ → AskStep → ℕ

@@ -1,9 +1,9 @@
 -- the row of a caller: its words, its cell, its next generation and its stage, and what is true of each row
 use Rattle.std.specs.Prelude.{◌≡◌, ℕ, ◌≤◌, true, None, Some, List, slice_index_or}
 use Rattle.sf_words.specs.declared.call_word.CallState.TheVariants as word
-use Rattle.sf_schedules.specs.declared.operation.Stage.{Stage}
-use Rattle.sf_schedules.specs.declared.operation.Stage.TheVariants as stage
-use Rattle.sf_schedules.specs.Stages.{field_of, top_in, place_in, is_asking, second_in, first_in, AreWithin}
+use Rattle.sf_steps_laws.specs.declared.operation.Stage.{Stage}
+use Rattle.sf_steps_laws.specs.declared.operation.Stage.TheVariants as stage
+use Rattle.sf_steps_laws.specs.Stages.{field_of, top_in, place_in, is_asking, second_in, first_in, AreWithin}
 use Rattle.sf_steps.specs.declared.caller_row.CallerRow.{CallerRow}
 use Rattle.sf_words.specs.declared.limits.TheConstants.{LARGEST_GENERATION}
 

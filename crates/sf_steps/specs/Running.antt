@@ -3,8 +3,8 @@ use Rattle.std.specs.Prelude.{◌≡◌, ℕ, List, slice_index_or}
 use Rattle.sf_words.specs.declared.key_word.KeyState.{KeyState}
 use Rattle.sf_words.specs.declared.key_word.KeyState.TheVariants.{Never}
 use Rattle.sf_steps.specs.declared.world.World.{World as Running}
-use Rattle.sf_schedules.specs.World.{World}
-use Rattle.sf_schedules.specs.Schedules.{Setting}
+use Rattle.sf_steps_laws.specs.World.{World}
+use Rattle.sf_steps_laws.specs.Schedules.{Setting}
 use Rattle.sf_steps.specs.declared.caller_row.CallerRow.{CallerRow}
 use Rattle.sf_steps.specs.Rows.{row_at}
 

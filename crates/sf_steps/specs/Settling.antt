@@ -1,9 +1,9 @@
 -- a settle's stage: the value that it holds, and where it goes on
 use Rattle.std.specs.Prelude.{ℕ, Option, Some, None}
-use Rattle.sf_schedules.specs.declared.operation.Stage.{Stage}
-use Rattle.sf_schedules.specs.declared.operation.Stage.TheVariants.{Settling}
-use Rattle.sf_schedules.specs.declared.operation.SettleStep.{SettleStep}
-use Rattle.sf_schedules.specs.Turns.{at_members, at_count}
+use Rattle.sf_steps_laws.specs.declared.operation.Stage.{Stage}
+use Rattle.sf_steps_laws.specs.declared.operation.Stage.TheVariants.{Settling}
+use Rattle.sf_steps_laws.specs.declared.operation.SettleStep.{SettleStep}
+use Rattle.sf_steps_laws.specs.Turns.{at_members, at_count}
 
 module _ {V : Type 0} where
   -- the value with which the caller settles

@@ -2,13 +2,13 @@
 
 ghost use Rattle.std.specs.Prelude.{◌≡◌, ℕ, ◌≤◌, ◌↔◌, Option, IsTrue};
 ghost use Rattle.sf_history.specs.declared.call.CallId.{CallId};
-ghost use Rattle.sf_schedules.specs.Schedules.{IsCaller, IsPlace, MayAsk, MayStart};
-ghost use Rattle.sf_schedules.specs.Schedules.{HasOperation, MayLeave};
-ghost use Rattle.sf_schedules.specs.declared.operation.Op.TheVariants as op_of;
-ghost use Rattle.sf_schedules.specs.declared.operation.Stage.TheVariants.{Free, Leading, Holding};
+ghost use Rattle.sf_steps_laws.specs.Schedules.{IsCaller, IsPlace, MayAsk, MayStart};
+ghost use Rattle.sf_steps_laws.specs.Schedules.{HasOperation, MayLeave};
+ghost use Rattle.sf_steps_laws.specs.declared.operation.Op.TheVariants as op_of;
+ghost use Rattle.sf_steps_laws.specs.declared.operation.Stage.TheVariants.{Free, Leading, Holding};
 
 use crate::world::World;
-use sf_schedules::{AskStep, ForgetStep, Op, Stage};
+use sf_steps_laws::{AskStep, ForgetStep, Op, Stage};
 
 impl<V: Drop> World<V> {
     ghost use Rattle.sf_steps.specs.Running.{world_of, setting_of};

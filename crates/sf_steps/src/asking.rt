@@ -1,21 +1,21 @@
 //! The steps of an asking that reads and leads: look, peek, ready, lead.
 
 ghost use Rattle.std.specs.Prelude.{◌≡◌, ◌≤◌, None, [], IfOk, OnOk, OnErr, false};
-ghost use Rattle.sf_schedules.specs.World.{with_stage, with_used, next_id, same_key, open_in, is_forgot_in};
-ghost use Rattle.sf_schedules.specs.Askings as askings;
-ghost use Rattle.sf_schedules.specs.Events.{lead_events, ask_events};
+ghost use Rattle.sf_steps_laws.specs.World.{with_stage, with_used, next_id, same_key, open_in, is_forgot_in};
+ghost use Rattle.sf_steps_laws.specs.Askings as askings;
+ghost use Rattle.sf_steps_laws.specs.Events.{lead_events, ask_events};
 ghost use Rattle.sf_steps.specs.Acts.{ask_act, ask_stepper, ready_own_act};
-ghost use Rattle.sf_schedules.specs.Stages.{ask_top, top_in};
-ghost use Rattle.sf_schedules.specs.declared.operation.AskStep.{AskStep as AnyStep};
-ghost use Rattle.sf_schedules.specs.declared.operation.Stage.TheVariants.{Asking, Leading};
-ghost use Rattle.sf_schedules.specs.declared.operation.AskStep.TheVariants.{ReadyLead};
+ghost use Rattle.sf_steps_laws.specs.Stages.{ask_top, top_in};
+ghost use Rattle.sf_steps_laws.specs.declared.operation.AskStep.{AskStep as AnyStep};
+ghost use Rattle.sf_steps_laws.specs.declared.operation.Stage.TheVariants.{Asking, Leading};
+ghost use Rattle.sf_steps_laws.specs.declared.operation.AskStep.TheVariants.{ReadyLead};
 ghost use Rattle.sf_steps.specs.declared.trace.Act.TheVariants as act_of;
 
 use crate::events::{key_of, one_event, room_for_events};
 use crate::trace::{Act, Step};
 use crate::world::{World, named};
 use sf_history::{CallId, Event, Memory};
-use sf_schedules::{AskStep, Stage};
+use sf_steps_laws::{AskStep, Stage};
 use sf_words::{CallState, KeyState, LeaderState};
 
 /// What an asking does that is to lead: a chan makes its second's word ready first.

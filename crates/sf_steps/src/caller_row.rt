@@ -4,7 +4,7 @@ ghost use Rattle.std.specs.Prelude.{◌≡◌, IfOk, replicate};
 ghost use Rattle.sf_steps.specs.Rows.{first_row};
 
 use sf_history::Memory;
-use sf_schedules::{Letter, Stage};
+use sf_steps_laws::{Letter, Stage};
 use sf_words::CallState;
 use std::alloc::Global;
 

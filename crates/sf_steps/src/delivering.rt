@@ -2,19 +2,19 @@
 
 ghost use Rattle.std.specs.Prelude.{◌≡◌, ◌≤◌, None, [], ◌∷◌, IfOk, OnOk, OnErr};
 ghost use Rattle.sf_history.specs.declared.event.Event.TheVariants.{Handed};
-ghost use Rattle.sf_schedules.specs.World.{generation_in};
-ghost use Rattle.sf_schedules.specs.Turns.{stepped, delivered};
-ghost use Rattle.sf_schedules.specs.Events as added;
+ghost use Rattle.sf_steps_laws.specs.World.{generation_in};
+ghost use Rattle.sf_steps_laws.specs.Turns.{stepped, delivered};
+ghost use Rattle.sf_steps_laws.specs.Events as added;
 ghost use Rattle.sf_steps.specs.Acts.{act_at};
-ghost use Rattle.sf_schedules.specs.declared.operation.Stage.TheVariants.{Settling};
-ghost use Rattle.sf_schedules.specs.declared.operation.SettleStep.TheVariants as step_of;
+ghost use Rattle.sf_steps_laws.specs.declared.operation.Stage.TheVariants.{Settling};
+ghost use Rattle.sf_steps_laws.specs.declared.operation.SettleStep.TheVariants as step_of;
 
 use crate::events::{one_event, room_for_events};
 use crate::settling::LedCall;
 use crate::trace::{Act, Step};
 use crate::world::World;
 use sf_history::{CallId, Event, Memory, Share};
-use sf_schedules::{Letter, SettleStep};
+use sf_steps_laws::{Letter, SettleStep};
 use sf_words::{CallState, PlaceNo};
 use std::alloc::Global;
 

@@ -1,13 +1,13 @@
 //! The steps of a forget, of a key or of one call: look, peek, close, first clear, last clear.
 
 ghost use Rattle.std.specs.Prelude.{◌≡◌, ◌≤◌, None, [], ◌∷◌, IfOk, OnOk, OnErr, Some, true};
-ghost use Rattle.sf_schedules.specs.World.{with_stage, key_of, same_key, open_in, is_open_with, is_forgot_in};
-ghost use Rattle.sf_schedules.specs.Turns as turns;
-ghost use Rattle.sf_schedules.specs.Events as adds;
+ghost use Rattle.sf_steps_laws.specs.World.{with_stage, key_of, same_key, open_in, is_open_with, is_forgot_in};
+ghost use Rattle.sf_steps_laws.specs.Turns as turns;
+ghost use Rattle.sf_steps_laws.specs.Events as adds;
 ghost use Rattle.sf_steps.specs.Acts.{forget_act};
-ghost use Rattle.sf_schedules.specs.Stages.{field_of, forget_top};
-ghost use Rattle.sf_schedules.specs.declared.operation.ForgetStep.{ForgetStep as AnyStep};
-ghost use Rattle.sf_schedules.specs.declared.operation.Stage.TheVariants.{Free, Forgetting};
+ghost use Rattle.sf_steps_laws.specs.Stages.{field_of, forget_top};
+ghost use Rattle.sf_steps_laws.specs.declared.operation.ForgetStep.{ForgetStep as AnyStep};
+ghost use Rattle.sf_steps_laws.specs.declared.operation.Stage.TheVariants.{Free, Forgetting};
 ghost use Rattle.sf_steps.specs.declared.trace.Act.TheVariants as act_of;
 ghost use Rattle.sf_history.specs.declared.event.Event.TheVariants as event_of;
 ghost use Rattle.sf_history.specs.declared.event.Hit.TheVariants.{Missed};
@@ -18,7 +18,7 @@ use crate::events::{key_of, one_event, room_for_events};
 use crate::trace::{Act, Step};
 use crate::world::{World, is_same_key, named};
 use sf_history::{CallId, Event, Hit, Memory};
-use sf_schedules::{ForgetStep, Stage};
+use sf_steps_laws::{ForgetStep, Stage};
 use sf_words::{CallState, KeyState, LeaderState, PlaceNo};
 use std::alloc::Global;
 

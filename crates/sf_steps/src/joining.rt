@@ -1,20 +1,20 @@
 //! The steps of an asking that joins: ready, link, enter.
 
 ghost use Rattle.std.specs.Prelude.{◌≡◌, ◌≤◌, ℕ, None, [], IfOk, OnOk, OnErr, true};
-ghost use Rattle.sf_schedules.specs.World.{with_stage, with_used, next_id, is_open_with};
-ghost use Rattle.sf_schedules.specs.Askings as askings;
-ghost use Rattle.sf_schedules.specs.Events.{enter_events};
-ghost use Rattle.sf_schedules.specs.Stages.{is_asking};
-ghost use Rattle.sf_schedules.specs.declared.operation.AskStep.{AskStep as AnyStep};
-ghost use Rattle.sf_schedules.specs.declared.operation.Stage.TheVariants.{Free, Asking, Holding};
-ghost use Rattle.sf_schedules.specs.declared.operation.AskStep.TheVariants as step_of;
+ghost use Rattle.sf_steps_laws.specs.World.{with_stage, with_used, next_id, is_open_with};
+ghost use Rattle.sf_steps_laws.specs.Askings as askings;
+ghost use Rattle.sf_steps_laws.specs.Events.{enter_events};
+ghost use Rattle.sf_steps_laws.specs.Stages.{is_asking};
+ghost use Rattle.sf_steps_laws.specs.declared.operation.AskStep.{AskStep as AnyStep};
+ghost use Rattle.sf_steps_laws.specs.declared.operation.Stage.TheVariants.{Free, Asking, Holding};
+ghost use Rattle.sf_steps_laws.specs.declared.operation.AskStep.TheVariants as step_of;
 ghost use Rattle.sf_steps.specs.declared.trace.Act.TheVariants as act_of;
 
 use crate::events::{key_of, one_event, room_for_events};
 use crate::trace::{Act, Step};
 use crate::world::World;
 use sf_history::{CallId, Event, Memory};
-use sf_schedules::{AskStep, Stage};
+use sf_steps_laws::{AskStep, Stage};
 use sf_words::{CallState, LeaderState};
 
 impl<V: Drop> World<V> {

@@ -15,7 +15,7 @@ mod stepping;
 mod trace;
 mod world;
 
-pub use sf_schedules::{
+pub use sf_steps_laws::{
     AskStep, CurrentStep, ForgetStep, Letter, Op, SettleStep, Stage, Turn, laws,
 };
 pub use trace::{Act, Step};

@@ -2,18 +2,18 @@
 //! asks which call is named.
 
 ghost use Rattle.std.specs.Prelude.{◌≡◌, ◌≤◌, None, []};
-ghost use Rattle.sf_schedules.specs.World.{with_stage, is_full};
-ghost use Rattle.sf_schedules.specs.Turns.{polled, current_stepped};
-ghost use Rattle.sf_schedules.specs.Events.{current_answer};
+ghost use Rattle.sf_steps_laws.specs.World.{with_stage, is_full};
+ghost use Rattle.sf_steps_laws.specs.Turns.{polled, current_stepped};
+ghost use Rattle.sf_steps_laws.specs.Events.{current_answer};
 ghost use Rattle.sf_steps.specs.Acts.{current_act};
-ghost use Rattle.sf_schedules.specs.declared.operation.Stage.TheVariants.{Free, Naming, Polling, Questioning};
+ghost use Rattle.sf_steps_laws.specs.declared.operation.Stage.TheVariants.{Free, Naming, Polling, Questioning};
 ghost use Rattle.sf_steps.specs.declared.trace.Act.TheVariants as act_of;
 
 use crate::asking::is_forgot;
 use crate::trace::{Act, Step};
 use crate::world::{World, is_same_key, named};
 use sf_history::CallId;
-use sf_schedules::{CurrentStep, Stage};
+use sf_steps_laws::{CurrentStep, Stage};
 use sf_words::CallState;
 
 impl<V: Drop> World<V> {

@@ -2,22 +2,22 @@
 
 ghost use Rattle.std.specs.Prelude.{◌≡◌, ◌≤◌, None, Some, [], IfOk, OnOk, OnErr, true};
 ghost use Rattle.std.specs.Vec.{vec_capacity};
-ghost use Rattle.sf_schedules.specs.World.{with_stage, count, one_more};
-ghost use Rattle.sf_schedules.specs.Turns as turns;
-ghost use Rattle.sf_schedules.specs.Turns.{stepped};
-ghost use Rattle.sf_schedules.specs.Events as added;
+ghost use Rattle.sf_steps_laws.specs.World.{with_stage, count, one_more};
+ghost use Rattle.sf_steps_laws.specs.Turns as turns;
+ghost use Rattle.sf_steps_laws.specs.Turns.{stepped};
+ghost use Rattle.sf_steps_laws.specs.Events as added;
 ghost use Rattle.sf_steps.specs.Acts.{act_at};
-ghost use Rattle.sf_schedules.specs.Stages.{field_of, top_in, settle_member, settle_top, settle_count, is_settling};
+ghost use Rattle.sf_steps_laws.specs.Stages.{field_of, top_in, settle_member, settle_top, settle_count, is_settling};
 ghost use Rattle.sf_steps.specs.Settling.{result_in, settling_at, members_at, count_at};
-ghost use Rattle.sf_schedules.specs.declared.operation.SettleStep.{SettleStep as AnyStep};
-ghost use Rattle.sf_schedules.specs.declared.operation.Stage.TheVariants.{Free, Settling};
-ghost use Rattle.sf_schedules.specs.declared.operation.SettleStep.TheVariants as step_of;
+ghost use Rattle.sf_steps_laws.specs.declared.operation.SettleStep.{SettleStep as AnyStep};
+ghost use Rattle.sf_steps_laws.specs.declared.operation.Stage.TheVariants.{Free, Settling};
+ghost use Rattle.sf_steps_laws.specs.declared.operation.SettleStep.TheVariants as step_of;
 
 use crate::events::room_for_events;
 use crate::trace::{Act, Step};
 use crate::world::{World, named};
 use sf_history::{CallId, Event, Memory, Share};
-use sf_schedules::{SettleStep, Stage};
+use sf_steps_laws::{SettleStep, Stage};
 use sf_words::{CallState, LeaderState, PlaceNo};
 
 /// The call that a caller settles.

@@ -2,21 +2,21 @@
 
 ghost use Rattle.std.specs.Prelude.{◌≡◌, ◌≤◌, ℕ, false, Option, IfOk, OnOk, OnErr};
 ghost use Rattle.sf_history.specs.declared.call.CallId.{CallId};
-ghost use Rattle.sf_schedules.specs.declared.operation.Op.TheVariants as op_of;
-ghost use Rattle.sf_schedules.specs.declared.operation.AskStep.{AskStep as AnyStep};
-ghost use Rattle.sf_schedules.specs.declared.operation.ForgetStep.TheVariants as forget;
-ghost use Rattle.sf_schedules.specs.declared.operation.Stage.TheVariants.{Free, Leading, Holding, Asking, Forgetting};
-ghost use Rattle.sf_schedules.specs.World.{with_stage};
-ghost use Rattle.sf_schedules.specs.Turns as turns;
-ghost use Rattle.sf_schedules.specs.Events.{step_events, answer_at};
+ghost use Rattle.sf_steps_laws.specs.declared.operation.Op.TheVariants as op_of;
+ghost use Rattle.sf_steps_laws.specs.declared.operation.AskStep.{AskStep as AnyStep};
+ghost use Rattle.sf_steps_laws.specs.declared.operation.ForgetStep.TheVariants as forget;
+ghost use Rattle.sf_steps_laws.specs.declared.operation.Stage.TheVariants.{Free, Leading, Holding, Asking, Forgetting};
+ghost use Rattle.sf_steps_laws.specs.World.{with_stage};
+ghost use Rattle.sf_steps_laws.specs.Turns as turns;
+ghost use Rattle.sf_steps_laws.specs.Events.{step_events, answer_at};
 ghost use Rattle.sf_steps.specs.Acts.{act_at, stepper};
-ghost use Rattle.sf_schedules.specs.Schedules.{MayStart, HasOperation, MayLeave};
+ghost use Rattle.sf_steps_laws.specs.Schedules.{MayStart, HasOperation, MayLeave};
 
 use crate::settling::LedCall;
 use crate::trace::Step;
 use crate::world::World;
 use sf_history::{CallId, Memory, Share};
-use sf_schedules::{AskStep, CurrentStep, ForgetStep, Op, SettleStep, Stage};
+use sf_steps_laws::{AskStep, CurrentStep, ForgetStep, Op, SettleStep, Stage};
 
 impl<V: Share> World<V> {
     ghost use Rattle.sf_steps.specs.Running.{SameSizes, setting_of, world_of};

@@ -2,16 +2,16 @@
 
 ghost use Rattle.std.specs.Prelude.{◌≡◌, ◌≢◌, ℕ, ◌≤◌, ◌+◌, true, false, None, Some, IfOk, length, replicate, cond, slice_index_or};
 ghost use Rattle.sf_words.specs.declared.key_word.KeyState.TheVariants.{Never, Names};
-ghost use Rattle.sf_schedules.specs.World.{first_world, with_key, with_call, with_next, with_cell, with_stage, with_used, next_id, same_key, is_open_with};
+ghost use Rattle.sf_steps_laws.specs.World.{first_world, with_key, with_call, with_next, with_cell, with_stage, with_used, next_id, same_key, is_open_with};
 ghost use Rattle.sf_steps.specs.Rows.{IsLawful, row_at};
-ghost use Rattle.sf_schedules.specs.Stages.{field_of, top_in, place_in, is_asking, second_in, first_in, AreWithin, is_settling};
+ghost use Rattle.sf_steps_laws.specs.Stages.{field_of, top_in, place_in, is_asking, second_in, first_in, AreWithin, is_settling};
 ghost use Rattle.sf_steps.specs.Settling.{result_in};
-ghost use Rattle.sf_schedules.specs.declared.operation.Stage.TheVariants as stage;
+ghost use Rattle.sf_steps_laws.specs.declared.operation.Stage.TheVariants as stage;
 ghost use Rattle.sf_words.specs.declared.limits.TheConstants.{LARGEST_GENERATION, LARGEST_PLACE};
 
 use crate::caller_row::{CallerRow, first_rows};
 use sf_history::{CallId, Memory, Share};
-use sf_schedules::{Letter, Stage};
+use sf_steps_laws::{Letter, Stage};
 use sf_words::{CallState, KeyState, LeaderState};
 use std::alloc::Global;
 use std::mem;

@@ -1,9 +1,9 @@
 -- how a do ends
 use Rattle.std.specs.Prelude.{◌≡◌, ℕ, ◌⊎◌, Option, Some, None}
-use Rattle.sf_calls.specs.Tokens.{CallerValue, FlightValue, TicketValue, LetterValue, SettledValue}
-use Rattle.sf_calls.specs.Fitting.{FitOf}
-use Rattle.sf_calls.specs.Begins.{HasLed, HasJoined, IsRefusedSpent}
-use Rattle.sf_calls.specs.Finishes.{IsDone, IsHeld, IsReady, HasFinished}
+use Rattle.sf_group_rows.specs.Tokens.{CallerValue, FlightValue, TicketValue, LetterValue, SettledValue}
+use Rattle.sf_group_rows.specs.Fitting.{FitOf}
+use Rattle.sf_group_rows.specs.Begins.{HasLed, HasJoined, IsRefusedSpent}
+use Rattle.sf_group_rows.specs.Finishes.{IsDone, IsHeld, IsReady, HasFinished}
 use Rattle.sf_wait.specs.declared.doing.Did.{Did}
 use Rattle.sf_wait.specs.declared.doing.Did.TheVariants as did
 use Rattle.sf_wait.specs.declared.doing.DoFault.{DoFault}

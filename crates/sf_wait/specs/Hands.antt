@@ -1,6 +1,6 @@
 -- what does a job that was started
 use Rattle.std.specs.Prelude.{◌≡◌}
-use Rattle.sf_calls.specs.Fitting.{FitOf}
+use Rattle.sf_group_rows.specs.Fitting.{FitOf}
 use Rattle.sf_wait.specs.declared.workers.Hand.{Hand}
 use Rattle.sf_wait.specs.declared.workers.Hand.TheVariants.{Works, Stays}
 use Rattle.sf_wait.specs.Jobs.{JobValue}

@@ -1,7 +1,7 @@
 -- jobs: a flight, and the work that answers what it is settled with
 use Rattle.std.specs.Prelude.{◌≡◌, ℕ, ◌≤◌, List, length, All}
-use Rattle.sf_calls.specs.Tokens.{GroupValue, FlightValue}
-use Rattle.sf_calls.specs.Fitting.{FitOf}
+use Rattle.sf_group_rows.specs.Tokens.{GroupValue, FlightValue}
+use Rattle.sf_group_rows.specs.Fitting.{FitOf}
 
 pub record JobValue (V W : Type 0) : Type 0 where
   pub flight : FlightValue V

@@ -1,7 +1,7 @@
 -- how jobs end that workers do
 use Rattle.std.specs.Prelude.{◌≡◌, List, [], ◌∷◌}
-use Rattle.sf_calls.specs.Fitting.{FitOf}
-use Rattle.sf_calls.specs.Finishes.{IsDone, IsHeld}
+use Rattle.sf_group_rows.specs.Fitting.{FitOf}
+use Rattle.sf_group_rows.specs.Finishes.{IsDone, IsHeld}
 use Rattle.sf_wait.specs.Jobs.{JobValue}
 use Rattle.sf_wait.specs.declared.workers.Served.{Served}
 use Rattle.sf_wait.specs.declared.workers.Served.TheVariants.{Done, Held, Left}

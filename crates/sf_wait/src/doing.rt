@@ -1,13 +1,13 @@
 //! Do: the caller leads and loads, or waits for another's answer.
 ghost use Rattle.std.specs.Prelude.{◌≡◌, IfOk, IfErr};
-ghost use Rattle.sf_calls.specs.Tokens.{FlightValue};
-ghost use Rattle.sf_calls.specs.Same.{IsPlaceOf};
-ghost use Rattle.sf_calls.specs.Begins.{HasLed};
+ghost use Rattle.sf_group_rows.specs.Tokens.{FlightValue};
+ghost use Rattle.sf_group_rows.specs.Same.{IsPlaceOf};
+ghost use Rattle.sf_group_rows.specs.Begins.{HasLed};
 ghost use Rattle.sf_wait.specs.Doing.{HasAsked, HasDoneWith, HasFailed};
 
 use crate::waiting::{begin_wait, wait};
-use sf_calls::{Fit, Spent};
 use sf_group::{Begun, Caller, Finished, Group, Letter, Settled, Ticket};
+use sf_group_rows::{Fit, Spent};
 use std::sync::Wait;
 
 /// Why a do has no letter.

@@ -2,8 +2,8 @@
 ghost use Rattle.std.specs.Prelude.{◌≡◌};
 ghost use Rattle.sf_wait.specs.Jobs.{IsRunnable};
 
-use sf_calls::Fit;
 use sf_group::Flight;
+use sf_group_rows::Fit;
 use std::marker::Model;
 
 /// Work that is done once, and answers a value. Clauses see when it may be done, and what it may answer.

@@ -6,7 +6,7 @@ ghost use Rattle.sf_wait.specs.Served.{HasServed, ArePaired};
 
 use crate::job::{Job, Work};
 use crate::workers::{Gate, Served, Started, start};
-use sf_calls::Fit;
+use sf_group_rows::Fit;
 use sf_group::Group;
 use std::alloc::Global;
 use std::marker::Model;

@@ -1,12 +1,12 @@
 //! The group's calls that can be busy or pending, each as a form that comes back when it is done.
 ghost use Rattle.std.specs.Prelude.{◌≡◌, IfOk, IfErr};
-ghost use Rattle.sf_calls.specs.Same.{IsPlaceOf};
-ghost use Rattle.sf_calls.specs.Begins.{HasBegun, HasChanBegun, IsRefusedSpent, AreRefusedSpent};
-ghost use Rattle.sf_calls.specs.Forgets.{HasForgotten, HasForgotCall};
-ghost use Rattle.sf_calls.specs.Finishes.{HasFinished, HasGoneOn, IsReady};
+ghost use Rattle.sf_group_rows.specs.Same.{IsPlaceOf};
+ghost use Rattle.sf_group_rows.specs.Begins.{HasBegun, HasChanBegun, IsRefusedSpent, AreRefusedSpent};
+ghost use Rattle.sf_group_rows.specs.Forgets.{HasForgotten, HasForgotCall};
+ghost use Rattle.sf_group_rows.specs.Finishes.{HasFinished, HasGoneOn, IsReady};
 
-use sf_calls::{Fit, NotBegun, Spent};
 use sf_group::{
+use sf_group_rows::{Fit, NotBegun, Spent};
     Begun, CallId, Caller, ChanBegun, Finished, Flight, Forgotten, Group, Hit, Letter, Polled,
     Settled, Ticket,
 };

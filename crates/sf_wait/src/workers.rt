@@ -3,8 +3,8 @@ ghost use Rattle.std.specs.Prelude.{◌≡◌};
 ghost use Rattle.sf_wait.specs.Served.{HasServed};
 
 use crate::job::{Job, Work};
-use sf_calls::Fit;
 use sf_group::{Caller, Finished, Group, Letter, Settled};
+use sf_group_rows::Fit;
 use std::marker::Model;
 use std::snapshot::Snapshot;
 use std::sync::atomic::{AtomicU32, Ordering};

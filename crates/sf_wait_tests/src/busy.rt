@@ -1,6 +1,6 @@
 //! Forms that are busy beside another thread's, and ask again.
 ghost use Rattle.std.specs.Prelude.{◌≡◌, All};
-ghost use Rattle.sf_calls.specs.Same.{IsPlaceOf};
+ghost use Rattle.sf_group_rows.specs.Same.{IsPlaceOf};
 
 use crate::callers::next_caller;
 use sf_group::{Begun, CallId, Caller, ChanBegun, Finished, Flight, Forgotten, Group};

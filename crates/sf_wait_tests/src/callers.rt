@@ -1,6 +1,6 @@
 //! Callers of a group.
 ghost use Rattle.std.specs.Prelude.{◌≡◌, All};
-ghost use Rattle.sf_calls.specs.Same.{IsPlaceOf};
+ghost use Rattle.sf_group_rows.specs.Same.{IsPlaceOf};
 
 use crate::seats::Seat;
 use crate::value::Value;

@@ -1,6 +1,6 @@
 //! Jobs: as many as may be, each done once and behind its gate; one that is given up is not done.
 ghost use Rattle.std.specs.Prelude.{◌≡◌, ◌≤◌, All, vec_capacity, vec_len};
-ghost use Rattle.sf_calls.specs.Same.{IsPlaceOf};
+ghost use Rattle.sf_group_rows.specs.Same.{IsPlaceOf};
 
 use crate::callers::{lead_chan, next_caller};
 use crate::seats::{Seat, say_letter};

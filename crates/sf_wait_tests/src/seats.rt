@@ -1,6 +1,6 @@
 //! Seats of callers, and the steps that a caller on one makes. Each says what comes of it.
 ghost use Rattle.std.specs.Prelude.{◌≡◌, All};
-ghost use Rattle.sf_calls.specs.Same.{IsPlaceOf};
+ghost use Rattle.sf_group_rows.specs.Same.{IsPlaceOf};
 
 use crate::stage::Stage;
 use crate::value::{Value, call};
@@ -35,8 +35,8 @@ pub struct Seat<'a> {
 
 impl<'a> Model for Seat<'a> {
     ghost use Rattle.std.specs.Prelude.{◌≡◌};
-    ghost use Rattle.sf_calls.specs.Same.{IsPlaceOf};
-    ghost use Rattle.sf_calls.specs.Tokens.{GroupValue};
+    ghost use Rattle.sf_group_rows.specs.Same.{IsPlaceOf};
+    ghost use Rattle.sf_group_rows.specs.Tokens.{GroupValue};
     ghost use Rattle.sf_wait_tests.specs.declared.seats.Token.TheVariants.{Away, Free, Leading, Waiting, Owing};
 
     ghost Value = { Unit {0} };

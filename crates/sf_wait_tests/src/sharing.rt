@@ -1,6 +1,6 @@
 //! One group that several threads ask at once.
 ghost use Rattle.std.specs.Prelude.{◌≡◌, All};
-ghost use Rattle.sf_calls.specs.Same.{IsPlaceOf};
+ghost use Rattle.sf_group_rows.specs.Same.{IsPlaceOf};
 
 use crate::callers::next_caller;
 use crate::scenes::play;

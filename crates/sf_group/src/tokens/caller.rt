@@ -13,11 +13,11 @@ pub struct Caller<V> {
 
 impl<V> Model for Caller<V> {
     ghost use Rattle.std.specs.Prelude.{◌≡◌, ◌≤◌, []};
-    ghost use Rattle.sf_schedules.specs.declared.operation.Stage.TheVariants.{Free};
-    ghost use Rattle.sf_word_steps.specs.View.{sizes_of};
-    ghost use Rattle.sf_word_steps.specs.Stands.{Sits, next_in};
+    ghost use Rattle.sf_steps_laws.specs.declared.operation.Stage.TheVariants.{Free};
+    ghost use Rattle.sf_group_steps.specs.View.{sizes_of};
+    ghost use Rattle.sf_group_steps.specs.Stands.{Sits, next_in};
     ghost use Rattle.sf_group.specs.Known.{caller_of};
-    ghost use Rattle.sf_calls.specs.Tokens.{CallerValue};
+    ghost use Rattle.sf_group_rows.specs.Tokens.{CallerValue};
 
     ghost Value = { CallerValue V };
 

@@ -1,9 +1,9 @@
 //! Flights: callers that lead a call.
 ghost use Rattle.std.specs.Prelude.{◌≡◌, ◌+◌, ◌≤◌, [], IfSome};
-ghost use Rattle.sf_schedules.specs.declared.operation.Stage.TheVariants.{Leading};
-ghost use Rattle.sf_calls.specs.Afters.{FollowsCall};
-ghost use Rattle.sf_word_steps.specs.View.{sizes_of};
-ghost use Rattle.sf_word_steps.specs.Stands.{Sits, next_in};
+ghost use Rattle.sf_steps_laws.specs.declared.operation.Stage.TheVariants.{Leading};
+ghost use Rattle.sf_group_rows.specs.Afters.{FollowsCall};
+ghost use Rattle.sf_group_steps.specs.View.{sizes_of};
+ghost use Rattle.sf_group_steps.specs.Stands.{Sits, next_in};
 ghost use Rattle.sf_group.specs.Known.{flight_of, IsPlaceIn};
 
 use crate::tokens::seated::{Leader, Seated};
@@ -19,12 +19,12 @@ pub struct Flight<V> {
 
 impl<V> Model for Flight<V> {
     ghost use Rattle.std.specs.Prelude.{◌≡◌, ◌≤◌, []};
-    ghost use Rattle.sf_schedules.specs.declared.operation.Stage.TheVariants.{Leading};
-    ghost use Rattle.sf_word_steps.specs.View.{sizes_of};
-    ghost use Rattle.sf_word_steps.specs.Stands.{Sits, next_in};
+    ghost use Rattle.sf_steps_laws.specs.declared.operation.Stage.TheVariants.{Leading};
+    ghost use Rattle.sf_group_steps.specs.View.{sizes_of};
+    ghost use Rattle.sf_group_steps.specs.Stands.{Sits, next_in};
     ghost use Rattle.sf_group.specs.Known.{call_before, flight_of, IsPlaceIn};
-    ghost use Rattle.sf_calls.specs.Tokens.{FlightValue};
-    ghost use Rattle.sf_calls.specs.Afters.{FollowsCall};
+    ghost use Rattle.sf_group_rows.specs.Tokens.{FlightValue};
+    ghost use Rattle.sf_group_rows.specs.Afters.{FollowsCall};
 
     ghost Value = { FlightValue V };
 

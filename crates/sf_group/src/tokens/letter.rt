@@ -1,10 +1,10 @@
 //! Letters, which bring the answers of calls.
 ghost use Rattle.std.specs.Prelude.{◌≡◌, true, nat_lt};
-ghost use Rattle.sf_schedules.specs.Schedules.{was_led_on};
-ghost use Rattle.sf_calls.specs.Finishes.{FitsLetter};
+ghost use Rattle.sf_steps_laws.specs.Schedules.{was_led_on};
+ghost use Rattle.sf_group_rows.specs.Finishes.{FitsLetter};
 
 use crate::tokens::note::Note;
-use sf_calls::Fit;
+use sf_group_rows::Fit;
 use sf_history::CallId;
 use std::marker::Model;
 
@@ -21,9 +21,9 @@ pub struct Letter<V: Fit> {
 
 impl<V: Fit> Model for Letter<V> {
     ghost use Rattle.std.specs.Prelude.{◌≡◌, ◌≤◌, true};
-    ghost use Rattle.sf_schedules.specs.Schedules.{was_led_on};
-    ghost use Rattle.sf_calls.specs.Same.{IsPlaceOf};
-    ghost use Rattle.sf_calls.specs.Tokens.{LetterValue};
+    ghost use Rattle.sf_steps_laws.specs.Schedules.{was_led_on};
+    ghost use Rattle.sf_group_rows.specs.Same.{IsPlaceOf};
+    ghost use Rattle.sf_group_rows.specs.Tokens.{LetterValue};
 
     ghost Value = { LetterValue V };
 

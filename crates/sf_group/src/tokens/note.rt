@@ -1,7 +1,7 @@
 //! Notes, which show what somebody has seen.
 ghost use Rattle.std.specs.Prelude.{◌≡◌};
 
-use sf_word_steps::WordSeat;
+use sf_group_steps::WordSeat;
 use std::marker::Model;
 
 /// A list of events that somebody has seen. It stands for no caller, and what it shows only grows.
@@ -13,7 +13,7 @@ pub struct Note<V> {
 impl<V> Model for Note<V> {
     ghost use Rattle.std.specs.Prelude.{◌≡◌, []};
     ghost use Rattle.sf_group.specs.Known.{IsNote, note_value};
-    ghost use Rattle.sf_calls.specs.Tokens.{NoteValue};
+    ghost use Rattle.sf_group_rows.specs.Tokens.{NoteValue};
 
     ghost Value = { NoteValue V };
 

@@ -3,8 +3,8 @@ ghost use Rattle.std.specs.Prelude.{◌≡◌, ◌≤◌};
 ghost use Rattle.sf_group.specs.Known.{call_before};
 
 use crate::tokens::wide::MaybeCall;
+use sf_group_steps::WordSeat;
 use sf_history::CallId;
-use sf_word_steps::WordSeat;
 
 /// Who sits at the table: a seat, its caller's number, and the generation that the caller's next asking uses.
 #[derive(Drop)]

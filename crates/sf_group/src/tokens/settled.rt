@@ -3,7 +3,7 @@ ghost use Rattle.std.specs.Prelude.{◌≡◌};
 
 use crate::tokens::seated::Leader;
 use crate::tokens::wide::MaybeNumber;
-use sf_calls::Fit;
+use sf_group_rows::Fit;
 use std::marker::Model;
 
 /// A caller that has settled its call for good, and owes letters of it still. It has to be spent.
@@ -18,13 +18,13 @@ pub struct Settled<V: Fit> {
 impl<V: Fit> Model for Settled<V> {
     ghost use Rattle.std.specs.Prelude.{◌≡◌, ◌≤◌, []};
     ghost use Rattle.sf_history.specs.declared.event.Event.TheVariants as event;
-    ghost use Rattle.sf_calls.specs.Seen.{Stands};
-    ghost use Rattle.sf_word_steps.specs.Delivers.{IsOwed};
-    ghost use Rattle.sf_schedules.specs.Turns.{at_members};
-    ghost use Rattle.sf_word_steps.specs.View.{sizes_of, history_of};
-    ghost use Rattle.sf_word_steps.specs.Stands.{Sits, next_in};
+    ghost use Rattle.sf_group_rows.specs.Seen.{Stands};
+    ghost use Rattle.sf_group_steps.specs.Delivers.{IsOwed};
+    ghost use Rattle.sf_steps_laws.specs.Turns.{at_members};
+    ghost use Rattle.sf_group_steps.specs.View.{sizes_of, history_of};
+    ghost use Rattle.sf_group_steps.specs.Stands.{Sits, next_in};
     ghost use Rattle.sf_group.specs.Known.{call_before, settled_of, IsPlaceIn};
-    ghost use Rattle.sf_calls.specs.Tokens.{SettledValue};
+    ghost use Rattle.sf_group_rows.specs.Tokens.{SettledValue};
 
     ghost Value = { SettledValue V };
 

@@ -1,8 +1,8 @@
 //! Tickets: callers that wait for a letter.
 ghost use Rattle.std.specs.Prelude.{◌≡◌, ◌+◌, ◌≤◌, []};
-ghost use Rattle.sf_schedules.specs.declared.operation.Stage.TheVariants.{Holding};
-ghost use Rattle.sf_word_steps.specs.View.{sizes_of};
-ghost use Rattle.sf_word_steps.specs.Stands.{Sits, next_in};
+ghost use Rattle.sf_steps_laws.specs.declared.operation.Stage.TheVariants.{Holding};
+ghost use Rattle.sf_group_steps.specs.View.{sizes_of};
+ghost use Rattle.sf_group_steps.specs.Stands.{Sits, next_in};
 ghost use Rattle.sf_group.specs.Known.{ticket_of, IsPlaceIn};
 
 use crate::tokens::seated::Seated;
@@ -19,11 +19,11 @@ pub struct Ticket<V> {
 
 impl<V> Model for Ticket<V> {
     ghost use Rattle.std.specs.Prelude.{◌≡◌, ◌≤◌, []};
-    ghost use Rattle.sf_schedules.specs.declared.operation.Stage.TheVariants.{Holding};
-    ghost use Rattle.sf_word_steps.specs.View.{sizes_of};
-    ghost use Rattle.sf_word_steps.specs.Stands.{Sits, next_in};
+    ghost use Rattle.sf_steps_laws.specs.declared.operation.Stage.TheVariants.{Holding};
+    ghost use Rattle.sf_group_steps.specs.View.{sizes_of};
+    ghost use Rattle.sf_group_steps.specs.Stands.{Sits, next_in};
     ghost use Rattle.sf_group.specs.Known.{ticket_of, IsPlaceIn};
-    ghost use Rattle.sf_calls.specs.Tokens.{TicketValue};
+    ghost use Rattle.sf_group_rows.specs.Tokens.{TicketValue};
 
     ghost Value = { TicketValue V };
 

@@ -1,7 +1,7 @@
 -- a name that no subcommand has is no engine's, and no drive's
 use Rattle.std.proofs.Common.{rules, arith, ◌≡◌, ℕ, List, Some, codes, drop, map, slice_get, slice_range, take_all, length, string_bytes, subst, [], ◌∷◌, ◌-◌, ap, refl}
 use Rattle.clap.specs.Words.{fault_of}
-use Rattle.sf_drive.specs.Words.{IsAskedLine, drive_app}
+use Rattle.sf_cli_drive.specs.Words.{IsAskedLine, drive_app}
 use Rattle.sf_cli.specs.declared.table.Work.TheVariants.{Engine, Drive}
 use Rattle.sf_cli.proofs.usage.parse.Goals as goal
 

@@ -1,11 +1,11 @@
 use Rattle.std.proofs.Common.{◌≡◌, ◌+◌, ap, ◌∙◌, arith, vec_len}
-use Rattle.sf_spots.specs.Spaces.{IsDeskOf}
-use Rattle.sf_calls.specs.Tokens.{CallerValue}
-use Rattle.sf_store.specs.declared.standing.Standing.TheVariants.{Free}
-use Rattle.sf_letters.specs.FillValue.{Filled}
+use Rattle.sf_fill_keys.specs.Spaces.{IsDeskOf}
+use Rattle.sf_group_rows.specs.Tokens.{CallerValue}
+use Rattle.sf_fill_store.specs.declared.standing.Standing.TheVariants.{Free}
+use Rattle.sf_fill_values.specs.FillValue.{Filled}
 use Rattle.sf_fill.specs.GetterValue.{GetterValue}
-use Rattle.sf_counters.specs.Ledgers.{Tally, nothing_counted}
-use Rattle.sf_store.specs.Logs.{LogValue, empty_log}
+use Rattle.sf_fill_counters.specs.Ledgers.{Tally, nothing_counted}
+use Rattle.sf_fill_store.specs.Logs.{LogValue, empty_log}
 use Rattle.sf_fill.proofs.Dealt.{dealt_more}
 use Rattle.sf_fill.proofs.Popped.{popped, last_is}
 use Rattle.sf_fill.proofs.parts.getters_of.Goals as goal

@@ -1,7 +1,7 @@
 use Rattle.std.specs.Prelude.{◌≡◌, ◌+◌, ◌≤◌, ◌++◌, vec_len, vec_capacity, reverse, All}
-use Rattle.sf_spots.specs.Spaces.{AreDesksOf}
-use Rattle.sf_counters.specs.Ledgers.{nothing_counted}
-use Rattle.sf_store.specs.Logs.{empty_log}
+use Rattle.sf_fill_keys.specs.Spaces.{AreDesksOf}
+use Rattle.sf_fill_counters.specs.Ledgers.{nothing_counted}
+use Rattle.sf_fill_store.specs.Logs.{empty_log}
 use Rattle.sf_fill.specs.Made.{AreOfGroup, new_getters}
 use Rattle.sf_fill.proofs.parts.getters_of.Given as goal
 

@@ -1,5 +1,5 @@
 use Rattle.std.specs.Prelude.{◌≡◌, vec_len, All}
-use Rattle.sf_store.specs.Logs.{empty_log}
+use Rattle.sf_fill_store.specs.Logs.{empty_log}
 use Rattle.sf_fill.proofs.parts.logs_with_room.Given as goal
 
 abbrev pub invariant-loop-index : goal.invariant-loop-index

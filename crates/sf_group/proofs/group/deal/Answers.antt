@@ -1,9 +1,9 @@
 use Rattle.std.proofs.Common.{Option, ◌+◌, ap, sym, ◌∙◌, subst, arith}
 use Rattle.atomic_table.specs.Table.{Me}
-use Rattle.sf_schedules.specs.declared.letter.Letter.{Letter}
-use Rattle.sf_word_steps.specs.declared.view.View.{View}
+use Rattle.sf_steps_laws.specs.declared.letter.Letter.{Letter}
+use Rattle.sf_group_steps.specs.declared.view.View.{View}
 use Rattle.sf_group.specs.Dealing.{IsDealing}
-use Rattle.sf_word_steps.proofs.Seats.{deals_split}
+use Rattle.sf_group_steps.proofs.Seats.{deals_split}
 use Rattle.sf_group.proofs.Dealing.{deals_rest}
 use Rattle.sf_group.proofs.group.deal.Goals as goal
 

@@ -1,6 +1,6 @@
 use Rattle.std.specs.Prelude.{pos}
-use Rattle.sf_counters.specs.Nowhere.{no_group, no_ledgers}
-use Rattle.sf_spots.specs.Spaces.{space_of}
+use Rattle.sf_fill_counters.specs.Nowhere.{no_group, no_ledgers}
+use Rattle.sf_fill_keys.specs.Spaces.{space_of}
 use Rattle.sf_hostile_tests.proofs.pair.try_out.Given as goal
 
 abbrev pub ghosts-with_space : goal.ghosts-with_space

@@ -1,6 +1,6 @@
 use Rattle.std.specs.Prelude.{pos, vec_len}
-use Rattle.sf_spots.specs.Spaces.{space_of}
-use Rattle.sf_counters.specs.Totals.{names_of}
+use Rattle.sf_fill_keys.specs.Spaces.{space_of}
+use Rattle.sf_fill_counters.specs.Totals.{names_of}
 use Rattle.sf_hostile_tests.proofs.pair.with_space.Given as goal
 
 abbrev pub ghosts-with_all : goal.ghosts-with_all

@@ -1,6 +1,6 @@
 use Rattle.std.proofs.Common.{subst}
-use Rattle.sf_calls.proofs.RowsAfter.{begun_after}
-use Rattle.sf_calls.proofs.Refused.{spent_before, busy_before}
+use Rattle.sf_group_rows.proofs.RowsAfter.{begun_after}
+use Rattle.sf_group_rows.proofs.Refused.{spent_before, busy_before}
 use Rattle.sf_group.specs.Calls.{HasNotBegun}
 use Rattle.sf_wait.proofs.waiting.begin_wait.Goals as goal
 

@@ -1,5 +1,5 @@
 use Rattle.std.proofs.Common.{◌≡◌, ◌⊎◌}
-use Rattle.sf_calls.specs.Same.{IsStill, IsUnspent}
+use Rattle.sf_group_rows.specs.Same.{IsStill, IsUnspent}
 use Rattle.sf_wait.proofs.waiting.begin_wait.Given as goal
 
 -- the caller is the one from the start; once it was refused as busy, it is known to have a generation left

@@ -1,6 +1,6 @@
 use Rattle.std.proofs.Common.{subst}
-use Rattle.sf_calls.proofs.RowsAfter.{chan_begun_after}
-use Rattle.sf_calls.proofs.Refused.{chan_spent_before, chan_busy_before}
+use Rattle.sf_group_rows.proofs.RowsAfter.{chan_begun_after}
+use Rattle.sf_group_rows.proofs.Refused.{chan_spent_before, chan_busy_before}
 use Rattle.sf_group.specs.Calls.{HasNotBegunChan}
 use Rattle.sf_wait.proofs.waiting.do_chan.Goals as goal
 

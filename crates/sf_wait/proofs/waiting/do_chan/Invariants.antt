@@ -1,5 +1,5 @@
 use Rattle.std.proofs.Common.{◌≡◌, ◌⊎◌}
-use Rattle.sf_calls.specs.Same.{IsStill, IsUnspent}
+use Rattle.sf_group_rows.specs.Same.{IsStill, IsUnspent}
 use Rattle.sf_wait.proofs.waiting.do_chan.Given as goal
 
 -- the same of two callers

@@ -1,4 +1,4 @@
-use Rattle.sf_calls.proofs.RowsAfter.{forgotten_after}
+use Rattle.sf_group_rows.proofs.RowsAfter.{forgotten_after}
 use Rattle.sf_wait.proofs.waiting.forget_wait.Goals as goal
 
 pub returns-in-Ok : goal.returns-in-Ok

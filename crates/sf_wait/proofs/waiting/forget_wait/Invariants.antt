@@ -1,4 +1,4 @@
-use Rattle.sf_calls.specs.Same.{IsStill}
+use Rattle.sf_group_rows.specs.Same.{IsStill}
 use Rattle.sf_wait.proofs.waiting.forget_wait.Given as goal
 
 -- the caller is the one from the start

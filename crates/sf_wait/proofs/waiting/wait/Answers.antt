@@ -1,5 +1,5 @@
-use Rattle.sf_calls.specs.declared.outcomes.Polled.TheVariants.{Ready}
-use Rattle.sf_calls.proofs.RowsAfter.{polled_after}
+use Rattle.sf_group_rows.specs.declared.outcomes.Polled.TheVariants.{Ready}
+use Rattle.sf_group_rows.proofs.RowsAfter.{polled_after}
 use Rattle.sf_wait.proofs.waiting.wait.Goals as goal
 
 pub returns-in-Ready : goal.returns-in-Ready

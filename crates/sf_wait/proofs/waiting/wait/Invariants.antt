@@ -1,4 +1,4 @@
-use Rattle.sf_calls.specs.Same.{IsStillTicket}
+use Rattle.sf_group_rows.specs.Same.{IsStillTicket}
 use Rattle.sf_wait.proofs.waiting.wait.Given as goal
 
 -- the ticket is the one from the start

@@ -1,6 +1,6 @@
 use Rattle.std.proofs.Common.{◌≡◌, ◌≤◌, All}
 use Rattle.std.specs.Prelude.{vec_len, vec_capacity}
-use Rattle.sf_calls.specs.Tokens.{CallerValue}
+use Rattle.sf_group_rows.specs.Tokens.{CallerValue}
 use Rattle.sf_wait.specs.Jobs.{JobValue}
 use Rattle.sf_wait_tests.proofs.jobs.most_jobs.Given as goal
 

@@ -11,8 +11,8 @@ use Rattle.std.specs.Global.{Global}
 use Rattle.std_alloc.proofs.SendSync.{quiet, lies}
 use Rattle.std_heap.proofs.Global.TheSendSync as handle
 use Rattle.sf_c.specs.Owned.{note_owns}
-use Rattle.sf_state.specs.contracts.note_state.NoteState as State
-use Rattle.sf_state.proofs.note_state.NoteState.TheSendSync.{the_send as state}
+use Rattle.sf_c_slots.specs.contracts.note_state.NoteState as State
+use Rattle.sf_c_slots.proofs.note_state.NoteState.TheSendSync.{the_send as state}
 use Rattle.sf_c.specs.contracts.note_handle.NoteHandle.{the_row, the_type}
 
 -- what a handle owns is a note, which may go to another thread, and the right to free its block; or nothing

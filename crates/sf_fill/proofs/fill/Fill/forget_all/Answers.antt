@@ -1,8 +1,8 @@
 use Rattle.std.proofs.Common.{arith, rules, ◌∙◌}
-use Rattle.sf_store.specs.Standings.{number_of, seen_of}
-use Rattle.sf_store.proofs.Logging.{logs_these}
+use Rattle.sf_fill_store.specs.Standings.{number_of, seen_of}
+use Rattle.sf_fill_store.proofs.Logging.{logs_these}
 use Rattle.sf_fill.proofs.LogSteps.{logs_forget}
-use Rattle.sf_store.proofs.LogSteps.{logs_on}
+use Rattle.sf_fill_store.proofs.LogSteps.{logs_on}
 use Rattle.sf_fill.proofs.Purges.{forgets_first, forgets_none, forgotten_on}
 use Rattle.sf_fill.proofs.fill.Fill.forget_all.Goals.{in-Owing, in-Free+else-loop-index-test}
 use Rattle.sf_fill.proofs.fill.Fill.forget_all.Goals as goal

@@ -1,8 +1,8 @@
 use Rattle.std.specs.Prelude.{◌≡◌, true}
-use Rattle.sf_store.specs.declared.standing.Standing.TheVariants.{Free}
+use Rattle.sf_fill_store.specs.declared.standing.Standing.TheVariants.{Free}
 use Rattle.sf_fill.specs.Fresh.{handed_by}
-use Rattle.sf_store.specs.Standings.{number_of, seen_of}
-use Rattle.sf_store.specs.Logs.{HasLogged}
+use Rattle.sf_fill_store.specs.Standings.{number_of, seen_of}
+use Rattle.sf_fill_store.specs.Logs.{HasLogged}
 use Rattle.sf_fill.specs.Purges.{HasForgottenFirst}
 use Rattle.sf_fill.proofs.fill.Fill.forget_all.Given as goal
 

@@ -1,9 +1,9 @@
 use Rattle.std.proofs.Common.{ap, refl, ◌∙◌}
-use Rattle.sf_spots.specs.Spots.{spot_at}
-use Rattle.sf_store.specs.declared.ask.Asked.{Asked}
-use Rattle.sf_letters.specs.FillValue.{Filled}
-use Rattle.sf_store.specs.Found.{DrawsWithin, Unmade, found_by}
-use Rattle.sf_store.specs.Replies.{reply_of}
+use Rattle.sf_fill_keys.specs.Spots.{spot_at}
+use Rattle.sf_fill_store.specs.declared.ask.Asked.{Asked}
+use Rattle.sf_fill_values.specs.FillValue.{Filled}
+use Rattle.sf_fill_store.specs.Found.{DrawsWithin, Unmade, found_by}
+use Rattle.sf_fill_store.specs.Replies.{reply_of}
 use Rattle.sf_fill.proofs.Once.{asked_group}
 use Rattle.sf_fill.proofs.fill.Fill.get_asking.Goals.{in-Ok, in-Err}
 use Rattle.sf_fill.proofs.fill.Fill.get_asking.Goals as goal

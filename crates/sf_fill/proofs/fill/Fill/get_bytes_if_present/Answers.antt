@@ -1,5 +1,5 @@
 use Rattle.std.proofs.Common.{rules, inr}
-use Rattle.sf_spots.specs.Spots.{spot_at}
+use Rattle.sf_fill_keys.specs.Spots.{spot_at}
 use Rattle.sf_fill.proofs.Bytes.{brings_bytes, none_brought}
 use Rattle.sf_fill.proofs.Once.{absent_getter, present_getter, unplaced_getter}
 use Rattle.sf_fill.proofs.fill.Fill.get_bytes_if_present.Goals as goal

@@ -1,5 +1,5 @@
 use Rattle.std.proofs.Common.{rules, inr}
-use Rattle.sf_spots.specs.Spots.{spot_at}
+use Rattle.sf_fill_keys.specs.Spots.{spot_at}
 use Rattle.sf_fill.proofs.Once.{present_fresh, present_getter, some_then, unplaced_getter}
 use Rattle.sf_fill.proofs.fill.Fill.get_if_present.Goals as goal
 

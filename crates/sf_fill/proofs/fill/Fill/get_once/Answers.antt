@@ -1,6 +1,6 @@
 use Rattle.std.proofs.Common.{rules, refl, ap}
-use Rattle.sf_spots.specs.Spots.{spot_at}
-use Rattle.sf_counters.specs.Ledgers.{Tally}
+use Rattle.sf_fill_keys.specs.Spots.{spot_at}
+use Rattle.sf_fill_counters.specs.Ledgers.{Tally}
 use Rattle.sf_fill.proofs.Once.{asked_getter, owing_getter, present_getter, present_logged, present_once, refused_getter}
 use Rattle.sf_fill.proofs.fill.Fill.get_once.Goals as goal
 

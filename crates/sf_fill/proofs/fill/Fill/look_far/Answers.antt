@@ -1,5 +1,5 @@
 use Rattle.std.proofs.Common.{rules, inl, refl, Ok}
-use Rattle.sf_letters.proofs.Looks.{looked_on_lent}
+use Rattle.sf_fill_values.proofs.Looks.{looked_on_lent}
 use Rattle.sf_fill.proofs.Once.{found_at_hand}
 use Rattle.sf_fill.proofs.fill.Fill.look_far.Goals as goal
 

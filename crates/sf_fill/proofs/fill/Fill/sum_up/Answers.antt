@@ -1,5 +1,5 @@
 use Rattle.std.proofs.Common.{◌≡◌, ◌++◌, ◌∷◌, [], Option, option_to_list, map, sym, ap, ◌∙◌, arith}
-use Rattle.sf_counters.specs.Totals.{sums_of, plus}
+use Rattle.sf_fill_counters.specs.Totals.{sums_of, plus}
 use Rattle.sf_fill.specs.GetterValue.{GetterValue}
 use Rattle.sf_fill.proofs.Sums.{sums_on}
 use Rattle.sf_fill.proofs.fill.Fill.sum_up.Goals as goal

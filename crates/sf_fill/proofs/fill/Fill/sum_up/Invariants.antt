@@ -1,5 +1,5 @@
 use Rattle.std.specs.Prelude.{◌≡◌, ◌+◌, map, vec_len}
-use Rattle.sf_counters.specs.Totals.{sums_of, plus}
+use Rattle.sf_fill_counters.specs.Totals.{sums_of, plus}
 use Rattle.sf_fill.specs.GetterValue.{GetterValue}
 use Rattle.sf_fill.proofs.fill.Fill.sum_up.Given as goal
 

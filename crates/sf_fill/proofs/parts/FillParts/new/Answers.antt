@@ -1,6 +1,6 @@
 use Rattle.std.proofs.Common.{rules, refl, ◌∙◌}
-use Rattle.sf_calls.specs.Tokens.{CallerValue}
-use Rattle.sf_letters.specs.FillValue.{Filled}
+use Rattle.sf_group_rows.specs.Tokens.{CallerValue}
+use Rattle.sf_fill_values.specs.FillValue.{Filled}
 use Rattle.sf_fill.proofs.Crew.{as_many, callers_of_group}
 use Rattle.sf_fill.proofs.parts.FillParts.new.Goals as goal
 

@@ -1,16 +1,16 @@
 use Rattle.std.proofs.Common.{◌≡◌, ◌≤◌, ◌<◌, ◌∙◌, [], ◌∷◌, None, refl, sym, ap, subst, arith, ◌+◌}
 use Rattle.sf_history.specs.declared.event.Event.TheVariants as event
-use Rattle.sf_schedules.specs.declared.operation.Stage.TheVariants as stage
-use Rattle.sf_calls.specs.declared.sizes.Sizes.{Sizes}
-use Rattle.sf_calls.specs.declared.outcomes.Begun.TheVariants as begun
-use Rattle.sf_calls.specs.declared.outcomes.NotBegun.TheVariants as not_begun
-use Rattle.sf_word_steps.specs.View.{sizes_of}
-use Rattle.sf_calls.specs.Tokens.{GroupValue, CallerValue, FlightValue, TicketValue}
-use Rattle.sf_word_steps.specs.Stands.{next_in, Goes}
-use Rattle.sf_word_steps.specs.Changes.{Tries}
+use Rattle.sf_steps_laws.specs.declared.operation.Stage.TheVariants as stage
+use Rattle.sf_group_rows.specs.declared.sizes.Sizes.{Sizes}
+use Rattle.sf_group_rows.specs.declared.outcomes.Begun.TheVariants as begun
+use Rattle.sf_group_rows.specs.declared.outcomes.NotBegun.TheVariants as not_begun
+use Rattle.sf_group_steps.specs.View.{sizes_of}
+use Rattle.sf_group_rows.specs.Tokens.{GroupValue, CallerValue, FlightValue, TicketValue}
+use Rattle.sf_group_steps.specs.Stands.{next_in, Goes}
+use Rattle.sf_group_steps.specs.Changes.{Tries}
 use Rattle.sf_group.specs.Known.{caller_of, flight_of, ticket_of}
-use Rattle.sf_calls.specs.Begins.{HasBegun, IsRefusedSpent}
-use Rattle.sf_word_steps.specs.Exchanges.{exchanges_of, HasExchanged}
+use Rattle.sf_group_rows.specs.Begins.{HasBegun, IsRefusedSpent}
+use Rattle.sf_group_steps.specs.Exchanges.{exchanges_of, HasExchanged}
 use Rattle.sf_group.specs.Calls.{HasTriedAtMost, HasNotBegun}
 use Rattle.sf_group.proofs.Rows.{sizes_are, follows_now, first_least, lead_row, join_row, few_row, busy_row, spent_row}
 use Rattle.sf_group.proofs.group.Group.begin.Goals as goal

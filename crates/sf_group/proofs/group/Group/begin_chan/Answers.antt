@@ -1,21 +1,21 @@
 use Rattle.std.proofs.Common.{◌≡◌, ◌≤◌, ◌∙◌, [], ◌∷◌, Some, refl, sym, ap, subst, arith, ◌+◌}
 use Rattle.sf_history.specs.declared.event.Event.TheVariants as event
-use Rattle.sf_schedules.specs.declared.operation.Stage.TheVariants as stage
-use Rattle.sf_schedules.specs.Schedules.{IsPlace}
-use Rattle.sf_calls.specs.declared.sizes.Sizes.{Sizes}
-use Rattle.sf_calls.specs.declared.outcomes.ChanBegun.TheVariants as begun
-use Rattle.sf_calls.specs.declared.outcomes.NotBegun.TheVariants as not_begun
-use Rattle.sf_calls.specs.Tokens.{GroupValue, CallerValue, FlightValue, TicketValue}
-use Rattle.sf_calls.specs.Begins.{HasChanBegun, AreRefusedSpent}
-use Rattle.sf_word_steps.specs.declared.asking.AskAttempt.{AskAttempt}
-use Rattle.sf_word_steps.specs.View.{setting_of, sizes_of}
-use Rattle.sf_word_steps.specs.Stands.{next_in, Goes}
-use Rattle.sf_word_chans.specs.declared.askers.Askers.{Askers}
-use Rattle.sf_word_chans.specs.Changes.{HaveChanged}
-use Rattle.sf_word_chans.specs.Together.{HasAsked}
+use Rattle.sf_steps_laws.specs.declared.operation.Stage.TheVariants as stage
+use Rattle.sf_steps_laws.specs.Schedules.{IsPlace}
+use Rattle.sf_group_rows.specs.declared.sizes.Sizes.{Sizes}
+use Rattle.sf_group_rows.specs.declared.outcomes.ChanBegun.TheVariants as begun
+use Rattle.sf_group_rows.specs.declared.outcomes.NotBegun.TheVariants as not_begun
+use Rattle.sf_group_rows.specs.Tokens.{GroupValue, CallerValue, FlightValue, TicketValue}
+use Rattle.sf_group_rows.specs.Begins.{HasChanBegun, AreRefusedSpent}
+use Rattle.sf_group_steps.specs.declared.asking.AskAttempt.{AskAttempt}
+use Rattle.sf_group_steps.specs.View.{setting_of, sizes_of}
+use Rattle.sf_group_steps.specs.Stands.{next_in, Goes}
+use Rattle.sf_group_chans.specs.declared.askers.Askers.{Askers}
+use Rattle.sf_group_chans.specs.Changes.{HaveChanged}
+use Rattle.sf_group_chans.specs.Together.{HasAsked}
 use Rattle.sf_group.specs.Known.{caller_of, flight_of, ticket_of}
-use Rattle.sf_word_steps.specs.Exchanges.{exchanges_of, HasExchanged}
-use Rattle.sf_word_chans.specs.Exchanges.{HaveAskedSo}
+use Rattle.sf_group_steps.specs.Exchanges.{exchanges_of, HasExchanged}
+use Rattle.sf_group_chans.specs.Exchanges.{HaveAskedSo}
 use Rattle.sf_group.specs.Calls.{HasTriedAtMost, HasNotBegunChan}
 use Rattle.sf_group.proofs.Rows.{sizes_are, first_least, follows_now, few_row}
 use Rattle.sf_group.proofs.ChanRows.{led_chan_row, joined_chan_row, busy_chan_row, spent_chan_row}

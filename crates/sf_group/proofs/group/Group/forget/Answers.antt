@@ -1,15 +1,15 @@
 use Rattle.std.proofs.Common.{◌≡◌, ◌≤◌, ◌+◌, ◌∙◌, [], ◌∷◌, None, Some, sym, ap, subst}
 use Rattle.sf_history.specs.declared.event.Forgotten.TheVariants as forgotten
 use Rattle.sf_history.specs.declared.event.Event.TheVariants as event
-use Rattle.sf_schedules.specs.declared.operation.Stage.TheVariants as stage
-use Rattle.sf_calls.specs.declared.sizes.Sizes.{Sizes}
-use Rattle.sf_word_steps.specs.View.{sizes_of}
-use Rattle.sf_calls.specs.Tokens.{GroupValue, CallerValue}
-use Rattle.sf_word_steps.specs.Stands.{Goes}
-use Rattle.sf_word_steps.specs.Changes.{Tries}
+use Rattle.sf_steps_laws.specs.declared.operation.Stage.TheVariants as stage
+use Rattle.sf_group_rows.specs.declared.sizes.Sizes.{Sizes}
+use Rattle.sf_group_steps.specs.View.{sizes_of}
+use Rattle.sf_group_rows.specs.Tokens.{GroupValue, CallerValue}
+use Rattle.sf_group_steps.specs.Stands.{Goes}
+use Rattle.sf_group_steps.specs.Changes.{Tries}
 use Rattle.sf_group.specs.Known.{caller_of}
-use Rattle.sf_calls.specs.Forgets.{HasForgotten}
-use Rattle.sf_word_steps.specs.Exchanges.{exchanges_of, HasExchanged}
+use Rattle.sf_group_rows.specs.Forgets.{HasForgotten}
+use Rattle.sf_group_steps.specs.Exchanges.{exchanges_of, HasExchanged}
 use Rattle.sf_group.specs.Calls.{HasTriedAtMost, HasNotForgotten}
 use Rattle.sf_group.proofs.Rows.{forget_row, few_row, miss_row}
 use Rattle.sf_group.proofs.group.Group.forget.Goals as goal

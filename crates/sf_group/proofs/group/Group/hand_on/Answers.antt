@@ -1,19 +1,19 @@
 use Rattle.std.proofs.Common.{◌≡◌, ℕ, ◌∙◌, true, [], Option, refl, sym, ap, subst}
 use Rattle.atomic_table.specs.Table.{Me}
-use Rattle.sf_schedules.specs.declared.letter.Letter.{Letter}
-use Rattle.sf_schedules.specs.declared.operation.Stage.TheVariants.{Free}
+use Rattle.sf_steps_laws.specs.declared.letter.Letter.{Letter}
+use Rattle.sf_steps_laws.specs.declared.operation.Stage.TheVariants.{Free}
 use Rattle.sf_history.specs.declared.call.CallId.{CallId}
 use Rattle.sf_history.specs.declared.event.Event.TheVariants as event
-use Rattle.sf_calls.specs.Seen.{Stands}
-use Rattle.sf_word_steps.specs.declared.view.View.{View}
-use Rattle.sf_schedules.specs.Schedules.{was_led_on}
-use Rattle.sf_schedules.specs.Turns.{at_members}
-use Rattle.sf_calls.specs.Tokens.{GroupValue, CallerValue, SettledValue, LetterValue}
-use Rattle.sf_calls.specs.Finishes.{IsDoneAtLast, IsHeldStill}
-use Rattle.sf_word_steps.specs.View.{sizes_of, history_of}
-use Rattle.sf_word_steps.specs.Stands.{Sits}
-use Rattle.sf_word_steps.specs.Settles.{call_of}
-use Rattle.sf_word_steps.specs.Delivers.{IsOwed, handed_later}
+use Rattle.sf_group_rows.specs.Seen.{Stands}
+use Rattle.sf_group_steps.specs.declared.view.View.{View}
+use Rattle.sf_steps_laws.specs.Schedules.{was_led_on}
+use Rattle.sf_steps_laws.specs.Turns.{at_members}
+use Rattle.sf_group_rows.specs.Tokens.{GroupValue, CallerValue, SettledValue, LetterValue}
+use Rattle.sf_group_rows.specs.Finishes.{IsDoneAtLast, IsHeldStill}
+use Rattle.sf_group_steps.specs.View.{sizes_of, history_of}
+use Rattle.sf_group_steps.specs.Stands.{Sits}
+use Rattle.sf_group_steps.specs.Settles.{call_of}
+use Rattle.sf_group_steps.specs.Delivers.{IsOwed, handed_later}
 use Rattle.sf_group.specs.Known.{call_before, caller_of, settled_of, letter_of}
 use Rattle.sf_group.proofs.Finishes.{fits_later}
 use Rattle.sf_group.proofs.LedCalls.{owing_led, led_later, placed_later}

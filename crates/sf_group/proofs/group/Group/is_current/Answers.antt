@@ -1,14 +1,14 @@
 use Rattle.std.proofs.Common.{◌≡◌, ◌≢◌, ◌∙◌, [], Some, ap, sym, subst}
 use Rattle.std.specs.Prelude.{nat_eq, IsTrue, IsFalse}
 use Rattle.sf_history.specs.History.{current_call}
-use Rattle.sf_schedules.specs.declared.operation.Stage.TheVariants.{Free}
-use Rattle.sf_calls.specs.declared.sizes.Sizes.{Sizes}
-use Rattle.sf_calls.specs.Tokens.{GroupValue, CallerValue, LetterValue}
-use Rattle.sf_calls.specs.Notes.{HasLearnt}
-use Rattle.sf_calls.specs.Currents.{HasQuestioned}
-use Rattle.sf_word_steps.specs.View.{sizes_of, history_of}
-use Rattle.sf_word_steps.specs.Stands.{Goes}
-use Rattle.sf_word_steps.specs.Questions.{WasCurrent}
+use Rattle.sf_steps_laws.specs.declared.operation.Stage.TheVariants.{Free}
+use Rattle.sf_group_rows.specs.declared.sizes.Sizes.{Sizes}
+use Rattle.sf_group_rows.specs.Tokens.{GroupValue, CallerValue, LetterValue}
+use Rattle.sf_group_rows.specs.Notes.{HasLearnt}
+use Rattle.sf_group_rows.specs.Currents.{HasQuestioned}
+use Rattle.sf_group_steps.specs.View.{sizes_of, history_of}
+use Rattle.sf_group_steps.specs.Stands.{Goes}
+use Rattle.sf_group_steps.specs.Questions.{WasCurrent}
 use Rattle.sf_group.specs.Known.{caller_of}
 use Rattle.sf_group.proofs.QuestionRows.{lent_row, questioned_row}
 use Rattle.sf_group.proofs.group.Group.is_current.Goals as goal

@@ -1,9 +1,9 @@
 use Rattle.std.proofs.Common.{◌≡◌, ◌∙◌, [], sym, ap, subst}
-use Rattle.sf_schedules.specs.declared.operation.Stage.TheVariants as stage
-use Rattle.sf_calls.specs.Tokens.{GroupValue, CallerValue}
-use Rattle.sf_calls.specs.Same.{HasNothing}
-use Rattle.sf_calls.specs.Currents.{IsStillSaid}
-use Rattle.sf_word_steps.specs.View.{sizes_of, history_of}
+use Rattle.sf_steps_laws.specs.declared.operation.Stage.TheVariants as stage
+use Rattle.sf_group_rows.specs.Tokens.{GroupValue, CallerValue}
+use Rattle.sf_group_rows.specs.Same.{HasNothing}
+use Rattle.sf_group_rows.specs.Currents.{IsStillSaid}
+use Rattle.sf_group_steps.specs.View.{sizes_of, history_of}
 use Rattle.sf_group.specs.Known.{caller_of}
 use Rattle.sf_group.proofs.Rows.{free_again, nothing_row}
 use Rattle.sf_group.proofs.StillRows.{still_said, free_stays}

@@ -1,14 +1,14 @@
 use Rattle.std.proofs.Common.{◌≡◌, [], ap, sym, ◌∙◌, subst}
-use Rattle.sf_schedules.specs.declared.operation.Stage.TheVariants as stage
-use Rattle.sf_calls.specs.declared.sizes.Sizes.{Sizes}
-use Rattle.sf_calls.specs.Tokens.{GroupValue, CallerValue, NoteValue}
-use Rattle.sf_calls.specs.Notes.{HasLearnt}
-use Rattle.sf_word_steps.specs.View.{sizes_of, history_of}
-use Rattle.sf_word_steps.specs.Hears.{HasHeard}
-use Rattle.sf_word_steps.proofs.LookSteps.{free_alone}
+use Rattle.sf_steps_laws.specs.declared.operation.Stage.TheVariants as stage
+use Rattle.sf_group_rows.specs.declared.sizes.Sizes.{Sizes}
+use Rattle.sf_group_rows.specs.Tokens.{GroupValue, CallerValue, NoteValue}
+use Rattle.sf_group_rows.specs.Notes.{HasLearnt}
+use Rattle.sf_group_steps.specs.View.{sizes_of, history_of}
+use Rattle.sf_group_steps.specs.Hears.{HasHeard}
+use Rattle.sf_group_steps.proofs.LookSteps.{free_alone}
 use Rattle.sf_group.specs.Known.{caller_of}
 use Rattle.sf_group.proofs.Rows.{free_again}
-use Rattle.sf_word_steps.proofs.HearSteps.{heard_goes}
+use Rattle.sf_group_steps.proofs.HearSteps.{heard_goes}
 use Rattle.sf_group.proofs.NoteRows.{learnt_row}
 use Rattle.sf_group.proofs.group.Group.learn.Goals as goal
 

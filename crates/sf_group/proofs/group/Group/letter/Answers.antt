@@ -1,6 +1,6 @@
 use Rattle.std.proofs.Common.{ap, sym, ◌∙◌, arith}
-use Rattle.sf_calls.specs.Tokens.{GroupValue}
-use Rattle.sf_word_steps.proofs.Seats.{tells_split}
+use Rattle.sf_group_rows.specs.Tokens.{GroupValue}
+use Rattle.sf_group_steps.proofs.Seats.{tells_split}
 use Rattle.sf_group.proofs.group.Group.letter.Goals as goal
 
 pub split_seat-requires : goal.split_seat-requires

@@ -1,11 +1,11 @@
 use Rattle.std.proofs.Common.{◌≡◌, ◌∙◌, [], sym, ap, subst}
-use Rattle.sf_schedules.specs.declared.operation.Stage.TheVariants as stage
-use Rattle.sf_schedules.specs.Naming.{IsNamed}
-use Rattle.sf_calls.specs.declared.sizes.Sizes.{Sizes}
-use Rattle.sf_calls.specs.Tokens.{GroupValue, CallerValue}
-use Rattle.sf_calls.specs.Forgets.{HasNamed}
-use Rattle.sf_word_steps.specs.View.{sizes_of, history_of}
-use Rattle.sf_word_steps.specs.Stands.{Goes}
+use Rattle.sf_steps_laws.specs.declared.operation.Stage.TheVariants as stage
+use Rattle.sf_steps_laws.specs.Naming.{IsNamed}
+use Rattle.sf_group_rows.specs.declared.sizes.Sizes.{Sizes}
+use Rattle.sf_group_rows.specs.Tokens.{GroupValue, CallerValue}
+use Rattle.sf_group_rows.specs.Forgets.{HasNamed}
+use Rattle.sf_group_steps.specs.View.{sizes_of, history_of}
+use Rattle.sf_group_steps.specs.Stands.{Goes}
 use Rattle.sf_group.specs.Known.{caller_of}
 use Rattle.sf_group.proofs.QuestionRows.{named_row}
 use Rattle.sf_group.proofs.group.Group.named.Goals as goal

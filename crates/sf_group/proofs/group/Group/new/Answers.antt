@@ -3,13 +3,13 @@ use Rattle.std.specs.List.{All}
 use Rattle.std.specs.Prelude.{replicate}
 use Rattle.std.proofs.lemmas.List.Elements.{All-push}
 use Rattle.atomic_table.specs.Table.{opening}
-use Rattle.sf_calls.specs.declared.sizes.Sizes.{Sizes}
-use Rattle.sf_calls.specs.Tokens.{GroupValue, CallerValue}
-use Rattle.sf_word_steps.specs.View.{first_view}
-use Rattle.sf_word_steps.specs.Shows.{Holds}
+use Rattle.sf_group_rows.specs.declared.sizes.Sizes.{Sizes}
+use Rattle.sf_group_rows.specs.Tokens.{GroupValue, CallerValue}
+use Rattle.sf_group_steps.specs.View.{first_view}
+use Rattle.sf_group_steps.specs.Shows.{Holds}
 use Rattle.sf_group.specs.Dealing.{IsDealing}
-use Rattle.sf_calls.specs.Making.{IsNewCaller, new_caller, numbers_of}
-use Rattle.sf_word_steps.proofs.Seats.{opens}
+use Rattle.sf_group_rows.specs.Making.{IsNewCaller, new_caller, numbers_of}
+use Rattle.sf_group_steps.proofs.Seats.{opens}
 use Rattle.sf_group.proofs.Dealing.{numbers_more}
 use Rattle.sf_group.proofs.group.Group.new.Goals as goal
 

@@ -1,8 +1,8 @@
 use Rattle.std.proofs.Common.{◌≡◌, ◌+◌, []}
 use Rattle.std.specs.List.{All, range_with_len}
-use Rattle.sf_word_steps.specs.Words.{words_in}
+use Rattle.sf_group_steps.specs.Words.{words_in}
 use Rattle.sf_group.specs.Dealing.{IsDealing}
-use Rattle.sf_calls.specs.Making.{IsNewCaller, numbers_of}
+use Rattle.sf_group_rows.specs.Making.{IsNewCaller, numbers_of}
 use Rattle.sf_group.proofs.group.Group.new.Given as goal
 
 abbrev pub invariant-loop-index : goal.invariant-loop-index

@@ -1,15 +1,15 @@
 use Rattle.std.proofs.Common.{◌≡◌, ◌∙◌, false, [], Option, sym, ap, subst}
 use Rattle.atomic_table.specs.Table.{Me}
-use Rattle.sf_schedules.specs.declared.letter.Letter.{Letter}
-use Rattle.sf_schedules.specs.declared.operation.Stage.TheVariants.{Free, Holding}
+use Rattle.sf_steps_laws.specs.declared.letter.Letter.{Letter}
+use Rattle.sf_steps_laws.specs.declared.operation.Stage.TheVariants.{Free, Holding}
 use Rattle.sf_history.specs.History.{is_handed}
-use Rattle.sf_word_steps.specs.declared.view.View.{View}
-use Rattle.sf_calls.specs.declared.sizes.Sizes.{Sizes}
-use Rattle.sf_calls.specs.Tokens.{GroupValue, CallerValue, TicketValue, LetterValue}
-use Rattle.sf_calls.specs.Finishes.{IsReady, IsPending}
-use Rattle.sf_word_steps.specs.View.{sizes_of, history_of}
-use Rattle.sf_word_steps.specs.Stands.{Goes}
-use Rattle.sf_word_steps.specs.Collects.{IsAnswer}
+use Rattle.sf_group_steps.specs.declared.view.View.{View}
+use Rattle.sf_group_rows.specs.declared.sizes.Sizes.{Sizes}
+use Rattle.sf_group_rows.specs.Tokens.{GroupValue, CallerValue, TicketValue, LetterValue}
+use Rattle.sf_group_rows.specs.Finishes.{IsReady, IsPending}
+use Rattle.sf_group_steps.specs.View.{sizes_of, history_of}
+use Rattle.sf_group_steps.specs.Stands.{Goes}
+use Rattle.sf_group_steps.specs.Collects.{IsAnswer}
 use Rattle.sf_group.specs.Known.{caller_of, ticket_of}
 use Rattle.sf_group.proofs.LedCalls.{holding_led, led_later}
 use Rattle.sf_group.proofs.Deliveries.{ready_row, pending_row}

@@ -2,17 +2,17 @@ use Rattle.std.proofs.Common.{◌≡◌, ℕ, ◌∙◌, true, false, Option, No
 use Rattle.sf_history.specs.declared.call.CallId.{CallId}
 use Rattle.std.specs.Prelude.{is_some}
 use Rattle.atomic_table.specs.Table.{Me}
-use Rattle.sf_schedules.specs.declared.letter.Letter.{Letter}
-use Rattle.sf_word_steps.specs.declared.view.View.{View}
-use Rattle.sf_schedules.specs.Schedules.{was_led_on}
-use Rattle.sf_schedules.specs.Turns.{at_members}
-use Rattle.sf_schedules.specs.Events.{settled}
-use Rattle.sf_calls.specs.Tokens.{GroupValue, CallerValue, FlightValue, LetterValue}
-use Rattle.sf_calls.specs.Finishes.{IsDone, IsHeld}
-use Rattle.sf_word_steps.specs.View.{sizes_of, history_of}
-use Rattle.sf_word_steps.specs.Stands.{Sits}
-use Rattle.sf_word_steps.specs.Delivers.{IsOwed}
-use Rattle.sf_word_steps.specs.Settles.{IsJoined}
+use Rattle.sf_steps_laws.specs.declared.letter.Letter.{Letter}
+use Rattle.sf_group_steps.specs.declared.view.View.{View}
+use Rattle.sf_steps_laws.specs.Schedules.{was_led_on}
+use Rattle.sf_steps_laws.specs.Turns.{at_members}
+use Rattle.sf_steps_laws.specs.Events.{settled}
+use Rattle.sf_group_rows.specs.Tokens.{GroupValue, CallerValue, FlightValue, LetterValue}
+use Rattle.sf_group_rows.specs.Finishes.{IsDone, IsHeld}
+use Rattle.sf_group_steps.specs.View.{sizes_of, history_of}
+use Rattle.sf_group_steps.specs.Stands.{Sits}
+use Rattle.sf_group_steps.specs.Delivers.{IsOwed}
+use Rattle.sf_group_steps.specs.Settles.{IsJoined}
 use Rattle.sf_group.specs.Known.{call_before, caller_of, flight_of, settled_of, letter_of}
 use Rattle.sf_group.specs.Calls.{ClosesSeldom}
 use Rattle.sf_group.proofs.Finishes.{settled_so, held_row, done_row, closed_row, fits_later, none_is}

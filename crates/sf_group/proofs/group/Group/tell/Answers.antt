@@ -1,10 +1,10 @@
 use Rattle.std.proofs.Common.{Option, ap, sym, ◌∙◌, subst, arith}
 use Rattle.atomic_table.specs.Table.{Me}
-use Rattle.sf_schedules.specs.declared.letter.Letter.{Letter}
-use Rattle.sf_calls.specs.Tokens.{GroupValue, CallerValue}
-use Rattle.sf_calls.specs.Notes.{HasTold}
-use Rattle.sf_word_steps.specs.declared.view.View.{View}
-use Rattle.sf_word_steps.proofs.Seats.{tells_split}
+use Rattle.sf_steps_laws.specs.declared.letter.Letter.{Letter}
+use Rattle.sf_group_rows.specs.Tokens.{GroupValue, CallerValue}
+use Rattle.sf_group_rows.specs.Notes.{HasTold}
+use Rattle.sf_group_steps.specs.declared.view.View.{View}
+use Rattle.sf_group_steps.proofs.Seats.{tells_split}
 use Rattle.sf_group.specs.Known.{caller_of, note_value}
 use Rattle.sf_group.proofs.NoteRows.{told_row}
 use Rattle.sf_group.proofs.group.Group.tell.Goals as goal

@@ -1,5 +1,5 @@
 use Rattle.std.proofs.Common.{◌∙◌, ap}
-use Rattle.sf_schedules.specs.Stages.{second_in}
+use Rattle.sf_steps_laws.specs.Stages.{second_in}
 use Rattle.sf_steps.proofs.world.World.asks_on.Goals as goal
 
 pub set_stage-requires-clause-second : goal.set_stage-requires-clause-second

@@ -1,5 +1,5 @@
 use Rattle.std.proofs.Common.{◌≡◌, ◌≤◌, ◌∙◌, List, sym, ap, subst, slice_index_or}
-use Rattle.sf_schedules.specs.Stages.{top_in}
+use Rattle.sf_steps_laws.specs.Stages.{top_in}
 use Rattle.sf_steps.specs.declared.caller_row.CallerRow.{CallerRow}
 use Rattle.sf_steps.specs.Rows.{first_row, row_at}
 use Rattle.sf_steps.proofs.world.World.call.Goals as goal

@@ -1,9 +1,9 @@
 use Rattle.std.proofs.Common.{ℕ, ◌∙◌, ap, rules}
 use Rattle.std.specs.Prelude.{cond}
-use Rattle.sf_schedules.specs.declared.operation.Stage.{Stage}
+use Rattle.sf_steps_laws.specs.declared.operation.Stage.{Stage}
 use Rattle.sf_words.specs.declared.key_word.KeyState.{KeyState}
-use Rattle.sf_schedules.specs.declared.operation.SettleStep.TheVariants as settle
-use Rattle.sf_schedules.specs.World.{with_key, same_key}
+use Rattle.sf_steps_laws.specs.declared.operation.SettleStep.TheVariants as settle
+use Rattle.sf_steps_laws.specs.World.{with_key, same_key}
 use Rattle.sf_steps.specs.Running.{world_of}
 use Rattle.sf_steps.proofs.Worlds.{clear_done}
 use Rattle.sf_steps.proofs.world.World.clear_own.Goals as goal

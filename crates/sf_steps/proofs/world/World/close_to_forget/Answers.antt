@@ -1,5 +1,5 @@
 use Rattle.std.proofs.Common.{ℕ, ◌∙◌, ap}
-use Rattle.sf_schedules.specs.declared.operation.Stage.{Stage}
+use Rattle.sf_steps_laws.specs.declared.operation.Stage.{Stage}
 use Rattle.sf_steps.proofs.world.World.close_to_forget.Goals as goal
 
 pub forgets_on-requires-clause-forgets : goal.forgets_on-requires-clause-forgets

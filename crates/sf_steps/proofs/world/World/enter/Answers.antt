@@ -1,5 +1,5 @@
 use Rattle.std.proofs.Common.{ℕ, ◌∙◌, ap, rules}
-use Rattle.sf_schedules.specs.declared.operation.Stage.{Stage}
+use Rattle.sf_steps_laws.specs.declared.operation.Stage.{Stage}
 use Rattle.sf_steps.specs.Running.{world_of}
 use Rattle.sf_steps.proofs.Worlds.{enter_done}
 use Rattle.sf_steps.proofs.world.World.enter.Goals as goal

@@ -1,5 +1,5 @@
 use Rattle.std.proofs.Common.{◌≡◌, ℕ, ◌≤◌, true, sym, subst}
-use Rattle.sf_schedules.specs.Stages.{is_asking}
+use Rattle.sf_steps_laws.specs.Stages.{is_asking}
 use Rattle.sf_steps.specs.Running.{world_of}
 use Rattle.sf_steps.proofs.Seconds.{joiner_within, joiner_asks}
 use Rattle.sf_steps.proofs.Rows.{past_free}

@@ -1,5 +1,5 @@
 use Rattle.std.proofs.Common.{◌≡◌, ◌≤◌, ◌+◌, ℕ}
-use Rattle.sf_schedules.specs.World.{count}
+use Rattle.sf_steps_laws.specs.World.{count}
 use Rattle.sf_steps.specs.Running.{world_of}
 use Rattle.sf_steps.proofs.world.World.joiners_from.Given as goal
 

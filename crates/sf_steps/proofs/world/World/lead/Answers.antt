@@ -3,8 +3,8 @@ use Rattle.std.specs.Prelude.{cond}
 use Rattle.sf_history.specs.declared.call.CallId.{CallId}
 use Rattle.sf_history.specs.declared.event.Event.TheVariants.{Lead}
 use Rattle.sf_words.specs.declared.key_word.KeyState.{KeyState}
-use Rattle.sf_schedules.specs.declared.operation.Stage.{Stage}
-use Rattle.sf_schedules.specs.World.{with_key, key_of}
+use Rattle.sf_steps_laws.specs.declared.operation.Stage.{Stage}
+use Rattle.sf_steps_laws.specs.World.{with_key, key_of}
 use Rattle.sf_steps.specs.Running.{world_of}
 use Rattle.sf_steps.proofs.Worlds.{lead_done, lead_adds}
 use Rattle.sf_steps.proofs.world.World.lead.Goals as goal

@@ -1,7 +1,7 @@
 use Rattle.std.proofs.Common.{◌+◌, ℕ, sym, ap, arith}
 use Rattle.std.proofs.lemmas.Bool.{true≢false}
 use Rattle.sf_words.specs.declared.key_word.KeyState.TheVariants.{Never}
-use Rattle.sf_schedules.specs.Stages.{second_in}
+use Rattle.sf_steps_laws.specs.Stages.{second_in}
 use Rattle.sf_steps.specs.declared.caller_row.CallerRow.{CallerRow}
 use Rattle.sf_steps.specs.Rows.{IsLawful, first_row, row_at}
 use Rattle.sf_steps.proofs.Rows.{none_some, all_replicate, length_replicate, read_replicate, world_at_first}

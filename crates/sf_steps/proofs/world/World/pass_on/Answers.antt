@@ -1,5 +1,5 @@
 use Rattle.std.proofs.Common.{◌∙◌, ap}
-use Rattle.sf_schedules.specs.World.{World, with_stage}
+use Rattle.sf_steps_laws.specs.World.{World, with_stage}
 use Rattle.sf_steps.specs.Settling.{members_at}
 use Rattle.sf_steps.proofs.world.World.pass_on.Goals as goal
 

@@ -1,6 +1,6 @@
 use Rattle.std.proofs.Common.{◌∙◌, ap}
-use Rattle.sf_schedules.specs.Stages.{is_settling}
-use Rattle.sf_schedules.specs.World.{World}
+use Rattle.sf_steps_laws.specs.Stages.{is_settling}
+use Rattle.sf_steps_laws.specs.World.{World}
 use Rattle.sf_steps.specs.Running.{world_of}
 use Rattle.sf_steps.proofs.Worlds.{peek_done}
 use Rattle.sf_steps.proofs.world.World.peek_own.Goals as goal

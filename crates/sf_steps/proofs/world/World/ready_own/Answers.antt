@@ -1,5 +1,5 @@
 use Rattle.std.proofs.Common.{ℕ, ◌∙◌, ap}
-use Rattle.sf_schedules.specs.declared.operation.Stage.{Stage}
+use Rattle.sf_steps_laws.specs.declared.operation.Stage.{Stage}
 use Rattle.sf_steps.proofs.world.World.ready_own.Goals as goal
 
 pub asks_on-requires-clause-asks : goal.asks_on-requires-clause-asks

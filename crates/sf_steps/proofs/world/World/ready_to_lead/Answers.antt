@@ -1,6 +1,6 @@
 use Rattle.std.proofs.Common.{ℕ, ◌∙◌, ap}
-use Rattle.sf_schedules.specs.declared.operation.Stage.{Stage}
-use Rattle.sf_schedules.specs.declared.operation.AskStep.TheVariants as ask
+use Rattle.sf_steps_laws.specs.declared.operation.Stage.{Stage}
+use Rattle.sf_steps_laws.specs.declared.operation.AskStep.TheVariants as ask
 use Rattle.sf_steps.proofs.world.World.ready_to_lead.Goals as goal
 
 pub asks_on-requires-clause-asks : goal.asks_on-requires-clause-asks

@@ -1,8 +1,8 @@
 use Rattle.std.proofs.Math.ListN.{length-set}
 use Rattle.std.proofs.Common.{◌≡◌, true, ◌≤◌, ◌<◌, ℕ, length, sym, subst, ◌∙◌, refl, ap, arith, slice_index_or}
 use Rattle.sf_words.specs.declared.key_word.KeyState.TheVariants.{Never}
-use Rattle.sf_schedules.specs.Stages.{is_asking}
-use Rattle.sf_schedules.specs.World.{World}
+use Rattle.sf_steps_laws.specs.Stages.{is_asking}
+use Rattle.sf_steps_laws.specs.World.{World}
 use Rattle.sf_lists.proofs.Functions.{put_here}
 use Rattle.sf_steps.specs.declared.caller_row.CallerRow.{CallerRow}
 use Rattle.sf_steps.specs.Running.{world_of}

@@ -1,9 +1,9 @@
 use Rattle.std.proofs.Math.ListN.{length-set}
 use Rattle.std.proofs.Common.{◌≡◌, true, ◌≤◌, ◌<◌, ℕ, length, sym, subst, ◌∙◌, refl, ap, arith, slice_index_or, slice_set}
 use Rattle.sf_words.specs.declared.key_word.KeyState.TheVariants.{Never}
-use Rattle.sf_schedules.specs.declared.operation.Stage.{Stage}
-use Rattle.sf_schedules.specs.Stages.{is_asking}
-use Rattle.sf_schedules.specs.World.{World, with_stage}
+use Rattle.sf_steps_laws.specs.declared.operation.Stage.{Stage}
+use Rattle.sf_steps_laws.specs.Stages.{is_asking}
+use Rattle.sf_steps_laws.specs.World.{World, with_stage}
 use Rattle.sf_lists.proofs.Functions.{put_here, put_else}
 use Rattle.sf_steps.specs.declared.caller_row.CallerRow.{CallerRow}
 use Rattle.sf_steps.specs.Rows.{ArePaired}

@@ -1,6 +1,6 @@
 use Rattle.std.proofs.Common.{ℕ, ◌∙◌, ap}
-use Rattle.sf_schedules.specs.declared.operation.Stage.{Stage}
-use Rattle.sf_schedules.specs.Stages.{first_in}
+use Rattle.sf_steps_laws.specs.declared.operation.Stage.{Stage}
+use Rattle.sf_steps_laws.specs.Stages.{first_in}
 use Rattle.sf_steps.proofs.world.World.step_polling.Goals as goal
 
 pub set_stage-requires-clause-alone : goal.set_stage-requires-clause-alone

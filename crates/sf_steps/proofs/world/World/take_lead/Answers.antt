@@ -1,8 +1,8 @@
 use Rattle.std.proofs.Common.{◌≡◌, ◌+◌, ◌≤◌, ◌≢◌, ℕ, ◌∙◌, sym, ap, arith}
 use Rattle.sf_history.specs.declared.call.CallId.{CallId}
-use Rattle.sf_schedules.specs.declared.operation.Stage.{Stage}
-use Rattle.sf_schedules.specs.Stages.{is_asking}
-use Rattle.sf_schedules.specs.World.{World}
+use Rattle.sf_steps_laws.specs.declared.operation.Stage.{Stage}
+use Rattle.sf_steps_laws.specs.Stages.{is_asking}
+use Rattle.sf_steps_laws.specs.World.{World}
 use Rattle.sf_steps.specs.Running.{world_of}
 use Rattle.sf_steps.proofs.Seconds.{is_second, one_first}
 use Rattle.sf_lists.proofs.Functions.{put_else}

@@ -2,10 +2,10 @@ use Rattle.std.proofs.Math.ListN.{length-set}
 use Rattle.std.proofs.Common.{◌<◌, length, sym, subst, ◌∙◌, ap, arith, slice_index_or}
 use Rattle.std.proofs.lemmas.Bool.{true≢false}
 use Rattle.sf_words.specs.declared.key_word.KeyState.TheVariants.{Never}
-use Rattle.sf_schedules.specs.declared.operation.Stage.{Stage}
-use Rattle.sf_schedules.specs.declared.operation.Stage.TheVariants.{Free}
-use Rattle.sf_schedules.specs.Stages.{second_in}
-use Rattle.sf_schedules.specs.World.{World, with_stage}
+use Rattle.sf_steps_laws.specs.declared.operation.Stage.{Stage}
+use Rattle.sf_steps_laws.specs.declared.operation.Stage.TheVariants.{Free}
+use Rattle.sf_steps_laws.specs.Stages.{second_in}
+use Rattle.sf_steps_laws.specs.World.{World, with_stage}
 use Rattle.sf_lists.proofs.Functions.{put_here}
 use Rattle.sf_steps.specs.Rows.{IsLawful}
 use Rattle.sf_steps.specs.Running.{world_of}

@@ -1,5 +1,5 @@
 use Rattle.std.proofs.Common.{◌≡◌, ◌≤◌, ℕ, ap, arith}
-use Rattle.sf_schedules.specs.Stages.{is_asking}
+use Rattle.sf_steps_laws.specs.Stages.{is_asking}
 use Rattle.sf_steps.specs.Running.{world_of}
 use Rattle.sf_steps.proofs.Seconds.{is_second, one_first}
 use Rattle.sf_steps.proofs.Worlds.{joins_alone, joins_with}

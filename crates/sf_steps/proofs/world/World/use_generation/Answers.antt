@@ -2,7 +2,7 @@ use Rattle.std.proofs.Math.ListN.{length-set}
 use Rattle.std.proofs.Common.{◌≡◌, false, ◌<◌, ◌+◌, length, sym, ◌∙◌, refl, ap, arith, slice_index_or}
 use Rattle.std.proofs.lemmas.Bool.{true≢false}
 use Rattle.sf_words.specs.declared.key_word.KeyState.TheVariants.{Never}
-use Rattle.sf_schedules.specs.Stages.{is_asking}
+use Rattle.sf_steps_laws.specs.Stages.{is_asking}
 use Rattle.sf_steps.specs.declared.caller_row.CallerRow.{CallerRow}
 use Rattle.sf_steps.proofs.Rows.{lent_row, generation_used, stage_kept, still_paired, lawful_set}
 use Rattle.sf_steps.proofs.world.World.use_generation.Goals as goal

@@ -1,9 +1,9 @@
 use Rattle.std.proofs.Common.{◌≡◌, ◌∙◌, [], sym, ap, subst}
-use Rattle.sf_schedules.specs.declared.operation.Stage.TheVariants as stage
-use Rattle.sf_calls.specs.Tokens.{GroupValue, FlightValue}
-use Rattle.sf_calls.specs.Same.{IsSameFlight}
-use Rattle.sf_calls.specs.Currents.{IsStillSaid}
-use Rattle.sf_word_steps.specs.View.{sizes_of, history_of}
+use Rattle.sf_steps_laws.specs.declared.operation.Stage.TheVariants as stage
+use Rattle.sf_group_rows.specs.Tokens.{GroupValue, FlightValue}
+use Rattle.sf_group_rows.specs.Same.{IsSameFlight}
+use Rattle.sf_group_rows.specs.Currents.{IsStillSaid}
+use Rattle.sf_group_steps.specs.View.{sizes_of, history_of}
 use Rattle.sf_group.specs.Known.{call_before, flight_of}
 use Rattle.sf_group.proofs.NoteRows.{follows_still}
 use Rattle.sf_group.proofs.LedCalls.{placed_later}

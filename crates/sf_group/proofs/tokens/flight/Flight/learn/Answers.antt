@@ -1,13 +1,13 @@
 use Rattle.std.proofs.Common.{◌≡◌, [], ap, sym, ◌∙◌, subst}
-use Rattle.sf_calls.specs.declared.sizes.Sizes.{Sizes}
-use Rattle.sf_calls.specs.Tokens.{GroupValue, FlightValue, NoteValue}
-use Rattle.sf_calls.specs.Notes.{HasLearntLeading}
-use Rattle.sf_word_steps.specs.View.{sizes_of, history_of}
-use Rattle.sf_word_steps.specs.Hears.{HasHeard}
+use Rattle.sf_group_rows.specs.declared.sizes.Sizes.{Sizes}
+use Rattle.sf_group_rows.specs.Tokens.{GroupValue, FlightValue, NoteValue}
+use Rattle.sf_group_rows.specs.Notes.{HasLearntLeading}
+use Rattle.sf_group_steps.specs.View.{sizes_of, history_of}
+use Rattle.sf_group_steps.specs.Hears.{HasHeard}
 use Rattle.sf_group.specs.Known.{call_before, flight_of}
 use Rattle.sf_group.proofs.NoteRows.{leading_alone, leads_still, learnt_leading_row, follows_still}
-use Rattle.sf_word_steps.proofs.HearSteps.{heard_goes}
-use Rattle.sf_schedules.specs.declared.operation.Stage.TheVariants as stage
+use Rattle.sf_group_steps.proofs.HearSteps.{heard_goes}
+use Rattle.sf_steps_laws.specs.declared.operation.Stage.TheVariants as stage
 use Rattle.sf_group.proofs.tokens.flight.Flight.learn.Goals as goal
 
 pub invariant_of-self : goal.invariant_of-self

@@ -1,4 +1,4 @@
-use Rattle.sf_schedules.specs.declared.operation.Stage.TheVariants.{Leading}
+use Rattle.sf_steps_laws.specs.declared.operation.Stage.TheVariants.{Leading}
 use Rattle.sf_group.proofs.LedCalls.{after_caller}
 use Rattle.sf_group.proofs.tokens.flight.Flight.of.Goals as goal
 

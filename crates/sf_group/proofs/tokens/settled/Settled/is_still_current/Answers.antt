@@ -1,10 +1,10 @@
 use Rattle.std.proofs.Common.{◌≡◌, ◌∙◌, [], sym, ap, subst}
 use Rattle.sf_history.specs.declared.event.Event.TheVariants as event
-use Rattle.sf_schedules.specs.Turns.{at_members}
-use Rattle.sf_calls.specs.Tokens.{GroupValue, SettledValue}
-use Rattle.sf_calls.specs.Finishes.{IsHeldStill}
-use Rattle.sf_calls.specs.Currents.{IsStillSaid}
-use Rattle.sf_word_steps.specs.View.{sizes_of, history_of}
+use Rattle.sf_steps_laws.specs.Turns.{at_members}
+use Rattle.sf_group_rows.specs.Tokens.{GroupValue, SettledValue}
+use Rattle.sf_group_rows.specs.Finishes.{IsHeldStill}
+use Rattle.sf_group_rows.specs.Currents.{IsStillSaid}
+use Rattle.sf_group_steps.specs.View.{sizes_of, history_of}
 use Rattle.sf_group.specs.Known.{call_before, settled_of}
 use Rattle.sf_group.proofs.Finishes.{fits_later}
 use Rattle.sf_group.proofs.LedCalls.{placed_later}

@@ -1,11 +1,11 @@
 use Rattle.std.proofs.Common.{Option, ap, sym, ◌∙◌, arith}
 use Rattle.atomic_table.specs.Seated.{TableId}
 use Rattle.atomic_table.specs.Table.{Me}
-use Rattle.sf_schedules.specs.declared.letter.Letter.{Letter}
-use Rattle.sf_calls.specs.Tokens.{GroupValue, SettledValue}
-use Rattle.sf_word_steps.specs.declared.view.View.{View}
-use Rattle.sf_word_steps.specs.View.{sizes_of, history_of}
-use Rattle.sf_word_steps.proofs.Seats.{tells_split}
+use Rattle.sf_steps_laws.specs.declared.letter.Letter.{Letter}
+use Rattle.sf_group_rows.specs.Tokens.{GroupValue, SettledValue}
+use Rattle.sf_group_steps.specs.declared.view.View.{View}
+use Rattle.sf_group_steps.specs.View.{sizes_of, history_of}
+use Rattle.sf_group_steps.proofs.Seats.{tells_split}
 use Rattle.sf_group.specs.Known.{call_before, group_of, settled_of}
 use Rattle.sf_group.proofs.tokens.settled.Settled.tell.Goals as goal
 

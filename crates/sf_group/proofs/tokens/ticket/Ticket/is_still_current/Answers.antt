@@ -1,9 +1,9 @@
 use Rattle.std.proofs.Common.{◌≡◌, ◌∙◌, [], sym, ap, subst}
-use Rattle.sf_schedules.specs.declared.operation.Stage.TheVariants as stage
-use Rattle.sf_calls.specs.Tokens.{GroupValue, TicketValue}
-use Rattle.sf_calls.specs.Same.{IsStillTicket}
-use Rattle.sf_calls.specs.Currents.{IsStillSaid}
-use Rattle.sf_word_steps.specs.View.{sizes_of, history_of}
+use Rattle.sf_steps_laws.specs.declared.operation.Stage.TheVariants as stage
+use Rattle.sf_group_rows.specs.Tokens.{GroupValue, TicketValue}
+use Rattle.sf_group_rows.specs.Same.{IsStillTicket}
+use Rattle.sf_group_rows.specs.Currents.{IsStillSaid}
+use Rattle.sf_group_steps.specs.View.{sizes_of, history_of}
 use Rattle.sf_group.specs.Known.{ticket_of}
 use Rattle.sf_group.proofs.LedCalls.{placed_later}
 use Rattle.sf_group.proofs.Deliveries.{sits_now, next_now}

@@ -1,0 +1,403 @@
+//! What a slot holds.
+ghost use Rattle.std.specs.Prelude.{◌≡◌, ◌≢◌, ◌<◌, ◌≤◌, ◌↔◌, All, IsTrue, IfOk, IfErr, IfSome, IfNone, true, false};
+ghost use Rattle.sf_group_rows.specs.Making.{IsNewCaller};
+ghost use Rattle.sf_group_rows.specs.Notes.{HasGrown};
+ghost use Rattle.sf_c_slots.specs.Rows.{HasOpened, HasSplit, HasTakenBack, HasAskedKey, HasAskedChanKey, HasForgotKey, HasFinishedPart, HasGoneOnPart, HasPolledPart, HasQuestionedPart, HasToldNote, HasNotTold, HasLearntNote, HasGivenUp, HasCounted, HasCalled, HasNumbered, MarksOwn, HasGivenKey, call_in, AreBeside, ArePlacesOfOne, KeepsGroup, KeepsLetter, KeepsKey};
+
+use crate::codes::{BAD_NUMBER, DONE, NOT_OPEN, NOTHING_LEFT, OTHERWISE, WRONG_STATE};
+use crate::key::Key;
+use crate::note_state::NoteState;
+use crate::part::Part;
+use crate::word::Word;
+use sf_group::{Caller, Group, Letter, MOST_CALLERS, MOST_PLACES, MOST_TRIES, Memory};
+use sf_keys::Places;
+use std::alloc::Global;
+use std::marker::Model;
+use std::mem::replace;
+use std::sync::Arc;
+
+/// A caller, with a share of its group; the places of keys; the key that it asks for, where it leads or waits; the letter of
+/// such a key that it had last; whether the call that it leads, or led last, has an own channel; whether it led that
+/// letter's call, and that has one; and the callers that have no slot.
+#[derive(Drop)]
+pub struct State {
+    pub(crate) group: Arc<Group<Word>>,
+    pub(crate) places: Places,
+    pub(crate) part: Part,
+    pub(crate) asked: Key,
+    pub(crate) last: Option<Letter<Word>>,
+    pub(crate) own: bool,
+    pub(crate) last_own: bool,
+    pub(crate) callers: Vec<Caller<Word>>,
+}
+
+impl Model for State {
+    ghost use Rattle.std.specs.Prelude.{◌≡◌, All};
+    ghost use Rattle.sf_c_slots.specs.Rows.{IsOf, IsLetterOf, Seat};
+
+    ghost Value = { Seat };
+
+    ghost view = { λ s.
+        record {
+          group = s.group.value;
+          places = s.places;
+          part = s.part;
+          asked = s.asked;
+          last = s.last;
+          own = s.own;
+          last_own = s.last_own;
+          callers = s.callers.items;
+        } };
+
+    ghost invariant = { λ s. IsOf s.group.value s.part × IsLetterOf s.group.value s.last
+        × (s.group.value.sizes.places ≡ s.places.count)
+        × All (λ c. c.group ≡ s.group.value) s.callers.items };
+}
+
+// A check of the tests makes the proof that a state may go to another thread only where something asks for it.
+fn sendable<T: Send>(value: T) -> T
+    ensures { result ≡ value }
+{
+    value
+}
+
+// Whether keys have the same places.
+fn are_same(left: Places, right: Places) -> bool
+    ensures { IsTrue result ↔ ArePlacesOfOne left right }
+{
+    left.count == right.count && left.seed0 == right.seed0 && left.seed1 == right.seed1
+}
+
+// A new group, its first caller and the others.
+fn first_caller(
+    alloc: Global,
+    places: u32,
+    callers: u32,
+) -> Result<(Group<Word>, Caller<Word>, Vec<Caller<Word>>), Memory>
+    requires places { (1 ≤ places) × (places ≤ MOST_PLACES) }
+    requires callers { (1 ≤ callers) × (callers ≤ MOST_CALLERS) }
+    ensures sizes { IfOk result (λ made. (made.0.sizes.places ≡ places)
+        × (made.0.sizes.callers ≡ callers)) }
+    ensures first { IfOk result (λ made. IsNewCaller made.0 made.1) }
+    ensures others { IfOk result (λ made. All (IsNewCaller made.0) made.2.items) }
+    ensures own { IfOk result (λ made. All (λ c. c.group ≡ made.0) made.2.items) }
+{
+    let (group, mut callers) = Group::new(alloc, places, callers, 1)?;
+    let Some(caller) = callers.pop() else {
+        return Err(Memory);
+    };
+    Ok((group, caller, callers))
+}
+
+impl State {
+    /// The first slot's state of a new group.
+    pub fn open(
+        alloc: Global,
+        places: u32,
+        callers: u32,
+        seed0: u64,
+        seed1: u64,
+    ) -> Result<State, Memory>
+        requires places { (1 ≤ places) × (places ≤ MOST_PLACES) }
+        requires callers { (1 ≤ callers) × (callers ≤ MOST_CALLERS) }
+        ensures { IfOk result (HasOpened places callers seed0 seed1) }
+    {
+        let (group, caller, callers) = first_caller(alloc, places, callers)?;
+        let Ok(group) = Arc::new(alloc, group) else {
+            return Err(Memory);
+        };
+        Ok(sendable(State {
+            group,
+            places: Places {
+                count: places,
+                seed0,
+                seed1,
+            },
+            part: Part::Free(caller),
+            asked: Key::empty(),
+            last: None,
+            own: false,
+            last_own: false,
+            callers,
+        }))
+    }
+
+    /// A state for another slot, with the last of the callers that have none. None where all have one, or there is no memory.
+    pub fn split(&mut self, alloc: Global) -> Option<Box<State, Global>>
+        ensures made { IfSome result (λ made. HasSplit self.old self.new made.value) }
+        ensures none { IfNone result (self.new ≡ self.old) }
+    {
+        let group = Arc::try_clone(&self.group).ok()?;
+        let mut made = Box::new(
+            alloc,
+            State {
+                group,
+                places: self.places,
+                part: Part::Gone,
+                asked: Key::empty(),
+                last: None,
+                own: false,
+                last_own: false,
+                callers: Vec::new(alloc),
+            },
+        )
+        .ok()?;
+        let caller = self.callers.pop()?;
+        made.part = Part::Free(caller);
+        Some(made)
+    }
+
+    // Whether the other may be of its group: where keys have the same places, and two free callers different numbers.
+    fn is_beside(&self, other: &State) -> bool
+        ensures { IsTrue result ↔ AreBeside self.now other.now }
+    {
+        are_same(self.places, other.places) && self.part.is_numbered_apart(&other.part)
+    }
+
+    /// Takes back the other's caller, for a further slot. Then the other has none; but not where that is not free, or the other
+    /// has callers for further slots itself, or is of another group, or there is no memory.
+    pub fn take_back(&mut self, other: &mut State) -> u32
+        requires { AreBeside self.old other.old → self.old.group ≡ other.old.group }
+        ensures row { HasTakenBack self.old other.old self.new result }
+        ensures refused { result ≢ DONE → other.new ≡ other.old }
+        ensures open { result ≢ NOT_OPEN }
+    {
+        if !other.callers.is_empty() || !self.is_beside(other) {
+            return WRONG_STATE;
+        }
+        let caller = match replace(&mut other.part, Part::Gone).into_caller() {
+            Ok(caller) => caller,
+            Err(part) => {
+                other.part = part;
+                return WRONG_STATE;
+            }
+        };
+        match self.callers.push(caller) {
+            Ok(()) => DONE,
+            Err(failed) => {
+                other.part = Part::Free(failed.value);
+                NOTHING_LEFT
+            }
+        }
+    }
+
+    /// Asks for the key: done where its caller leads a new call then, otherwise it waits then.
+    pub fn ask(&mut self, alloc: Global, key: &[u8], tries: u32) -> u32
+        ensures kept { KeepsLetter self.old self.new }
+        ensures own { MarksOwn result false self.old.own self.new.own }
+        ensures row { HasAskedKey self.old key.now tries self.new result }
+        ensures open { result ≢ NOT_OPEN }
+    {
+        if tries < 1 || tries > MOST_TRIES {
+            return BAD_NUMBER;
+        }
+        if !self.part.is_free() {
+            return WRONG_STATE;
+        }
+        let Ok(long) = Key::counted(alloc, key) else {
+            return NOTHING_LEFT;
+        };
+        let place = self.places.of(key);
+        let code = self.part.asks(&self.group, place, tries);
+        if code == DONE {
+            self.own = false;
+        }
+        if code == DONE || code == OTHERWISE {
+            self.asked.put(key, long);
+        }
+        code
+    }
+
+    /// Asks for the key for the other: done where its caller leads a new call then and the other's waits on the leader's own
+    /// channel, otherwise the other's waits for the open call's letter.
+    pub fn ask_chan(&mut self, alloc: Global, other: &mut State, key: &[u8], tries: u32) -> u32
+        requires { AreBeside self.old other.old → self.old.group ≡ other.old.group }
+        ensures kept { KeepsLetter self.old self.new }
+        ensures own { MarksOwn result true self.old.own self.new.own }
+        ensures other { KeepsLetter other.old other.new × (other.new.own ≡ other.old.own) }
+        ensures row { HasAskedChanKey self.old other.old key.now tries self.new other.new result }
+        ensures open { result ≢ NOT_OPEN }
+    {
+        if tries < 1 || tries > MOST_TRIES {
+            return BAD_NUMBER;
+        }
+        if !self.part.is_free() || !other.part.is_free() || !self.is_beside(other) {
+            return WRONG_STATE;
+        }
+        let Ok(asked) = Key::of(alloc, key) else {
+            return NOTHING_LEFT;
+        };
+        let Ok(again) = asked.again() else {
+            return NOTHING_LEFT;
+        };
+        let place = self.places.of(key);
+        let caller = replace(&mut self.part, Part::Gone);
+        let second = replace(&mut other.part, Part::Gone);
+        let (caller, second, code) = caller.asked_chan(second, &self.group, place, tries);
+        self.part = caller;
+        other.part = second;
+        if code == DONE {
+            self.asked = asked;
+            other.asked = again;
+            self.own = true;
+        } else if code == OTHERWISE {
+            other.asked = again;
+        }
+        code
+    }
+
+    /// Forgets the key: done where that closed a call, otherwise none was open.
+    pub fn forget(&mut self, key: &[u8], tries: u32) -> u32
+        ensures kept { KeepsKey self.old self.new × KeepsLetter self.old self.new
+            × (self.new.own ≡ self.old.own) }
+        ensures row { HasForgotKey self.old key.now tries self.new result }
+        ensures open { result ≢ NOT_OPEN }
+    {
+        if tries < 1 || tries > MOST_TRIES {
+            return BAD_NUMBER;
+        }
+        if !self.part.is_free() {
+            return WRONG_STATE;
+        }
+        let place = self.places.of(key);
+        self.part.forgets(&self.group, place, tries)
+    }
+
+    /// Settles the call that its caller leads.
+    pub fn finish(&mut self, value: u64, joiners: &mut u32) -> u32
+        ensures kept { KeepsGroup self.old self.new × (self.new.own ≡ self.old.own) }
+        ensures own { MarksOwn result self.old.own self.old.last_own self.new.last_own }
+        ensures asked { HasGivenKey result self.old.asked self.new.asked }
+        ensures row { HasFinishedPart self.old.part value self.old.asked self.new.part result
+            joiners.old joiners.new self.old.last self.new.last }
+        ensures open { result ≢ NOT_OPEN }
+    {
+        let code = self.part.finishes(&self.group, value, &mut self.asked, joiners, &mut self.last);
+        if code == DONE {
+            self.last_own = self.own;
+        }
+        code
+    }
+
+    /// Goes on with the delivery of a settled call.
+    pub fn go_on(&mut self, joiners: &mut u32) -> u32
+        ensures kept { KeepsKey self.old self.new × (self.new.own ≡ self.old.own) }
+        ensures own { MarksOwn result self.old.own self.old.last_own self.new.last_own }
+        ensures row { HasGoneOnPart self.old.part self.new.part result joiners.old joiners.new
+            self.old.last self.new.last }
+        ensures open { result ≢ NOT_OPEN }
+    {
+        let part = replace(&mut self.part, Part::Gone);
+        let (part, code) = part.gone_on(&self.group, joiners, &mut self.last);
+        self.part = part;
+        if code == DONE {
+            self.last_own = self.own;
+        }
+        code
+    }
+
+    /// Looks for the letter that its caller waits for, and whether it is of the key that it asked for.
+    pub fn poll(&mut self, value: &mut u64, joiners: &mut u32) -> u32
+        ensures kept { KeepsKey self.old self.new × (self.new.own ≡ self.old.own) }
+        ensures own { MarksOwn result false self.old.last_own self.new.last_own }
+        ensures row { HasPolledPart self.old.part self.old.asked self.new.part result value.old
+            value.new joiners.old joiners.new self.old.last self.new.last }
+        ensures open { result ≢ NOT_OPEN }
+    {
+        let code = self
+            .part
+            .polls(&self.group, &self.asked, value, joiners, &mut self.last);
+        if code == DONE {
+            self.last_own = false;
+        }
+        code
+    }
+
+    /// Whether the call of the letter it had last is its key's current one.
+    pub fn is_current(&mut self) -> u32
+        ensures kept { KeepsKey self.old self.new × (self.new.own ≡ self.old.own)
+            × (self.new.last_own ≡ self.old.last_own) }
+        ensures row { HasQuestionedPart self.old.part self.old.last self.new.part self.new.last
+            result }
+        ensures open { result ≢ NOT_OPEN }
+    {
+        self.part.questions(&self.group, &mut self.last)
+    }
+
+    /// Gives up what its caller has open.
+    pub fn give_up(&mut self) -> u32
+        ensures kept { KeepsKey self.old self.new × KeepsLetter self.old self.new
+            × (self.new.own ≡ self.old.own) }
+        ensures row { HasGivenUp self.old.part self.new.part result }
+        ensures open { result ≢ NOT_OPEN }
+    {
+        let (part, code) = replace(&mut self.part, Part::Gone).given_up();
+        self.part = part;
+        code
+    }
+
+    /// How many others have the value of the letter that it had last: as many as joined the call, and who holds its own
+    /// channel, where this caller led it.
+    pub fn joined(&self, count: &mut u64) -> u32
+        ensures row { HasCounted self.now.last self.now.last_own result count.old count.new }
+        ensures open { result ≢ NOT_OPEN }
+    {
+        let Some(letter) = &self.last else {
+            return NOTHING_LEFT;
+        };
+        *count = u64::from(letter.joiners()) + u64::from(self.last_own);
+        DONE
+    }
+
+    /// Which call its caller leads or waits for; or where that is free, the call of the letter it had last.
+    pub fn call(&self, caller: &mut u32, generation: &mut u32) -> u32
+        ensures row { HasCalled (call_in self.now.part self.now.last) result caller.old caller.new
+            generation.old generation.new }
+        ensures open { result ≢ NOT_OPEN }
+    {
+        let Some(call) = self.part.call(&self.last) else {
+            return NOTHING_LEFT;
+        };
+        *caller = call.caller;
+        *generation = call.generation;
+        DONE
+    }
+
+    /// The number of its caller, which is free.
+    pub fn number(&self, number: &mut u32) -> u32
+        ensures row { HasNumbered self.now.part result number.old number.new }
+        ensures open { result ≢ NOT_OPEN }
+    {
+        self.part.number(number)
+    }
+
+    /// A note that shows what its caller has seen; or the code of its refusal.
+    pub fn tell(&mut self) -> Result<NoteState, u32>
+        ensures same { self.new ≡ self.old }
+        ensures told { IfOk result (HasToldNote self.old) }
+        ensures refused { IfErr result (λ code. HasNotTold self.old code) }
+    {
+        let Some(note) = self.part.tells(&self.group) else {
+            return Err(WRONG_STATE);
+        };
+        let Ok(group) = Arc::try_clone(&self.group) else {
+            return Err(NOTHING_LEFT);
+        };
+        Ok(NoteState::new(group, self.places, note))
+    }
+
+    /// Its caller has then seen what the note shows, but not where that is of another group.
+    pub fn learn(&mut self, told: &mut NoteState) -> u32
+        requires { ArePlacesOfOne self.old.places told.old.places → self.old.group ≡ told.old.note.group }
+        ensures kept { KeepsKey self.old self.new × KeepsLetter self.old self.new
+            × (self.new.own ≡ self.old.own) }
+        ensures note { HasGrown told.old.note told.new.note × (told.new.places ≡ told.old.places) }
+        ensures row { HasLearntNote self.old told.old self.new.part result }
+        ensures open { result ≢ NOT_OPEN }
+    {
+        if !are_same(self.places, told.places) {
+            return WRONG_STATE;
+        }
+        self.part.learns(&self.group, &mut told.note)
+    }
+}

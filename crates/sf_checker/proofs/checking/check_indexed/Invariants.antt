@@ -1,7 +1,0 @@
-use Rattle.std.proofs.Common.{take}
-use Rattle.sf_checker.specs.IndexMaps.{noted_in}
-use Rattle.sf_checker.proofs.Noting.{Notes}
-use Rattle.sf_checker.proofs.checking.check_indexed.Given as goal
-
-abbrev pub invariant-loop-i : goal.invariant-loop-i
-invariant-loop-i g l = Notes g.K.PartialEq.eq (take l.i l.events) (noted_in g.K.Ord.cmp l.index)

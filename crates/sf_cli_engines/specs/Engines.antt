@@ -1,0 +1,64 @@
+-- the engines: their names, what each shows, and what each writes
+use Rattle.std.specs.Prelude.{◌≡◌, ◌++◌, ℕ, true, false, List, codes}
+use Rattle.std.specs.Str.Lines.{lines}
+use Rattle.sf_model.specs.declared.refusal.ScriptRefusal.{ScriptRefusal}
+use Rattle.sf_model.specs.RefusalText.{refusal_text}
+use Rattle.sf_model.specs.ScriptText.{IsReplyText, IsDue}
+use Rattle.sf_steps_text.specs.declared.refusal.ScheduleRefusal.{ScheduleRefusal}
+use Rattle.sf_steps_text.specs.Played.{IsRefusalOf}
+use Rattle.sf_steps_text.specs.TraceText as trace_texts
+use Rattle.sf_cli_engines.specs.declared.checking.Checked.{Checked}
+use Rattle.sf_cli_engines.specs.Checking.{IsCheckOf, checked_text, ending_of}
+use Rattle.sf_cli_engines.specs.Playing.{IsTraceText, HasPicture}
+use Rattle.sf_cli_engines.specs.Recording.{IsScriptRecords, IsScheduleRecords}
+use Rattle.sf_cli_engines.specs.declared.ending.Ending.{Ending}
+use Rattle.sf_cli_engines.specs.declared.ending.Ending.TheVariants.{Answered, Illegal, Refused}
+use Rattle.sf_cli_engines.specs.declared.engine.Engine.{Engine}
+use Rattle.sf_cli_engines.specs.declared.engine.Engine.TheVariants.{Run, Steps, Check}
+use Rattle.sf_cli_engines.specs.declared.engine.Shown.{Shown}
+use Rattle.sf_cli_engines.specs.declared.engine.Shown.TheVariants.{Lines, History, Picture}
+
+-- the name of its subcommand
+abbrev pub name_of : Engine → List ℕ
+name_of (Run history) = codes "run"
+name_of (Steps shown) = codes "steps"
+name_of Check = codes "check"
+
+abbrev pub shown_by : Engine → Shown
+shown_by (Run false) = Lines
+shown_by (Run true) = History
+shown_by (Steps shown) = shown
+shown_by Check = Lines
+
+-- what is written of a script when it is refused: the one line that says why
+abbrev pub IsScriptRefused : List ℕ → List ℕ → Type 0
+IsScriptRefused input text = (refusal : ScriptRefusal) × IsDue input refusal × (text ≡ refusal_text refusal ++ codes "\n")
+
+-- the same of a schedule
+abbrev pub IsScheduleRefused : List ℕ → List ℕ → Type 0
+IsScheduleRefused input text = (refusal : ScheduleRefusal) × IsRefusalOf (lines input) refusal
+    × (text ≡ trace_texts.refusal_text refusal ++ codes "\n")
+
+-- what is written of an input that is answered by such a text or refused by such a line, and never illegal
+abbrev pub IsWrittenAs : (List ℕ → Type 0) → (List ℕ → Type 0) → Ending → List ℕ → Type 0
+IsWrittenAs IsText IsRefusal Answered text = IsText text
+IsWrittenAs IsText IsRefusal Illegal text = ⊥
+IsWrittenAs IsText IsRefusal Refused text = IsRefusal text
+
+-- what `sfctl check` writes of an input when it ends so
+abbrev pub IsWrittenByCheck : List ℕ → Ending → List ℕ → Type 0
+IsWrittenByCheck input ending text = (checked : Checked) × IsCheckOf input checked
+    × (ending ≡ ending_of checked) × (text ≡ checked_text checked ++ codes "\n")
+
+-- the same of an engine
+abbrev pub IsWrittenBy : Engine → List ℕ → Ending → List ℕ → Type 0
+IsWrittenBy (Run false) input = IsWrittenAs (IsReplyText input) (IsScriptRefused input)
+IsWrittenBy (Run true) input = IsWrittenAs (IsScriptRecords input) (IsScriptRefused input)
+IsWrittenBy (Steps Lines) input = IsWrittenAs (IsTraceText input) (IsScheduleRefused input)
+IsWrittenBy (Steps History) input = IsWrittenAs (IsScheduleRecords input) (IsScheduleRefused input)
+IsWrittenBy (Steps Picture) input = IsWrittenAs (λ text. HasPicture input) (IsScheduleRefused input)
+IsWrittenBy Check input = IsWrittenByCheck input
+
+-- what an engine writes of an input, however it ends
+abbrev pub IsAnswerOf : Engine → List ℕ → List ℕ → Type 0
+IsAnswerOf engine input text = (ending : Ending) × IsWrittenBy engine input ending text

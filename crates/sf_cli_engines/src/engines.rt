@@ -1,0 +1,81 @@
+//! What the engines of the subcommands write for an input.
+
+ghost use Rattle.std.specs.Prelude.{◌≡◌, ◌++◌, List, ℕ, IfOk, IfErr, IfSome, codes, false};
+ghost use Rattle.std.specs.Prelude.{string_bytes};
+ghost use Rattle.std.specs.Io.KnownBytes.{Appends};
+ghost use Rattle.sf_text.specs.StreamText.{AppendsPart};
+ghost use Rattle.sf_cli_engines.specs.Engines.{IsWrittenBy, IsAnswerOf};
+
+use crate::checking::{ending, judge};
+use crate::ending::Ending;
+use crate::engine::Engine;
+use sf_model::run_script;
+use sf_text::{StreamFault, write_all, write_line};
+use std::alloc::Global;
+use std::fmt::Display;
+use std::io::Write;
+
+/// `sfctl run`: writes the lines that are replied to a script, or the one line of its refusal.
+pub(crate) fn run<W: Write>(
+    alloc: Global,
+    input: &[u8],
+    writer: &mut W,
+) -> Result<Ending, StreamFault>
+    ensures written { IfOk result (λ ending.
+        (text : List ℕ) × IsWrittenBy (Engine.Run false) input.now ending text
+        × Appends (W.contents writer.old) (W.contents writer.new) text) }
+    ensures err { IfErr result (λ fault. fault ≡ StreamFault.CannotWrite) }
+    ensures part { (text : List ℕ) × IsAnswerOf (Engine.Run false) input.now text
+        × AppendsPart (W.contents writer.old) (W.contents writer.new) text }
+{
+    match run_script(alloc, input, writer)? {
+        Ok(()) => Ok(Ending::Answered),
+        Err(_) => Ok(Ending::Refused),
+    }
+}
+
+/// Writes the text that answers an input, or the one line of its refusal.
+pub(crate) fn write_answer<W: Write, E: Display + Drop>(
+    writer: &mut W,
+    answered: Result<String, E>,
+) -> Result<Ending, StreamFault>
+    ensures answered { IfOk answered (λ text. IfOk result (λ ending. (ending ≡ Ending.Answered)
+        × Appends (W.contents writer.old) (W.contents writer.new) (string_bytes text))) }
+    ensures refused { IfErr answered (λ refusal.
+        IfSome (E.output refusal) (λ said. IfOk result (λ ending. (ending ≡ Ending.Refused)
+        × Appends (W.contents writer.old) (W.contents writer.new) (said ++ codes "\n")))) }
+    ensures err { IfErr result (λ fault. fault ≡ StreamFault.CannotWrite) }
+    ensures answered_part { IfOk answered (λ text.
+        AppendsPart (W.contents writer.old) (W.contents writer.new) (string_bytes text)) }
+    ensures refused_part { IfErr answered (λ refusal. IfSome (E.output refusal) (λ said.
+        AppendsPart (W.contents writer.old) (W.contents writer.new) (said ++ codes "\n"))) }
+{
+    match answered {
+        Ok(text) => {
+            write_all(writer, text.as_str())?;
+            Ok(Ending::Answered)
+        }
+        Err(refusal) => {
+            write_line(writer, refusal)?;
+            Ok(Ending::Refused)
+        }
+    }
+}
+
+/// `sfctl check`: writes the one line that says whether the history of records is legal.
+pub(crate) fn check<W: Write>(
+    alloc: Global,
+    input: &[u8],
+    writer: &mut W,
+) -> Result<Ending, StreamFault>
+    ensures written { IfOk result (λ ending.
+        (text : List ℕ) × IsWrittenBy Engine.Check input.now ending text
+        × Appends (W.contents writer.old) (W.contents writer.new) text) }
+    ensures err { IfErr result (λ fault. fault ≡ StreamFault.CannotWrite) }
+    ensures part { (text : List ℕ) × IsAnswerOf Engine.Check input.now text
+        × AppendsPart (W.contents writer.old) (W.contents writer.new) text }
+{
+    let checked = judge(alloc, input);
+    write_line(writer, checked)?;
+    Ok(ending(checked))
+}

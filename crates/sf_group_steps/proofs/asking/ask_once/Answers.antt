@@ -1,0 +1,20 @@
+use Rattle.std.proofs.Common.{None}
+use Rattle.sf_steps_laws.specs.declared.operation.Stage.TheVariants.{Asking}
+use Rattle.sf_steps_laws.specs.Askings.{looked}
+use Rattle.sf_group_steps.proofs.Trying.{attempted_after, led_now}
+use Rattle.sf_group_steps.proofs.asking.ask_once.Goals as goal
+
+pub returns-in-Never-clause-attempted : goal.returns-in-Never-clause-attempted
+returns-in-Never-clause-attempted g c =
+    led_now c.args.actor.sizes c.args.actor.number c.args.generation c.args.actor.place c.args.last c.look-seen.result c.args.seat.now.me.0 c.look-seen.new.seat.me.0 c.lead_on.new.seat.me.0 (Asking c.args.actor.place None (looked None c.look-seen.result)) c.lead_on.result
+    c.look-seen.ensures.told.goes c.look-seen.ensures.shown c.lead_on.ensures.led
+
+pub returns-in-Names-default-default-true-clause-attempted : goal.returns-in-Names-default-default-true-clause-attempted
+returns-in-Names-default-default-true-clause-attempted g c =
+    led_now c.args.actor.sizes c.args.actor.number c.args.generation c.args.actor.place c.args.last c.look-seen.result c.args.seat.now.me.0 c.look-seen.new.seat.me.0 c.lead_on-in-Names-default-default-true.new.seat.me.0 (Asking c.args.actor.place None (looked None c.look-seen.result)) c.lead_on-in-Names-default-default-true.result
+    c.look-seen.ensures.told.goes c.look-seen.ensures.shown c.lead_on-in-Names-default-default-true.ensures.led
+
+pub returns-in-Names-default-default-false-clause-attempted : goal.returns-in-Names-default-default-false-clause-attempted
+returns-in-Names-default-default-false-clause-attempted g c =
+    attempted_after c.args.actor.sizes c.args.actor.number c.args.generation c.args.actor.place c.args.last c.args.seat.now.me.0 c.look-seen.new.seat.me.0 c.follow_on.new.seat.me.0 (Asking c.args.actor.place None (looked None c.look-seen.result)) c.follow_on.result
+    c.look-seen.ensures.told.goes c.follow_on.ensures.attempted

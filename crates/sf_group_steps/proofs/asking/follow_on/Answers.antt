@@ -1,0 +1,25 @@
+use Rattle.std.proofs.Common.{◌≡◌, ◌∙◌, sym, None}
+use Rattle.sf_words.specs.declared.call_word.CallState.TheVariants.{Open}
+use Rattle.sf_steps_laws.specs.World.{open_in, is_forgot_in}
+use Rattle.sf_steps_laws.specs.declared.operation.Stage.TheVariants.{Asking}
+use Rattle.sf_steps_laws.specs.Askings.{peeked}
+use Rattle.sf_steps_laws.proofs.Compared.{open_in_is}
+use Rattle.sf_group_steps.proofs.Trying.{led_later, joined_later}
+use Rattle.sf_group_steps.proofs.asking.follow_on.Goals as goal
+
+pub returns-in-Some-clause-attempted : goal.returns-in-Some-clause-attempted
+returns-in-Some-clause-attempted g c =
+    let called = c.args.called in
+    let x = c.peek-word.result in
+    let open_is : x ≡ Open c.in-Some.leader = (open_in_is called.generation x c.in-Some.leader (sym c.opened.ensures ∙ c.in-Some.is)).0 in
+    joined_later c.args.actor.sizes c.args.actor.number c.args.generation c.args.actor.place called c.args.last (Open c.in-Some.leader) c.args.seat.now.me.0 c.peek-word.new.seat.me.0 c.join_on.new.seat.me.0
+    (Asking c.args.actor.place None (peeked None called (is_forgot_in called.generation x) (open_in called.generation x))) c.join_on.result
+    c.peek-word.ensures.told.goes (c.peek-word.ensures.shown ∙ open_is) c.join_on.ensures.joined
+
+pub returns-in-None-clause-attempted : goal.returns-in-None-clause-attempted
+returns-in-None-clause-attempted g c =
+    let called = c.args.called in
+    let x = c.peek-word.result in
+    led_later c.args.actor.sizes c.args.actor.number c.args.generation c.args.actor.place c.args.last c.args.seen c.args.seat.now.me.0 c.peek-word.new.seat.me.0 c.lead_on.new.seat.me.0
+    (Asking c.args.actor.place None (peeked None called (is_forgot_in called.generation x) (open_in called.generation x))) c.lead_on.result
+    c.requires.shown c.peek-word.ensures.told c.lead_on.ensures.led

@@ -1,0 +1,31 @@
+use Rattle.std.proofs.Common.{ℕ, Option, subst, [], ◌∷◌}
+use Rattle.sf_steps_laws.specs.declared.turn.Turn.TheVariants.{Step}
+use Rattle.sf_group_rows.specs.declared.sizes.Sizes.{Sizes}
+use Rattle.sf_group_steps.specs.Words.{next}
+use Rattle.sf_group_steps.specs.Plays.{Moves}
+use Rattle.sf_group_steps.proofs.HandSteps.{follow_move, follow_told, follow_lists}
+use Rattle.sf_group_steps.proofs.delivering.follow.Goals as goal
+
+pub load_turns-found-requires-clause-moves : goal.load_turns-found-requires-clause-moves
+load_turns-found-requires-clause-moves g c =
+    let v = c.args.seat.now.me.0 in
+    let r = c.args.actor in
+    let d = c.args.delivery in
+    subst (λ (z : Sizes). Moves z v (next c.args.member) (λ n. n) (λ _. Step r.number ∷ [])) c.requires.sizes
+    (follow_move r.sizes r.number r.place d.generation c.args.member d.own c.args.value.now d.joiners v c.requires.settles)
+
+pub returns-clause-told : goal.returns-clause-told
+returns-clause-told g c =
+    let v = c.args.seat.now.me.0 in
+    let r = c.args.actor in
+    let d = c.args.delivery in
+    follow_told r.sizes r.number r.place d.generation c.args.member c.load_turns-found.result d.own c.args.value.now d.joiners c.next.result v c.load_turns-found.new.seat.me.0 c.requires.settles
+    (c.load_turns-found.ensures.told.0 r.sizes c.requires.settles.sizes) (λ (y : Option ℕ) lawful code. let one = c.unpack_next.ensures.inverse y lawful.0 code in let is = c.in-Some.is in let same = c.next.ensures.same in cc)
+
+pub returns-clause-lists : goal.returns-clause-lists
+returns-clause-lists g c =
+    let v = c.args.seat.now.me.0 in
+    let r = c.args.actor in
+    let d = c.args.delivery in
+    follow_lists r.sizes r.number r.place d.generation c.args.member c.load_turns-found.result d.own c.args.value.now d.joiners v c.load_turns-found.new.seat.me.0 c.requires.settles
+    (c.load_turns-found.ensures.told.0 r.sizes c.requires.settles.sizes)

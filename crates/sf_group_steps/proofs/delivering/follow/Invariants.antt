@@ -1,0 +1,7 @@
+use Rattle.std.proofs.Common.{[], ◌∷◌}
+use Rattle.sf_steps_laws.specs.declared.turn.Turn.TheVariants.{Step}
+use Rattle.sf_group_steps.specs.Words.{next}
+use Rattle.sf_group_steps.proofs.delivering.follow.Given as goal
+
+abbrev pub ghosts-load_turns : goal.ghosts-load_turns
+ghosts-load_turns g a = record { word = next a.about.now; turns = λ _. Step a.by ∷ [] }

@@ -1,0 +1,18 @@
+use Rattle.std.proofs.Common.{ℕ, ◌<◌, sym, subst}
+use Rattle.atomic_table.specs.Table.{Allows}
+use Rattle.sf_group_steps.specs.Words.{words_in}
+use Rattle.sf_group_steps.specs.Shows.{Holds}
+use Rattle.sf_group_steps.specs.Plays.{ToldStored}
+use Rattle.sf_group_steps.proofs.Keeps.{word_room, store_allows}
+use Rattle.sf_group_steps.proofs.steps.store_turns.Goals as goal
+
+pub store-requires : goal.store-requires
+store-requires g c =
+    let z = c.args.words.now.key in
+    let x = g.J.Plan.word in
+    let me = c.args.seat.now.me in (
+      c.requires.own.0,
+      subst (λ (n : ℕ). c.args.word < n) (sym c.requires.own.1) (subst (λ (n : ℕ). n < words_in z) (sym c.requires.word.1) (word_room z x c.requires.word.0)),
+      subst (λ (i : ℕ). Allows (Holds g.V.Fit.fits z) c.args.words.now.table_id.slots c.args.seat.now.id me i (λ _. c.args.new) (λ n w. ToldStored (g.J.Plan.turns c.args.new) me w)) (sym c.requires.word.1)
+          (store_allows g.V.Fit.fits g.V.Fit.lasts z c.args.words.now.table_id.slots c.args.seat.now.id me x c.args.new (g.J.Plan.turns c.args.new) c.requires.own.2 c.requires.word.0 c.requires.moves),
+    )

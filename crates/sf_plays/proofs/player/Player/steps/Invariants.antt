@@ -1,9 +1,0 @@
-use Rattle.std.proofs.Common.{List, ◌++◌, replicate}
-use Rattle.sf_schedules.specs.declared.turn.Turn.{Turn}
-use Rattle.sf_schedules.specs.declared.turn.Turn.TheVariants as turn
-use Rattle.sf_plays.specs.PlayerState.{IsAfter}
-use Rattle.sf_plays.specs.TraceText.{Outcome}
-use Rattle.sf_plays.proofs.player.Player.steps.Given as goal
-
-abbrev pub invariant-loop-i : goal.invariant-loop-i
-invariant-loop-i l = (ts : List (Turn Outcome)) → IsAfter l.fn.self ts → IsAfter l.self (ts ++ replicate l._i (turn.Step l.caller))

@@ -1,6 +1,0 @@
-use Rattle.std.proofs.Common.{◌≡◌, ◌++◌, drop, string_bytes}
-use Rattle.sf_plays.specs.TraceText.{events_text}
-use Rattle.sf_plays.proofs.printing.events.Given as goal
-
-abbrev pub invariant-loop-one : goal.invariant-loop-one
-invariant-loop-one l = string_bytes l.lines ++ events_text (drop l.one-index l.added) ≡ events_text l.added

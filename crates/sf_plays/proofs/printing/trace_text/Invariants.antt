@@ -1,6 +1,0 @@
-use Rattle.std.proofs.Common.{◌≡◌, ◌++◌, drop, string_bytes}
-use Rattle.sf_plays.specs.TraceText as texts
-use Rattle.sf_plays.proofs.printing.trace_text.Given as goal
-
-abbrev pub invariant-loop-step : goal.invariant-loop-step
-invariant-loop-step l = string_bytes l.lines ++ texts.trace_text (drop l.step-index l.steps) ≡ texts.trace_text l.steps

@@ -1,5 +1,0 @@
-use Rattle.sf_schedules.proofs.RightAnswers.{schedules_are_legal}
-use Rattle.sf_schedules.proofs.laws.schedules_are_legal.Goals as goal
-
-pub returns : goal.returns
-returns g c z s is = schedules_are_legal z s is

@@ -1,5 +1,0 @@
-use Rattle.sf_schedules.proofs.Tickets.{tickets_are_served}
-use Rattle.sf_schedules.proofs.laws.tickets_are_served.Goals as goal
-
-pub returns : goal.returns
-returns g c z s is a k n d held = tickets_are_served z s is a k n d held

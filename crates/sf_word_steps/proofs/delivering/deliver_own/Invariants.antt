@@ -1,8 +1,0 @@
-use Rattle.std.proofs.Common.{[], ◌∷◌}
-use Rattle.sf_schedules.specs.declared.turn.Turn.TheVariants.{Step}
-use Rattle.sf_word_steps.specs.Words.{call}
-use Rattle.sf_word_steps.specs.Cells.{give_one}
-use Rattle.sf_word_steps.proofs.delivering.deliver_own.Given as goal
-
-abbrev pub ghosts-store_cell : goal.ghosts-store_cell
-ghosts-store_cell g a = record { word = call a.about.now.caller; turns = λ _. Step a.by ∷ []; handle = λ _. give_one a.about.now.caller }

@@ -1,8 +1,0 @@
-use Rattle.std.proofs.Common.{[], ◌∷◌}
-use Rattle.sf_schedules.specs.declared.turn.Turn.TheVariants.{Step}
-use Rattle.sf_word_steps.specs.Words.{call}
-use Rattle.sf_word_steps.specs.Cells.{take_one}
-use Rattle.sf_word_steps.proofs.delivering.peek_own.Given as goal
-
-abbrev pub ghosts-load_cell : goal.ghosts-load_cell
-ghosts-load_cell g a = record { word = call a.about.now; turns = λ _. Step a.by ∷ []; handle = λ _. take_one a.about.now }

@@ -1,6 +1,0 @@
-use Rattle.sf_word_steps.specs.Words.{key}
-use Rattle.sf_word_steps.proofs.LeadSteps.{lead_turns}
-use Rattle.sf_word_steps.proofs.forgetting.first_clear.Given as goal
-
-abbrev pub ghosts-exchange_turns : goal.ghosts-exchange_turns
-ghosts-exchange_turns g a = record { word = key a.about.now.0; turns = lead_turns a.old a.by a.about.now.1 }

@@ -1,7 +1,0 @@
-use Rattle.std.proofs.Common.{[], ◌∷◌}
-use Rattle.sf_schedules.specs.declared.turn.Turn.TheVariants.{Step}
-use Rattle.sf_word_steps.specs.Words.{next}
-use Rattle.sf_word_steps.proofs.joining.link.Given as goal
-
-abbrev pub ghosts-store_turns : goal.ghosts-store_turns
-ghosts-store_turns g a = record { word = next a.by; turns = λ _. Step a.by ∷ [] }

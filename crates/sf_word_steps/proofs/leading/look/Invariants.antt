@@ -1,6 +1,0 @@
-use Rattle.sf_word_steps.specs.Words.{key}
-use Rattle.sf_word_steps.specs.Stands.{stage_in, look_turns}
-use Rattle.sf_word_steps.proofs.leading.look.Given as goal
-
-abbrev pub ghosts-load_turns : goal.ghosts-load_turns
-ghosts-load_turns g a = record { word = key a.about.now; turns = λ _. look_turns (stage_in a.seat.now.me.0 a.by) a.by a.about.now }

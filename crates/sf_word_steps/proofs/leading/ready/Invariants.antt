@@ -1,7 +1,0 @@
-use Rattle.std.proofs.Common.{[], ◌∷◌}
-use Rattle.sf_schedules.specs.declared.turn.Turn.TheVariants.{Step}
-use Rattle.sf_word_steps.specs.Words.{call}
-use Rattle.sf_word_steps.proofs.leading.ready.Given as goal
-
-abbrev pub ghosts-store_turns : goal.ghosts-store_turns
-ghosts-store_turns g a = record { word = call a.by; turns = λ _. Step a.by ∷ [] }
