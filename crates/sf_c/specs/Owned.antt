@@ -10,7 +10,7 @@ use Rattle.std_heap.specs.contracts.GlobalAllocator.TheImpl.{ghosts}
 use Rattle.std.specs.Prelude.{None}
 use Rattle.std.proofs.Math.Bridge.{le_by_compare}
 use Rattle.atomic_table.specs.Seated.{TableId}
-use Rattle.sf_keys.specs.declared.places.Places.{Places}
+use Rattle.sf_keys_places.specs.declared.places.Places.{Places}
 use Rattle.sf_c_slots.specs.declared.part.Part.TheVariants.{Gone}
 use Rattle.sf_c_slots.specs.contracts.state.State.{the_row}
 use Rattle.sf_c_slots.specs.contracts.note_state.NoteState as NoteState

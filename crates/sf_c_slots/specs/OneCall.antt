@@ -8,7 +8,7 @@ use Rattle.sf_group_rows.specs.Forgets.{HasForgotCall, HasNamed}
 use Rattle.sf_c_slots.specs.declared.part.Part.{Part}
 use Rattle.sf_c_slots.specs.declared.part.Part.TheVariants.{Free, Leads, Waits, Owes, Gone}
 use Rattle.sf_c_slots.specs.declared.codes.TheConstants.{DONE, OTHERWISE, CLEARED, WRONG_STATE}
-use Rattle.sf_keys.specs.Places.{place_of}
+use Rattle.sf_keys_places.specs.Places.{place_of}
 use Rattle.sf_c_slots.specs.Keys.{WordValue}
 use Rattle.sf_group.specs.Calls.{HasTriedAtMost}
 use Rattle.sf_c_slots.specs.Rows.{Seat, IsOther, IsForgetBusy, IsFree, IsNotFree, AreTries, HasNotCalled}

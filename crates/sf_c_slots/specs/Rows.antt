@@ -13,8 +13,8 @@ use Rattle.sf_group_rows.specs.declared.outcomes.NotBegun.TheVariants.{Busy}
 use Rattle.sf_group.specs.Calls.{HasTriedAtMost, HasNotBegun, HasNotBegunChan, HasNotForgotten}
 use Rattle.sf_group.specs.declared.group.TheConstants.{MOST_TRIES}
 use Rattle.sf_history.specs.declared.call.CallId.{CallId}
-use Rattle.sf_keys.specs.declared.places.Places.{Places}
-use Rattle.sf_keys.specs.Places.{place_of}
+use Rattle.sf_keys_places.specs.declared.places.Places.{Places}
+use Rattle.sf_keys_places.specs.Places.{place_of}
 use Rattle.sf_c_slots.specs.declared.key.TheConstants.{SHORT}
 use Rattle.sf_c_slots.specs.Keys.{WordValue, word}
 use Rattle.sf_c_slots.specs.declared.part.Part.{Part}

@@ -3,7 +3,7 @@ ghost use Rattle.std.specs.Prelude.{◌≡◌};
 
 use crate::word::Word;
 use sf_group::{Group, Note};
-use sf_keys::Places;
+use sf_keys_places::Places;
 use std::marker::Model;
 use std::sync::Arc;
 

@@ -14,7 +14,7 @@ use sf_group::{
     Note, Polled, Settled, Ticket,
 };
 use sf_history::CallId;
-use sf_keys::OfKey;
+use sf_keys_places::OfKey;
 use std::mem::replace;
 
 /// What a slot's caller does. `Gone` is one that gave up what it had open.

@@ -10,7 +10,7 @@ use crate::note_state::NoteState;
 use crate::part::Part;
 use crate::word::Word;
 use sf_group::{Caller, Group, Letter, MOST_CALLERS, MOST_PLACES, MOST_TRIES, Memory};
-use sf_keys::Places;
+use sf_keys_places::Places;
 use std::alloc::Global;
 use std::marker::Model;
 use std::mem::replace;

@@ -5,7 +5,7 @@ ghost use Rattle.sf_c_slots.specs.Keys.{word};
 
 use crate::key::Key;
 use sf_group::{Fit, Memory, Share};
-use sf_keys::OfKey;
+use sf_keys_places::OfKey;
 use std::marker::Model;
 
 /// A number that a call of a key is settled with. Each member of the call gets the same.

@@ -1,7 +1,7 @@
 -- where keys have their places, as contracts see it
 use Rattle.std.proofs.Common.{◌≡◌, ℕ, ◌⊎◌, inl, inr, List, All, map}
 use Rattle.sf_dir.specs.Known.{DirectoryId, DeskState}
-use Rattle.sf_keys.specs.declared.places.Places.{Places}
+use Rattle.sf_keys_places.specs.declared.places.Places.{Places}
 use Rattle.sf_fill_keys.specs.declared.key_space.KeyDesk.{KeyDesk}
 use Rattle.sf_fill_keys.specs.declared.key_space.KeyDesk.TheVariants as desk
 use Rattle.sf_fill_keys.specs.declared.key_space.KeySpace.{KeySpace}

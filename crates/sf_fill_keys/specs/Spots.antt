@@ -1,7 +1,7 @@
 -- keys with their places, as contracts see them
 use Rattle.std.proofs.Common.{◌≡◌, ◌≢◌, ℕ, inl, inr, List}
 use Rattle.sf_dir.specs.declared.refusal.Refusal.{Refusal}
-use Rattle.sf_keys.specs.Places.{place_of}
+use Rattle.sf_keys_places.specs.Places.{place_of}
 use Rattle.sf_fill_keys.specs.declared.key_place.KeyPlace.{KeyPlace}
 use Rattle.sf_fill_keys.specs.declared.key_place.KeyPlace.TheVariants as at
 use Rattle.sf_fill_keys.specs.declared.key_space.KeyDesk.{KeyDesk}

@@ -6,7 +6,7 @@ ghost use Rattle.sf_fill_keys.specs.Spots.{IsInSpace, IsSpotOfKey, IsRefusedSpot
 
 use crate::key_place::KeyPlace;
 use sf_dir::{Desk, Directory, Refusal};
-use sf_keys::Places;
+use sf_keys_places::Places;
 use sf_words::{LARGEST_PLACE, PlaceNo};
 
 /// Where keys have their places.

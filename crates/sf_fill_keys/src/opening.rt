@@ -5,7 +5,7 @@ ghost use Rattle.sf_fill_keys.specs.Spaces.{AreDesksOf, by_directory};
 
 use crate::key_space::KeyDesk;
 use sf_dir::{Desk, Directory, LONGEST_KEY, MOST_DESKS, MOST_KEYS, Memory};
-use sf_keys::Places;
+use sf_keys_places::Places;
 use std::alloc::Global;
 
 // The directory's desks, in their order.

@@ -13,6 +13,6 @@ mod team;
 pub use body::Body;
 pub use door::with_fill;
 pub use sf_fill::Sizes;
-pub use sf_keys::Places;
+pub use sf_keys_places::Places;
 pub use sizes::{DirectoryKeys, FillSizes, Keys};
 pub use team::{Team, with_team};

@@ -3,7 +3,7 @@ ghost use Rattle.std.specs.Prelude.{◌≡◌, ◌≤◌};
 ghost use Rattle.sf_words.specs.declared.limits.TheConstants.{LARGEST_PLACE, LONGEST_KEY};
 
 use sf_fill::Sizes;
-use sf_keys::Places;
+use sf_keys_places::Places;
 use sf_words::{LARGEST_PLACE, LONGEST_KEY};
 
 /// Where the keys of a fill have their places.

@@ -5,7 +5,7 @@ ghost use Rattle.sf_fill_keys.specs.Spaces.{IsDeskOf, places_in, space_of};
 
 use sf_dir::Refusal;
 use sf_fill_keys::{KeyDesk, KeySpace, Spot, hash_desks, open_directory};
-use sf_keys::Places;
+use sf_keys_places::Places;
 use std::process::Abort;
 use std::test::Fail;
 
