@@ -10,9 +10,9 @@ use crate::group::Group;
 use crate::tokens::{Caller, Flight, Leader, Letter, MaybeNumber, Note, Settled};
 use sf_group_rows::{Finished, Fit};
 use sf_group_steps::{
-use sf_history::CallId;
     Actor, Delivery, Tells, Unrested, Wakes, WordSeat, hand_out, settle_and_count,
 };
+use sf_history::CallId;
 
 impl<V: Fit> Group<V> {
     /// The leader settles its call with the value, for good, and hands a letter to each that joined and to the own channel:

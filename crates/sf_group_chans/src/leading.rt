@@ -17,9 +17,9 @@ ghost use Rattle.sf_group_chans.specs.Attempts.{HasLed};
 use crate::askers::Askers;
 use sf_group_rows::Fit;
 use sf_group_steps::{
-use sf_history::CallId;
     WordSeat, Words, call_index, exchange_turns, key_index, load_turns, store_turns,
 };
+use sf_history::CallId;
 use sf_words::{
     CallState, CallWord, KeyState, KeyWord, LeaderState, pack_call, pack_key, unpack_call,
     unpack_key,

@@ -6,10 +6,10 @@ ghost use Rattle.sf_group_rows.specs.Forgets.{HasForgotten, HasForgotCall};
 ghost use Rattle.sf_group_rows.specs.Finishes.{HasFinished, HasGoneOn, IsReady};
 
 use sf_group::{
-use sf_group_rows::{Fit, NotBegun, Spent};
     Begun, CallId, Caller, ChanBegun, Finished, Flight, Forgotten, Group, Hit, Letter, Polled,
     Settled, Ticket,
 };
+use sf_group_rows::{Fit, NotBegun, Spent};
 use std::sync::Wait;
 
 // How often a form tries before it begins again: more than once, since to begin again takes a tenth of a do by four threads on one
