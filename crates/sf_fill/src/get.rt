@@ -19,11 +19,11 @@ use crate::fill::Fill;
 use crate::getter::Getter;
 use bytes::Bytes;
 use sf_fill_counters::{GetCounts, NO_RUN, Naming};
-use sf_group::{Finished, Memory, Spent};
-use sf_fill_values::{FillValue, GetRefusal, LoadFault, View, of_key, show};
-use sf_loaders::{LoadPath, Origin};
 use sf_fill_keys::KeyPlace;
 use sf_fill_store::{Asked, Standing};
+use sf_fill_values::{FillValue, GetRefusal, LoadFault, View, of_key, show};
+use sf_group::{Finished, Memory, Spent};
+use sf_loaders::{LoadPath, Origin};
 use std::sync::Wait;
 
 const GET_ALONE: GetCounts = GetCounts {

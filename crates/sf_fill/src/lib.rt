@@ -30,6 +30,6 @@ pub use parts::{FillParts, RefusedParts};
 pub use put::Put;
 pub use sf_fill_caches::{CacheStats, Which};
 pub use sf_fill_counters::{Accounts, AllParts, GetCounts, Ledgers, Naming, Tallies, Totals};
-pub use sf_fill_values::{FillValue, GetRefusal, LoadFault, View};
 pub use sf_fill_store::Forgot;
+pub use sf_fill_values::{FillValue, GetRefusal, LoadFault, View};
 pub use sizes::Sizes;

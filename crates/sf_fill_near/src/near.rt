@@ -10,10 +10,10 @@ ghost use Rattle.sf_fill_near.specs.Bytes.{FindsBytes};
 use crate::view::NearView;
 use bytes::Bytes;
 use sf_fill_counters::Naming;
-use sf_group::{Caller, Group, Letter, Memory};
-use sf_fill_values::{FillValue, View};
-use sf_loaders::Origin;
 use sf_fill_keys::KeyPlace;
+use sf_fill_values::{FillValue, View};
+use sf_group::{Caller, Group, Letter, Memory};
+use sf_loaders::Origin;
 use std::alloc::Global;
 use std::mem;
 

@@ -5,8 +5,8 @@ ghost use Rattle.sf_fill_open.specs.Opened.{IsNewGetter};
 
 use crate::leaders::both;
 use bytes::{ByteStr, Bytes};
-use sf_fill_open::{Body, FillSizes, Keys, Places, with_fill};
 use sf_fill::{Fill, FillValue, Getter, Naming, Which};
+use sf_fill_open::{Body, FillSizes, Keys, Places, with_fill};
 use sf_group::{Caller, Memory};
 use sf_loaders::scripted::{Answer, FixedPicker, RoundChance, Script};
 use sf_loaders::{LoadPath, Loaders, Origin};

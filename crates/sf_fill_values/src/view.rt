@@ -12,10 +12,10 @@ use crate::fault::LoadFault;
 use crate::value::FillValue;
 use bytes::Bytes;
 use sf_fill_counters::Naming;
+use sf_fill_keys::{KeyPlace, Spot};
 use sf_group::{Caller, Group, Letter, Memory, Note};
 use sf_history::CallId;
 use sf_loaders::{LocalFault, Origin};
-use sf_fill_keys::{KeyPlace, Spot};
 use std::marker::Model;
 
 /// A letter that brings bytes, which are what the origin states of its key and its root.

@@ -9,8 +9,8 @@ ghost use Rattle.sf_group.specs.Dealing.{IsDealing};
 use crate::tokens::{Caller, Seated};
 use atomic_table::Table;
 use sf_group_rows::{Fit, MOST_CALLERS, MOST_PLACES, Sizes};
-use sf_steps_laws::Letter as Cell;
 use sf_group_steps::{Deals, Law, Resting, View, WordSeat, Words, word_count};
+use sf_steps_laws::Letter as Cell;
 use std::alloc::{AllocError, Global};
 use std::marker::Model;
 

@@ -6,8 +6,8 @@ ghost use Rattle.sf_wait.specs.Served.{HasServed, ArePaired};
 
 use crate::job::{Job, Work};
 use crate::workers::{Gate, Served, Started, start};
-use sf_group_rows::Fit;
 use sf_group::Group;
+use sf_group_rows::Fit;
 use std::alloc::Global;
 use std::marker::Model;
 use std::sync::Wait;
