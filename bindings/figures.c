@@ -23,14 +23,16 @@ static void check(bool holds) {
 static double pair(sflight_slot *slot, const uint8_t *key, size_t len) {
     double from = now();
     for (int n = 0; n < GETS; n++) {
-        uint32_t joiners = 0;
-        check(sflight_ask(slot, key, len, 16) == SFLIGHT_LEADS && sflight_finish(slot, (uint64_t)n, &joiners) == SFLIGHT_DONE);
+        sflight_stamp stamp;
+        sflight_answer answer;
+        check(sflight_ask(slot, key, len, 16, &stamp) == SFLIGHT_LED);
+        check(sflight_finish(slot, (uint64_t)n, &answer) == SFLIGHT_DONE);
     }
     return (now() - from) / GETS;
 }
 
 /* Nanoseconds of an sflight_is_still. */
-static double still(sflight_slot *slot, const uint64_t stamp[2], uint32_t answer) {
+static double still(sflight_slot *slot, const sflight_stamp *stamp, bool answer) {
     double from = now();
     for (int n = 0; n < GETS; n++) check(sflight_is_still(slot, stamp) == answer);
     return (now() - from) / GETS;
@@ -43,7 +45,9 @@ static void least(double *least, double took) {
 int main(void) {
     static const size_t lengths[] = {8, 16, 32, 64, 128, 250, 1000};
     enum { KEYS = sizeof lengths / sizeof *lengths };
-    uint64_t seeds[2], stamp[2], none[2] = {0, 0};
+    uint64_t seeds[2];
+    sflight_stamp none = {0};
+    sflight_answer answer;
     uint8_t key[1000];
     double pairs[KEYS] = {0}, yes = 0, no = 0;
     sflight_slot slot = SFLIGHT_SLOT_NONE;
@@ -52,9 +56,11 @@ int main(void) {
     check(sflight_open(&slot, 1048576, 16, seeds[0], seeds[1]) == SFLIGHT_DONE);
     for (int round = 0; round < ROUNDS; round++) {
         for (int i = 0; i < KEYS; i++) least(&pairs[i], pair(&slot, key, lengths[i]));
-        check(sflight_stamp(&slot, stamp) == SFLIGHT_DONE);
-        least(&yes, still(&slot, stamp, SFLIGHT_YES));
-        least(&no, still(&slot, none, SFLIGHT_NO));
+        sflight_stamp stamp;
+        check(sflight_ask(&slot, key, lengths[0], 16, &stamp) == SFLIGHT_LED);
+        check(sflight_finish(&slot, 0, &answer) == SFLIGHT_DONE);
+        least(&yes, still(&slot, &answer.stamp, true));
+        least(&no, still(&slot, &none, false));
     }
     for (int i = 0; i < KEYS; i++) printf("sflight_ask and sflight_finish, a key of %zu bytes: %.0f ns\n", lengths[i], pairs[i]);
     printf("sflight_is_still: %.1f ns, yes; %.1f ns, no\n", yes, no);

@@ -73,7 +73,7 @@ static void sizes(void) {
     sflight_pool *pool = sflight_do_open(NULL, NULL);
     sflight_got got;
     check(get(pool, "k", plain, (void *)(size_t)7, SFLIGHT_DO_FOREVER, &got) == SFLIGHT_DO_DONE && got.value == 7 && got.led && got.joiners == 0, "a load");
-    check(sflight_do_is_still(pool, &got.stamp) && !sflight_do_is_still(pool, &(sflight_do_stamp){0, {0, 0}}), "its stamp is current");
+    check(sflight_do_is_still(pool, &got.stamp) && !sflight_do_is_still(pool, &(sflight_do_stamp){0}), "its stamp is current");
     check(!forget(pool, "k") && !sflight_do_is_still(pool, &got.stamp), "until the key is forgotten");
     check(sflight_do(pool, NULL, 0, plain, NULL, SFLIGHT_DO_FOREVER, &got) == SFLIGHT_DO_DONE, "the empty key");
     sflight_do_stats stats = sflight_do_statistics(pool);

@@ -366,12 +366,12 @@ static void put(sflight_pool *pool, struct epoch *epoch, struct seat *seat) {
 }
 
 /* Which call the key's slot names, by the seat, or where there is none by the root. */
-static bool named(sflight_pool *pool, struct epoch *epoch, struct seat *seat, const uint8_t *key, size_t len, uint32_t *caller, uint32_t *generation) {
+static bool named(sflight_pool *pool, struct epoch *epoch, struct seat *seat, const uint8_t *key, size_t len, sflight_stamp *stamp) {
     struct name name;
     name_of(&name, pool, key, len);
-    if (seat) return sflight_named(&seat->slot, name.at, name.len, caller, generation) == SFLIGHT_DONE;
+    if (seat) return sflight_named(&seat->slot, name.at, name.len, stamp) == SFLIGHT_DONE;
     pthread_mutex_lock(&pool->lock);
-    bool found = sflight_named(&epoch->root, name.at, name.len, caller, generation) == SFLIGHT_DONE;
+    bool found = sflight_named(&epoch->root, name.at, name.len, stamp) == SFLIGHT_DONE;
     pthread_mutex_unlock(&pool->lock);
     return found;
 }
@@ -568,21 +568,21 @@ static enum beside ask_beside(sflight_pool *pool, const uint8_t *key, size_t len
             }
         }
         if (is_over) break;
-        uint32_t caller = 0, generation = 0;
+        sflight_stamp call;
         how = NOTHING;
         atomic_fetch_add(alert_of(pool, fingerprint), 1);
         /* The current epoch stays: it is replaced with this lock held. */
         struct epoch *epoch = pool->current;
-        enum whose whose = named(pool, epoch, NULL, key, len, &caller, &generation) ? whose_call(&epoch->seats[caller], generation, fingerprint) : ENDED;
+        enum whose whose = named(pool, epoch, NULL, key, len, &call) ? whose_call(&epoch->seats[call.caller], call.generation, fingerprint) : ENDED;
         is_over = true;
         if (whose == SAME) {
             atomic_fetch_sub(alert_of(pool, fingerprint), 1);
-            *wait = follow_call(&epoch->seats[caller], generation, fingerprint);
+            *wait = follow_call(&epoch->seats[call.caller], call.generation, fingerprint);
             how = FOLLOWS;
             if (!*wait) {
                 /* It has ended meanwhile, or there is no memory to follow it. */
                 how = NO_MEMORY;
-                is_over = !is_well || is_of(&epoch->seats[caller], generation);
+                is_over = !is_well || is_of(&epoch->seats[call.caller], call.generation);
             }
         } else if (whose == ENDED && has_seat) {
             atomic_fetch_sub(alert_of(pool, fingerprint), 1);
@@ -629,36 +629,36 @@ static void serve(sflight_pool *pool, struct epoch *epoch, struct seat *seat, co
         drop_wait(wait);
     }
     for (; left; left = next) {
-        uint64_t value;
-        uint32_t joiners;
+        sflight_answer answer;
         next = left->link;
-        if (sflight_poll(&left->slot, &value, &joiners) == SFLIGHT_NOT_YET) abort();
+        if (sflight_poll(&left->slot, &answer) == SFLIGHT_PENDING) abort();
         put(pool, epoch, left);
     }
 }
 
 /* Settles the call that the seat leads with what was got, or with nothing. */
 static void settle(sflight_pool *pool, struct epoch *epoch, struct seat *seat, const uint8_t *key, size_t len, sflight_got *got) {
-    uint32_t joiners = 0;
+    sflight_answer answer = {0};
     atomic_store_explicit(&seat->over, word_of(seat->next - 1), memory_order_release);
-    while (sflight_finish(&seat->slot, 0, &joiners) == SFLIGHT_OWES && sflight_go_on(&seat->slot, &joiners) == SFLIGHT_OWES) {}
+    if (sflight_finish(&seat->slot, 0, &answer) == SFLIGHT_OWES) {
+        while (sflight_go_on(&seat->slot, &answer) == SFLIGHT_OWES) {}
+    }
     if (got) {
         got->stamp.epoch = epoch->number;
-        sflight_stamp(&seat->slot, got->stamp.call);
+        got->stamp.call = answer.stamp;
     }
-    if ((atomic_exchange(&seat->word, 0) & FOLLOWED) || joiners > 0) serve(pool, epoch, seat, key, len, got);
+    if ((atomic_exchange(&seat->word, 0) & FOLLOWED) || answer.joiners > 0) serve(pool, epoch, seat, key, len, got);
 }
 
 /* The seat leaves the call of the leader, which it joined. */
 static void leave(sflight_pool *pool, struct epoch *epoch, struct seat *seat, struct seat *leader, bool is_stranger) {
-    uint64_t value;
-    uint32_t joiners;
+    sflight_answer answer;
     if (is_stranger) {
         seat->is_stranger = true;
         atomic_fetch_add(&epoch->strangers, 1);
     }
     pthread_mutex_lock(&leader->lock);
-    bool is_free = sflight_poll(&seat->slot, &value, &joiners) != SFLIGHT_NOT_YET;
+    bool is_free = sflight_poll(&seat->slot, &answer) != SFLIGHT_PENDING;
     if (!is_free) {
         seat->link = leader->left;
         leader->left = seat;
@@ -669,7 +669,8 @@ static void leave(sflight_pool *pool, struct epoch *epoch, struct seat *seat, st
 
 /* Asks the library by the seat, which is gone then, or leads: true. */
 static bool ask_library(sflight_pool *pool, struct epoch *epoch, struct seat *seat, const uint8_t *key, size_t len, uint64_t fingerprint, bool *is_alone, struct wait **wait) {
-    uint32_t code, caller = 0, generation = 0;
+    uint32_t code;
+    sflight_stamp call;
     if (seat->next - FIRST >= pool->sizes.calls) {
         retire(pool, epoch, seat);
         return false;
@@ -678,8 +679,8 @@ static bool ask_library(sflight_pool *pool, struct epoch *epoch, struct seat *se
     atomic_store_explicit(&seat->word, word_of(seat->next), memory_order_release);
     struct name name;
     name_of(&name, pool, key, len);
-    while ((code = sflight_ask(&seat->slot, name.at, name.len, SFLIGHT_MOST_TRIES)) == SFLIGHT_BUSY) {}
-    if (code == SFLIGHT_LEADS) {
+    while ((code = sflight_ask(&seat->slot, name.at, name.len, SFLIGHT_MOST_TRIES, &call)) == SFLIGHT_BUSY) {}
+    if (code == SFLIGHT_LED) {
         seat->next++;
         if (may_load(pool, epoch, key, len, fingerprint)) return true;
         settle(pool, epoch, seat, key, len, NULL);
@@ -687,16 +688,16 @@ static bool ask_library(sflight_pool *pool, struct epoch *epoch, struct seat *se
         return false;
     }
     if (atomic_exchange(&seat->word, 0) & FOLLOWED) serve(pool, epoch, seat, key, len, NULL);
-    if (code != SFLIGHT_JOINED || sflight_call(&seat->slot, &caller, &generation) != SFLIGHT_DONE) {
-        *is_alone = code == SFLIGHT_NOTHING_LEFT;
+    if (code != SFLIGHT_JOINED) {
+        *is_alone = code == SFLIGHT_NO_MEMORY;
         if (code == SFLIGHT_SPENT) retire(pool, epoch, seat);
         else put(pool, epoch, seat);
         return false;
     }
     seat->next++;
-    struct seat *leader = &epoch->seats[caller];
-    enum whose whose = whose_call(leader, generation, fingerprint);
-    if (whose == SAME) *wait = follow_call(leader, generation, fingerprint);
+    struct seat *leader = &epoch->seats[call.caller];
+    enum whose whose = whose_call(leader, call.generation, fingerprint);
+    if (whose == SAME) *wait = follow_call(leader, call.generation, fingerprint);
     *is_alone = whose == ANOTHER;
     if (*is_alone) clash(pool, epoch);
     leave(pool, epoch, seat, leader, *is_alone);
@@ -737,8 +738,8 @@ int sflight_do(sflight_pool *pool, const uint8_t *key, size_t len, sflight_load 
         /* Whether one looks beside the library, and whether one may lead by the seat when nothing is there. */
         bool is_beside = !seat || is_alert(pool, fingerprint), is_alone = !seat;
         if (!is_beside && atomic_load(&epoch->strangers) > 0) {
-            uint32_t caller = 0, generation = 0;
-            enum whose whose = named(pool, epoch, seat, key, len, &caller, &generation) ? whose_call(&epoch->seats[caller], generation, fingerprint) : ENDED;
+            sflight_stamp call;
+            enum whose whose = named(pool, epoch, seat, key, len, &call) ? whose_call(&epoch->seats[call.caller], call.generation, fingerprint) : ENDED;
             is_beside = whose != ENDED;
             if (whose == ANOTHER) clash(pool, epoch);
         }
@@ -793,22 +794,20 @@ bool sflight_do_forget(sflight_pool *pool, const uint8_t *key, size_t len) {
             if (!seat) epoch = pool->current;
             out = take_out(pool, NULL, fingerprint, key, len);
         }
-        uint32_t caller = 0, generation = 0;
-        if (named(pool, epoch, seat, key, len, &caller, &generation)) {
-            struct seat *leader = &epoch->seats[caller];
+        sflight_stamp call;
+        if (named(pool, epoch, seat, key, len, &call)) {
+            struct seat *leader = &epoch->seats[call.caller];
             /* Another key's open call stays, or it would be loaded a second time. */
-            if (whose_call(leader, generation, fingerprint) != ANOTHER) {
+            if (whose_call(leader, call.generation, fingerprint) != ANOTHER) {
                 uint32_t code;
-                struct name name;
-                name_of(&name, pool, key, len);
                 /* Before the call ends, so that a second Forget, which finds no call, leaves none that a renewal would move. */
-                mark(leader, generation, FORGOTTEN);
+                mark(leader, call.generation, FORGOTTEN);
                 if (!seat) pthread_mutex_lock(&pool->lock);
                 do {
-                    code = sflight_forget_call(seat ? &seat->slot : &epoch->root, name.at, name.len, caller, generation, SFLIGHT_MOST_TRIES);
+                    code = sflight_forget_call(seat ? &seat->slot : &epoch->root, &call, SFLIGHT_MOST_TRIES);
                 } while (code == SFLIGHT_BUSY);
                 if (!seat) pthread_mutex_unlock(&pool->lock);
-                closed |= code == SFLIGHT_CLOSED;
+                closed |= code == SFLIGHT_DONE;
             }
         }
         bool is_over = atomic_load(&pool->now) == epoch->number;
@@ -825,12 +824,12 @@ bool sflight_do_is_still(sflight_pool *pool, const sflight_do_stamp *stamp) {
     struct seat *seat = take(pool, &epoch);
     bool is_still = false;
     if (seat) {
-        is_still = epoch->number == stamp->epoch && sflight_is_still(&seat->slot, stamp->call) == SFLIGHT_YES;
+        is_still = epoch->number == stamp->epoch && sflight_is_still(&seat->slot, &stamp->call);
         put(pool, epoch, seat);
         return is_still;
     }
     pthread_mutex_lock(&pool->lock);
-    if (pool->current->number == stamp->epoch) is_still = sflight_is_still(&pool->current->root, stamp->call) == SFLIGHT_YES;
+    if (pool->current->number == stamp->epoch) is_still = sflight_is_still(&pool->current->root, &stamp->call);
     pthread_mutex_unlock(&pool->lock);
     return is_still;
 }

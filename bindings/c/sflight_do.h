@@ -13,6 +13,7 @@
 #ifndef SFLIGHT_DO_H
 #define SFLIGHT_DO_H
 
+#include "sflight.h"
 #include <stdbool.h>
 #include <stddef.h>
 #include <stdint.h>
@@ -24,10 +25,11 @@ extern "C" {
 /* What threads that ask for the same keys share. */
 typedef struct sflight_pool sflight_pool;
 
-/* Which call an answer came from: 24 plain bytes, to be kept with the answer. One of all zeros is that of no call, and is never current. */
+/* Which call an answer came from: 24 plain bytes, to be kept with the answer. All zeros is the stamp of
+ * no call, which is never current. */
 typedef struct sflight_do_stamp {
     uint64_t epoch;
-    uint64_t call[2];
+    sflight_stamp call;
 } sflight_do_stamp;
 
 typedef struct sflight_got {

@@ -15,16 +15,22 @@ static void check(bool holds, const char *what) {
     printf("FAILED: %s\n", what);
 }
 
+/* The stamp that an asking of this thread wrote last. */
+static _Thread_local sflight_stamp asked;
+
 static uint32_t ask(sflight_slot *slot, const char *key, uint32_t tries) {
-    return sflight_ask(slot, (const uint8_t *)key, strlen(key), tries);
+    return sflight_ask(slot, (const uint8_t *)key, strlen(key), tries, &asked);
 }
+
+/* Whether two stamps are of one call. */
+static bool same(const sflight_stamp *left, const sflight_stamp *right) { return memcmp(left, right, sizeof *left) == 0; }
 
 static uint32_t forget(sflight_slot *slot, const char *key, uint32_t tries) {
     return sflight_forget(slot, (const uint8_t *)key, strlen(key), tries);
 }
 
 static uint32_t ask_chan(sflight_slot *slot, sflight_slot *other, const char *key, uint32_t tries) {
-    return sflight_ask_chan(slot, other, (const uint8_t *)key, strlen(key), tries);
+    return sflight_ask_chan(slot, other, (const uint8_t *)key, strlen(key), tries, &asked);
 }
 
 /* A group whose few keys have places of their own, under these seeds. */
@@ -42,30 +48,33 @@ static void sizes(void) {
     check(sflight_open(&slot, 1 << 20, 1, UINT64_MAX, UINT64_MAX) == SFLIGHT_DONE, "many places");
     sflight_close(&slot);
     check(sflight_open(&slot, 1, SFLIGHT_MOST_CALLERS, 0, 0) == SFLIGHT_DONE, "most callers");
-    check(sflight_ask(&slot, NULL, 0, 1) == SFLIGHT_LEADS, "the empty key");
+    check(sflight_ask(&slot, NULL, 0, 1, &asked) == SFLIGHT_LED, "the empty key");
     sflight_close(&slot);
 }
 
 static void not_open(void) {
     sflight_slot none = SFLIGHT_SLOT_NONE, other = SFLIGHT_SLOT_NONE;
     sflight_note note = SFLIGHT_NOTE_NONE;
-    uint64_t value = 5;
-    uint32_t joiners = 5;
-    check(ask(&none, "k", 1) == SFLIGHT_NOT_OPEN, "ask not open");
+    sflight_stamp five = {5, 5, 5, 5};
+    sflight_answer got = {5, 5, five};
+    uint64_t count = 5;
+    uint32_t number = 5;
+    asked = five;
+    check(ask(&none, "k", 1) == SFLIGHT_NOT_OPEN && same(&asked, &five), "ask not open");
     check(forget(&none, "k", 1) == SFLIGHT_NOT_OPEN, "forget not open");
-    check(sflight_finish(&none, 1, &joiners) == SFLIGHT_NOT_OPEN && joiners == 5, "finish not open");
-    check(sflight_go_on(&none, &joiners) == SFLIGHT_NOT_OPEN && joiners == 5, "go on not open");
-    check(sflight_poll(&none, &value, &joiners) == SFLIGHT_NOT_OPEN && value == 5 && joiners == 5, "poll not open");
-    uint64_t stamp[2] = {5, 5};
-    check(sflight_is_current(&none) == SFLIGHT_NOT_OPEN, "is current not open");
-    check(sflight_stamp(&none, stamp) == SFLIGHT_NOT_OPEN && stamp[0] == 5 && stamp[1] == 5, "stamp not open");
-    check(sflight_is_still(&none, stamp) == SFLIGHT_NOT_OPEN, "is still not open");
-    check(sflight_joined(&none, &value) == SFLIGHT_NOT_OPEN && value == 5, "joined not open");
-    check(sflight_call(&none, &joiners, &joiners) == SFLIGHT_NOT_OPEN && joiners == 5, "call not open");
-    check(sflight_number(&none, &joiners) == SFLIGHT_NOT_OPEN && joiners == 5, "number not open");
+    check(sflight_finish(&none, 1, &got) == SFLIGHT_NOT_OPEN, "finish not open");
+    check(sflight_go_on(&none, &got) == SFLIGHT_NOT_OPEN, "go on not open");
+    check(sflight_poll(&none, &got) == SFLIGHT_NOT_OPEN, "poll not open");
+    check(got.value == 5 && got.joiners == 5 && same(&got.stamp, &five), "no answer is written");
+    check(!sflight_is_current(&none), "is current not open");
+    check(!sflight_is_still(&none, &five), "is still not open");
+    check(sflight_forget_call(&none, &five, 1) == SFLIGHT_NOT_OPEN, "forget call not open");
+    check(sflight_named(&none, (const uint8_t *)"k", 1, &asked) == SFLIGHT_NOT_OPEN && same(&asked, &five), "named not open");
+    check(sflight_joined(&none, &count) == SFLIGHT_NOT_OPEN && count == 5, "joined not open");
+    check(sflight_number(&none, &number) == SFLIGHT_NOT_OPEN && number == 5, "number not open");
     check(sflight_tell(&none, &note) == SFLIGHT_NOT_OPEN && !note.live, "tell not open");
     check(sflight_learn(&none, &note) == SFLIGHT_NOT_OPEN, "learn not open");
-    check(ask_chan(&none, &other, "k", 1) == SFLIGHT_NOT_OPEN, "ask with a second not open");
+    check(ask_chan(&none, &other, "k", 1) == SFLIGHT_NOT_OPEN && same(&asked, &five), "ask with a second not open");
     check(sflight_give_up(&none) == SFLIGHT_NOT_OPEN, "give up not open");
     check(sflight_split(&none, &other) == SFLIGHT_NOT_OPEN && !other.live, "split not open");
     check(sflight_take_back(&none, &other) == SFLIGHT_NOT_OPEN, "take back not open");
@@ -74,44 +83,48 @@ static void not_open(void) {
     check(!none.live, "close not open");
 }
 
-static uint32_t forget_call(sflight_slot *slot, const char *key, uint32_t caller, uint32_t generation, uint32_t tries) {
-    return sflight_forget_call(slot, (const uint8_t *)key, strlen(key), caller, generation, tries);
+static uint32_t named(sflight_slot *slot, const char *key, sflight_stamp *stamp) {
+    return sflight_named(slot, (const uint8_t *)key, strlen(key), stamp);
 }
 
-static uint32_t named(sflight_slot *slot, const char *key, uint32_t *caller, uint32_t *generation) {
-    return sflight_named(slot, (const uint8_t *)key, strlen(key), caller, generation);
-}
-
-/* Whether the key names the call that the slot has. */
-static bool names_call_of(sflight_slot *asker, const char *key, sflight_slot *slot) {
-    uint32_t caller = 0, generation = 0, of_caller = 1, of_generation = 1;
-    return named(asker, key, &caller, &generation) == SFLIGHT_DONE && sflight_call(slot, &of_caller, &of_generation) == SFLIGHT_DONE
-        && caller == of_caller && generation == of_generation;
+/* Whether the key names the stamp's call. */
+static bool names(sflight_slot *slot, const char *key, const sflight_stamp *stamp) {
+    sflight_stamp found = {0};
+    return named(slot, key, &found) == SFLIGHT_DONE && same(&found, stamp);
 }
 
 /* Two reload one stale answer: the later one leaves the call of the first. */
 static void forgotten_by_name(void) {
     sflight_slot a = SFLIGHT_SLOT_NONE, b = SFLIGHT_SLOT_NONE, c = SFLIGHT_SLOT_NONE;
-    uint64_t value = 0;
-    uint32_t joiners = 9, caller = 7, generation = 7, stale = 0, of_stale = 0;
-    check(forget_call(&a, "k", 1, 1, 1) == SFLIGHT_NOT_OPEN, "forget call not open");
-    check(named(&a, "k", &caller, &generation) == SFLIGHT_NOT_OPEN && caller == 7 && generation == 7, "named not open");
-    check(sflight_call(&a, &caller, &generation) == SFLIGHT_NOT_OPEN && caller == 7 && generation == 7, "call not open");
+    sflight_answer got = {7, 9, {0}};
+    sflight_stamp seven = {7, 7, 7, 7}, none = seven, stale;
     check(open_wide(&a, 3) == SFLIGHT_DONE && sflight_split(&a, &b) == SFLIGHT_DONE && sflight_split(&a, &c) == SFLIGHT_DONE, "open");
-    check(sflight_call(&a, &caller, &generation) == SFLIGHT_NOTHING_LEFT && caller == 7 && generation == 7, "no call yet");
-    check(named(&a, "k", &caller, &generation) == SFLIGHT_NONE_NAMED && caller == 7 && generation == 7, "no call is named");
-    check(forget_call(&a, "k", 1, 1, 0) == SFLIGHT_BAD_NUMBER && forget_call(&a, "k", 1, 1, SFLIGHT_MOST_TRIES + 1) == SFLIGHT_BAD_NUMBER, "bad tries");
-    check(ask(&a, "k", 1) == SFLIGHT_LEADS && names_call_of(&b, "k", &a), "the key names the open call");
-    check(forget_call(&a, "k", 1, 1, 1) == SFLIGHT_WRONG_STATE && named(&a, "k", &caller, &generation) == SFLIGHT_WRONG_STATE && caller == 7, "a leader");
-    check(sflight_finish(&a, 5, &joiners) == SFLIGHT_DONE && joiners == 0 && names_call_of(&b, "k", &a), "it is named when it is settled");
-    check(sflight_call(&a, &stale, &of_stale) == SFLIGHT_DONE, "the stale call");
-    check(forget_call(&b, "k", stale, of_stale, 1) == SFLIGHT_CLEARED && sflight_is_current(&a) == SFLIGHT_NO, "the first clears it");
-    check(ask(&b, "k", 1) == SFLIGHT_LEADS && forget_call(&a, "k", stale, of_stale, 1) == SFLIGHT_MISSED, "the second misses it");
-    check(ask(&a, "k", 1) == SFLIGHT_JOINED && sflight_finish(&b, 6, &joiners) == SFLIGHT_DONE && joiners == 1, "and joins the first's call");
-    check(sflight_poll(&a, &value, &joiners) == SFLIGHT_DONE && value == 6 && joiners == 1, "one further run");
-    check(ask(&c, "k", 1) == SFLIGHT_LEADS && sflight_call(&c, &caller, &generation) == SFLIGHT_DONE, "a call that is open");
-    check(forget_call(&a, "k", caller, generation, 1) == SFLIGHT_CLOSED, "it is closed");
-    check(forget_call(&a, "k", 65535, 4294967295u, 1) == SFLIGHT_MISSED && forget_call(&a, "k", 0, 0, 1) == SFLIGHT_MISSED, "calls of nobody");
+    check(named(&a, "k", &none) == SFLIGHT_NOTHING && same(&none, &seven), "no call is named");
+    check(sflight_forget_call(&a, &seven, 0) == SFLIGHT_BAD_NUMBER && sflight_forget_call(&a, &seven, SFLIGHT_MOST_TRIES + 1) == SFLIGHT_BAD_NUMBER, "bad tries");
+    check(ask(&a, "k", 1) == SFLIGHT_LED && names(&b, "k", &asked), "the key names the open call");
+    stale = asked;
+    check(sflight_forget_call(&a, &stale, 1) == SFLIGHT_WRONG_STATE && named(&a, "k", &none) == SFLIGHT_WRONG_STATE && same(&none, &seven), "a leader");
+    check(sflight_finish(&a, 5, &got) == SFLIGHT_DONE && got.joiners == 0 && names(&b, "k", &stale), "it is named when it is settled");
+    check(same(&got.stamp, &stale), "the stamp of the asking is that of the answer");
+    check(sflight_forget_call(&b, &stale, 1) == SFLIGHT_CLEARED && !sflight_is_current(&a), "the first clears it");
+    check(ask(&b, "k", 1) == SFLIGHT_LED && sflight_forget_call(&a, &stale, 1) == SFLIGHT_NOTHING, "the second misses it");
+    check(ask(&a, "k", 1) == SFLIGHT_JOINED && sflight_finish(&b, 6, &got) == SFLIGHT_DONE && got.joiners == 1, "and joins the first's call");
+    check(sflight_poll(&a, &got) == SFLIGHT_DONE && got.value == 6 && got.joiners == 1 && same(&got.stamp, &asked), "one further run");
+    check(ask(&c, "k", 1) == SFLIGHT_LED && sflight_forget_call(&a, &asked, 1) == SFLIGHT_DONE, "a call that is open is closed");
+    check(sflight_forget_call(&a, &asked, 1) == SFLIGHT_NOTHING, "once");
+    for (int word = 0; word < 4; word++) {
+        uint32_t words[4];
+        sflight_stamp odd;
+        check(ask(&a, "n", 1) == SFLIGHT_LED, "another call");
+        memcpy(words, &asked, sizeof words);
+        words[word] ^= 1;
+        memcpy(&odd, words, sizeof odd);
+        check(sflight_forget_call(&b, &odd, 1) == SFLIGHT_NOTHING, "a stamp that differs names another call");
+        check(sflight_forget_call(&b, &asked, 1) == SFLIGHT_DONE, "its own stamp closes it");
+        check(sflight_finish(&a, 1, &got) == SFLIGHT_DONE, "and it settles");
+    }
+    check(sflight_forget_call(&a, &(sflight_stamp){0}, 1) == SFLIGHT_NOTHING, "a stamp of all zeros");
+    check(sflight_forget_call(&a, &(sflight_stamp){UINT32_MAX, 0, 1, 1}, 1) == SFLIGHT_NOTHING, "a stamp of no place");
     sflight_close(&a);
     sflight_close(&b);
     sflight_close(&c);
@@ -119,37 +132,37 @@ static void forgotten_by_name(void) {
 
 static void one_call(void) {
     sflight_slot a = SFLIGHT_SLOT_NONE, b = SFLIGHT_SLOT_NONE, c = SFLIGHT_SLOT_NONE, d = SFLIGHT_SLOT_NONE;
-    uint64_t value = 7, count = 7;
-    uint32_t joiners = 9;
+    uint64_t count = 7;
+    sflight_answer got = {7, 9, {0}};
     check(open_wide(&a, 3) == SFLIGHT_DONE, "open");
     check(open_wide(&a, 3) == SFLIGHT_WRONG_STATE, "open twice");
     check(sflight_split(&a, &b) == SFLIGHT_DONE && sflight_split(&a, &c) == SFLIGHT_DONE, "split");
     check(sflight_split(&a, &b) == SFLIGHT_WRONG_STATE, "split onto an open slot");
-    check(sflight_split(&a, &d) == SFLIGHT_NOTHING_LEFT && sflight_split(&b, &d) == SFLIGHT_NOTHING_LEFT, "no caller is left");
+    check(sflight_split(&a, &d) == SFLIGHT_NO_CALLER && sflight_split(&b, &d) == SFLIGHT_NO_CALLER, "no caller is left");
     check(ask(&a, "k", 0) == SFLIGHT_BAD_NUMBER && ask(&a, "k", SFLIGHT_MOST_TRIES + 1) == SFLIGHT_BAD_NUMBER, "bad tries");
     check(forget(&a, "k", 0) == SFLIGHT_BAD_NUMBER, "forget: bad tries");
-    check(sflight_is_current(&a) == SFLIGHT_NOTHING_LEFT && sflight_joined(&a, &count) == SFLIGHT_NOTHING_LEFT, "no letter yet");
-    check(sflight_finish(&a, 1, &joiners) == SFLIGHT_WRONG_STATE && sflight_poll(&a, &value, &joiners) == SFLIGHT_WRONG_STATE, "a free caller");
-    check(sflight_go_on(&a, &joiners) == SFLIGHT_WRONG_STATE && sflight_give_up(&a) == SFLIGHT_WRONG_STATE, "a free caller has nothing open");
-    check(ask(&a, "k", 1) == SFLIGHT_LEADS, "leads");
+    check(!sflight_is_current(&a) && sflight_joined(&a, &count) == SFLIGHT_NOTHING && count == 7, "no answer yet");
+    check(sflight_finish(&a, 1, &got) == SFLIGHT_WRONG_STATE && sflight_poll(&a, &got) == SFLIGHT_WRONG_STATE, "a free caller");
+    check(sflight_go_on(&a, &got) == SFLIGHT_WRONG_STATE && sflight_give_up(&a) == SFLIGHT_WRONG_STATE, "a free caller has nothing open");
+    check(ask(&a, "k", 1) == SFLIGHT_LED, "leads");
     check(ask(&a, "k", 1) == SFLIGHT_WRONG_STATE && forget(&a, "k", 1) == SFLIGHT_WRONG_STATE, "a leader asks");
-    check(sflight_poll(&a, &value, &joiners) == SFLIGHT_WRONG_STATE && sflight_is_current(&a) == SFLIGHT_WRONG_STATE, "a leader polls");
+    check(sflight_poll(&a, &got) == SFLIGHT_WRONG_STATE && !sflight_is_current(&a), "a leader polls");
     check(ask(&b, "k", 1) == SFLIGHT_JOINED && ask(&c, "k", 1) == SFLIGHT_JOINED, "joins");
-    check(sflight_poll(&b, &value, &joiners) == SFLIGHT_NOT_YET && value == 7 && joiners == 9, "not yet");
-    check(sflight_finish(&a, UINT64_MAX, &joiners) == SFLIGHT_DONE && joiners == 2, "finish");
+    check(sflight_poll(&b, &got) == SFLIGHT_PENDING && got.value == 7 && got.joiners == 9, "not yet");
+    check(sflight_finish(&a, UINT64_MAX, &got) == SFLIGHT_DONE && got.joiners == 2, "finish");
     check(sflight_joined(&a, &count) == SFLIGHT_DONE && count == 2, "two joined");
-    check(sflight_poll(&b, &value, &joiners) == SFLIGHT_DONE && value == UINT64_MAX && joiners == 2, "the letter");
+    check(sflight_poll(&b, &got) == SFLIGHT_DONE && got.value == UINT64_MAX && got.joiners == 2, "the letter");
     check(sflight_joined(&b, &count) == SFLIGHT_DONE && count == 2, "who joined counts those who did, too");
-    check(sflight_is_current(&a) == SFLIGHT_YES && sflight_is_current(&b) == SFLIGHT_YES, "current");
-    check(forget(&b, "k", 1) == SFLIGHT_NONE_OPEN, "forget a settled call");
-    check(ask(&a, "k", 1) == SFLIGHT_LEADS, "leads again");
-    check(forget(&b, "k", 1) == SFLIGHT_DONE && forget(&b, "k", 1) == SFLIGHT_NONE_OPEN, "forget an open call");
-    check(sflight_is_current(&b) == SFLIGHT_NO, "no longer current");
-    check(ask(&b, "k", 1) == SFLIGHT_LEADS, "a new call beside the forgotten one");
-    check(sflight_finish(&a, 4, &joiners) == SFLIGHT_DONE && joiners == 0, "finish alone");
+    check(sflight_is_current(&a) && sflight_is_current(&b), "current");
+    check(forget(&b, "k", 1) == SFLIGHT_NOTHING, "forget a settled call");
+    check(ask(&a, "k", 1) == SFLIGHT_LED, "leads again");
+    check(forget(&b, "k", 1) == SFLIGHT_DONE && forget(&b, "k", 1) == SFLIGHT_NOTHING, "forget an open call");
+    check(!sflight_is_current(&b), "no longer current");
+    check(ask(&b, "k", 1) == SFLIGHT_LED, "a new call beside the forgotten one");
+    check(sflight_finish(&a, 4, &got) == SFLIGHT_DONE && got.joiners == 0, "finish alone");
     check(sflight_joined(&a, &count) == SFLIGHT_DONE && count == 0, "nobody joined");
-    check(sflight_poll(&c, &value, &joiners) == SFLIGHT_DONE && value == UINT64_MAX && joiners == 2, "an old letter");
-    check(ask(&c, "m", 1) == SFLIGHT_LEADS && sflight_give_up(&c) == SFLIGHT_DONE, "give up");
+    check(sflight_poll(&c, &got) == SFLIGHT_DONE && got.value == UINT64_MAX && got.joiners == 2, "an old letter");
+    check(ask(&c, "m", 1) == SFLIGHT_LED && sflight_give_up(&c) == SFLIGHT_DONE, "give up");
     check(sflight_give_up(&c) == SFLIGHT_WRONG_STATE && ask(&c, "m", 1) == SFLIGHT_WRONG_STATE, "gone");
     check(ask(&a, "m", 1) == SFLIGHT_JOINED, "joins a call that was given up");
     sflight_close(&c);
@@ -167,30 +180,29 @@ static bool counts(sflight_slot *slot, uint64_t number) {
 
 static bool counts_none(sflight_slot *slot) {
     uint64_t count = UINT64_MAX;
-    return sflight_joined(slot, &count) == SFLIGHT_NOTHING_LEFT && count == UINT64_MAX;
+    return sflight_joined(slot, &count) == SFLIGHT_NOTHING && count == UINT64_MAX;
 }
 
 /* The number of others stays with the last letter, whatever its slot asks for next. */
 static void counted(void) {
     sflight_slot a = SFLIGHT_SLOT_NONE, b = SFLIGHT_SLOT_NONE, c = SFLIGHT_SLOT_NONE;
-    uint64_t value = 7;
-    uint32_t joiners = 9;
+    sflight_answer got = {7, 9, {0}};
     check(open_wide(&a, 3) == SFLIGHT_DONE && sflight_split(&a, &b) == SFLIGHT_DONE && sflight_split(&a, &c) == SFLIGHT_DONE, "open to count");
     check(counts_none(&a), "free, and no letter yet");
-    check(ask_chan(&a, &b, "k", 1) == SFLIGHT_LEADS && counts_none(&a) && counts_none(&b), "a leader and one who waits, and no letter yet");
-    check(forget(&c, "k", 1) == SFLIGHT_CLOSED && sflight_finish(&a, 1, &joiners) == SFLIGHT_DONE && counts(&a, 1) && counts_none(&b), "the leader settled its own channel's call");
-    check(ask(&a, "k", 1) == SFLIGHT_LEADS && counts(&a, 1), "it stays while the slot leads a call for itself");
-    check(sflight_finish(&a, 2, &joiners) == SFLIGHT_DONE && counts(&a, 0), "and goes with that call's letter");
-    check(sflight_poll(&b, &value, &joiners) == SFLIGHT_DONE && value == 1 && counts(&b, 0), "who waited on the own channel");
-    check(ask_chan(&a, &b, "k", 1) == SFLIGHT_LEADS && counts(&a, 0) && counts(&b, 0), "it stays while the slot leads a call for another");
-    check(ask(&c, "k", 1) == SFLIGHT_JOINED && counts_none(&c) && sflight_finish(&a, 3, &joiners) == SFLIGHT_DONE && counts(&a, 2), "one joined, and the own channel");
-    check(sflight_poll(&b, &value, &joiners) == SFLIGHT_DONE && counts(&b, 1) && sflight_poll(&c, &value, &joiners) == SFLIGHT_DONE && counts(&c, 1), "one joined");
-    check(ask(&c, "k", 1) == SFLIGHT_LEADS && ask(&a, "k", 1) == SFLIGHT_JOINED && counts(&a, 2), "it stays while the slot waits");
-    check(sflight_poll(&a, &value, &joiners) == SFLIGHT_NOT_YET && counts(&a, 2), "and when the letter is not there yet");
-    check(sflight_finish(&c, 4, &joiners) == SFLIGHT_DONE && sflight_poll(&a, &value, &joiners) == SFLIGHT_DONE && counts(&a, 1), "and goes with the letter that it polls");
-    check(ask_chan(&a, &b, "k", 1) == SFLIGHT_LEADS && sflight_finish(&a, 5, &joiners) == SFLIGHT_DONE && counts(&a, 1), "an own channel once more");
-    check(forget(&a, "k", 1) == SFLIGHT_NONE_OPEN && sflight_is_current(&a) == SFLIGHT_NO && counts(&a, 1), "other calls leave it");
-    check(ask(&c, "k", 1) == SFLIGHT_LEADS && ask_chan(&a, &c, "k", 1) == SFLIGHT_WRONG_STATE && counts(&a, 1), "a refused asking leaves it");
+    check(ask_chan(&a, &b, "k", 1) == SFLIGHT_LED && counts_none(&a) && counts_none(&b), "a leader and one who waits, and no letter yet");
+    check(forget(&c, "k", 1) == SFLIGHT_DONE && sflight_finish(&a, 1, &got) == SFLIGHT_DONE && counts(&a, 1) && counts_none(&b), "the leader settled its own channel's call");
+    check(ask(&a, "k", 1) == SFLIGHT_LED && counts(&a, 1), "it stays while the slot leads a call for itself");
+    check(sflight_finish(&a, 2, &got) == SFLIGHT_DONE && counts(&a, 0), "and goes with that call's letter");
+    check(sflight_poll(&b, &got) == SFLIGHT_DONE && got.value == 1 && counts(&b, 0), "who waited on the own channel");
+    check(ask_chan(&a, &b, "k", 1) == SFLIGHT_LED && counts(&a, 0) && counts(&b, 0), "it stays while the slot leads a call for another");
+    check(ask(&c, "k", 1) == SFLIGHT_JOINED && counts_none(&c) && sflight_finish(&a, 3, &got) == SFLIGHT_DONE && counts(&a, 2), "one joined, and the own channel");
+    check(sflight_poll(&b, &got) == SFLIGHT_DONE && counts(&b, 1) && sflight_poll(&c, &got) == SFLIGHT_DONE && counts(&c, 1), "one joined");
+    check(ask(&c, "k", 1) == SFLIGHT_LED && ask(&a, "k", 1) == SFLIGHT_JOINED && counts(&a, 2), "it stays while the slot waits");
+    check(sflight_poll(&a, &got) == SFLIGHT_PENDING && counts(&a, 2), "and when the letter is not there yet");
+    check(sflight_finish(&c, 4, &got) == SFLIGHT_DONE && sflight_poll(&a, &got) == SFLIGHT_DONE && counts(&a, 1), "and goes with the letter that it polls");
+    check(ask_chan(&a, &b, "k", 1) == SFLIGHT_LED && sflight_finish(&a, 5, &got) == SFLIGHT_DONE && counts(&a, 1), "an own channel once more");
+    check(forget(&a, "k", 1) == SFLIGHT_NOTHING && !sflight_is_current(&a) && counts(&a, 1), "other calls leave it");
+    check(ask(&c, "k", 1) == SFLIGHT_LED && ask_chan(&a, &c, "k", 1) == SFLIGHT_WRONG_STATE && counts(&a, 1), "a refused asking leaves it");
     check(ask(&a, "k", 1) == SFLIGHT_JOINED && sflight_give_up(&a) == SFLIGHT_DONE && counts(&a, 1), "it stays with a slot that gave up");
     sflight_close(&a);
     sflight_close(&b);
@@ -200,8 +212,7 @@ static void counted(void) {
 /* One slot given twice to a call: it is refused, and changes nothing. */
 static void one_slot_twice(void) {
     sflight_slot a = SFLIGHT_SLOT_NONE, b = SFLIGHT_SLOT_NONE, none = SFLIGHT_SLOT_NONE;
-    uint64_t value = 7;
-    uint32_t joiners = 9;
+    sflight_answer got = {7, 9, {0}};
     check(sflight_split(&none, &none) == SFLIGHT_NOT_OPEN && !none.live && none.at == NULL, "split: not open, twice");
     check(sflight_take_back(&none, &none) == SFLIGHT_NOT_OPEN && ask_chan(&none, &none, "k", 1) == SFLIGHT_NOT_OPEN && !none.live, "not open, twice");
     check(open_wide(&a, 2) == SFLIGHT_DONE, "open to give twice");
@@ -212,10 +223,10 @@ static void one_slot_twice(void) {
     check(sflight_split(&a, &b) == SFLIGHT_DONE && sflight_split(&b, &b) == SFLIGHT_WRONG_STATE, "split into itself, without callers to split off");
     at = b.at;
     check(sflight_take_back(&b, &b) == SFLIGHT_WRONG_STATE && b.live && b.at == at, "taken back into itself, without callers to split off");
-    check(ask(&a, "k", 1) == SFLIGHT_LEADS && ask(&b, "k", 1) == SFLIGHT_JOINED, "leads and joins");
+    check(ask(&a, "k", 1) == SFLIGHT_LED && ask(&b, "k", 1) == SFLIGHT_JOINED, "leads and joins");
     check(sflight_split(&a, &a) == SFLIGHT_WRONG_STATE && sflight_take_back(&a, &a) == SFLIGHT_WRONG_STATE && ask_chan(&a, &a, "m", 1) == SFLIGHT_WRONG_STATE, "a leader twice");
     check(sflight_split(&b, &b) == SFLIGHT_WRONG_STATE && sflight_take_back(&b, &b) == SFLIGHT_WRONG_STATE && ask_chan(&b, &b, "m", 1) == SFLIGHT_WRONG_STATE, "one who waits twice");
-    check(sflight_finish(&a, 3, &joiners) == SFLIGHT_DONE && joiners == 1 && sflight_poll(&b, &value, &joiners) == SFLIGHT_DONE && value == 3, "both go on");
+    check(sflight_finish(&a, 3, &got) == SFLIGHT_DONE && got.joiners == 1 && sflight_poll(&b, &got) == SFLIGHT_DONE && got.value == 3, "both go on");
     check(sflight_take_back(&a, &b) == SFLIGHT_DONE && sflight_split(&a, &b) == SFLIGHT_DONE, "and are split and taken back");
     sflight_close(&a);
     sflight_close(&b);
@@ -225,8 +236,7 @@ static void one_slot_twice(void) {
 static void two_groups(void) {
     sflight_slot a = SFLIGHT_SLOT_NONE, b = SFLIGHT_SLOT_NONE, c = SFLIGHT_SLOT_NONE, d = SFLIGHT_SLOT_NONE;
     sflight_note note = SFLIGHT_NOTE_NONE;
-    uint64_t value = 7;
-    uint32_t joiners = 9;
+    sflight_answer got = {7, 9, {0}};
     check(sflight_open(&a, 64, 2, 1, 2) == SFLIGHT_DONE && sflight_split(&a, &b) == SFLIGHT_DONE, "one group");
     /* Seeds or sizes differ; or where they do not, the callers' numbers are the same. */
     static const struct { uint32_t places; uint64_t seed0, seed1; bool like; } others[] = {
@@ -241,20 +251,20 @@ static void two_groups(void) {
         check(sflight_take_back(&a, &c) == SFLIGHT_WRONG_STATE && sflight_take_back(&c, &a) == SFLIGHT_WRONG_STATE, "taken back into another group");
         check(a.live && a.at == at && c.live && c.at == other_at, "both are as they were");
         if (!like) {
-            check(ask(&c, "k", 1) == SFLIGHT_LEADS && sflight_take_back(&c, &a) == SFLIGHT_WRONG_STATE && ask_chan(&a, &c, "k", 1) == SFLIGHT_WRONG_STATE, "also while one leads");
-            check(sflight_finish(&c, 1, &joiners) == SFLIGHT_DONE && joiners == 0, "which goes on");
+            check(ask(&c, "k", 1) == SFLIGHT_LED && sflight_take_back(&c, &a) == SFLIGHT_WRONG_STATE && ask_chan(&a, &c, "k", 1) == SFLIGHT_WRONG_STATE, "also while one leads");
+            check(sflight_finish(&c, 1, &got) == SFLIGHT_DONE && got.joiners == 0, "which goes on");
             check(sflight_tell(&c, &note) == SFLIGHT_DONE && sflight_learn(&a, &note) == SFLIGHT_WRONG_STATE && note.live, "a note of another group");
-            check(ask(&a, "k", 1) == SFLIGHT_LEADS && sflight_learn(&a, &note) == SFLIGHT_WRONG_STATE && note.live, "also for a leader");
+            check(ask(&a, "k", 1) == SFLIGHT_LED && sflight_learn(&a, &note) == SFLIGHT_WRONG_STATE && note.live, "also for a leader");
             check(sflight_learn(&c, &note) == SFLIGHT_DONE, "the note's own group learns it");
-            check(ask(&b, "k", 1) == SFLIGHT_JOINED && sflight_finish(&a, 2, &joiners) == SFLIGHT_DONE && joiners == 1, "the first group goes on");
-            check(sflight_poll(&b, &value, &joiners) == SFLIGHT_DONE && value == 2, "to its joiner");
+            check(ask(&b, "k", 1) == SFLIGHT_JOINED && sflight_finish(&a, 2, &got) == SFLIGHT_DONE && got.joiners == 1, "the first group goes on");
+            check(sflight_poll(&b, &got) == SFLIGHT_DONE && got.value == 2, "to its joiner");
         }
         sflight_close(&c);
         sflight_close(&d);
     }
     check(sflight_tell(&a, &note) == SFLIGHT_DONE && sflight_learn(&b, &note) == SFLIGHT_DONE, "a note of the group");
-    check(ask_chan(&a, &b, "k", 1) == SFLIGHT_LEADS && sflight_finish(&a, 3, &joiners) == SFLIGHT_DONE, "two slots of one group");
-    check(sflight_poll(&b, &value, &joiners) == SFLIGHT_DONE && value == 3 && sflight_take_back(&a, &b) == SFLIGHT_DONE, "and one is taken back");
+    check(ask_chan(&a, &b, "k", 1) == SFLIGHT_LED && sflight_finish(&a, 3, &got) == SFLIGHT_DONE, "two slots of one group");
+    check(sflight_poll(&b, &got) == SFLIGHT_DONE && got.value == 3 && sflight_take_back(&a, &b) == SFLIGHT_DONE, "and one is taken back");
     sflight_drop_note(&note);
     sflight_close(&a);
 }
@@ -262,26 +272,26 @@ static void two_groups(void) {
 /* Asks for a second caller: who leads, who waits, and each refusal. */
 static void two_callers(void) {
     sflight_slot a = SFLIGHT_SLOT_NONE, b = SFLIGHT_SLOT_NONE, c = SFLIGHT_SLOT_NONE, none = SFLIGHT_SLOT_NONE;
-    uint64_t value = 7, count = 7;
-    uint32_t joiners = 9;
+    uint64_t count = 7;
+    sflight_answer got = {7, 9, {0}};
     check(open_wide(&a, 3) == SFLIGHT_DONE && sflight_split(&a, &b) == SFLIGHT_DONE && sflight_split(&a, &c) == SFLIGHT_DONE, "open for two");
     check(ask_chan(&a, &none, "k", 1) == SFLIGHT_NOT_OPEN && ask_chan(&none, &a, "k", 1) == SFLIGHT_NOT_OPEN, "one of the two is not open");
     check(ask_chan(&a, &b, "k", 0) == SFLIGHT_BAD_NUMBER && ask_chan(&a, &b, "k", SFLIGHT_MOST_TRIES + 1) == SFLIGHT_BAD_NUMBER, "bad tries for two");
-    check(ask_chan(&a, &b, "k", 1) == SFLIGHT_LEADS, "the first leads");
-    check(sflight_poll(&b, &value, &joiners) == SFLIGHT_NOT_YET && sflight_poll(&a, &value, &joiners) == SFLIGHT_WRONG_STATE, "the second waits");
+    check(ask_chan(&a, &b, "k", 1) == SFLIGHT_LED, "the first leads");
+    check(sflight_poll(&b, &got) == SFLIGHT_PENDING && sflight_poll(&a, &got) == SFLIGHT_WRONG_STATE, "the second waits");
     check(ask_chan(&a, &c, "k", 1) == SFLIGHT_WRONG_STATE && ask_chan(&c, &a, "k", 1) == SFLIGHT_WRONG_STATE, "one of the two leads");
     check(ask_chan(&b, &c, "k", 1) == SFLIGHT_WRONG_STATE && ask_chan(&c, &b, "k", 1) == SFLIGHT_WRONG_STATE, "one of the two waits");
-    check(sflight_finish(&a, 11, &joiners) == SFLIGHT_DONE && joiners == 0, "nobody else joined");
+    check(sflight_finish(&a, 11, &got) == SFLIGHT_DONE && got.joiners == 0, "nobody else joined");
     check(sflight_joined(&a, &count) == SFLIGHT_DONE && count == 1, "the own channel counts as one");
-    check(sflight_poll(&b, &value, &joiners) == SFLIGHT_DONE && value == 11 && joiners == 0, "the letter of the own channel");
+    check(sflight_poll(&b, &got) == SFLIGHT_DONE && got.value == 11 && got.joiners == 0, "the letter of the own channel");
     check(sflight_joined(&b, &count) == SFLIGHT_DONE && count == 0, "who waited on it counts those who joined alone");
-    check(ask(&c, "k", 1) == SFLIGHT_LEADS && ask_chan(&a, &b, "k", 1) == SFLIGHT_JOINED, "the second joins");
-    check(sflight_poll(&a, &value, &joiners) == SFLIGHT_WRONG_STATE && sflight_poll(&b, &value, &joiners) == SFLIGHT_NOT_YET, "the first is free");
-    check(forget(&a, "k", 1) == SFLIGHT_DONE && ask(&a, "k", 1) == SFLIGHT_LEADS, "the first goes on");
-    check(sflight_finish(&c, 12, &joiners) == SFLIGHT_DONE && joiners == 1 && sflight_finish(&a, 13, &joiners) == SFLIGHT_DONE && joiners == 0, "finish both");
-    check(sflight_poll(&b, &value, &joiners) == SFLIGHT_DONE && value == 12 && joiners == 1, "the letter of the call that it joined");
+    check(ask(&c, "k", 1) == SFLIGHT_LED && ask_chan(&a, &b, "k", 1) == SFLIGHT_JOINED, "the second joins");
+    check(sflight_poll(&a, &got) == SFLIGHT_WRONG_STATE && sflight_poll(&b, &got) == SFLIGHT_PENDING, "the first is free");
+    check(forget(&a, "k", 1) == SFLIGHT_DONE && ask(&a, "k", 1) == SFLIGHT_LED, "the first goes on");
+    check(sflight_finish(&c, 12, &got) == SFLIGHT_DONE && got.joiners == 1 && sflight_finish(&a, 13, &got) == SFLIGHT_DONE && got.joiners == 0, "finish both");
+    check(sflight_poll(&b, &got) == SFLIGHT_DONE && got.value == 12 && got.joiners == 1, "the letter of the call that it joined");
     check(sflight_joined(&a, &count) == SFLIGHT_DONE && count == 0, "a call that it led for itself later");
-    check(sflight_is_current(&a) == SFLIGHT_YES && sflight_is_current(&b) == SFLIGHT_NO, "the later one is current");
+    check(sflight_is_current(&a) && !sflight_is_current(&b), "the later one is current");
     sflight_close(&a);
     sflight_close(&b);
     sflight_close(&c);
@@ -291,20 +301,19 @@ static void two_callers(void) {
 static void notes(void) {
     sflight_slot a = SFLIGHT_SLOT_NONE, b = SFLIGHT_SLOT_NONE, none = SFLIGHT_SLOT_NONE;
     sflight_note note = SFLIGHT_NOTE_NONE, empty = SFLIGHT_NOTE_NONE;
-    uint64_t value = 7;
-    uint32_t joiners = 9;
+    sflight_answer got = {7, 9, {0}};
     check(open_wide(&a, 2) == SFLIGHT_DONE && sflight_split(&a, &b) == SFLIGHT_DONE, "open for notes");
     check(sflight_learn(&a, &empty) == SFLIGHT_NOT_OPEN && !empty.live, "an empty note");
     check(sflight_tell(&a, &note) == SFLIGHT_DONE && note.live, "tell");
     check(sflight_learn(&none, &note) == SFLIGHT_NOT_OPEN && note.live, "learn with no slot");
     check(sflight_learn(&b, &note) == SFLIGHT_DONE && sflight_learn(&b, &note) == SFLIGHT_DONE, "a free caller learns, and again");
-    check(ask(&a, "k", 1) == SFLIGHT_LEADS && sflight_tell(&a, &note) == SFLIGHT_WRONG_STATE && note.live, "a leader tells nothing");
+    check(ask(&a, "k", 1) == SFLIGHT_LED && sflight_tell(&a, &note) == SFLIGHT_WRONG_STATE && note.live, "a leader tells nothing");
     check(sflight_tell(&a, &empty) == SFLIGHT_WRONG_STATE && !empty.live, "nor into an empty note");
     check(forget(&b, "k", 1) == SFLIGHT_DONE && sflight_tell(&b, &note) == SFLIGHT_DONE, "told again");
-    check(sflight_learn(&a, &note) == SFLIGHT_DONE && ask(&b, "m", 1) == SFLIGHT_LEADS, "a leader learns");
-    check(sflight_finish(&a, 1, &joiners) == SFLIGHT_DONE && ask(&a, "m", 1) == SFLIGHT_JOINED, "it settles");
+    check(sflight_learn(&a, &note) == SFLIGHT_DONE && ask(&b, "m", 1) == SFLIGHT_LED, "a leader learns");
+    check(sflight_finish(&a, 1, &got) == SFLIGHT_DONE && ask(&a, "m", 1) == SFLIGHT_JOINED, "it settles");
     check(sflight_learn(&a, &note) == SFLIGHT_WRONG_STATE && sflight_tell(&a, &note) == SFLIGHT_WRONG_STATE, "one who waits does neither");
-    check(sflight_finish(&b, 2, &joiners) == SFLIGHT_DONE && sflight_poll(&a, &value, &joiners) == SFLIGHT_DONE && value == 2, "free again");
+    check(sflight_finish(&b, 2, &got) == SFLIGHT_DONE && sflight_poll(&a, &got) == SFLIGHT_DONE && got.value == 2, "free again");
     sflight_close(&a);
     check(sflight_learn(&b, &note) == SFLIGHT_DONE, "a note of a caller that is closed");
     sflight_close(&b);
@@ -317,31 +326,32 @@ static void notes(void) {
 /* Two keys at the one place: who joined the other key's call is told so, with that call's number alone. */
 static void others(void) {
     sflight_slot a = SFLIGHT_SLOT_NONE, b = SFLIGHT_SLOT_NONE, c = SFLIGHT_SLOT_NONE;
-    uint64_t value = 7, count = 7, stamp[2] = {5, 5}, other[2] = {5, 5};
-    uint32_t joiners = 9, caller = 0, generation = 0;
+    uint64_t count = 7;
+    sflight_answer got = {7, 9, {0}};
+    sflight_stamp stamp;
     check(sflight_open(&a, 1, 3, 1, 2) == SFLIGHT_DONE && sflight_split(&a, &b) == SFLIGHT_DONE && sflight_split(&a, &c) == SFLIGHT_DONE, "open for others");
-    check(ask(&a, "k", 1) == SFLIGHT_LEADS && sflight_finish(&a, 1, &joiners) == SFLIGHT_DONE && sflight_stamp(&a, stamp) == SFLIGHT_DONE, "its own letter");
-    check(ask(&b, "m", 1) == SFLIGHT_LEADS && ask(&a, "k", 1) == SFLIGHT_JOINED && ask(&c, "m", 1) == SFLIGHT_JOINED, "both join the other key's call");
-    check(sflight_is_still(&b, stamp) == SFLIGHT_NO, "the other key's call is current");
-    joiners = 9;
-    check(sflight_poll(&a, &value, &joiners) == SFLIGHT_NOT_YET && value == 7 && joiners == 9, "not yet");
-    check(sflight_finish(&b, 22, &joiners) == SFLIGHT_DONE && joiners == 2 && sflight_joined(&b, &count) == SFLIGHT_DONE && count == 2, "two have its number");
-    joiners = 9;
-    check(sflight_poll(&a, &value, &joiners) == SFLIGHT_OTHER && value == 22 && joiners == 9, "another key's, and its number");
-    check(sflight_poll(&a, &value, &joiners) == SFLIGHT_WRONG_STATE, "it is free then");
+    check(ask(&a, "k", 1) == SFLIGHT_LED && sflight_finish(&a, 1, &got) == SFLIGHT_DONE, "its own letter");
+    stamp = got.stamp;
+    check(ask(&b, "m", 1) == SFLIGHT_LED && ask(&a, "k", 1) == SFLIGHT_JOINED && ask(&c, "m", 1) == SFLIGHT_JOINED, "both join the other key's call");
+    check(!sflight_is_still(&b, &stamp), "the other key's call is current");
+    got = (sflight_answer){7, 9, {5, 5, 5, 5}};
+    check(sflight_poll(&a, &got) == SFLIGHT_PENDING && got.value == 7 && got.joiners == 9 && got.stamp.place == 5, "not yet");
+    check(sflight_finish(&b, 22, &got) == SFLIGHT_DONE && got.joiners == 2 && sflight_joined(&b, &count) == SFLIGHT_DONE && count == 2, "two have its number");
+    got = (sflight_answer){7, 9, stamp};
+    check(sflight_poll(&a, &got) == SFLIGHT_OTHER_KEY && got.value == 22 && got.joiners == 9 && same(&got.stamp, &stamp), "another key's, and its number alone");
+    check(sflight_poll(&a, &got) == SFLIGHT_WRONG_STATE, "it is free then");
     check(sflight_joined(&a, &count) == SFLIGHT_DONE && count == 0, "its last letter is that of its own key");
-    check(sflight_call(&a, &caller, &generation) == SFLIGHT_DONE && sflight_stamp(&a, other) == SFLIGHT_DONE && memcmp(stamp, other, sizeof stamp) == 0, "and its call, and stamp");
-    check(sflight_is_current(&a) == SFLIGHT_NO, "another key's call followed it at the place");
-    check(sflight_poll(&c, &value, &joiners) == SFLIGHT_DONE && value == 22 && joiners == 2, "the letter of its key");
-    check(sflight_ask_chan(&a, &b, (const uint8_t *)"k", 1, 1) == SFLIGHT_LEADS && ask(&c, "km", 1) == SFLIGHT_JOINED, "an own channel, and another key");
-    check(sflight_finish(&a, 33, &joiners) == SFLIGHT_DONE && joiners == 1, "settled");
-    check(sflight_poll(&b, &value, &joiners) == SFLIGHT_DONE && value == 33 && joiners == 1, "the own channel is of the key");
-    check(sflight_poll(&c, &value, &joiners) == SFLIGHT_OTHER && value == 33, "a key that begins like it is another");
-    check(ask(&c, "m", 1) == SFLIGHT_LEADS && forget(&a, "k", 1) == SFLIGHT_CLOSED, "a Forget of a key forgets its place");
-    check(ask_chan(&a, &b, "k", 1) == SFLIGHT_LEADS && sflight_finish(&c, 44, &joiners) == SFLIGHT_DONE && sflight_finish(&a, 55, &joiners) == SFLIGHT_DONE, "who asks later leads");
-    check(sflight_poll(&b, &value, &joiners) == SFLIGHT_DONE && value == 55, "its letter");
-    check(ask(&a, "k", 1) == SFLIGHT_LEADS && ask_chan(&b, &c, "m", 1) == SFLIGHT_JOINED && sflight_finish(&a, 66, &joiners) == SFLIGHT_DONE, "joined for a second");
-    check(sflight_poll(&c, &value, &joiners) == SFLIGHT_OTHER && value == 66, "the second asked for the key");
+    check(!sflight_is_current(&a), "another key's call followed it at the place");
+    check(sflight_poll(&c, &got) == SFLIGHT_DONE && got.value == 22 && got.joiners == 2, "the letter of its key");
+    check(ask_chan(&a, &b, "k", 1) == SFLIGHT_LED && ask(&c, "km", 1) == SFLIGHT_JOINED, "an own channel, and another key");
+    check(sflight_finish(&a, 33, &got) == SFLIGHT_DONE && got.joiners == 1, "settled");
+    check(sflight_poll(&b, &got) == SFLIGHT_DONE && got.value == 33 && got.joiners == 1, "the own channel is of the key");
+    check(sflight_poll(&c, &got) == SFLIGHT_OTHER_KEY && got.value == 33, "a key that begins like it is another");
+    check(ask(&c, "m", 1) == SFLIGHT_LED && forget(&a, "k", 1) == SFLIGHT_DONE, "a Forget of a key forgets its place");
+    check(ask_chan(&a, &b, "k", 1) == SFLIGHT_LED && sflight_finish(&c, 44, &got) == SFLIGHT_DONE && sflight_finish(&a, 55, &got) == SFLIGHT_DONE, "who asks later leads");
+    check(sflight_poll(&b, &got) == SFLIGHT_DONE && got.value == 55, "its letter");
+    check(ask(&a, "k", 1) == SFLIGHT_LED && ask_chan(&b, &c, "m", 1) == SFLIGHT_JOINED && sflight_finish(&a, 66, &got) == SFLIGHT_DONE, "joined for a second");
+    check(sflight_poll(&c, &got) == SFLIGHT_OTHER_KEY && got.value == 66, "the second asked for the key");
     sflight_close(&a);
     sflight_close(&b);
     sflight_close(&c);
@@ -353,18 +363,18 @@ static void long_keys(void) {
     static uint8_t key[100000], near_by[100000];
     for (size_t i = 0; i < sizeof lengths / sizeof *lengths; i++) {
         sflight_slot a = SFLIGHT_SLOT_NONE, b = SFLIGHT_SLOT_NONE, c = SFLIGHT_SLOT_NONE;
-        uint64_t value = 7;
-        uint32_t joiners = 9;
+        sflight_answer got = {7, 9, {0}};
         size_t len = lengths[i];
         for (size_t j = 0; j < len; j++) key[j] = near_by[j] = (uint8_t)(j * 7 + i);
         size_t other = len == 0 ? 1 : len;
         near_by[other - 1] ^= 1;
         check(sflight_open(&a, 1, 3, 3, 4) == SFLIGHT_DONE && sflight_split(&a, &b) == SFLIGHT_DONE && sflight_split(&a, &c) == SFLIGHT_DONE, "open for long keys");
-        check(sflight_ask(&a, key, len, 1) == SFLIGHT_LEADS && sflight_ask(&b, key, len, 1) == SFLIGHT_JOINED && sflight_ask(&c, near_by, other, 1) == SFLIGHT_JOINED, "long keys");
+        check(sflight_ask(&a, key, len, 1, &asked) == SFLIGHT_LED && sflight_ask(&b, key, len, 1, &asked) == SFLIGHT_JOINED, "long keys");
+        check(sflight_ask(&c, near_by, other, 1, &asked) == SFLIGHT_JOINED, "one byte differs");
         memset(key, 0xee, len);
-        check(sflight_finish(&a, i, &joiners) == SFLIGHT_DONE && joiners == 2, "the slot kept the key");
-        check(sflight_poll(&b, &value, &joiners) == SFLIGHT_DONE && value == i, "the long key's letter");
-        check(sflight_poll(&c, &value, &joiners) == SFLIGHT_OTHER && value == i, "one byte makes another key");
+        check(sflight_finish(&a, i, &got) == SFLIGHT_DONE && got.joiners == 2, "the slot kept the key");
+        check(sflight_poll(&b, &got) == SFLIGHT_DONE && got.value == i, "the long key's letter");
+        check(sflight_poll(&c, &got) == SFLIGHT_OTHER_KEY && got.value == i, "one byte makes another key");
         sflight_close(&a);
         sflight_close(&b);
         sflight_close(&c);
@@ -374,59 +384,65 @@ static void long_keys(void) {
 /* Stamps: whether a call is current still, from any slot, whatever the bits. */
 static void stamps(void) {
     sflight_slot a = SFLIGHT_SLOT_NONE, b = SFLIGHT_SLOT_NONE;
-    uint64_t value = 7, first[2] = {5, 5}, second[2], odd[2];
-    uint32_t joiners = 9;
+    sflight_answer got = {7, 9, {0}};
+    sflight_stamp first = {5, 5, 5, 5}, second, odd;
     check(open_wide(&a, 2) == SFLIGHT_DONE && sflight_split(&a, &b) == SFLIGHT_DONE, "open for stamps");
-    check(sflight_stamp(&a, first) == SFLIGHT_NOTHING_LEFT && first[0] == 5 && first[1] == 5, "no letter yet");
-    check(sflight_is_still(&a, first) == SFLIGHT_NO, "bits that no letter had");
-    check(ask(&a, "k", 1) == SFLIGHT_LEADS && sflight_stamp(&a, first) == SFLIGHT_WRONG_STATE && first[0] == 5, "a leader has no stamp");
-    check(ask(&b, "k", 1) == SFLIGHT_JOINED && sflight_stamp(&b, first) == SFLIGHT_WRONG_STATE && first[0] == 5, "nor who waits");
-    check(sflight_finish(&a, 1, &joiners) == SFLIGHT_DONE && sflight_stamp(&a, first) == SFLIGHT_DONE && sflight_is_still(&a, first) == SFLIGHT_YES, "current");
-    check(sflight_poll(&b, &value, &joiners) == SFLIGHT_DONE && sflight_stamp(&b, second) == SFLIGHT_DONE && memcmp(first, second, sizeof first) == 0, "one call, one stamp");
-    check(sflight_is_still(&b, first) == SFLIGHT_YES, "from another slot");
+    check(!sflight_is_still(&a, &first) && !sflight_is_still(&a, &(sflight_stamp){0}), "bits that no letter had");
+    check(ask(&a, "k", 1) == SFLIGHT_LED, "a stamp for the leader");
+    first = asked;
+    check(first.place >= 1 && first.place <= 65536 && first.reserved == 0 && first.caller >= 1 && first.generation == 1, "its words");
+    check(sflight_is_still(&a, &first) && sflight_is_still(&b, &first), "an open call is current");
+    asked = (sflight_stamp){0};
+    check(ask(&b, "k", 1) == SFLIGHT_JOINED && same(&asked, &first), "and the same for who joins");
+    check(ask(&b, "k", 1) == SFLIGHT_WRONG_STATE && ask(&b, "k", 0) == SFLIGHT_BAD_NUMBER && same(&asked, &first), "a refusal writes none");
+    check(sflight_finish(&a, 1, &got) == SFLIGHT_DONE && same(&got.stamp, &first) && sflight_is_still(&a, &first), "current");
+    got.stamp = (sflight_stamp){0};
+    check(sflight_poll(&b, &got) == SFLIGHT_DONE && same(&got.stamp, &first), "one call, one stamp");
+    check(sflight_is_still(&b, &first), "from another slot");
     for (int bit = 0; bit < 128; bit++) {
-        memcpy(odd, first, sizeof odd);
-        odd[bit / 64] ^= 1ull << bit % 64;
-        check(sflight_is_still(&b, odd) == SFLIGHT_NO, "each bit counts");
+        uint64_t words[2];
+        memcpy(words, &first, sizeof words);
+        words[bit / 64] ^= 1ull << bit % 64;
+        memcpy(&odd, words, sizeof odd);
+        check(!sflight_is_still(&b, &odd), "each bit counts");
     }
-    check(forget(&b, "k", 1) == SFLIGHT_NONE_OPEN && sflight_is_still(&a, first) == SFLIGHT_NO, "a Forget ends it");
-    check(ask(&a, "k", 1) == SFLIGHT_LEADS && sflight_finish(&a, 2, &joiners) == SFLIGHT_DONE && sflight_stamp(&a, second) == SFLIGHT_DONE, "the next one");
-    check(sflight_is_still(&b, first) == SFLIGHT_NO && sflight_is_still(&b, second) == SFLIGHT_YES, "is current, and the first is not");
-    check(ask(&a, "m", 1) == SFLIGHT_LEADS && sflight_finish(&a, 3, &joiners) == SFLIGHT_DONE, "a call of another key");
-    check(sflight_is_still(&b, second) == SFLIGHT_YES, "leaves it current");
-    check(ask(&a, "m", 1) == SFLIGHT_LEADS && sflight_is_still(&a, second) == SFLIGHT_YES && sflight_is_still(&a, first) == SFLIGHT_NO, "a leader asks");
-    check(ask(&b, "m", 1) == SFLIGHT_JOINED && sflight_is_still(&b, second) == SFLIGHT_YES && sflight_is_still(&b, first) == SFLIGHT_NO, "who waits asks");
-    check(sflight_finish(&a, 4, &joiners) == SFLIGHT_DONE && sflight_poll(&b, &value, &joiners) == SFLIGHT_DONE && value == 4, "and goes on");
-    check(ask(&b, "n", 1) == SFLIGHT_LEADS && sflight_give_up(&b) == SFLIGHT_DONE && sflight_is_still(&b, second) == SFLIGHT_WRONG_STATE && sflight_is_still(&b, odd) == SFLIGHT_WRONG_STATE, "not who gave up");
+    check(forget(&b, "k", 1) == SFLIGHT_NOTHING && !sflight_is_still(&a, &first), "a Forget ends it");
+    check(ask(&a, "k", 1) == SFLIGHT_LED && sflight_finish(&a, 2, &got) == SFLIGHT_DONE, "the next one");
+    second = got.stamp;
+    check(!sflight_is_still(&b, &first) && sflight_is_still(&b, &second), "is current, and the first is not");
+    check(ask(&a, "m", 1) == SFLIGHT_LED && sflight_finish(&a, 3, &got) == SFLIGHT_DONE, "a call of another key");
+    check(sflight_is_still(&b, &second), "leaves it current");
+    check(ask(&a, "m", 1) == SFLIGHT_LED && sflight_is_still(&a, &second) && !sflight_is_still(&a, &first), "a leader asks");
+    check(ask(&b, "m", 1) == SFLIGHT_JOINED && sflight_is_still(&b, &second) && !sflight_is_still(&b, &first), "who waits asks");
+    check(sflight_finish(&a, 4, &got) == SFLIGHT_DONE && sflight_poll(&b, &got) == SFLIGHT_DONE && got.value == 4, "and goes on");
+    check(ask(&b, "n", 1) == SFLIGHT_LED && sflight_give_up(&b) == SFLIGHT_DONE && !sflight_is_still(&b, &second), "not who gave up");
     sflight_close(&b);
-    check(sflight_stamp(&b, first) == SFLIGHT_NOT_OPEN, "closed");
-    check(sflight_is_still(&a, second) == SFLIGHT_YES, "the other goes on");
-    check(sflight_is_still(&a, second) == SFLIGHT_YES, "also for a slot whose last letter is another");
+    check(sflight_is_still(&a, &second), "the other goes on, also though its last letter is another");
     sflight_close(&a);
 }
 
 /* Callers that come back are dealt again, and go on with their generations. */
 static void taken_back(void) {
     sflight_slot a = SFLIGHT_SLOT_NONE, b = SFLIGHT_SLOT_NONE, c = SFLIGHT_SLOT_NONE, none = SFLIGHT_SLOT_NONE;
-    uint64_t value = 7, stamp[2];
-    uint32_t joiners = 9, number = 0, again = 0, caller = 0, generation = 0;
+    sflight_answer got = {7, 9, {0}};
+    uint32_t number = 0, again = 0;
     check(open_wide(&a, 3) == SFLIGHT_DONE && sflight_split(&a, &b) == SFLIGHT_DONE && sflight_number(&b, &number) == SFLIGHT_DONE, "open to take back");
     check(sflight_take_back(&a, &none) == SFLIGHT_NOT_OPEN && sflight_take_back(&none, &a) == SFLIGHT_NOT_OPEN && a.live, "one of the two is not open");
     check(sflight_take_back(&b, &a) == SFLIGHT_WRONG_STATE && a.live, "not a slot with callers to split off");
-    check(ask(&b, "k", 1) == SFLIGHT_LEADS && sflight_take_back(&a, &b) == SFLIGHT_WRONG_STATE && b.live, "not a leader");
-    check(ask(&a, "k", 1) == SFLIGHT_JOINED && sflight_finish(&b, 1, &joiners) == SFLIGHT_DONE && sflight_stamp(&b, stamp) == SFLIGHT_DONE, "it settles");
+    check(ask(&b, "k", 1) == SFLIGHT_LED && sflight_take_back(&a, &b) == SFLIGHT_WRONG_STATE && b.live, "not a leader");
+    check(ask(&a, "k", 1) == SFLIGHT_JOINED && sflight_finish(&b, 1, &got) == SFLIGHT_DONE, "it settles");
     check(sflight_take_back(&a, &b) == SFLIGHT_DONE && !b.live && b.at == NULL, "taken back by one who waits");
-    check(sflight_poll(&a, &value, &joiners) == SFLIGHT_DONE && value == 1 && sflight_is_still(&a, stamp) == SFLIGHT_YES, "whose letter is there");
+    check(sflight_poll(&a, &got) == SFLIGHT_DONE && got.value == 1 && sflight_is_still(&a, &got.stamp), "whose letter is there");
     check(sflight_split(&a, &b) == SFLIGHT_DONE && sflight_number(&b, &again) == SFLIGHT_DONE && again == number, "it is dealt again");
-    check(sflight_is_current(&b) == SFLIGHT_NOTHING_LEFT && sflight_call(&b, &caller, &generation) == SFLIGHT_NOTHING_LEFT, "without its letter");
-    check(ask(&b, "k", 1) == SFLIGHT_LEADS && sflight_call(&b, &caller, &generation) == SFLIGHT_DONE && caller == number && generation == 2, "with its next generation");
-    check(sflight_finish(&b, 2, &joiners) == SFLIGHT_DONE && sflight_split(&a, &c) == SFLIGHT_DONE && sflight_split(&a, &none) == SFLIGHT_NOTHING_LEFT, "all are dealt");
-    check(ask(&c, "m", 1) == SFLIGHT_LEADS && sflight_give_up(&c) == SFLIGHT_DONE && sflight_take_back(&a, &c) == SFLIGHT_WRONG_STATE, "not one who gave up");
+    check(!sflight_is_current(&b) && counts_none(&b), "without its letter");
+    check(ask(&b, "k", 1) == SFLIGHT_LED && asked.caller == number && asked.generation == 2, "with its next generation");
+    check(sflight_finish(&b, 2, &got) == SFLIGHT_DONE && sflight_split(&a, &c) == SFLIGHT_DONE && sflight_split(&a, &none) == SFLIGHT_NO_CALLER, "all are dealt");
+    check(ask(&c, "m", 1) == SFLIGHT_LED && sflight_give_up(&c) == SFLIGHT_DONE && sflight_take_back(&a, &c) == SFLIGHT_WRONG_STATE, "not one who gave up");
     sflight_close(&c);
     for (uint32_t i = 0; i < 1000; i++) {
-        check(sflight_take_back(&a, &b) == SFLIGHT_DONE && sflight_split(&a, &b) == SFLIGHT_DONE && ask(&b, "k", 1) == SFLIGHT_LEADS && sflight_finish(&b, i, &joiners) == SFLIGHT_DONE, "again and again");
+        check(sflight_take_back(&a, &b) == SFLIGHT_DONE && sflight_split(&a, &b) == SFLIGHT_DONE && ask(&b, "k", 1) == SFLIGHT_LED && sflight_finish(&b, i, &got) == SFLIGHT_DONE, "again and again");
     }
-    check(sflight_split(&b, &c) == SFLIGHT_NOTHING_LEFT && sflight_take_back(&b, &a) == SFLIGHT_DONE && !a.live, "also into another slot");
+    check(sflight_split(&b, &c) == SFLIGHT_NO_CALLER && sflight_take_back(&b, &a) == SFLIGHT_DONE && !a.live, "also into another slot");
     check(sflight_split(&b, &a) == SFLIGHT_DONE, "which deals it");
     sflight_close(&a);
     sflight_close(&b);
@@ -453,8 +469,9 @@ struct job {
     sflight_note note;
     unsigned seed;
     unsigned long long old, closed, strange, stale;
+    sflight_stamp answer; /* of the answer that it had last */
     /* An answer that is kept for each key, with the number of its load. */
-    struct { uint64_t stamp[2]; unsigned long long load; bool has; } kept[KEYS];
+    struct { sflight_stamp stamp; unsigned long long load; bool has; } kept[KEYS];
 };
 
 static unsigned draw(unsigned *seed) {
@@ -469,12 +486,14 @@ static unsigned long long lead(struct job *job, unsigned number, bool with_secon
     if (draw(&job->seed) % 4 == 0) sched_yield();
     unsigned long long load = atomic_fetch_add(&clock_now, 1);
     atomic_fetch_add(&loads, 1);
-    uint32_t joiners = 9;
+    sflight_answer got = {0, 9, {0}};
     uint64_t count = 99;
-    if (sflight_finish(&job->slot, load * KEYS + number, &joiners) != SFLIGHT_DONE) job->strange++;
+    if (sflight_finish(&job->slot, load * KEYS + number, &got) != SFLIGHT_DONE) job->strange++;
     atomic_store(&settled_at[load], atomic_fetch_add(&ticks, 1));
-    if (sflight_joined(&job->slot, &count) != SFLIGHT_DONE || count != (uint64_t)joiners + with_second) job->strange++;
-    atomic_store(&joined_of[load], joiners);
+    if (sflight_joined(&job->slot, &count) != SFLIGHT_DONE || count != (uint64_t)got.joiners + with_second) job->strange++;
+    if (got.value != load * KEYS + number || !same(&got.stamp, &asked)) job->strange++;
+    job->answer = got.stamp;
+    atomic_store(&joined_of[load], got.joiners);
     atomic_fetch_add(&joins, -(unsigned long long)count);
     return load;
 }
@@ -483,38 +502,39 @@ static unsigned long long lead(struct job *job, unsigned number, bool with_secon
 static bool get_once(struct job *job, unsigned number, const char *key) {
     unsigned long long forgotten = atomic_load(&forgotten_at[number]), before = atomic_fetch_add(&ticks, 1), load = 0;
     bool with_second = draw(&job->seed) % 8 == 0;
-    uint32_t joiners = 9;
+    sflight_answer got = {0, 9, {0}};
     sflight_slot *waits = with_second ? &job->second : &job->slot;
-    uint64_t value = 0;
     uint32_t code;
     do {
         code = with_second ? ask_chan(&job->slot, &job->second, key, 64) : ask(&job->slot, key, 64);
     } while (code == SFLIGHT_BUSY);
-    if (code == SFLIGHT_LEADS) load = lead(job, number, with_second);
+    if (code == SFLIGHT_LED) load = lead(job, number, with_second);
     else if (code != SFLIGHT_JOINED) job->strange++;
     if (code == SFLIGHT_JOINED || with_second) {
         bool joined = code == SFLIGHT_JOINED;
-        while ((code = sflight_poll(waits, &value, &joiners)) == SFLIGHT_NOT_YET) sched_yield();
+        while ((code = sflight_poll(waits, &got)) == SFLIGHT_PENDING) sched_yield();
         atomic_fetch_add(&joins, 1);
-        if (joined) atomic_fetch_add(&got_of[value / KEYS], 1);
-        if (code == SFLIGHT_OTHER) {
-            if (!joined || value % KEYS == number || joiners != 9) job->strange++;
+        if (joined) atomic_fetch_add(&got_of[got.value / KEYS], 1);
+        if (code == SFLIGHT_OTHER_KEY) {
+            if (!joined || got.value % KEYS == number || got.joiners != 9) job->strange++;
             atomic_fetch_add(&others_met, 1);
             return false;
         }
-        if (code != SFLIGHT_DONE || value % KEYS != number || (joined ? joiners == 0 : value / KEYS != load)) job->strange++;
-        load = value / KEYS;
+        if (code != SFLIGHT_DONE || got.value % KEYS != number || (joined ? got.joiners == 0 : got.value / KEYS != load)) job->strange++;
+        if (!same(&got.stamp, &asked)) job->strange++;
+        load = got.value / KEYS;
+        job->answer = got.stamp;
         if (joined) {
             atomic_fetch_add(&own_of[load], 1);
-            atomic_fetch_add(&told_of[load], joiners);
-        } else if (joiners != atomic_load(&joined_of[load])) job->strange++;
+            atomic_fetch_add(&told_of[load], got.joiners);
+        } else if (got.joiners != atomic_load(&joined_of[load])) job->strange++;
     }
     /* The call was open when this asked: it was settled later, if that is noted yet, and its load ended after each Forget before. */
     unsigned long long settled = atomic_load(&settled_at[load]);
     if (settled != 0 && settled < before) job->closed++;
     if (load < forgotten) job->old++;
     if (!with_second) {
-        if (sflight_stamp(&job->slot, job->kept[number].stamp) != SFLIGHT_DONE) job->strange++;
+        job->kept[number].stamp = job->answer;
         job->kept[number].load = load;
         job->kept[number].has = true;
     }
@@ -525,9 +545,7 @@ static void get(struct job *job, unsigned number, const char *key) {
     atomic_fetch_add(&gets, 1);
     if (job->kept[number].has && draw(&job->seed) % 2 == 0) {
         unsigned long long forgotten = atomic_load(&forgotten_at[number]);
-        uint32_t code = sflight_is_still(&job->slot, job->kept[number].stamp);
-        if (code != SFLIGHT_YES && code != SFLIGHT_NO) job->strange++;
-        if (code == SFLIGHT_YES) {
+        if (sflight_is_still(&job->slot, &job->kept[number].stamp)) {
             atomic_fetch_add(&still, 1);
             if (job->kept[number].load < forgotten) job->stale++;
         }
@@ -550,7 +568,7 @@ static void *run(void *at) {
             unsigned long long now = atomic_load(&clock_now);
             uint32_t code;
             while ((code = forget(&job->slot, key, 64)) == SFLIGHT_BUSY) {}
-            if (code != SFLIGHT_DONE && code != SFLIGHT_NONE_OPEN) job->strange++;
+            if (code != SFLIGHT_DONE && code != SFLIGHT_NOTHING) job->strange++;
             unsigned long long was = atomic_load(&forgotten_at[number]);
             while (was < now && !atomic_compare_exchange_weak(&forgotten_at[number], &was, now)) {}
             atomic_fetch_add(&forgets, 1);
@@ -609,23 +627,34 @@ static void threads(uint32_t places) {
     check(places == 1 || atomic_load(&still) > 0, "some answers are current still");
 }
 
-/* Which call: of a leader, of who joined, and of a last letter. */
+/* Which call: of a leader, of who joined, and of an answer. */
 static void calls(void) {
     sflight_slot a = SFLIGHT_SLOT_NONE, b = SFLIGHT_SLOT_NONE;
-    uint64_t value = 7;
-    uint32_t joiners = 9, first = 0, second = 0, caller = 0, generation = 0;
+    sflight_answer got = {7, 9, {0}};
+    uint32_t first = 0, second = 0, number = 77;
     check(open_wide(&a, 2) == SFLIGHT_DONE && sflight_split(&a, &b) == SFLIGHT_DONE, "open for calls");
     check(sflight_number(&a, &first) == SFLIGHT_DONE && sflight_number(&b, &second) == SFLIGHT_DONE && first + second == 3 && first * second == 2, "numbers");
-    check(sflight_call(&a, &caller, &generation) == SFLIGHT_NOTHING_LEFT && caller == 0 && generation == 0, "no call yet");
-    check(ask(&a, "k", 1) == SFLIGHT_LEADS && sflight_call(&a, &caller, &generation) == SFLIGHT_DONE && caller == first && generation == 1, "the leader's");
-    check(sflight_number(&a, &caller) == SFLIGHT_WRONG_STATE && caller == first, "a leader tells no number");
-    check(ask(&b, "k", 1) == SFLIGHT_JOINED && sflight_call(&b, &caller, &generation) == SFLIGHT_DONE && caller == first && generation == 1, "the call that it joined");
-    check(sflight_finish(&a, 1, &joiners) == SFLIGHT_DONE && sflight_poll(&b, &value, &joiners) == SFLIGHT_DONE, "settled");
-    check(ask(&a, "k", 1) == SFLIGHT_LEADS && sflight_call(&a, &caller, &generation) == SFLIGHT_DONE && caller == first && generation == 2, "the next one");
-    check(sflight_call(&b, &caller, &generation) == SFLIGHT_DONE && caller == first && generation == 1, "that of the last letter");
-    check(sflight_give_up(&a) == SFLIGHT_DONE && sflight_call(&a, &caller, &generation) == SFLIGHT_NOTHING_LEFT, "none that was given up");
+    check(ask(&a, "k", 1) == SFLIGHT_LED && asked.caller == first && asked.generation == 1, "the leader's");
+    check(sflight_number(&a, &number) == SFLIGHT_WRONG_STATE && number == 77, "a leader tells no number");
+    check(ask(&b, "k", 1) == SFLIGHT_JOINED && asked.caller == first && asked.generation == 1, "the call that it joined");
+    check(sflight_finish(&a, 1, &got) == SFLIGHT_DONE && got.value == 1 && got.stamp.caller == first, "settled");
+    check(sflight_poll(&b, &got) == SFLIGHT_DONE && got.stamp.caller == first && got.stamp.generation == 1, "joined");
+    check(ask(&a, "k", 1) == SFLIGHT_LED && asked.caller == first && asked.generation == 2, "the next one");
+    check(ask_chan(&a, &b, "k", 1) == SFLIGHT_WRONG_STATE && asked.generation == 2, "a refusal writes none");
+    check(sflight_finish(&a, 2, &got) == SFLIGHT_DONE && ask_chan(&a, &b, "k", 1) == SFLIGHT_LED, "with an own channel");
+    check(asked.caller == first && asked.generation == 3, "its call");
+    check(sflight_finish(&a, 3, &got) == SFLIGHT_DONE && sflight_poll(&b, &got) == SFLIGHT_DONE && same(&got.stamp, &asked), "and its answers");
     sflight_close(&a);
     sflight_close(&b);
+}
+
+/* Each code has a sentence of its own. */
+static void sentences(void) {
+    for (uint32_t code = 0; code <= SFLIGHT_NO_CALLER; code++) {
+        check(strlen(sflight_strerror(code)) > 3, "a code has a sentence");
+        for (uint32_t other = 0; other < code; other++) check(strcmp(sflight_strerror(code), sflight_strerror(other)) != 0, "of its own");
+    }
+    check(strcmp(sflight_strerror(SFLIGHT_NO_CALLER + 1), sflight_strerror(UINT32_MAX)) == 0, "what is no code");
 }
 
 int main(void) {
@@ -643,6 +672,7 @@ int main(void) {
     long_keys();
     stamps();
     taken_back();
+    sentences();
     threads(1);
     threads(16);
     threads(4096);

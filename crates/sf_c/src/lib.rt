@@ -11,10 +11,12 @@
 //! looks at whether the second is open before it takes the state out of the first.
 #![tactic(auto)]
 
-ghost use Rattle.std.specs.Prelude.{◌≡◌, ◌≢◌, ◌↔◌, ◌⊎◌, true, false};
+ghost use Rattle.std.specs.Prelude.{◌≡◌, ◌≢◌, ◌↔◌, ◌⊎◌, true, false, IfOk, IfErr};
+ghost use Rattle.sf_c.specs.Numbers.{IsNumber};
 ghost use Rattle.sf_group_rows.specs.Notes.{HasGrown};
-ghost use Rattle.sf_c_slots.specs.Rows.{AreSizes, HasOpened, HasSplit, HasTakenBack, HasAskedKey, HasAskedChanKey, HasForgotKey, HasFinishedPart, HasGoneOnPart, HasPolledPart, HasQuestionedPart, HasToldNote, HasNotTold, HasLearntNote, HasGivenUp, HasCounted, HasCalled, HasNumbered, MarksOwn, HasGivenKey, KeepsGroup, KeepsLetter, KeepsKey, AreBeside, ArePlacesOfOne, call_in};
+ghost use Rattle.sf_c_slots.specs.Rows.{AreSizes, HasOpened, HasSplit, HasTakenBack, HasAskedKey, HasAskedChanKey, HasForgotKey, HasFinishedPart, HasGoneOnPart, HasPolledPart, HasQuestionedPart, HasToldNote, HasNotTold, HasLearntNote, HasGivenUp, HasCounted, HasNumbered, IsNotSplit, MarksLed, MarksDone, HasGivenKey, KeepsGroup, KeepsLetter, KeepsKey, AreBeside, ArePlacesOfOne};
 
+mod codes;
 mod handle;
 mod loose;
 mod note_handle;
@@ -23,14 +25,19 @@ mod one_call;
 mod slot;
 mod stamps;
 
+use codes::to_number;
+pub use codes::{
+    BAD_NUMBER, BUSY, CLEARED, DONE, JOINED, LED, NO_CALLER, NO_MEMORY, NOT_OPEN, NOTHING,
+    OTHER_KEY, OWES, PENDING, SPENT, WRONG_STATE,
+};
 pub use handle::Handle;
 pub use note_handle::NoteHandle;
 pub use note_slot::NoteSlot;
 pub use one_call::{sflight_forget_call, sflight_named};
-use sf_c_slots::{BAD_NUMBER, DONE, NOT_OPEN, NOTHING_LEFT, State, WRONG_STATE};
+use sf_c_slots::{Answer, Code, NoteState, Stamp, State};
 use sf_group::{MOST_CALLERS, MOST_PLACES};
 pub use slot::Slot;
-pub use stamps::{sflight_is_still, sflight_stamp};
+pub use stamps::sflight_is_still;
 use std::alloc::Global;
 
 // Whether a group may be so large.
@@ -57,7 +64,7 @@ pub extern "C" fn sflight_open(
     ensures sizes { result ≢ BAD_NUMBER ↔ AreSizes places callers }
     ensures twice { AreSizes places callers → (result ≡ WRONG_STATE ↔ slot.old.live ≡ true) }
     ensures codes { (result ≡ DONE) ⊎ (result ≡ BAD_NUMBER) ⊎ (result ≡ WRONG_STATE)
-        ⊎ (result ≡ NOTHING_LEFT) }
+        ⊎ (result ≡ NO_MEMORY) }
 {
     if !are_sizes(places, callers) {
         return BAD_NUMBER;
@@ -66,10 +73,10 @@ pub extern "C" fn sflight_open(
         return WRONG_STATE;
     }
     let Ok(state) = State::open(alloc, places, callers, seed0, seed1) else {
-        return NOTHING_LEFT;
+        return NO_MEMORY;
     };
     let Ok(state) = Box::new(alloc, state) else {
-        return NOTHING_LEFT;
+        return NO_MEMORY;
     };
     slot.put(state);
     DONE
@@ -85,6 +92,8 @@ pub extern "C" fn sflight_split(slot: &mut Slot, alloc: Global, other: &mut Slot
     ensures refused { result ≢ DONE → (other.new ≡ other.old)
         × (slot.old.live ≡ true → slot.new.handle.state ≡ slot.old.handle.state) }
     ensures twice { slot.old.live ≡ true → (result ≡ WRONG_STATE ↔ other.old.live ≡ true) }
+    ensures none { slot.old.live ≡ true → other.old.live ≡ false → result ≢ DONE
+        → IsNumber (IsNotSplit slot.old.handle.state) result }
 {
     if slot.live && other.live {
         return WRONG_STATE;
@@ -94,11 +103,13 @@ pub extern "C" fn sflight_split(slot: &mut Slot, alloc: Global, other: &mut Slot
     };
     let made = state.split(alloc);
     slot.put(state);
-    let Some(made) = made else {
-        return NOTHING_LEFT;
-    };
-    other.put(made);
-    DONE
+    match made {
+        Ok(made) => {
+            other.put(made);
+            DONE
+        }
+        Err(code) => to_number(code),
+    }
 }
 
 /// Closes the other slot, and keeps its caller, which is free and of the slot's group, for a further one.
@@ -115,7 +126,8 @@ pub extern "C" fn sflight_take_back(slot: &mut Slot, alloc: Global, other: &mut 
     ensures unchanged { result ≡ NOT_OPEN → slot.old.live ≡ true
         → slot.new.handle.state ≡ slot.old.handle.state }
     ensures row { slot.old.live ≡ true → other.old.live ≡ true
-        → HasTakenBack slot.old.handle.state other.old.handle.state slot.new.handle.state result }
+        → IsNumber (HasTakenBack slot.old.handle.state other.old.handle.state
+        slot.new.handle.state) result }
 {
     if !other.live {
         return NOT_OPEN;
@@ -130,35 +142,43 @@ pub extern "C" fn sflight_take_back(slot: &mut Slot, alloc: Global, other: &mut 
     };
     let code = state.take_back(&mut second);
     slot.put(state);
-    if code == DONE {
+    if code == Code::Done {
         drop(second);
     } else {
         other.put(second);
     }
-    code
+    to_number(code)
 }
 
-/// The slot's caller asks for the key: it leads a new call, or it waits for the letter of the open one.
+/// The slot's caller asks for the key: it leads a new call, or it waits for the answer of the open one. The stamp of that call
+/// is written.
 #[unsafe(no_mangle)]
-pub extern "C" fn sflight_ask(slot: &mut Slot, alloc: Global, key: &[u8], tries: u32) -> u32
+pub extern "C" fn sflight_ask(
+    slot: &mut Slot,
+    alloc: Global,
+    key: &[u8],
+    tries: u32,
+    stamp: &mut Stamp,
+) -> u32
     ensures kept { slot.new.live ≡ slot.old.live }
     ensures closed { result ≡ NOT_OPEN ↔ slot.old.live ≡ false }
+    ensures unwritten { result ≡ NOT_OPEN → stamp.new ≡ stamp.old }
     ensures state { slot.old.live ≡ true → KeepsLetter slot.old.handle.state slot.new.handle.state }
-    ensures own { slot.old.live ≡ true
-        → MarksOwn result false slot.old.handle.state.own slot.new.handle.state.own }
     ensures row { slot.old.live ≡ true
-        → HasAskedKey slot.old.handle.state key.now tries slot.new.handle.state result }
+        → IsNumber (λ code. HasAskedKey slot.old.handle.state key.now tries slot.new.handle.state
+        code stamp.old stamp.new
+        × MarksLed code false slot.old.handle.state.own slot.new.handle.state.own) result }
 {
     let Some(mut state) = slot.take(alloc) else {
         return NOT_OPEN;
     };
-    let code = state.ask(alloc, key, tries);
+    let code = state.ask(alloc, key, tries, stamp);
     slot.put(state);
-    code
+    to_number(code)
 }
 
 /// The slot's caller asks for the key for the other slot's: it leads a new call, and the other waits on the leader's own
-/// channel; or the other joins the open one, and it is free still.
+/// channel; or the other joins the open one, and it is free still. The stamp of that call is written.
 #[unsafe(no_mangle)]
 pub extern "C" fn sflight_ask_chan(
     slot: &mut Slot,
@@ -166,6 +186,7 @@ pub extern "C" fn sflight_ask_chan(
     other: &mut Slot,
     key: &[u8],
     tries: u32,
+    stamp: &mut Stamp,
 ) -> u32
     requires group { slot.old.live ≡ true → other.old.live ≡ true
         → AreBeside slot.old.handle.state other.old.handle.state
@@ -174,16 +195,16 @@ pub extern "C" fn sflight_ask_chan(
     ensures closed { result ≡ NOT_OPEN ↔ ((slot.old.live ≡ false) ⊎ (other.old.live ≡ false)) }
     ensures unchanged { result ≡ NOT_OPEN
         → (slot.old.live ≡ true → slot.new.handle.state ≡ slot.old.handle.state)
-        × (other.old.live ≡ true → other.new.handle.state ≡ other.old.handle.state) }
+        × (other.old.live ≡ true → other.new.handle.state ≡ other.old.handle.state)
+        × (stamp.new ≡ stamp.old) }
     ensures state { slot.old.live ≡ true → KeepsLetter slot.old.handle.state slot.new.handle.state }
-    ensures own { slot.old.live ≡ true → other.old.live ≡ true
-        → MarksOwn result true slot.old.handle.state.own slot.new.handle.state.own }
     ensures other { other.old.live ≡ true
         → KeepsLetter other.old.handle.state other.new.handle.state
         × (other.new.handle.state.own ≡ other.old.handle.state.own) }
     ensures row { slot.old.live ≡ true → other.old.live ≡ true
-        → HasAskedChanKey slot.old.handle.state other.old.handle.state key.now tries
-        slot.new.handle.state other.new.handle.state result }
+        → IsNumber (λ code. HasAskedChanKey slot.old.handle.state other.old.handle.state key.now
+        tries slot.new.handle.state other.new.handle.state code stamp.old stamp.new
+        × MarksLed code true slot.old.handle.state.own slot.new.handle.state.own) result }
 {
     if !other.live {
         return NOT_OPEN;
@@ -196,10 +217,10 @@ pub extern "C" fn sflight_ask_chan(
         slot.put(state);
         return WRONG_STATE;
     };
-    let code = state.ask_chan(alloc, &mut second, key, tries);
+    let code = state.ask_chan(alloc, &mut second, key, tries, stamp);
     slot.put(state);
     other.put(second);
-    code
+    to_number(code)
 }
 
 /// The slot's caller, which is free, closes the key's open call, so that whoever asks later gets a new one.
@@ -211,93 +232,97 @@ pub extern "C" fn sflight_forget(slot: &mut Slot, alloc: Global, key: &[u8], tri
         × KeepsLetter slot.old.handle.state slot.new.handle.state
         × (slot.new.handle.state.own ≡ slot.old.handle.state.own) }
     ensures row { slot.old.live ≡ true
-        → HasForgotKey slot.old.handle.state key.now tries slot.new.handle.state result }
+        → IsNumber (HasForgotKey slot.old.handle.state key.now tries slot.new.handle.state) result }
 {
     let Some(mut state) = slot.take(alloc) else {
         return NOT_OPEN;
     };
     let code = state.forget(key, tries);
     slot.put(state);
-    code
+    to_number(code)
 }
 
-/// The slot's caller settles the call that it leads, and hands the letters out.
+/// The slot's caller settles the call that it leads, and hands the answers out. What its own says is written.
 #[unsafe(no_mangle)]
-pub extern "C" fn sflight_finish(slot: &mut Slot, alloc: Global, value: u64, joiners: &mut u32) -> u32
+pub extern "C" fn sflight_finish(
+    slot: &mut Slot,
+    alloc: Global,
+    value: u64,
+    answer: &mut Answer,
+) -> u32
     ensures kept { slot.new.live ≡ slot.old.live }
     ensures closed { result ≡ NOT_OPEN ↔ slot.old.live ≡ false }
-    ensures unwritten { result ≡ NOT_OPEN → joiners.new ≡ joiners.old }
+    ensures unwritten { result ≡ NOT_OPEN → answer.new ≡ answer.old }
     ensures state { slot.old.live ≡ true → KeepsGroup slot.old.handle.state slot.new.handle.state
         × (slot.new.handle.state.own ≡ slot.old.handle.state.own) }
-    ensures own { slot.old.live ≡ true → MarksOwn result slot.old.handle.state.own
-        slot.old.handle.state.last_own slot.new.handle.state.last_own }
-    ensures asked { slot.old.live ≡ true
-        → HasGivenKey result slot.old.handle.state.asked slot.new.handle.state.asked }
     ensures row { slot.old.live ≡ true
-        → HasFinishedPart slot.old.handle.state.part value slot.old.handle.state.asked
-        slot.new.handle.state.part result joiners.old joiners.new slot.old.handle.state.last
-        slot.new.handle.state.last }
+        → IsNumber (λ code. HasFinishedPart slot.old.handle.state.part value
+        slot.old.handle.state.asked slot.new.handle.state.part code answer.old answer.new
+        slot.old.handle.state.last slot.new.handle.state.last
+        × HasGivenKey code slot.old.handle.state.asked slot.new.handle.state.asked
+        × MarksDone code slot.old.handle.state.own slot.old.handle.state.last_own
+        slot.new.handle.state.last_own) result }
 {
     let Some(mut state) = slot.take(alloc) else {
         return NOT_OPEN;
     };
-    let code = state.finish(value, joiners);
+    let code = state.finish(value, answer);
     slot.put(state);
-    code
+    to_number(code)
 }
 
 /// Goes on with a delivery that stands still.
 #[unsafe(no_mangle)]
-pub extern "C" fn sflight_go_on(slot: &mut Slot, alloc: Global, joiners: &mut u32) -> u32
+pub extern "C" fn sflight_go_on(slot: &mut Slot, alloc: Global, answer: &mut Answer) -> u32
     ensures kept { slot.new.live ≡ slot.old.live }
     ensures closed { result ≡ NOT_OPEN ↔ slot.old.live ≡ false }
-    ensures unwritten { result ≡ NOT_OPEN → joiners.new ≡ joiners.old }
+    ensures unwritten { result ≡ NOT_OPEN → answer.new ≡ answer.old }
     ensures state { slot.old.live ≡ true → KeepsKey slot.old.handle.state slot.new.handle.state
         × (slot.new.handle.state.own ≡ slot.old.handle.state.own) }
-    ensures own { slot.old.live ≡ true → MarksOwn result slot.old.handle.state.own
-        slot.old.handle.state.last_own slot.new.handle.state.last_own }
     ensures row { slot.old.live ≡ true
-        → HasGoneOnPart slot.old.handle.state.part slot.new.handle.state.part result joiners.old
-        joiners.new slot.old.handle.state.last slot.new.handle.state.last }
+        → IsNumber (λ code. HasGoneOnPart slot.old.handle.state.part slot.new.handle.state.part code
+        answer.old answer.new slot.old.handle.state.last slot.new.handle.state.last
+        × MarksDone code slot.old.handle.state.own slot.old.handle.state.last_own
+        slot.new.handle.state.last_own) result }
 {
     let Some(mut state) = slot.take(alloc) else {
         return NOT_OPEN;
     };
-    let code = state.go_on(joiners);
+    let code = state.go_on(answer);
     slot.put(state);
-    code
+    to_number(code)
 }
 
-/// Looks once for the letter that the slot's caller waits for, and whether it is of the key that it asked for.
+/// Looks once for the answer that the slot's caller waits for, and whether it is of the key that it asked for.
 #[unsafe(no_mangle)]
-pub extern "C" fn sflight_poll(slot: &mut Slot, alloc: Global, value: &mut u64, joiners: &mut u32) -> u32
+pub extern "C" fn sflight_poll(slot: &mut Slot, alloc: Global, answer: &mut Answer) -> u32
     ensures kept { slot.new.live ≡ slot.old.live }
     ensures closed { result ≡ NOT_OPEN ↔ slot.old.live ≡ false }
-    ensures unwritten { result ≡ NOT_OPEN → (value.new ≡ value.old) × (joiners.new ≡ joiners.old) }
+    ensures unwritten { result ≡ NOT_OPEN → answer.new ≡ answer.old }
     ensures state { slot.old.live ≡ true → KeepsKey slot.old.handle.state slot.new.handle.state
         × (slot.new.handle.state.own ≡ slot.old.handle.state.own) }
-    ensures own { slot.old.live ≡ true
-        → MarksOwn result false slot.old.handle.state.last_own
-        slot.new.handle.state.last_own }
     ensures row { slot.old.live ≡ true
-        → HasPolledPart slot.old.handle.state.part slot.old.handle.state.asked
-        slot.new.handle.state.part result value.old value.new joiners.old joiners.new
-        slot.old.handle.state.last slot.new.handle.state.last }
+        → IsNumber (λ code. HasPolledPart slot.old.handle.state.part slot.old.handle.state.asked
+        slot.new.handle.state.part code answer.old answer.new slot.old.handle.state.last
+        slot.new.handle.state.last
+        × MarksDone code false slot.old.handle.state.last_own slot.new.handle.state.last_own)
+        result }
 {
     let Some(mut state) = slot.take(alloc) else {
         return NOT_OPEN;
     };
-    let code = state.poll(value, joiners);
+    let code = state.poll(answer);
     slot.put(state);
-    code
+    to_number(code)
 }
 
-/// Whether the call of the letter that the slot had last, by a poll or by settling, is its place's current one still: no
-/// Forget has closed it, and no call has followed it.
+/// Whether the call of the answer that the slot had last, by a poll or by settling, is its place's current one still: no
+/// Forget has closed it, and no call has followed it. The answer is no where the slot had none, is not open, or its caller is
+/// not free.
 #[unsafe(no_mangle)]
-pub extern "C" fn sflight_is_current(slot: &mut Slot, alloc: Global) -> u32
+pub extern "C" fn sflight_is_current(slot: &mut Slot, alloc: Global) -> bool
     ensures kept { slot.new.live ≡ slot.old.live }
-    ensures closed { result ≡ NOT_OPEN ↔ slot.old.live ≡ false }
+    ensures closed { slot.old.live ≡ false → result ≡ false }
     ensures state { slot.old.live ≡ true → KeepsKey slot.old.handle.state slot.new.handle.state
         × (slot.new.handle.state.own ≡ slot.old.handle.state.own)
         × (slot.new.handle.state.last_own ≡ slot.old.handle.state.last_own) }
@@ -306,14 +331,14 @@ pub extern "C" fn sflight_is_current(slot: &mut Slot, alloc: Global) -> u32
         slot.new.handle.state.part slot.new.handle.state.last result }
 {
     let Some(mut state) = slot.take(alloc) else {
-        return NOT_OPEN;
+        return false;
     };
-    let code = state.is_current();
+    let yes = state.is_current();
     slot.put(state);
-    code
+    yes
 }
 
-/// How many others have the value of the letter that the slot had last: as many as joined its call, and one more where the
+/// How many others have the value of the answer that the slot had last: as many as joined its call, and one more where the
 /// slot settled that and another holds its own channel.
 #[unsafe(no_mangle)]
 pub extern "C" fn sflight_joined(slot: &mut Slot, alloc: Global, count: &mut u64) -> u32
@@ -322,41 +347,15 @@ pub extern "C" fn sflight_joined(slot: &mut Slot, alloc: Global, count: &mut u64
     ensures state { slot.old.live ≡ true → slot.new.handle.state ≡ slot.old.handle.state }
     ensures unwritten { result ≡ NOT_OPEN → count.new ≡ count.old }
     ensures row { slot.old.live ≡ true
-        → HasCounted slot.old.handle.state.last slot.old.handle.state.last_own result count.old
-        count.new }
+        → IsNumber (λ code. HasCounted slot.old.handle.state.last slot.old.handle.state.last_own code
+        count.old count.new) result }
 {
     let Some(state) = slot.take(alloc) else {
         return NOT_OPEN;
     };
     let code = state.joined(count);
     slot.put(state);
-    code
-}
-
-/// Which call the slot's caller leads or waits for, by its leader's number and generation; or where the caller is free, the
-/// call of the letter that it had last.
-#[unsafe(no_mangle)]
-pub extern "C" fn sflight_call(
-    slot: &mut Slot,
-    alloc: Global,
-    caller: &mut u32,
-    generation: &mut u32,
-) -> u32
-    ensures kept { slot.new.live ≡ slot.old.live }
-    ensures closed { result ≡ NOT_OPEN ↔ slot.old.live ≡ false }
-    ensures state { slot.old.live ≡ true → slot.new.handle.state ≡ slot.old.handle.state }
-    ensures unwritten { result ≡ NOT_OPEN → (caller.new ≡ caller.old)
-        × (generation.new ≡ generation.old) }
-    ensures row { slot.old.live ≡ true
-        → HasCalled (call_in slot.old.handle.state.part slot.old.handle.state.last) result
-        caller.old caller.new generation.old generation.new }
-{
-    let Some(state) = slot.take(alloc) else {
-        return NOT_OPEN;
-    };
-    let code = state.call(caller, generation);
-    slot.put(state);
-    code
+    to_number(code)
 }
 
 /// The number of the slot's caller, which is free: each caller of a group has its own.
@@ -367,14 +366,28 @@ pub extern "C" fn sflight_number(slot: &mut Slot, alloc: Global, number: &mut u3
     ensures state { slot.old.live ≡ true → slot.new.handle.state ≡ slot.old.handle.state }
     ensures unwritten { result ≡ NOT_OPEN → number.new ≡ number.old }
     ensures row { slot.old.live ≡ true
-        → HasNumbered slot.old.handle.state.part result number.old number.new }
+        → IsNumber (λ code. HasNumbered slot.old.handle.state.part code number.old number.new)
+        result }
 {
     let Some(state) = slot.take(alloc) else {
         return NOT_OPEN;
     };
     let code = state.number(number);
     slot.put(state);
-    code
+    to_number(code)
+}
+
+// A note on the heap that shows what the caller of the state has seen.
+fn boxed_note(state: &mut State, alloc: Global) -> Result<Box<NoteState, Global>, Code>
+    ensures same { state.new ≡ state.old }
+    ensures told { IfOk result (λ told. HasToldNote state.old told.value) }
+    ensures refused { IfErr result (λ code. HasNotTold state.old code) }
+{
+    let told = state.tell()?;
+    match Box::new(alloc, told) {
+        Ok(told) => Ok(told),
+        Err(_) => Err(Code::NoMemory),
+    }
 }
 
 /// Puts what the slot's caller, which is free, has seen into the note, in place of what that showed.
@@ -386,23 +399,22 @@ pub extern "C" fn sflight_tell(slot: &mut Slot, alloc: Global, note: &mut NoteSl
     ensures told { result ≡ DONE → (note.new.live ≡ true)
         × HasToldNote slot.old.handle.state note.new.handle.note }
     ensures refused { result ≢ DONE → note.new ≡ note.old }
-    ensures code { slot.old.live ≡ true → result ≢ DONE → HasNotTold slot.old.handle.state result }
+    ensures code { slot.old.live ≡ true → result ≢ DONE
+        → IsNumber (HasNotTold slot.old.handle.state) result }
 {
     let Some(mut state) = slot.take(alloc) else {
         return NOT_OPEN;
     };
-    let told = state.tell();
+    let told = boxed_note(&mut state, alloc);
     slot.put(state);
-    let told = match told {
-        Ok(told) => told,
-        Err(code) => return code,
-    };
-    let Ok(told) = Box::new(alloc, told) else {
-        return NOTHING_LEFT;
-    };
-    drop(note.take(alloc));
-    note.put(told);
-    DONE
+    match told {
+        Ok(told) => {
+            drop(note.take(alloc));
+            note.put(told);
+            DONE
+        }
+        Err(code) => to_number(code),
+    }
 }
 
 /// The slot's caller, which is free or leads, has then seen what the note shows: no answer that a Forget closed of which the
@@ -423,8 +435,8 @@ pub extern "C" fn sflight_learn(slot: &mut Slot, alloc: Global, note: &mut NoteS
         → HasGrown note.old.handle.note.note note.new.handle.note.note
         × (note.new.handle.note.places ≡ note.old.handle.note.places) }
     ensures row { slot.old.live ≡ true → note.old.live ≡ true
-        → HasLearntNote slot.old.handle.state note.old.handle.note slot.new.handle.state.part
-        result }
+        → IsNumber (HasLearntNote slot.old.handle.state note.old.handle.note
+        slot.new.handle.state.part) result }
 {
     let Some(mut state) = slot.take(alloc) else {
         return NOT_OPEN;
@@ -436,7 +448,7 @@ pub extern "C" fn sflight_learn(slot: &mut Slot, alloc: Global, note: &mut NoteS
     let code = state.learn(&mut told);
     slot.put(state);
     note.put(told);
-    code
+    to_number(code)
 }
 
 /// Lets a note go.
@@ -447,7 +459,7 @@ pub extern "C" fn sflight_drop_note(note: &mut NoteSlot, alloc: Global)
     drop(note.take(alloc));
 }
 
-/// Gives up for good what the slot's caller has open: a call that it leads, a letter that it waits for, or letters that it
+/// Gives up for good what the slot's caller has open: a call that it leads, an answer that it waits for, or answers that it
 /// owes. The slot may only be closed then, or split.
 #[unsafe(no_mangle)]
 pub extern "C" fn sflight_give_up(slot: &mut Slot, alloc: Global) -> u32
@@ -457,14 +469,14 @@ pub extern "C" fn sflight_give_up(slot: &mut Slot, alloc: Global) -> u32
         × KeepsLetter slot.old.handle.state slot.new.handle.state
         × (slot.new.handle.state.own ≡ slot.old.handle.state.own) }
     ensures row { slot.old.live ≡ true
-        → HasGivenUp slot.old.handle.state.part slot.new.handle.state.part result }
+        → IsNumber (HasGivenUp slot.old.handle.state.part slot.new.handle.state.part) result }
 {
     let Some(mut state) = slot.take(alloc) else {
         return NOT_OPEN;
     };
     let code = state.give_up();
     slot.put(state);
-    code
+    to_number(code)
 }
 
 /// Closes the slot, and gives up what its caller has open. The last slot of a group frees that.

@@ -1,21 +1,21 @@
 //! The exports for Forgets of one call, and which call a key names.
 ghost use Rattle.std.specs.Prelude.{◌≡◌, ◌↔◌, true, false};
-ghost use Rattle.sf_c_slots.specs.OneCall.{HasForgotCallKey, HasNamedKey};
+ghost use Rattle.sf_c.specs.Numbers.{IsNumber};
+ghost use Rattle.sf_c_slots.specs.OneCall.{HasForgotStamp, HasNamedKey};
 ghost use Rattle.sf_c_slots.specs.Rows.{KeepsLetter, KeepsKey};
 
+use crate::codes::{NOT_OPEN, to_number};
 use crate::slot::Slot;
-use sf_c_slots::NOT_OPEN;
-use sf_group::CallId;
+use sf_c_slots::Stamp;
 use std::alloc::Global;
 
-/// The slot's caller, which is free, forgets this call of the key, and leaves a newer one as it is.
+/// The slot's caller, which is free, forgets the stamp's call, and leaves a newer one of its place as it is. A stamp of no
+/// place of the group has nothing to forget.
 #[unsafe(no_mangle)]
 pub extern "C" fn sflight_forget_call(
     slot: &mut Slot,
     alloc: Global,
-    key: &[u8],
-    caller: u32,
-    generation: u32,
+    stamp: &Stamp,
     tries: u32,
 ) -> u32
     ensures kept { slot.new.live ≡ slot.old.live }
@@ -24,49 +24,40 @@ pub extern "C" fn sflight_forget_call(
         × KeepsLetter slot.old.handle.state slot.new.handle.state
         × (slot.new.handle.state.own ≡ slot.old.handle.state.own) }
     ensures row { slot.old.live ≡ true
-        → HasForgotCallKey slot.old.handle.state key.now
-        (record { caller = caller; generation = generation }) tries slot.new.handle.state
+        → IsNumber (HasForgotStamp slot.old.handle.state stamp.now tries slot.new.handle.state)
         result }
 {
     let Some(mut state) = slot.take(alloc) else {
         return NOT_OPEN;
     };
-    let code = state.forget_call(key, CallId { caller, generation }, tries);
+    let code = state.forget_call(stamp, tries);
     slot.put(state);
-    code
+    to_number(code)
 }
 
-/// Which call the key names, for a Forget of that call alone: the one that was led last. The slot's caller is free.
+/// The stamp of the call that the key's place names, for a Forget of that call alone: the one that was led last there. The
+/// slot's caller is free.
 #[unsafe(no_mangle)]
 pub extern "C" fn sflight_named(
     slot: &mut Slot,
     alloc: Global,
     key: &[u8],
-    caller: &mut u32,
-    generation: &mut u32,
+    stamp: &mut Stamp,
 ) -> u32
     ensures kept { slot.new.live ≡ slot.old.live }
     ensures closed { result ≡ NOT_OPEN ↔ slot.old.live ≡ false }
-    ensures unwritten { result ≡ NOT_OPEN → (caller.new ≡ caller.old)
-        × (generation.new ≡ generation.old) }
+    ensures unwritten { result ≡ NOT_OPEN → stamp.new ≡ stamp.old }
     ensures state { slot.old.live ≡ true → KeepsKey slot.old.handle.state slot.new.handle.state
         × KeepsLetter slot.old.handle.state slot.new.handle.state
         × (slot.new.handle.state.own ≡ slot.old.handle.state.own) }
     ensures row { slot.old.live ≡ true
-        → HasNamedKey slot.old.handle.state key.now slot.new.handle.state
-        (record { caller = caller.old; generation = generation.old })
-        (record { caller = caller.new; generation = generation.new }) result }
+        → IsNumber (HasNamedKey slot.old.handle.state key.now slot.new.handle.state stamp.old
+        stamp.new) result }
 {
     let Some(mut state) = slot.take(alloc) else {
         return NOT_OPEN;
     };
-    let mut call = CallId {
-        caller: *caller,
-        generation: *generation,
-    };
-    let code = state.named(key, &mut call);
+    let code = state.named(key, stamp);
     slot.put(state);
-    *caller = call.caller;
-    *generation = call.generation;
-    code
+    to_number(code)
 }

@@ -1,4 +1,5 @@
 pub mod Keys
-pub mod Rows
 pub mod OneCall
+pub mod Rows
 pub mod Stamps
+pub mod Written

@@ -1,37 +1,15 @@
--- How the questions by stamps end.
-use Rattle.std.specs.Prelude.{◌≡◌, ◌⊎◌, ℕ, Bool, cond, List, [], Option, Some, None}
-use Rattle.sf_history.specs.declared.call.CallId.{CallId}
+-- How the question by a stamp ends.
+use Rattle.std.specs.Prelude.{◌≡◌, ◌⊎◌, Bool, false, List, [], ℕ}
 use Rattle.sf_history.specs.declared.event.Event.{Event}
-use Rattle.sf_group_rows.specs.Tokens.{GroupValue, LetterValue}
-use Rattle.sf_group_rows.specs.Same.{IsPlaceOf, HasNothing, IsSameFlight, IsStillTicket}
+use Rattle.sf_group_rows.specs.Tokens.{GroupValue}
+use Rattle.sf_group_rows.specs.Same.{HasNothing, IsSameFlight, IsStillTicket}
 use Rattle.sf_group_rows.specs.Finishes.{IsHeldStill}
 use Rattle.sf_group_rows.specs.Currents.{IsStillSaid}
 use Rattle.sf_c_slots.specs.declared.part.Part.{Part}
 use Rattle.sf_c_slots.specs.declared.part.Part.TheVariants.{Free, Leads, Waits, Owes, Gone}
 use Rattle.sf_c_slots.specs.declared.stamps.Stamp.{Stamp}
-use Rattle.sf_c_slots.specs.declared.codes.TheConstants.{DONE, OTHERWISE, WRONG_STATE, NOTHING_LEFT}
 use Rattle.sf_c_slots.specs.Keys.{WordValue}
-use Rattle.sf_c_slots.specs.Rows.{IsOther}
-
--- the stamp of a call of a place, and the call of a stamp
-abbrev pub stamp_of : ℕ → CallId → Stamp
-stamp_of k c = record { place = k; zero = 0; caller = c.caller; generation = c.generation }
-
-abbrev pub call_of : Stamp → CallId
-call_of s = record { caller = s.caller; generation = s.generation }
-
--- the stamp may be one of the group, or it is of none of its places
-abbrev pub IsStampOf : GroupValue → Stamp → Type 0
-IsStampOf g s = (s.zero ≡ 0) × IsPlaceOf g s.place
-
--- how the question for the last letter's stamp ends: it is written; or there was no letter, or the caller is not free
-abbrev pub HasStamped : Part → Option (LetterValue WordValue) → ℕ → Stamp → Stamp → Type 0
-HasStamped (Free c) (Some l) code old new = (code ≡ DONE) × (new ≡ stamp_of l.place l.call)
-HasStamped (Free c) None code old new = (code ≡ NOTHING_LEFT) × (new ≡ old)
-HasStamped (Leads f) last code old new = (code ≡ WRONG_STATE) × (new ≡ old)
-HasStamped (Waits t) last code old new = (code ≡ WRONG_STATE) × (new ≡ old)
-HasStamped (Owes s) last code old new = (code ≡ WRONG_STATE) × (new ≡ old)
-HasStamped Gone last code old new = (code ≡ WRONG_STATE) × (new ≡ old)
+use Rattle.sf_c_slots.specs.Written.{IsStampOf, call_of}
 
 -- what the caller of a part has seen
 abbrev pub seen_in : Part → List (Event ℕ WordValue)
@@ -66,22 +44,20 @@ IsStillPart (Owes s) Gone = ⊥
 IsStillPart Gone q = ⊥
 
 -- how the question ends whether a stamp's call is its place's current one: as the group says; no, where the stamp is of none of
--- its places; or the caller gave up what it had open
-pub record IsToldStill (g : GroupValue) (p : Part) (s : Stamp) (q : Part) (code : ℕ) : Type 0 where
+-- its places, or the caller gave up what it had open
+pub record IsToldStill (g : GroupValue) (p : Part) (s : Stamp) (q : Part) (is_current : Bool) : Type 0 where
   pub stamp : IsStampOf g s
   pub stays : IsStillPart p q
-  pub answer : Bool
-  pub code_is : code ≡ cond answer DONE OTHERWISE
-  pub said : IsStillSaid s.place (call_of s) answer (seen_in p) (seen_in q)
+  pub said : IsStillSaid s.place (call_of s) is_current (seen_in p) (seen_in q)
 
-pub record IsOfNoPlace (g : GroupValue) (p : Part) (s : Stamp) (q : Part) (code : ℕ) : Type 0 where
-  pub code_is : code ≡ OTHERWISE
+pub record IsOfNoPlace (g : GroupValue) (p : Part) (s : Stamp) (q : Part) (is_current : Bool) : Type 0 where
+  pub answer_is : is_current ≡ false
   pub none : IsStampOf g s → ⊥
   pub same : q ≡ p
 
-abbrev pub HasAskedStill : GroupValue → Part → Stamp → Part → ℕ → Type 0
-HasAskedStill g (Free c) s q code = IsToldStill g (Free c) s q code ⊎ IsOfNoPlace g (Free c) s q code
-HasAskedStill g (Leads f) s q code = IsToldStill g (Leads f) s q code ⊎ IsOfNoPlace g (Leads f) s q code
-HasAskedStill g (Waits t) s q code = IsToldStill g (Waits t) s q code ⊎ IsOfNoPlace g (Waits t) s q code
-HasAskedStill g (Owes o) s q code = IsToldStill g (Owes o) s q code ⊎ IsOfNoPlace g (Owes o) s q code
-HasAskedStill g Gone s q code = IsOther Gone q code
+abbrev pub HasAskedStill : GroupValue → Part → Stamp → Part → Bool → Type 0
+HasAskedStill g (Free c) s q is_current = IsToldStill g (Free c) s q is_current ⊎ IsOfNoPlace g (Free c) s q is_current
+HasAskedStill g (Leads f) s q is_current = IsToldStill g (Leads f) s q is_current ⊎ IsOfNoPlace g (Leads f) s q is_current
+HasAskedStill g (Waits t) s q is_current = IsToldStill g (Waits t) s q is_current ⊎ IsOfNoPlace g (Waits t) s q is_current
+HasAskedStill g (Owes o) s q is_current = IsToldStill g (Owes o) s q is_current ⊎ IsOfNoPlace g (Owes o) s q is_current
+HasAskedStill g Gone s q is_current = (is_current ≡ false) × (q ≡ Gone)

@@ -1,32 +1,34 @@
-//! What the exports answer.
+//! How calls of a slot end.
 
-/// It is done: the slot is open, leads the call, or has what it asked for; or yes.
-pub const DONE: u32 = 0;
-
-/// The other ending: the slot waits for a letter, the letter is not there yet, the key had no open call, letters are
-/// still owed; or no.
-pub const OTHERWISE: u32 = 1;
-
-/// The caller has used its last generation.
-pub const SPENT: u32 = 2;
-
-/// All tries failed, each since another had changed a word.
-pub const BUSY: u32 = 3;
-
-/// The letter is of another key.
-pub const OTHER: u32 = 4;
-
-/// A slot is not in a state for this call.
-pub const WRONG_STATE: u32 = 6;
-
-/// The slot is not open.
-pub const NOT_OPEN: u32 = 7;
-
-/// A size, or a number of tries, is not allowed.
-pub const BAD_NUMBER: u32 = 8;
-
-/// There is no memory, or no caller left.
-pub const NOTHING_LEFT: u32 = 9;
-
-/// The call was current and not open, and is current no more.
-pub const CLEARED: u32 = 10;
+/// How a call of a slot ended.
+#[derive(Clone, Copy, PartialEq)]
+pub enum Code {
+    /// It is done.
+    Done,
+    /// The caller leads the key's new call.
+    Led,
+    /// The caller waits for the letter of the call that was open.
+    Joined,
+    /// The letter is not there yet.
+    Pending,
+    /// The letter is of another key.
+    OtherKey,
+    /// There was nothing to forget, no call is named, or there was no letter yet.
+    Nothing,
+    /// The call was current and not open, and is current no more.
+    Cleared,
+    /// Letters are owed still.
+    Owes,
+    /// The caller has used its last generation.
+    Spent,
+    /// All tries failed, each since another had changed a word.
+    Busy,
+    /// A slot is not in a state for this call.
+    WrongState,
+    /// A number of tries is not allowed.
+    BadNumber,
+    /// There is no memory.
+    NoMemory,
+    /// All callers have a slot.
+    NoCaller,
+}

@@ -1,4 +1,4 @@
-//! What a slot of the library for C holds, and its calls, each of which is answered by a code.
+//! What a slot of the library for C holds, and its calls, each of which ends with a code.
 //!
 //! `sf_c` is the library over it: it puts a state behind a pointer, and has the exports.
 #![tactic(auto)]
@@ -12,9 +12,7 @@ mod stamps;
 mod state;
 mod word;
 
-pub use codes::{
-    BAD_NUMBER, BUSY, CLEARED, DONE, NOT_OPEN, NOTHING_LEFT, OTHER, OTHERWISE, SPENT, WRONG_STATE,
-};
+pub use codes::Code;
 pub use note_state::NoteState;
-pub use stamps::Stamp;
+pub use stamps::{Answer, Stamp};
 pub use state::State;

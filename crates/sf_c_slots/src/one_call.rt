@@ -1,89 +1,87 @@
 //! Forgets of one call, and which call a key names.
-ghost use Rattle.std.specs.Prelude.{◌≡◌, ◌≢◌, ◌≤◌};
+ghost use Rattle.std.specs.Prelude.{◌≡◌, ◌≤◌};
 ghost use Rattle.sf_group_rows.specs.Same.{IsPlaceOf};
-ghost use Rattle.sf_c_slots.specs.OneCall.{HasForgotCallPart, HasForgotCallKey, HasNamedPart, HasNamedKey};
+ghost use Rattle.sf_c_slots.specs.OneCall.{HasForgotCallPart, HasForgotStamp, HasNamedPart, HasNamedKey};
 ghost use Rattle.sf_c_slots.specs.Rows.{IsOf, KeepsLetter, KeepsKey};
 
-use crate::codes::{
-    BAD_NUMBER, BUSY, CLEARED, DONE, NOT_OPEN, NOTHING_LEFT, OTHERWISE, WRONG_STATE,
-};
+use crate::codes::Code;
 use crate::part::Part;
+use crate::stamps::Stamp;
 use crate::state::State;
 use crate::word::Word;
 use sf_group::{CallId, Group, Hit, MOST_TRIES};
 
 impl Part {
-    // Forgets this call of the place: done where that closed it, cleared where it was current and not open, otherwise it
+    // Forgets this call of the place: done where that closed it, cleared where it was current and not open, nothing where it
     // was neither.
-    fn forgets_call(&mut self, group: &Group<Word>, place: u32, call: CallId, tries: u32) -> u32
+    fn forget_call(&mut self, group: &Group<Word>, place: u32, call: CallId, tries: u32) -> Code
         requires own { IsOf group.now self.old }
         requires place { IsPlaceOf group.now place }
         requires tries { (1 ≤ tries) × (tries ≤ MOST_TRIES) }
         ensures own { IsOf group.now self.new }
         ensures row { HasForgotCallPart self.old place call tries self.new result }
-        ensures open { result ≢ NOT_OPEN }
     {
         let Part::Free(caller) = self else {
-            return WRONG_STATE;
+            return Code::WrongState;
         };
         match group.forget_call(caller, place, call, tries) {
-            Ok(Hit::Closed) => DONE,
-            Ok(Hit::Cleared) => CLEARED,
-            Ok(Hit::Missed) => OTHERWISE,
-            Err(_) => BUSY,
+            Ok(Hit::Closed) => Code::Done,
+            Ok(Hit::Cleared) => Code::Cleared,
+            Ok(Hit::Missed) => Code::Nothing,
+            Err(_) => Code::Busy,
         }
     }
 
-    // Which call the place names: done where it names one, otherwise none.
-    fn names(&mut self, group: &Group<Word>, place: u32, call: &mut CallId) -> u32
+    // The stamp of the call that the place names: done where it names one, else nothing.
+    fn named(&mut self, group: &Group<Word>, place: u32, stamp: &mut Stamp) -> Code
         requires own { IsOf group.now self.old }
         requires place { IsPlaceOf group.now place }
         ensures own { IsOf group.now self.new }
-        ensures row { HasNamedPart self.old place self.new call.old call.new result }
-        ensures open { result ≢ NOT_OPEN }
+        ensures row { HasNamedPart self.old place self.new stamp.old stamp.new result }
     {
         let Part::Free(caller) = self else {
-            return WRONG_STATE;
+            return Code::WrongState;
         };
         match group.named(caller, place) {
-            Some(named) => {
-                *call = named;
-                DONE
+            Some(call) => {
+                *stamp = Stamp::of(place, call);
+                Code::Done
             }
-            None => OTHERWISE,
+            None => Code::Nothing,
         }
     }
 }
 
 impl State {
-    /// Forgets this call of the key.
-    pub fn forget_call(&mut self, key: &[u8], call: CallId, tries: u32) -> u32
+    /// Forgets the stamp's call.
+    pub fn forget_call(&mut self, stamp: &Stamp, tries: u32) -> Code
         ensures kept { KeepsKey self.old self.new × KeepsLetter self.old self.new
             × (self.new.own ≡ self.old.own) }
-        ensures row { HasForgotCallKey self.old key.now call tries self.new result }
-        ensures open { result ≢ NOT_OPEN }
+        ensures row { HasForgotStamp self.old stamp.now tries self.new result }
     {
         if tries < 1 || tries > MOST_TRIES {
-            return BAD_NUMBER;
+            return Code::BadNumber;
         }
         if !self.part.is_free() {
-            return WRONG_STATE;
+            return Code::WrongState;
         }
-        let place = self.places.of(key);
-        self.part.forgets_call(&self.group, place, call, tries)
+        if !stamp.is_of(&self.group) {
+            return Code::Nothing;
+        }
+        self.part
+            .forget_call(&self.group, stamp.place, stamp.call(), tries)
     }
 
-    /// Which call the key names.
-    pub fn named(&mut self, key: &[u8], call: &mut CallId) -> u32
+    /// The stamp of the call that the key names.
+    pub fn named(&mut self, key: &[u8], stamp: &mut Stamp) -> Code
         ensures kept { KeepsKey self.old self.new × KeepsLetter self.old self.new
             × (self.new.own ≡ self.old.own) }
-        ensures row { HasNamedKey self.old key.now self.new call.old call.new result }
-        ensures open { result ≢ NOT_OPEN }
+        ensures row { HasNamedKey self.old key.now self.new stamp.old stamp.new result }
     {
         if !self.part.is_free() {
-            return WRONG_STATE;
+            return Code::WrongState;
         }
         let place = self.places.of(key);
-        self.part.names(&self.group, place, call)
+        self.part.named(&self.group, place, stamp)
     }
 }

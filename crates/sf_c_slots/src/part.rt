@@ -1,19 +1,20 @@
 //! What the caller of a slot does, and how the group's calls change it, with a code. A part that is not one for the call stays as
 //! it was. Those that are asked most look first whether they are for the call, and move no more of the part than what it is.
-ghost use Rattle.std.specs.Prelude.{◌≡◌, ◌≢◌, ◌≤◌, ◌⊎◌, ◌↔◌, IsTrue, IsFalse, IfOk, IfErr, IfSome, IfNone};
+ghost use Rattle.std.specs.Prelude.{◌≡◌, ◌≤◌, ◌⊎◌, ◌↔◌, IsTrue, IsFalse, IfOk, IfErr, IfSome, IfNone};
 ghost use Rattle.sf_group_rows.specs.Same.{IsPlaceOf};
 ghost use Rattle.sf_group_rows.specs.Notes.{HasGrown};
-ghost use Rattle.sf_c_slots.specs.Rows.{IsOf, HasGivenKey, IsLetterOf, HasAsked, HasAskedBoth, HasAskedChan, HasFinishedPart, HasGoneOnPart, HasPolledPart, HasForgotPart, HasGivenUp, HasQuestionedPart, HasToldPart, HasLearntPart, HasNumbered, IsFree, IsNotFree, IsLeading, IsNotLeading, IsWaiting, IsNotWaiting, AreNumberedApart, call_in};
+ghost use Rattle.sf_c_slots.specs.Rows.{IsOf, HasGivenKey, IsLetterOf, HasAsked, HasAskedBoth, HasAskedChan, HasFinishedPart, HasGoneOnPart, HasPolledPart, HasForgotPart, HasGivenUp, HasQuestionedPart, HasToldPart, HasLearntPart, HasNumbered, IsFree, IsNotFree, IsLeading, IsNotLeading, IsWaiting, IsNotWaiting, AreNumberedApart};
+ghost use Rattle.sf_c_slots.specs.declared.codes.Code.TheVariants as codes;
 ghost use Rattle.sf_c_slots.specs.declared.part.Part.TheVariants.{Free, Leads, Owes, Waits};
 
-use crate::codes::{BUSY, DONE, NOT_OPEN, NOTHING_LEFT, OTHER, OTHERWISE, SPENT, WRONG_STATE};
+use crate::codes::Code;
 use crate::key::Key;
+use crate::stamps::{Answer, Stamp};
 use crate::word::Word;
 use sf_group::{
     Begun, Caller, ChanBegun, Finished, Flight, Forgotten, Group, Letter, MOST_TRIES, NotBegun,
     Note, Polled, Settled, Ticket,
 };
-use sf_history::CallId;
 use sf_keys_places::OfKey;
 use std::mem::replace;
 
@@ -38,25 +39,36 @@ impl Drop for Part {
     }
 }
 
+// Asks for the place by two free callers, and writes the stamp of the call.
 fn ask_both(
     group: &Group<Word>,
     caller: Caller<Word>,
     second: Caller<Word>,
     place: u32,
     tries: u32,
-) -> (Part, Part, u32)
+    stamp: &mut Stamp,
+) -> (Part, Part, Code)
     requires own { (caller.group ≡ group.now) × (second.group ≡ group.now) }
     requires place { IsPlaceOf group.now place }
     requires tries { (1 ≤ tries) × (tries ≤ MOST_TRIES) }
     ensures own { IsOf group.now result.0 × IsOf group.now result.1 }
-    ensures row { HasAskedBoth caller second place tries result.0 result.1 result.2 }
-    ensures open { result.2 ≢ NOT_OPEN }
+    ensures row { HasAskedBoth caller second place tries result.0 result.1 result.2 stamp.old stamp.new }
 {
     match group.begin_chan(caller, second, place, tries) {
-        Ok(ChanBegun::Led(flight, ticket)) => (Part::Leads(flight), Part::Waits(ticket), DONE),
-        Ok(ChanBegun::Joined(ticket, back)) => (Part::Free(back), Part::Waits(ticket), OTHERWISE),
-        Err(NotBegun::Spent((back, second))) => (Part::Free(back), Part::Free(second), SPENT),
-        Err(NotBegun::Busy(_, (back, second))) => (Part::Free(back), Part::Free(second), BUSY),
+        Ok(ChanBegun::Led(flight, ticket)) => {
+            *stamp = Stamp::of(place, flight.call());
+            (Part::Leads(flight), Part::Waits(ticket), Code::Led)
+        }
+        Ok(ChanBegun::Joined(ticket, back)) => {
+            *stamp = Stamp::of(place, ticket.call());
+            (Part::Free(back), Part::Waits(ticket), Code::Joined)
+        }
+        Err(NotBegun::Spent((back, second))) => (Part::Free(back), Part::Free(second), Code::Spent),
+        Err(NotBegun::Busy(_, (back, second))) => (
+            Part::Free(back),
+            Part::Free(second),
+            Code::Busy,
+        ),
     }
 }
 
@@ -129,107 +141,113 @@ impl Part {
 
     // What the caller does now. Inlined, so that a part is cleared where it is assigned, and not where an export begins.
     #[inline(always)]
-    fn now_free(&mut self, caller: Caller<Word>)
+    fn set_free(&mut self, caller: Caller<Word>)
         ensures { self.new ≡ Free caller }
     {
         *self = Part::Free(caller);
     }
 
     #[inline(always)]
-    fn now_leads(&mut self, flight: Flight<Word>)
+    fn set_leads(&mut self, flight: Flight<Word>)
         ensures { self.new ≡ Leads flight }
     {
         *self = Part::Leads(flight);
     }
 
     #[inline(always)]
-    fn now_waits(&mut self, ticket: Ticket<Word>)
+    fn set_waits(&mut self, ticket: Ticket<Word>)
         ensures { self.new ≡ Waits ticket }
     {
         *self = Part::Waits(ticket);
     }
 
-    /// Asks for the place: done where it leads then, otherwise it waits then.
-    pub(crate) fn asks(&mut self, group: &Group<Word>, place: u32, tries: u32) -> u32
+    /// Asks for the place, and writes the stamp of the call that it leads or joins.
+    pub(crate) fn ask(
+        &mut self,
+        group: &Group<Word>,
+        place: u32,
+        tries: u32,
+        stamp: &mut Stamp,
+    ) -> Code
         requires own { IsOf group.now self.old }
         requires place { IsPlaceOf group.now place }
         requires tries { (1 ≤ tries) × (tries ≤ MOST_TRIES) }
         ensures own { IsOf group.now self.new }
-        ensures row { HasAsked self.old place tries self.new result }
-        ensures open { result ≢ NOT_OPEN }
+        ensures row { HasAsked self.old place tries self.new result stamp.old stamp.new }
     {
         if !self.is_free() {
-            return WRONG_STATE;
+            return Code::WrongState;
         }
         let Ok(caller) = replace(self, Part::Gone).into_caller() else {
             unreachable!()
         };
         match group.begin(caller, place, tries) {
             Ok(Begun::Lead(flight)) => {
-                self.now_leads(flight);
-                DONE
+                *stamp = Stamp::of(place, flight.call());
+                self.set_leads(flight);
+                Code::Led
             }
             Ok(Begun::Join(ticket)) => {
-                self.now_waits(ticket);
-                OTHERWISE
+                *stamp = Stamp::of(place, ticket.call());
+                self.set_waits(ticket);
+                Code::Joined
             }
             Err(NotBegun::Spent(back)) => {
-                self.now_free(back);
-                SPENT
+                self.set_free(back);
+                Code::Spent
             }
             Err(NotBegun::Busy(_, back)) => {
-                self.now_free(back);
-                BUSY
+                self.set_free(back);
+                Code::Busy
             }
         }
     }
 
-    /// Asks for the place with a second: done where it leads then, and the second waits on its own channel; otherwise the
-    /// second waits for the open call, and it is free.
-    pub(crate) fn asked_chan(
+    /// Asks for the place with a second, and writes the stamp of the call: where it leads that, the second waits on its own
+    /// channel; and where one was open, the second waits for that, and it is free.
+    pub(crate) fn ask_chan(
         self,
         second: Part,
         group: &Group<Word>,
         place: u32,
         tries: u32,
-    ) -> (Part, Part, u32)
+        stamp: &mut Stamp,
+    ) -> (Part, Part, Code)
         requires own { IsOf group.now self × IsOf group.now second }
         requires place { IsPlaceOf group.now place }
         requires tries { (1 ≤ tries) × (tries ≤ MOST_TRIES) }
         ensures own { IsOf group.now result.0 × IsOf group.now result.1 }
-        ensures row { HasAskedChan self second place tries result.0 result.1 result.2 }
-        ensures open { result.2 ≢ NOT_OPEN }
+        ensures row { HasAskedChan self second place tries result.0 result.1 result.2 stamp.old
+            stamp.new }
     {
         match self {
             Part::Free(caller) => match second {
-                Part::Free(second) => ask_both(group, caller, second, place, tries),
-                second => (Part::Free(caller), second, WRONG_STATE),
+                Part::Free(second) => ask_both(group, caller, second, place, tries, stamp),
+                second => (Part::Free(caller), second, Code::WrongState),
             },
-            first => (first, second, WRONG_STATE),
+            first => (first, second, Code::WrongState),
         }
     }
 
-    /// Settles the call that it leads with a value of the key: done where all letters are handed out, otherwise some are
-    /// owed still.
-    pub(crate) fn finishes(
+    /// Settles the call that it leads with a value of the key: done where all letters are handed out, else some are owed still.
+    pub(crate) fn finish(
         &mut self,
         group: &Group<Word>,
         value: u64,
         key: &mut Key,
-        joiners: &mut u32,
+        answer: &mut Answer,
         last: &mut Option<Letter<Word>>,
-    ) -> u32
+    ) -> Code
         requires own { IsOf group.now self.old }
         requires last { IsLetterOf group.now last.old }
         ensures own { IsOf group.now self.new }
         ensures last { IsLetterOf group.now last.new }
         ensures key { HasGivenKey result key.old key.new }
-        ensures row { HasFinishedPart self.old value key.old self.new result joiners.old joiners.new
+        ensures row { HasFinishedPart self.old value key.old self.new result answer.old answer.new
             last.old last.new }
-        ensures open { result ≢ NOT_OPEN }
     {
         if !self.leads() {
-            return WRONG_STATE;
+            return Code::WrongState;
         }
         let Ok(flight) = replace(self, Part::Gone).into_flight() else {
             unreachable!()
@@ -237,226 +255,204 @@ impl Part {
         let word = Word::new(value, replace(key, Key::empty()));
         match group.settle(flight, word) {
             Finished::Done(caller, letter) => {
-                *joiners = letter.joiners();
+                *answer = Answer::of(&letter);
                 *last = Some(letter);
-                self.now_free(caller);
-                DONE
+                self.set_free(caller);
+                Code::Done
             }
-            Finished::Held(settled) => self.delivers_held(group, settled, joiners, last),
+            Finished::Held(settled) => self.deliver_held(group, settled, answer, last),
         }
     }
 
-    // Hands out what is owed. Inlined, so that its locals are cleared where somebody joined, and not at each `finishes`.
+    // Hands out what is owed. Inlined, so that its locals are cleared where somebody joined, and not at each `finish`.
     #[inline(always)]
-    fn delivers_held(
+    fn deliver_held(
         &mut self,
         group: &Group<Word>,
         settled: Settled<Word>,
-        joiners: &mut u32,
+        answer: &mut Answer,
         last: &mut Option<Letter<Word>>,
-    ) -> u32
+    ) -> Code
         requires own { settled.group ≡ group.now }
         requires last { IsLetterOf group.now last.old }
         ensures own { IsOf group.now self.new }
         ensures last { IsLetterOf group.now last.new }
-        ensures row { HasGoneOnPart (Owes settled) self.new result joiners.old joiners.new last.old
+        ensures row { HasGoneOnPart (Owes settled) self.new result answer.old answer.new last.old
             last.new }
-        ensures code { (result ≡ DONE) ⊎ (result ≡ OTHERWISE) }
+        ensures code { (result ≡ codes.Done) ⊎ (result ≡ codes.Owes) }
     {
-        self.delivers(group, settled, joiners, last)
+        self.deliver(group, settled, answer, last)
     }
 
-    // Hands out what is owed: done where that is all, otherwise some is owed still. Who settles a call that nobody joined keeps no
+    // Hands out what is owed: done where that is all, else some is owed still. Who settles a call that nobody joined keeps no
     // room for it.
     #[inline(never)]
-    fn delivers(
+    fn deliver(
         &mut self,
         group: &Group<Word>,
         settled: Settled<Word>,
-        joiners: &mut u32,
+        answer: &mut Answer,
         last: &mut Option<Letter<Word>>,
-    ) -> u32
+    ) -> Code
         requires own { settled.group ≡ group.now }
         requires last { IsLetterOf group.now last.old }
         ensures own { IsOf group.now self.new }
         ensures last { IsLetterOf group.now last.new }
-        ensures row { HasGoneOnPart (Owes settled) self.new result joiners.old joiners.new last.old
+        ensures row { HasGoneOnPart (Owes settled) self.new result answer.old answer.new last.old
             last.new }
-        ensures code { (result ≡ DONE) ⊎ (result ≡ OTHERWISE) }
+        ensures code { (result ≡ codes.Done) ⊎ (result ≡ codes.Owes) }
     {
         match group.go_on_unrested(settled) {
             Finished::Done(caller, letter) => {
-                *joiners = letter.joiners();
+                *answer = Answer::of(&letter);
                 *last = Some(letter);
-                self.now_free(caller);
-                DONE
+                self.set_free(caller);
+                Code::Done
             }
             Finished::Held(settled) => {
                 *self = Part::Owes(settled);
-                OTHERWISE
+                Code::Owes
             }
         }
     }
 
-    /// Goes on with a delivery: done where all letters are handed out then, otherwise some are owed still.
-    pub(crate) fn gone_on(
+    /// Goes on with a delivery: done where all letters are handed out then, else some are owed still.
+    pub(crate) fn go_on(
         self,
         group: &Group<Word>,
-        joiners: &mut u32,
+        answer: &mut Answer,
         last: &mut Option<Letter<Word>>,
-    ) -> (Part, u32)
+    ) -> (Part, Code)
         requires own { IsOf group.now self }
         requires last { IsLetterOf group.now last.old }
         ensures own { IsOf group.now result.0 }
         ensures last { IsLetterOf group.now last.new }
-        ensures row { HasGoneOnPart self result.0 result.1 joiners.old joiners.new last.old
-            last.new }
-        ensures open { result.1 ≢ NOT_OPEN }
+        ensures row { HasGoneOnPart self result.0 result.1 answer.old answer.new last.old last.new }
     {
         match self {
             Part::Owes(settled) => {
                 let mut part = Part::Gone;
-                let code = part.delivers(group, settled, joiners, last);
+                let code = part.deliver(group, settled, answer, last);
                 (part, code)
             }
-            Part::Free(caller) => (Part::Free(caller), WRONG_STATE),
-            Part::Leads(flight) => (Part::Leads(flight), WRONG_STATE),
-            Part::Waits(ticket) => (Part::Waits(ticket), WRONG_STATE),
-            Part::Gone => (Part::Gone, WRONG_STATE),
+            Part::Free(caller) => (Part::Free(caller), Code::WrongState),
+            Part::Leads(flight) => (Part::Leads(flight), Code::WrongState),
+            Part::Waits(ticket) => (Part::Waits(ticket), Code::WrongState),
+            Part::Gone => (Part::Gone, Code::WrongState),
         }
     }
 
-    /// Looks for the letter that it waits for: done where it is there and of the key, other where it is another key's,
-    /// otherwise it is not there yet.
-    pub(crate) fn polls(
+    /// Looks for the letter that it waits for: done where it is there and of the key, the other key's where it is not of the
+    /// key, and pending where it is not there yet.
+    pub(crate) fn poll(
         &mut self,
         group: &Group<Word>,
         key: &Key,
-        value: &mut u64,
-        joiners: &mut u32,
+        answer: &mut Answer,
         last: &mut Option<Letter<Word>>,
-    ) -> u32
+    ) -> Code
         requires own { IsOf group.now self.old }
         requires last { IsLetterOf group.now last.old }
         ensures own { IsOf group.now self.new }
         ensures last { IsLetterOf group.now last.new }
-        ensures row { HasPolledPart self.old key.now self.new result value.old value.new joiners.old
-            joiners.new last.old last.new }
-        ensures open { result ≢ NOT_OPEN }
+        ensures row { HasPolledPart self.old key.now self.new result answer.old answer.new last.old
+            last.new }
     {
         if !self.waits() {
-            return WRONG_STATE;
+            return Code::WrongState;
         }
         let Ok(ticket) = replace(self, Part::Gone).into_ticket() else {
             unreachable!()
         };
         match group.poll(ticket) {
             Polled::Ready(caller, letter) => {
-                self.now_free(caller);
-                *value = letter.value().number();
+                self.set_free(caller);
                 if letter.value().key() != key.as_slice() {
-                    return OTHER;
+                    answer.take_value(letter.value().number());
+                    return Code::OtherKey;
                 }
-                *joiners = letter.joiners();
+                *answer = Answer::of(&letter);
                 *last = Some(letter);
-                DONE
+                Code::Done
             }
             Polled::Pending(ticket) => {
-                self.now_waits(ticket);
-                OTHERWISE
+                self.set_waits(ticket);
+                Code::Pending
             }
         }
     }
 
-    /// Forgets the place: done where that closed a call, otherwise none was open.
-    pub(crate) fn forgets(&mut self, group: &Group<Word>, place: u32, tries: u32) -> u32
+    /// Forgets the place: done where that closed a call, and nothing where none was open.
+    pub(crate) fn forget(&mut self, group: &Group<Word>, place: u32, tries: u32) -> Code
         requires own { IsOf group.now self.old }
         requires place { IsPlaceOf group.now place }
         requires tries { (1 ≤ tries) × (tries ≤ MOST_TRIES) }
         ensures own { IsOf group.now self.new }
         ensures row { HasForgotPart self.old place tries self.new result }
-        ensures open { result ≢ NOT_OPEN }
     {
         let Part::Free(caller) = self else {
-            return WRONG_STATE;
+            return Code::WrongState;
         };
         match group.forget(caller, place, tries) {
-            Ok(Forgotten::Closed(_)) => DONE,
-            Ok(Forgotten::Idle) => OTHERWISE,
-            Err(_) => BUSY,
+            Ok(Forgotten::Closed(_)) => Code::Done,
+            Ok(Forgotten::Idle) => Code::Nothing,
+            Err(_) => Code::Busy,
         }
     }
 
     /// Gives up a call that it leads, a ticket, or letters that it owes, for good.
-    pub(crate) fn given_up(self) -> (Part, u32)
+    pub(crate) fn give_up(self) -> (Part, Code)
         ensures row { HasGivenUp self result.0 result.1 }
-        ensures open { result.1 ≢ NOT_OPEN }
     {
         match self {
             Part::Leads(flight) => {
                 flight.abandon();
-                (Part::Gone, DONE)
+                (Part::Gone, Code::Done)
             }
             Part::Waits(ticket) => {
                 ticket.abandon();
-                (Part::Gone, DONE)
+                (Part::Gone, Code::Done)
             }
             Part::Owes(settled) => {
                 settled.abandon();
-                (Part::Gone, DONE)
+                (Part::Gone, Code::Done)
             }
-            Part::Free(caller) => (Part::Free(caller), WRONG_STATE),
-            Part::Gone => (Part::Gone, WRONG_STATE),
+            Part::Free(caller) => (Part::Free(caller), Code::WrongState),
+            Part::Gone => (Part::Gone, Code::WrongState),
         }
     }
 
-    /// Whether the call of the letter it had last is its place's current one: done for yes, otherwise no.
-    pub(crate) fn questions(&mut self, group: &Group<Word>, last: &mut Option<Letter<Word>>) -> u32
+    /// Whether the call of the letter it had last is its place's current one. The answer is no where there was none, or its
+    /// caller is not free.
+    pub(crate) fn is_current(
+        &mut self,
+        group: &Group<Word>,
+        last: &mut Option<Letter<Word>>,
+    ) -> bool
         requires own { IsOf group.now self.old }
         requires last { IsLetterOf group.now last.old }
         ensures own { IsOf group.now self.new }
         ensures last { IsLetterOf group.now last.new }
         ensures row { HasQuestionedPart self.old last.old self.new last.new result }
-        ensures open { result ≢ NOT_OPEN }
     {
         let Part::Free(caller) = self else {
-            return WRONG_STATE;
+            return false;
         };
         let Some(letter) = last else {
-            return NOTHING_LEFT;
+            return false;
         };
-        if group.is_current(caller, letter) {
-            DONE
-        } else {
-            OTHERWISE
-        }
-    }
-
-    /// The call that it leads or waits for; or where its caller is free, that of the letter it had last.
-    pub(crate) fn call(&self, last: &Option<Letter<Word>>) -> Option<CallId>
-        ensures { result ≡ call_in self.now last.now }
-    {
-        match self {
-            Part::Leads(flight) => Some(flight.call()),
-            Part::Waits(ticket) => Some(ticket.call()),
-            Part::Free(_) => match last {
-                Some(letter) => Some(letter.call()),
-                None => None,
-            },
-            Part::Owes(_) | Part::Gone => None,
-        }
+        group.is_current(caller, letter)
     }
 
     /// The number of its caller, which is free.
-    pub(crate) fn number(&self, number: &mut u32) -> u32
+    pub(crate) fn number(&self, number: &mut u32) -> Code
         ensures row { HasNumbered self.now result number.old number.new }
-        ensures open { result ≢ NOT_OPEN }
     {
         let Part::Free(caller) = self else {
-            return WRONG_STATE;
+            return Code::WrongState;
         };
         *number = caller.number();
-        DONE
+        Code::Done
     }
 
     /// Whether another is not one of a caller of the same number, where both are free.
@@ -473,7 +469,7 @@ impl Part {
     }
 
     /// A note that shows what its caller has seen. None where that is not free.
-    pub(crate) fn tells(&mut self, group: &Group<Word>) -> Option<Note<Word>>
+    pub(crate) fn tell(&mut self, group: &Group<Word>) -> Option<Note<Word>>
         requires own { IsOf group.now self.old }
         ensures same { self.new ≡ self.old }
         ensures told { IfSome result (HasToldPart group.now self.old) }
@@ -486,24 +482,23 @@ impl Part {
     }
 
     /// Its caller, which is free or leads, has then seen what the note shows.
-    pub(crate) fn learns(&mut self, group: &Group<Word>, note: &mut Note<Word>) -> u32
+    pub(crate) fn learn(&mut self, group: &Group<Word>, note: &mut Note<Word>) -> Code
         requires own { IsOf group.now self.old }
         requires note { note.old.group ≡ group.now }
         ensures own { IsOf group.now self.new }
         ensures note { HasGrown note.old note.new }
         ensures row { HasLearntPart self.old note.old self.new result }
-        ensures open { result ≢ NOT_OPEN }
     {
         match self {
             Part::Free(caller) => {
                 group.learn(caller, note);
-                DONE
+                Code::Done
             }
             Part::Leads(flight) => {
                 flight.learn(group, note);
-                DONE
+                Code::Done
             }
-            _ => WRONG_STATE,
+            _ => Code::WrongState,
         }
     }
 }

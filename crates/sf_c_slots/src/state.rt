@@ -2,12 +2,14 @@
 ghost use Rattle.std.specs.Prelude.{◌≡◌, ◌≢◌, ◌<◌, ◌≤◌, ◌↔◌, All, IsTrue, IfOk, IfErr, IfSome, IfNone, true, false};
 ghost use Rattle.sf_group_rows.specs.Making.{IsNewCaller};
 ghost use Rattle.sf_group_rows.specs.Notes.{HasGrown};
-ghost use Rattle.sf_c_slots.specs.Rows.{HasOpened, HasSplit, HasTakenBack, HasAskedKey, HasAskedChanKey, HasForgotKey, HasFinishedPart, HasGoneOnPart, HasPolledPart, HasQuestionedPart, HasToldNote, HasNotTold, HasLearntNote, HasGivenUp, HasCounted, HasCalled, HasNumbered, MarksOwn, HasGivenKey, call_in, AreBeside, ArePlacesOfOne, KeepsGroup, KeepsLetter, KeepsKey};
+ghost use Rattle.sf_c_slots.specs.declared.codes.Code.TheVariants as codes;
+ghost use Rattle.sf_c_slots.specs.Rows.{HasOpened, HasSplit, HasTakenBack, HasAskedKey, HasAskedChanKey, HasForgotKey, HasFinishedPart, HasGoneOnPart, HasPolledPart, HasQuestionedPart, HasToldNote, HasNotTold, HasLearntNote, HasGivenUp, HasCounted, HasNumbered, MarksLed, MarksDone, KeepsAsked, KeepsLed, HasGivenKey, IsNotSplit, AreBeside, ArePlacesOfOne, KeepsGroup, KeepsLetter, KeepsKey};
 
-use crate::codes::{BAD_NUMBER, DONE, NOT_OPEN, NOTHING_LEFT, OTHERWISE, WRONG_STATE};
+use crate::codes::Code;
 use crate::key::Key;
 use crate::note_state::NoteState;
 use crate::part::Part;
+use crate::stamps::{Answer, Stamp};
 use crate::word::Word;
 use sf_group::{Caller, Group, Letter, MOST_CALLERS, MOST_PLACES, MOST_TRIES, Memory};
 use sf_keys_places::Places;
@@ -122,13 +124,18 @@ impl State {
         }))
     }
 
-    /// A state for another slot, with the last of the callers that have none. None where all have one, or there is no memory.
-    pub fn split(&mut self, alloc: Global) -> Option<Box<State, Global>>
-        ensures made { IfSome result (λ made. HasSplit self.old self.new made.value) }
-        ensures none { IfNone result (self.new ≡ self.old) }
+    /// A state for another slot, with the last of the callers that have none.
+    pub fn split(&mut self, alloc: Global) -> Result<Box<State, Global>, Code>
+        ensures made { IfOk result (λ made. HasSplit self.old self.new made.value) }
+        ensures refused { IfErr result (λ code. IsNotSplit self.old code × (self.new ≡ self.old)) }
     {
-        let group = Arc::try_clone(&self.group).ok()?;
-        let mut made = Box::new(
+        if self.callers.is_empty() {
+            return Err(Code::NoCaller);
+        }
+        let Ok(group) = Arc::try_clone(&self.group) else {
+            return Err(Code::NoMemory);
+        };
+        let Ok(mut made) = Box::new(
             alloc,
             State {
                 group,
@@ -140,11 +147,14 @@ impl State {
                 last_own: false,
                 callers: Vec::new(alloc),
             },
-        )
-        .ok()?;
-        let caller = self.callers.pop()?;
+        ) else {
+            return Err(Code::NoMemory);
+        };
+        let Some(caller) = self.callers.pop() else {
+            unreachable!()
+        };
         made.part = Part::Free(caller);
-        Some(made)
+        Ok(made)
     }
 
     // Whether the other may be of its group: where keys have the same places, and two free callers different numbers.
@@ -156,248 +166,244 @@ impl State {
 
     /// Takes back the other's caller, for a further slot. Then the other has none; but not where that is not free, or the other
     /// has callers for further slots itself, or is of another group, or there is no memory.
-    pub fn take_back(&mut self, other: &mut State) -> u32
+    pub fn take_back(&mut self, other: &mut State) -> Code
         requires { AreBeside self.old other.old → self.old.group ≡ other.old.group }
         ensures row { HasTakenBack self.old other.old self.new result }
-        ensures refused { result ≢ DONE → other.new ≡ other.old }
-        ensures open { result ≢ NOT_OPEN }
+        ensures refused { result ≢ codes.Done → other.new ≡ other.old }
     {
         if !other.callers.is_empty() || !self.is_beside(other) {
-            return WRONG_STATE;
+            return Code::WrongState;
         }
         let caller = match replace(&mut other.part, Part::Gone).into_caller() {
             Ok(caller) => caller,
             Err(part) => {
                 other.part = part;
-                return WRONG_STATE;
+                return Code::WrongState;
             }
         };
         match self.callers.push(caller) {
-            Ok(()) => DONE,
+            Ok(()) => Code::Done,
             Err(failed) => {
                 other.part = Part::Free(failed.value);
-                NOTHING_LEFT
+                Code::NoMemory
             }
         }
     }
 
-    /// Asks for the key: done where its caller leads a new call then, otherwise it waits then.
-    pub fn ask(&mut self, alloc: Global, key: &[u8], tries: u32) -> u32
+    /// Asks for the key, and writes the stamp of the call that its caller leads or joins.
+    pub fn ask(&mut self, alloc: Global, key: &[u8], tries: u32, stamp: &mut Stamp) -> Code
         ensures kept { KeepsLetter self.old self.new }
-        ensures own { MarksOwn result false self.old.own self.new.own }
-        ensures row { HasAskedKey self.old key.now tries self.new result }
-        ensures open { result ≢ NOT_OPEN }
+        ensures own { MarksLed result false self.old.own self.new.own }
+        ensures row { HasAskedKey self.old key.now tries self.new result stamp.old stamp.new }
     {
         if tries < 1 || tries > MOST_TRIES {
-            return BAD_NUMBER;
+            return Code::BadNumber;
         }
         if !self.part.is_free() {
-            return WRONG_STATE;
+            return Code::WrongState;
         }
         let Ok(long) = Key::counted(alloc, key) else {
-            return NOTHING_LEFT;
+            return Code::NoMemory;
         };
         let place = self.places.of(key);
-        let code = self.part.asks(&self.group, place, tries);
-        if code == DONE {
+        let code = self.part.ask(&self.group, place, tries, stamp);
+        if code == Code::Led {
             self.own = false;
         }
-        if code == DONE || code == OTHERWISE {
+        if code == Code::Led || code == Code::Joined {
             self.asked.put(key, long);
         }
         code
     }
 
-    /// Asks for the key for the other: done where its caller leads a new call then and the other's waits on the leader's own
-    /// channel, otherwise the other's waits for the open call's letter.
-    pub fn ask_chan(&mut self, alloc: Global, other: &mut State, key: &[u8], tries: u32) -> u32
+    // Each of two that leads or waits, as the code says, keeps its key, and the one that leads marks that another waits on its
+    // own channel.
+    fn keep_both(&mut self, other: &mut State, code: Code, asked: Key, again: Key)
+        ensures kept { KeepsLetter self.old self.new × (self.new.part ≡ self.old.part) }
+        ensures own { MarksLed code true self.old.own self.new.own }
+        ensures other { KeepsLetter other.old other.new × (other.new.part ≡ other.old.part)
+            × (other.new.own ≡ other.old.own) }
+        ensures asked { KeepsLed code asked self.old.asked self.new.asked }
+        ensures second { KeepsAsked code again other.old.asked other.new.asked }
+    {
+        if code == Code::Led {
+            self.asked = asked;
+            other.asked = again;
+            self.own = true;
+        } else if code == Code::Joined {
+            other.asked = again;
+        }
+    }
+
+    /// Asks for the key for the other, and writes the stamp of the call: where its caller leads that, the other's waits on the
+    /// leader's own channel; and where one was open, the other's waits for that one's letter.
+    pub fn ask_chan(
+        &mut self,
+        alloc: Global,
+        other: &mut State,
+        key: &[u8],
+        tries: u32,
+        stamp: &mut Stamp,
+    ) -> Code
         requires { AreBeside self.old other.old → self.old.group ≡ other.old.group }
         ensures kept { KeepsLetter self.old self.new }
-        ensures own { MarksOwn result true self.old.own self.new.own }
+        ensures own { MarksLed result true self.old.own self.new.own }
         ensures other { KeepsLetter other.old other.new × (other.new.own ≡ other.old.own) }
-        ensures row { HasAskedChanKey self.old other.old key.now tries self.new other.new result }
-        ensures open { result ≢ NOT_OPEN }
+        ensures row { HasAskedChanKey self.old other.old key.now tries self.new other.new result
+            stamp.old stamp.new }
     {
         if tries < 1 || tries > MOST_TRIES {
-            return BAD_NUMBER;
+            return Code::BadNumber;
         }
         if !self.part.is_free() || !other.part.is_free() || !self.is_beside(other) {
-            return WRONG_STATE;
+            return Code::WrongState;
         }
         let Ok(asked) = Key::of(alloc, key) else {
-            return NOTHING_LEFT;
+            return Code::NoMemory;
         };
         let Ok(again) = asked.again() else {
-            return NOTHING_LEFT;
+            return Code::NoMemory;
         };
         let place = self.places.of(key);
         let caller = replace(&mut self.part, Part::Gone);
         let second = replace(&mut other.part, Part::Gone);
-        let (caller, second, code) = caller.asked_chan(second, &self.group, place, tries);
+        let (caller, second, code) = caller.ask_chan(second, &self.group, place, tries, stamp);
         self.part = caller;
         other.part = second;
-        if code == DONE {
-            self.asked = asked;
-            other.asked = again;
-            self.own = true;
-        } else if code == OTHERWISE {
-            other.asked = again;
-        }
+        self.keep_both(other, code, asked, again);
         code
     }
 
-    /// Forgets the key: done where that closed a call, otherwise none was open.
-    pub fn forget(&mut self, key: &[u8], tries: u32) -> u32
+    /// Forgets the key: done where that closed a call, nothing where none was open.
+    pub fn forget(&mut self, key: &[u8], tries: u32) -> Code
         ensures kept { KeepsKey self.old self.new × KeepsLetter self.old self.new
             × (self.new.own ≡ self.old.own) }
         ensures row { HasForgotKey self.old key.now tries self.new result }
-        ensures open { result ≢ NOT_OPEN }
     {
         if tries < 1 || tries > MOST_TRIES {
-            return BAD_NUMBER;
+            return Code::BadNumber;
         }
         if !self.part.is_free() {
-            return WRONG_STATE;
+            return Code::WrongState;
         }
         let place = self.places.of(key);
-        self.part.forgets(&self.group, place, tries)
+        self.part.forget(&self.group, place, tries)
     }
 
     /// Settles the call that its caller leads.
-    pub fn finish(&mut self, value: u64, joiners: &mut u32) -> u32
+    pub fn finish(&mut self, value: u64, answer: &mut Answer) -> Code
         ensures kept { KeepsGroup self.old self.new × (self.new.own ≡ self.old.own) }
-        ensures own { MarksOwn result self.old.own self.old.last_own self.new.last_own }
+        ensures own { MarksDone result self.old.own self.old.last_own self.new.last_own }
         ensures asked { HasGivenKey result self.old.asked self.new.asked }
         ensures row { HasFinishedPart self.old.part value self.old.asked self.new.part result
-            joiners.old joiners.new self.old.last self.new.last }
-        ensures open { result ≢ NOT_OPEN }
+            answer.old answer.new self.old.last self.new.last }
     {
-        let code = self.part.finishes(&self.group, value, &mut self.asked, joiners, &mut self.last);
-        if code == DONE {
+        let code = self.part.finish(&self.group, value, &mut self.asked, answer, &mut self.last);
+        if code == Code::Done {
             self.last_own = self.own;
         }
         code
     }
 
     /// Goes on with the delivery of a settled call.
-    pub fn go_on(&mut self, joiners: &mut u32) -> u32
+    pub fn go_on(&mut self, answer: &mut Answer) -> Code
         ensures kept { KeepsKey self.old self.new × (self.new.own ≡ self.old.own) }
-        ensures own { MarksOwn result self.old.own self.old.last_own self.new.last_own }
-        ensures row { HasGoneOnPart self.old.part self.new.part result joiners.old joiners.new
+        ensures own { MarksDone result self.old.own self.old.last_own self.new.last_own }
+        ensures row { HasGoneOnPart self.old.part self.new.part result answer.old answer.new
             self.old.last self.new.last }
-        ensures open { result ≢ NOT_OPEN }
     {
         let part = replace(&mut self.part, Part::Gone);
-        let (part, code) = part.gone_on(&self.group, joiners, &mut self.last);
+        let (part, code) = part.go_on(&self.group, answer, &mut self.last);
         self.part = part;
-        if code == DONE {
+        if code == Code::Done {
             self.last_own = self.own;
         }
         code
     }
 
     /// Looks for the letter that its caller waits for, and whether it is of the key that it asked for.
-    pub fn poll(&mut self, value: &mut u64, joiners: &mut u32) -> u32
+    pub fn poll(&mut self, answer: &mut Answer) -> Code
         ensures kept { KeepsKey self.old self.new × (self.new.own ≡ self.old.own) }
-        ensures own { MarksOwn result false self.old.last_own self.new.last_own }
-        ensures row { HasPolledPart self.old.part self.old.asked self.new.part result value.old
-            value.new joiners.old joiners.new self.old.last self.new.last }
-        ensures open { result ≢ NOT_OPEN }
+        ensures own { MarksDone result false self.old.last_own self.new.last_own }
+        ensures row { HasPolledPart self.old.part self.old.asked self.new.part result answer.old
+            answer.new self.old.last self.new.last }
     {
         let code = self
             .part
-            .polls(&self.group, &self.asked, value, joiners, &mut self.last);
-        if code == DONE {
+            .poll(&self.group, &self.asked, answer, &mut self.last);
+        if code == Code::Done {
             self.last_own = false;
         }
         code
     }
 
-    /// Whether the call of the letter it had last is its key's current one.
-    pub fn is_current(&mut self) -> u32
+    /// Whether the call of the letter it had last is its key's current one. The answer is no where there was none, or its
+    /// caller is not free.
+    pub fn is_current(&mut self) -> bool
         ensures kept { KeepsKey self.old self.new × (self.new.own ≡ self.old.own)
             × (self.new.last_own ≡ self.old.last_own) }
         ensures row { HasQuestionedPart self.old.part self.old.last self.new.part self.new.last
             result }
-        ensures open { result ≢ NOT_OPEN }
     {
-        self.part.questions(&self.group, &mut self.last)
+        self.part.is_current(&self.group, &mut self.last)
     }
 
     /// Gives up what its caller has open.
-    pub fn give_up(&mut self) -> u32
+    pub fn give_up(&mut self) -> Code
         ensures kept { KeepsKey self.old self.new × KeepsLetter self.old self.new
             × (self.new.own ≡ self.old.own) }
         ensures row { HasGivenUp self.old.part self.new.part result }
-        ensures open { result ≢ NOT_OPEN }
     {
-        let (part, code) = replace(&mut self.part, Part::Gone).given_up();
+        let (part, code) = replace(&mut self.part, Part::Gone).give_up();
         self.part = part;
         code
     }
 
     /// How many others have the value of the letter that it had last: as many as joined the call, and who holds its own
     /// channel, where this caller led it.
-    pub fn joined(&self, count: &mut u64) -> u32
+    pub fn joined(&self, count: &mut u64) -> Code
         ensures row { HasCounted self.now.last self.now.last_own result count.old count.new }
-        ensures open { result ≢ NOT_OPEN }
     {
         let Some(letter) = &self.last else {
-            return NOTHING_LEFT;
+            return Code::Nothing;
         };
         *count = u64::from(letter.joiners()) + u64::from(self.last_own);
-        DONE
-    }
-
-    /// Which call its caller leads or waits for; or where that is free, the call of the letter it had last.
-    pub fn call(&self, caller: &mut u32, generation: &mut u32) -> u32
-        ensures row { HasCalled (call_in self.now.part self.now.last) result caller.old caller.new
-            generation.old generation.new }
-        ensures open { result ≢ NOT_OPEN }
-    {
-        let Some(call) = self.part.call(&self.last) else {
-            return NOTHING_LEFT;
-        };
-        *caller = call.caller;
-        *generation = call.generation;
-        DONE
+        Code::Done
     }
 
     /// The number of its caller, which is free.
-    pub fn number(&self, number: &mut u32) -> u32
+    pub fn number(&self, number: &mut u32) -> Code
         ensures row { HasNumbered self.now.part result number.old number.new }
-        ensures open { result ≢ NOT_OPEN }
     {
         self.part.number(number)
     }
 
     /// A note that shows what its caller has seen; or the code of its refusal.
-    pub fn tell(&mut self) -> Result<NoteState, u32>
+    pub fn tell(&mut self) -> Result<NoteState, Code>
         ensures same { self.new ≡ self.old }
         ensures told { IfOk result (HasToldNote self.old) }
         ensures refused { IfErr result (λ code. HasNotTold self.old code) }
     {
-        let Some(note) = self.part.tells(&self.group) else {
-            return Err(WRONG_STATE);
+        let Some(note) = self.part.tell(&self.group) else {
+            return Err(Code::WrongState);
         };
         let Ok(group) = Arc::try_clone(&self.group) else {
-            return Err(NOTHING_LEFT);
+            return Err(Code::NoMemory);
         };
         Ok(NoteState::new(group, self.places, note))
     }
 
     /// Its caller has then seen what the note shows, but not where that is of another group.
-    pub fn learn(&mut self, told: &mut NoteState) -> u32
+    pub fn learn(&mut self, told: &mut NoteState) -> Code
         requires { ArePlacesOfOne self.old.places told.old.places → self.old.group ≡ told.old.note.group }
         ensures kept { KeepsKey self.old self.new × KeepsLetter self.old self.new
             × (self.new.own ≡ self.old.own) }
         ensures note { HasGrown told.old.note told.new.note × (told.new.places ≡ told.old.places) }
         ensures row { HasLearntNote self.old told.old self.new.part result }
-        ensures open { result ≢ NOT_OPEN }
     {
         if !are_same(self.places, told.places) {
-            return WRONG_STATE;
+            return Code::WrongState;
         }
-        self.part.learns(&self.group, &mut told.note)
+        self.part.learn(&self.group, &mut told.note)
     }
 }

@@ -5,7 +5,7 @@ use Rattle.sf_c_slots.specs.Rows.{HasFinishedPart}
 use Rattle.sf_c_slots.specs.declared.part.Part.{Part}
 use Rattle.sf_c_slots.specs.declared.part.Part.TheVariants.{Leads}
 use Rattle.sf_c_slots.proofs.Delivered.{delivered}
-use Rattle.sf_c_slots.proofs.part.Part.finishes.Goals as goal
+use Rattle.sf_c_slots.proofs.part.Part.finish.Goals as goal
 
 pub returns-in-Held-clause-row : goal.returns-in-Held-clause-row
 returns-in-Held-clause-row g =
@@ -13,5 +13,5 @@ returns-in-Held-clause-row g =
     let led : g.args.self.now ≡ Leads flight = sym g.replace.ensures.value ∙ g.in-Ok.ensures.leads in
     let named : g.new-word.result ≡ word g.args.value key = g.new-word.ensures ∙ ap (λ k. word g.args.value k) g.replace-2.ensures.value in
     let held = subst (λ (w : WordValue). IsHeld flight w settled) named g.in-Held.ensures.finished in
-    subst (λ (p : Part). HasFinishedPart p g.args.value key g.delivers_held.new.self g.delivers_held.result g.args.joiners.now g.delivers_held.new.joiners g.args.last.now g.delivers_held.new.last) (sym led)
-    (delivered flight g.args.value key settled g.delivers_held.new.self g.delivers_held.result g.args.joiners.now g.delivers_held.new.joiners g.args.last.now g.delivers_held.new.last held g.delivers_held.ensures.row)
+    subst (λ (p : Part). HasFinishedPart p g.args.value key g.deliver_held.new.self g.deliver_held.result g.args.answer.now g.deliver_held.new.answer g.args.last.now g.deliver_held.new.last) (sym led)
+    (delivered flight g.args.value key settled g.deliver_held.new.self g.deliver_held.result g.args.answer.now g.deliver_held.new.answer g.args.last.now g.deliver_held.new.last held g.deliver_held.ensures.row)
