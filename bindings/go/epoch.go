@@ -23,13 +23,14 @@ type seat struct {
 	index    uint8
 	followed atomic.Uint32 // whether its wait may have followers; see follow
 	owed     atomic.Int64
-	val      interface{}
+	val      any
 	err      error
 	key      string // of its call, where the library has only a digest of it
 	epoch    *epoch
 	mu       sync.Mutex // protects waits, and what the wait says
 	waits    *wait
-	_        [8]byte
+	joiners  atomic.Uint32 // how many have joined its call, once that is told; until all have their answers
+	lone     atomic.Uint32 // the generation of its last call that was forgotten as one that nobody has joined
 }
 
 // The wait of the call that it leads. Its lock is held.
@@ -40,18 +41,21 @@ func (s *seat) wait() *wait {
 	return s.waits
 }
 
-// The call that its asking may lead, and the fingerprint of that asking's key. Zero where it asks for nothing and leads
-// nothing. Between two askings the generation is 0, and the fingerprint is stored before the next one: so the same
+// The generation of the call that its asking may lead, and the fingerprint of that asking's key. The
+// generation is 0 where it asks for nothing and leads nothing, and where it is about to settle the
+// call that it leads; the fingerprint then is that of its last asking, or its next one. Between two
+// askings the generation is 0, and the fingerprint is stored before the next one: so the same
 // generation before and after the fingerprint was read tells whose that is.
 func (s *seat) asking() (generation, print uint64) {
-	generation = atomic.LoadUint64(&s.generation)
-	yield()
-	print = atomic.LoadUint64(&s.print)
-	yield()
-	if atomic.LoadUint64(&s.generation) != generation {
-		return 0, 0
+	for {
+		generation = atomic.LoadUint64(&s.generation)
+		yield()
+		print = atomic.LoadUint64(&s.print)
+		yield()
+		if atomic.LoadUint64(&s.generation) == generation {
+			return generation, print
+		}
 	}
-	return generation, print
 }
 
 // Whether it was free, and is the caller's now.
@@ -73,8 +77,9 @@ type epoch struct {
 	chunks  [mostCallers/chunkSize + 2]atomic.Pointer[chunk] // seats by their numbers
 	root    *seat                                            // splits seats off; asks questions and forgets where no seat is free
 	free    []*seat
-	made    uint32
-	gone    uint32
+	resting atomic.Uint32 // how many are in free
+	made    atomic.Uint32
+	gone    atomic.Uint32
 	spent   uint32
 	met     uint32 // how often a call met another key's
 	forgets uint64 // Forgets of the pool before it
@@ -92,7 +97,7 @@ func newEpoch(number uint64, size sizes, seed0, seed1 uint64) *epoch {
 
 // Another seat, if there may be one. The lock is held.
 func (e *epoch) grow() *seat {
-	if e.made == e.size.callers || !e.root.live {
+	if e.made.Load() == e.size.callers || !e.root.live {
 		return nil
 	}
 	s := &seat{epoch: e}
@@ -101,7 +106,7 @@ func (e *epoch) grow() *seat {
 		return nil
 	}
 	s.last = e.size.generations
-	e.made++
+	e.made.Add(1)
 	at := &e.chunks[number/chunkSize]
 	if at.Load() == nil {
 		at.Store(new(chunk))
@@ -153,6 +158,7 @@ func (p *pool) take(e *epoch) *seat {
 	var s *seat
 	if last := len(e.free) - 1; last >= 0 {
 		s, e.free = e.free[last], e.free[:last]
+		e.resting.Store(uint32(last))
 	} else {
 		s = e.grow()
 	}
@@ -176,6 +182,7 @@ func (p *pool) put(s *seat) {
 	} else {
 		p.lock()
 		e.free = append(e.free, s)
+		e.resting.Store(uint32(len(e.free)))
 		p.mu.Unlock()
 	}
 	if e.closed.Load() {
@@ -195,10 +202,11 @@ func (p *pool) drain(e *epoch) {
 	}
 	for _, s := range e.free {
 		s.close()
-		e.gone++
+		e.gone.Add(1)
 	}
 	e.free = nil
-	if e.gone < e.made {
+	e.resting.Store(0)
+	if e.gone.Load() < e.made.Load() {
 		return
 	}
 	for i, it := range p.draining {
@@ -206,8 +214,9 @@ func (p *pool) drain(e *epoch) {
 			p.draining = append(p.draining[:i:i], p.draining[i+1:]...)
 			e.root.close()
 			leads, joins := e.counts()
-			p.past.Leads += leads
-			p.past.Joins += joins
+			p.past.leads += leads
+			p.past.joins += joins
+			p.write(nil)
 		}
 	}
 }
@@ -222,16 +231,17 @@ func (e *epoch) counts() (leads, joins uint64) {
 	return leads, joins
 }
 
-// How many callers are not free. The lock is held.
+// How many callers are not free. One that comes or goes meanwhile is counted or not.
 func (e *epoch) inUse() uint32 {
-	free := e.gone + uint32(len(e.free))
+	made := e.made.Load()
+	free := e.gone.Load() + e.resting.Load()
 	for i := range e.hot {
 		if s := e.hot[i].Load(); s != nil && atomic.LoadUint32(&s.taken) == 0 {
 			free++
 		}
 	}
-	if free > e.made {
+	if free > made {
 		return 0
 	}
-	return e.made - free
+	return made - free
 }

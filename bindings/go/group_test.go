@@ -29,7 +29,7 @@ func until(t *testing.T, what string, holds func() bool) {
 func TestZeroGroup(t *testing.T) {
 	var g Group
 	g.Forget("key")
-	if g.Stats() != (Stats{}) {
+	if g.Stats() != (Stats{Proved: isProved}) {
 		t.Error("nothing is made before a call", g.Stats())
 	}
 	if v, err, shared := g.Do("key", value(1)); v != 1 || err != nil || shared {
@@ -93,7 +93,7 @@ func isFreed(g *Group) bool {
 
 func TestCloseWhileCallsRun(t *testing.T) {
 	for round := 0; round < 50; round++ {
-		g, err := New(Places(4), Callers(16))
+		g, err := NewGroup(WithSlots(4), WithCallers(16))
 		if err != nil {
 			t.Fatal(err)
 		}
@@ -204,7 +204,7 @@ func TestSeatsAreDealtAgain(t *testing.T) {
 			t.Error("one caller for many keys", v, err)
 		}
 	}
-	if st := g.Stats(); st != (Stats{Leads: 64, Made: 1, Epochs: 1}) {
+	if st := g.Stats(); st != (Stats{Leads: 64, Made: 1, Epochs: 1, Proved: isProved}) {
 		t.Error("one caller", st)
 	}
 }
@@ -253,18 +253,18 @@ func TestWaitsAreApart(t *testing.T) {
 	}
 }
 
-func TestDoContext(t *testing.T) {
+func TestDeadlines(t *testing.T) {
 	g := open(t, 4)
 	ctx, cancel := context.WithCancel(context.WithValue(context.Background(), "who", "leader"))
 	defer cancel()
-	if v, err, shared := g.DoContext(ctx, "key", func(own context.Context) (any, error) {
+	if v, err, shared := doContext(ctx, g, "key", func(own context.Context) (any, error) {
 		return own.Value("who"), own.Err()
 	}); v != "leader" || err != nil || shared {
 		t.Error("a load has the leader's values", v, err, shared)
 	}
 	done, over := context.WithCancel(ctx)
 	over()
-	if _, err, _ := g.DoContext(done, "key", func(context.Context) (any, error) { t.Error("a call"); return nil, nil }); err != context.Canceled {
+	if _, err, _ := doContext(done, g, "key", func(context.Context) (any, error) { t.Error("a call"); return nil, nil }); err != context.Canceled {
 		t.Error("a context that has ended", err)
 	}
 	// A waiter leaves, and the load goes on for the leader.
@@ -273,7 +273,7 @@ func TestDoContext(t *testing.T) {
 	<-started
 	short, stop := context.WithTimeout(ctx, 20*time.Millisecond)
 	defer stop()
-	if _, err, _ := g.DoContext(short, "key", func(context.Context) (any, error) { return 2, nil }); err != context.DeadlineExceeded {
+	if _, err, _ := doContext(short, g, "key", func(context.Context) (any, error) { return 2, nil }); err != context.DeadlineExceeded {
 		t.Error("a waiter's deadline", err)
 	}
 	if st := g.Stats(); st.InUse != 1 {
@@ -297,7 +297,7 @@ func TestDoContextOfALeader(t *testing.T) {
 	results := make(chan error, 2)
 	fail := errors.New("the load was ended")
 	go func() {
-		_, err, _ := g.DoContext(leader, "key", func(own context.Context) (any, error) {
+		_, err, _ := doContext(leader, g, "key", func(own context.Context) (any, error) {
 			started <- own
 			<-own.Done()
 			return nil, fail
@@ -306,7 +306,7 @@ func TestDoContextOfALeader(t *testing.T) {
 	}()
 	own := <-started
 	go func() {
-		_, err, _ := g.DoContext(waiter, "key", func(context.Context) (any, error) { return 1, nil })
+		_, err, _ := doContext(waiter, g, "key", func(context.Context) (any, error) { return 1, nil })
 		results <- err
 	}()
 	until(t, "another waits", func() bool {
@@ -333,8 +333,8 @@ func TestDoContextOfALeader(t *testing.T) {
 }
 
 // How many wait for the one call of the library that is waited for.
-func waiting(g *Group) (count int) {
-	g.made.Load().now.Load().each(func(_ uint32, s *seat) {
+func waiting(g interface{ pool() *pool }) (count int) {
+	g.pool().now.Load().each(func(_ uint32, s *seat) {
 		s.mu.Lock()
 		if s.waits != nil {
 			count += s.waits.waiting
@@ -358,7 +358,7 @@ func TestDoContextPanics(t *testing.T) {
 			go func() {
 				defer all.Done()
 				defer func() { recovered[i] = recover() }()
-				g.DoContext(ctx, "key", fn)
+				doContext(ctx, g, "key", fn)
 				returned[i] = true
 			}()
 		}
@@ -408,7 +408,7 @@ func manyContexts(t *testing.T, callers uint32) {
 				}
 				before := forgotten[number].Load()
 				ctx, cancel := context.WithTimeout(context.Background(), time.Duration(seed>>4%300)*time.Microsecond)
-				v, err, _ := g.DoContext(ctx, key, func(own context.Context) (any, error) {
+				v, err, _ := doContext(ctx, g, key, func(own context.Context) (any, error) {
 					at := now.Add(1)
 					select {
 					case <-own.Done():
@@ -440,8 +440,8 @@ func manyContexts(t *testing.T, callers uint32) {
 // More clients than callers, in rounds: each has one load.
 func TestRounds(t *testing.T) {
 	const clients = 200
-	for _, option := range []Option{Callers(64), fixedCallers(64), fixedCallers(1)} {
-		g, err := New(option)
+	for _, option := range []Option{WithCallers(64), fixedCallers(64), fixedCallers(1)} {
+		g, err := NewGroup(option)
 		if err != nil {
 			t.Fatal(err)
 		}
@@ -471,7 +471,7 @@ func TestRounds(t *testing.T) {
 func fixedCallers(n uint32) Option { return func(s *sizes) { s.callers, s.fixedCallers = n, true } }
 
 func openFixed(t *testing.T, callers uint32) *Group {
-	g, err := New(Places(1<<18), fixedCallers(callers))
+	g, err := NewGroup(WithSlots(1<<18), fixedCallers(callers))
 	if err != nil {
 		t.Fatal(err)
 	}
@@ -486,7 +486,7 @@ func TestOriginThatHangs(t *testing.T) {
 	load := func(context.Context) (any, error) { <-release; return 1, nil }
 	for i := 0; i < 100; i++ {
 		ctx, cancel := context.WithTimeout(context.Background(), 100*time.Microsecond)
-		if _, err, _ := g.DoContext(ctx, "hangs", load); err != context.DeadlineExceeded {
+		if _, err, _ := doContext(ctx, g, "hangs", load); err != context.DeadlineExceeded {
 			t.Error("who waits for it leaves", err)
 		}
 		cancel()
@@ -495,7 +495,7 @@ func TestOriginThatHangs(t *testing.T) {
 		t.Error("it runs once, and has one caller", st)
 	}
 	for i := 0; i < 20; i++ {
-		_, _, _, stamp := g.DoStamped("page", value(3))
+		_, _, _, stamp := doStamped(g, "page", value(3))
 		if !g.IsStill(stamp) {
 			t.Error("it can be cached", stamp)
 		}

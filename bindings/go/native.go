@@ -10,6 +10,8 @@ import (
 // The library, whose code is in library_amd64.s. A call of it is a call of C, on a stack that the slot has, without cgo: see calls_amd64.s.
 // None waits for another, and none keeps the address of what it is given.
 
+const isProved = true
+
 // So many bytes of stack has a call of the library: native/depths tells that none needs more. 16 divides where it ends.
 const stackSize = 2048
 

@@ -35,12 +35,15 @@ import (
 // result of, and one that took it before is closed. A Forget leaves open calls of other keys alone.
 type pool struct {
 	now    atomic.Pointer[epoch] // none where the group is closed, or there is no memory
+	record func(Load)
 	seed   maphash.Seed
 	alert  [alerts]atomic.Int32 // by fingerprint: how many runs, open calls of old epochs, strangers and replacements there are to look for
 	spare  maphash.Seed         // of the second half of a long key's digest
 	closes atomic.Uint64
 	idles  atomic.Uint64
 	alone  atomic.Uint64 // runs beside the library
+	open   atomic.Int64  // those that have not ended
+	book   atomic.Pointer[book]
 	beside atomic.Uint64 // how many joined without a caller
 	voids  atomic.Uint64 // calls that were given up before their loads
 	parted atomic.Uint64 // how many had joined such a call, or another key's
@@ -51,9 +54,34 @@ type pool struct {
 	draining []*epoch // those that were replaced and have calls still, the oldest first
 	size     sizes
 	number   uint64
-	past     Stats // of epochs that are gone
+	past     tally // of epochs that are gone
 	shut     bool
-	onPanic  func(value interface{}, stack []byte)
+	label    string
+	onPanic  func(value any, stack []byte)
+}
+
+// How often callers led and joined.
+type tally struct{ leads, joins uint64 }
+
+// What Stats reads without the lock. Each epoch is among these, or among those that are gone.
+type book struct {
+	now    *epoch
+	epochs []*epoch // those that drain, and now
+	past   tally
+	number uint64
+}
+
+// Writes the book anew, with an epoch that is about to be the present one, if there is one. The lock
+// is held.
+func (p *pool) write(next *epoch) {
+	b := &book{now: p.now.Load(), past: p.past, number: p.number}
+	b.epochs = append(b.epochs, p.draining...)
+	for _, e := range []*epoch{b.now, next} {
+		if e != nil {
+			b.epochs = append(b.epochs, e)
+		}
+	}
+	p.book.Store(b)
 }
 
 const (
@@ -73,10 +101,11 @@ type keyed struct {
 
 func newPool(size sizes) *pool {
 	p := &pool{
-		seed: maphash.MakeSeed(), spare: maphash.MakeSeed(), size: size, onPanic: size.onPanic,
-		runs: make(map[string]*wait),
+		seed: maphash.MakeSeed(), spare: maphash.MakeSeed(), size: size, runs: make(map[string]*wait),
+		label: size.label, record: size.record, onPanic: size.onPanic,
 	}
 	p.now.Store(p.newEpoch(size))
+	p.write(nil)
 	return p
 }
 
@@ -264,7 +293,7 @@ func (p *pool) follow(a *asking, it found, k keyed) bool {
 	s := it.seat
 	acquire(&s.mu)
 	defer s.mu.Unlock()
-	if !s.isFollowable(uint64(it.call.generation)) {
+	if s.lone.Load() == it.call.generation || !s.isFollowable(uint64(it.call.generation)) {
 		return false
 	}
 	w := s.wait()
@@ -361,6 +390,7 @@ func (p *pool) askBeside(a *asking, k keyed, e *epoch, wants bool) bool {
 	w := &wait{lock: &p.mu, done: make(chan struct{}), key: k.key}
 	p.runs[k.key] = w
 	p.alone.Add(1)
+	p.open.Add(1)
 	*a = asking{wait: w, leads: true}
 	return true
 }
@@ -400,8 +430,10 @@ func (p *pool) change(next *epoch) {
 	old := p.now.Load()
 	if old == nil {
 		p.now.Store(next)
+		p.write(nil)
 		return
 	}
+	p.write(next)
 	for i := range p.alert {
 		p.alert[i].Add(1)
 	}
@@ -425,6 +457,7 @@ func (p *pool) change(next *epoch) {
 		p.alert[i].Add(-1)
 	}
 	p.draining = append(p.draining, old)
+	p.write(nil)
 	old.closed.Store(true)
 	p.drain(old)
 }
@@ -477,12 +510,21 @@ func (p *pool) retire(s *seat) {
 		e.hot[s.index].Store(nil)
 	}
 	s.close()
-	e.gone++
+	e.gone.Add(1)
 	e.spent++
 	if p.now.Load() == e && 2*e.spent >= e.size.callers {
 		p.replace(e.size, true)
 	} else if e.closed.Load() {
 		p.drain(e)
+	}
+}
+
+// A Forget has closed a call, or none.
+func (p *pool) told(closed bool) {
+	if closed {
+		p.closes.Add(1)
+	} else {
+		p.idles.Add(1)
 	}
 }
 
@@ -539,6 +581,138 @@ func (p *pool) forgetBy(e *epoch, by *seat, k keyed) bool {
 		return false
 	}
 	return by.forgetCall(name, call) == codeDone
+}
+
+// Forgets the key as forget does, unless somebody has joined its open call: then alone is false, and
+// nothing has changed. Whether that closed a call.
+func (p *pool) forgetUnshared(key string) (alone, closed bool) {
+	k := p.keyed(key)
+	var digest [16]byte
+	name := p.name(k, &digest)
+	for {
+		e := p.now.Load()
+		if p.alertOf(k.print).Load() != 0 {
+			return p.forgetUnsharedBeside(k, name)
+		}
+		yield()
+		if e != nil {
+			s := e.takeHot()
+			if s == nil {
+				s = p.any(e)
+			}
+			if s != nil {
+				it, shared := p.sole(e, s, name, k)
+				if !shared {
+					closed = it.forget(name)
+				}
+				p.putAny(s)
+				if shared || closed {
+					return !shared, closed
+				}
+			}
+		}
+		yield()
+		if p.now.Load() == e {
+			return true, false
+		}
+	}
+}
+
+// The same where the key may also have a run beside the library, or calls in epochs that drain. Where
+// there is a run, a call of the library is about to look for it, or was closed when it began. Of two
+// calls of the library one is about to be given up, or to take the result of the other: so none is
+// forgotten before both are known to be alone.
+func (p *pool) forgetUnsharedBeside(k keyed, name string) (alone, closed bool) {
+	p.lock()
+	defer p.mu.Unlock()
+	if w := p.runs[k.key]; w != nil {
+		if w.followers > 0 {
+			return false, false
+		}
+		return true, p.dropRun(w, k)
+	}
+	var all []sole
+	for _, e := range append(p.draining[:len(p.draining):len(p.draining)], p.now.Load()) {
+		if e == nil {
+			continue
+		}
+		it, shared := p.sole(e, e.root, name, k)
+		if shared {
+			for _, it := range all {
+				it.unlock()
+			}
+			return false, false
+		}
+		all = append(all, it)
+	}
+	for _, it := range all {
+		closed = it.forget(name) || closed
+	}
+	return true, closed
+}
+
+// A call of the key that its slot names, to be forgotten by a seat that is free. The lock of the
+// leader's seat is held. None where there is no seat.
+type sole struct {
+	by, leader *seat
+	call       Call
+	isLast     bool // whether it is what the leader's seat leads, or is about to settle
+}
+
+// Finds it, unless somebody has joined it.
+func (p *pool) sole(e *epoch, by *seat, name string, k keyed) (it sole, shared bool) {
+	if !by.live {
+		return sole{}, false
+	}
+	call, ok := by.named(name)
+	if !ok {
+		return sole{}, false
+	}
+	yield()
+	s := e.numbered(call.caller)
+	acquire(&s.mu)
+	generation, print := s.asking()
+	isOpen := uint32(generation) == call.generation
+	it = sole{by, s, call, isOpen || generation == 0 && print == k.print}
+	if w := s.waits; it.isLast && print == k.print && w != nil && w.joined+w.followers > 0 {
+		s.mu.Unlock()
+		return sole{}, true
+	}
+	if isOpen && print != k.print {
+		s.mu.Unlock()
+		return sole{}, false
+	}
+	return it, false
+}
+
+func (it sole) unlock() {
+	if it.leader != nil {
+		it.leader.mu.Unlock()
+	}
+}
+
+// Forgets it, and unlocks the seat. Whether that closed it.
+//
+// One who has joined with a caller of its own may not have said so yet. It looks at lone before it
+// takes the result, and asks again. A call is closed here only while it is open, and lone is stored
+// before: so whoever has joined it sees that. Where this does not close the call, others may have
+// its result already, and lone is what it was: so the leader is never told that nobody has joined
+// while somebody has the result.
+func (it sole) forget(name string) (closed bool) {
+	s := it.leader
+	if s == nil {
+		return false
+	}
+	defer s.mu.Unlock()
+	before := s.lone.Load()
+	if it.isLast && before < it.call.generation {
+		s.lone.Store(it.call.generation)
+		yield()
+	}
+	if closed = it.by.forgetCall(name, it.call) == codeDone; !closed {
+		s.lone.Store(before)
+	}
+	return closed
 }
 
 // What the key's last call came to is not current any more, since a run beside the library begins. A call that is open at
@@ -688,9 +862,10 @@ func (p *pool) settle(a *asking, r *Result, k keyed, watched *wait) {
 func (p *pool) settleRun(w *wait, r *Result, k keyed) {
 	p.lock()
 	p.dropRun(w, k)
-	r.Shared = w.followers > 0
+	r.Joiners, r.Shared = w.followers, w.followers > 0
 	w.settle(k.key, *r)
 	p.mu.Unlock()
+	p.open.Add(-1)
 	close(w.done)
 }
 
@@ -725,6 +900,28 @@ func (p *pool) clear(s *seat) {
 	p.put(s)
 }
 
+// How many have joined the call, where so many have joined it by callers of their own. Its lock is held.
+func (w *wait) others(joined int) int {
+	if w == nil {
+		return joined
+	}
+	return joined + w.followers - w.strangers
+}
+
+// The same of the seat's call, which is settled, for one of those who joined it: what the leader tells or will tell. One
+// that asks for another key at the slot, and finds just then that it has joined this call, may be counted here alone.
+func (s *seat) joined(joined int) int {
+	if told := s.joiners.Load(); told != 0 {
+		return int(told)
+	}
+	acquire(&s.mu)
+	defer s.mu.Unlock()
+	if told := s.joiners.Load(); told != 0 {
+		return int(told)
+	}
+	return s.waits.others(joined)
+}
+
 // Wakes all that wait for the seat's call, which is settled. So many joined by callers of their own.
 func (p *pool) share(s *seat, r *Result, k keyed, joined int64) {
 	// A joiner that looked too early holds the lock until it is among those that wait.
@@ -733,9 +930,14 @@ func (p *pool) share(s *seat, r *Result, k keyed, joined int64) {
 	s.waits = nil
 	s.followed.Store(0)
 	owed := joined
-	r.Shared = joined > 0
+	r.Joiners = w.others(int(joined))
+	if leads, joins := s.counts(); s.lone.Load() == uint32(leads+joins) {
+		// It was forgotten as a call that nobody has joined. Those who have ask again.
+		r.Joiners = 0
+	}
+	r.Shared = r.Joiners > 0
+	s.joiners.Store(uint32(r.Joiners))
 	if w != nil {
-		r.Shared = joined+int64(w.followers) > int64(w.strangers)
 		w.void = s.void
 		w.settle(k.key, *r)
 		if s.ended {
@@ -768,6 +970,7 @@ func (p *pool) comesBack(s *seat) {
 // So many more have to take what the seat's call came to; or by -1 one has. The seat is free when all have.
 func (p *pool) release(s *seat, more int64) {
 	if s.owed.Add(more) == 0 {
+		s.joiners.Store(0)
 		p.clear(s)
 	}
 }
@@ -783,7 +986,9 @@ type letter struct {
 func callOf(word uint64) Call { return Call{caller: uint32(word), generation: uint32(word >> 32)} }
 
 // Waits until the call is settled that it joined, or until stop is closed.
-func (p *pool) join(r *Result, a *asking, k keyed, stop <-chan struct{}) (how outcome) {
+func (p *pool) join(
+	r *Result, a *asking, k keyed, stop <-chan struct{}, all bool,
+) (how outcome) {
 	if a.seat == nil {
 		if how = a.wait.join(r, k.key, stop); how == again && a.wait.void {
 			p.parted.Add(1)
@@ -800,7 +1005,16 @@ func (p *pool) join(r *Result, a *asking, k keyed, stop <-chan struct{}) (how ou
 			break
 		}
 		w := led.wait()
+		if led.lone.Load() == a.call.generation {
+			// It was forgotten as a call that nobody has joined. The seat comes back with its letter.
+			p.parted.Add(1)
+			w.strangers++
+			w.left = append(w.left, s)
+			led.mu.Unlock()
+			return again
+		}
 		w.waiting++
+		w.joined++
 		led.mu.Unlock()
 		if !await(w.done, stop) {
 			if how := w.leave(false, s); how != settled {
@@ -816,14 +1030,17 @@ func (p *pool) join(r *Result, a *asking, k keyed, stop <-chan struct{}) (how ou
 	switch {
 	case letter.code == codeOther || len(k.key) > longestKey && led.key != k.key:
 		how = again
-	case led.void:
+	case led.void || led.lone.Load() == a.call.generation:
 		p.parted.Add(1)
 		how = again
 	case led.ended && led.err != nil:
 		how = again
 	default:
 		letter.stamp.Place |= s.epoch.number << placeBits
-		*r = Result{led.val, led.err, true, a.call, letter.stamp}
+		*r = Result{Val: led.val, Err: led.err, Shared: true, Call: a.call, Stamp: letter.stamp}
+		if all {
+			r.Joiners = led.joined(int(letter.joiners))
+		}
 	}
 	p.put(s)
 	p.release(led, -1)
@@ -858,26 +1075,51 @@ func (p *pool) close() {
 	}
 }
 
-func (p *pool) stats() Stats {
+// Why no call is the library's any more, or nil.
+func (p *pool) err() error {
+	if p.now.Load() != nil {
+		return nil
+	}
 	p.lock()
 	defer p.mu.Unlock()
-	st := p.past
-	count := func(e *epoch) {
-		leads, joins := e.counts()
-		st.Leads += leads
-		st.Joins += joins
+	if p.shut {
+		return ErrClosed
+	}
+	return ErrMemory
+}
+
+// How many calls have not ended.
+func (p *pool) inFlight() int {
+	n := int(p.open.Load())
+	count := func(_ uint32, s *seat) {
+		if atomic.LoadUint64(&s.generation) != 0 {
+			n++
+		}
+	}
+	for _, e := range p.book.Load().epochs {
+		e.each(count)
+	}
+	return n
+}
+
+func (p *pool) stats() Stats {
+	// A call that was given up, one that took another's result, and one who has joined another key's
+	// call were counted before they are counted so. These come first, so no difference is below zero.
+	voids, adopts, parted := p.voids.Load(), p.adopts.Load(), p.parted.Load()
+	b := p.book.Load()
+	st := Stats{Epochs: b.number, Proved: isProved}
+	leads, joins := b.past.leads, b.past.joins
+	for _, e := range b.epochs {
+		l, j := e.counts()
+		leads += l
+		joins += j
 		st.InUse += e.inUse()
 	}
-	if e := p.now.Load(); e != nil {
-		count(e)
-		st.Made = e.made
+	if b.now != nil {
+		st.Made = b.now.made.Load()
 	}
-	for _, e := range p.draining {
-		count(e)
-	}
-	st.Leads -= p.voids.Load() + p.adopts.Load()
-	st.Joins += p.beside.Load() + p.adopts.Load() - p.parted.Load()
+	st.Leads = leads - voids - adopts
+	st.Joins = joins + p.beside.Load() + adopts - parted
 	st.Alone, st.Closed, st.Idle = p.alone.Load(), p.closes.Load(), p.idles.Load()
-	st.Epochs = p.number
 	return st
 }

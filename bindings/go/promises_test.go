@@ -63,7 +63,7 @@ func TestSlotsOfLoadsThatHang(t *testing.T) {
 	release := make(chan struct{})
 	hung := g.DoChan("hangs", func() (any, error) { <-release; return 1, nil })
 	until(t, "a result that can be cached", func() bool {
-		_, _, _, stamp := g.DoStamped("page", value(2))
+		_, _, _, stamp := doStamped(g, "page", value(2))
 		return g.IsStill(stamp)
 	})
 	joined := g.DoChan("hangs", value(3))
@@ -79,7 +79,7 @@ func TestSlotsOfLoadsThatHang(t *testing.T) {
 // A load takes no notice of its deadline. No second one begins while it runs.
 func TestOneRunAfterADeadline(t *testing.T) {
 	for _, places := range []uint32{1, 64} {
-		g, err := New(Places(places))
+		g, err := NewGroup(WithSlots(places))
 		if err != nil {
 			t.Fatal(err)
 		}
@@ -102,7 +102,7 @@ func TestOneRunAfterADeadline(t *testing.T) {
 		}
 		for i := 0; i < 20; i++ {
 			ctx, cancel := context.WithTimeout(context.Background(), time.Millisecond)
-			if _, err, _ := g.DoContext(ctx, "key", load); err != context.DeadlineExceeded {
+			if _, err, _ := doContext(ctx, g, "key", load); err != context.DeadlineExceeded {
 				t.Error("a deadline", err)
 			}
 			cancel()
@@ -140,7 +140,7 @@ func TestNothingWearsOut(t *testing.T) {
 	one.set(p)
 	defer one.Close()
 	for i := 0; i < 100; i++ {
-		if v, _, _, stamp := one.DoStamped("key", value(i)); v != i || stamp == (Stamp{}) {
+		if v, _, _, stamp := doStamped(&one, "key", value(i)); v != i || stamp == (Stamp{}) {
 			t.Error("each result has a stamp", v, stamp)
 		}
 	}
@@ -166,8 +166,8 @@ func TestStress(t *testing.T) {
 			t.Fatal("SFLIGHT_CALLS", err)
 		}
 	}
-	for _, options := range [][]Option{{Places(64)}, {Places(64), fixedCallers(24)}, {}} {
-		g, err := New(append(options, OnPanic(func(any, []byte) {}))...)
+	for _, options := range [][]Option{{WithSlots(64)}, {WithSlots(64), fixedCallers(24)}, {}} {
+		g, err := NewGroup(append(options, WithOnPanic(func(any, []byte) {}))...)
 		if err != nil {
 			t.Fatal(err)
 		}
@@ -291,7 +291,7 @@ func stress(t *testing.T, g *Group, goroutines, keys int, enough func() bool) {
 				// The load may outlive this call, and then has no random source of its own.
 				slow, nested, panics = random.Intn(2) == 0, false, false
 				wait := time.Duration(random.Intn(200)) * time.Microsecond
-				v, err, _ := g.DoContext(ctx, names[key], func(own context.Context) (any, error) {
+				v, err, _ := doContext(ctx, g, names[key], func(own context.Context) (any, error) {
 					if slow {
 						select {
 						case <-own.Done():
@@ -309,7 +309,7 @@ func stress(t *testing.T, g *Group, goroutines, keys int, enough func() bool) {
 				}
 				return
 			}
-			v, err, _, stamp := g.DoStamped(names[key], load)
+			v, err, _, stamp := doStamped(g, names[key], load)
 			if err == nil {
 				if it := check(key, v, asked, forgotten); it != nil && g.IsStill(stamp) {
 					cache[key].Store(&cached{it, stamp})
@@ -416,7 +416,7 @@ func TestNoMemory(t *testing.T) {
 	<-started
 	joined := g.DoChan("key", value("joined"))
 	g.Forget("key")
-	if v, _, _, stamp := g.DoStamped("key", value("new")); v != "new" || g.IsStill(stamp) {
+	if v, _, _, stamp := doStamped(&g, "key", value("new")); v != "new" || g.IsStill(stamp) {
 		t.Error("a Forget forgets, and nothing can be cached", v)
 	}
 	for i := 0; i < 200; i++ {
@@ -427,7 +427,7 @@ func TestNoMemory(t *testing.T) {
 	}
 	none.Store(false)
 	until(t, "a result that can be cached", func() bool {
-		_, _, _, stamp := g.DoStamped("page", value(1))
+		_, _, _, stamp := doStamped(&g, "page", value(1))
 		return g.IsStill(stamp)
 	})
 	close(release)
@@ -436,7 +436,7 @@ func TestNoMemory(t *testing.T) {
 			t.Error("the call that ran", r)
 		}
 	}
-	if _, err := New(func(s *sizes) { s.refused = func() bool { return true } }); err != ErrSize {
+	if _, err := NewGroup(func(s *sizes) { s.refused = func() bool { return true } }); err != ErrMemory {
 		t.Error("New tells of it", err)
 	}
 }
@@ -488,7 +488,7 @@ func TestFingerprintsThatMeet(t *testing.T) {
 	}
 	ended := make(chan outcome)
 	var r Result
-	go func() { ended <- p.join(&r, &b, grace, nil) }()
+	go func() { ended <- p.join(&r, &b, grace, nil, true) }()
 	p.settle(&a, &Result{Val: "ada"}, ada, nil)
 	if how := <-ended; how != again || r.Val != nil {
 		t.Error("it asks again", how, r)
@@ -498,7 +498,7 @@ func TestFingerprintsThatMeet(t *testing.T) {
 // A panic of a load whose leader has left goes on in those who wait, and where nobody does it is told to the hook.
 func TestPanicsOfLoadsThatWereLeft(t *testing.T) {
 	told := make(chan any, 4)
-	g, err := New(OnPanic(func(value any, stack []byte) {
+	g, err := NewGroup(WithOnPanic(func(value any, stack []byte) {
 		if !strings.Contains(string(stack), "TestPanicsOfLoadsThatWereLeft") {
 			t.Error("the stack of the load", string(stack))
 		}
@@ -513,7 +513,7 @@ func TestPanicsOfLoadsThatWereLeft(t *testing.T) {
 		started, release := chans()
 		gone := make(chan error)
 		go func() {
-			_, err, _ := g.DoContext(ctx, "key", func(context.Context) (any, error) { close(started); <-release; panic("left") })
+			_, err, _ := doContext(ctx, g, "key", func(context.Context) (any, error) { close(started); <-release; panic("left") })
 			gone <- err
 		}()
 		<-started

@@ -55,6 +55,10 @@ type interval struct{ from, to int } // to is 0 until it has ended
 
 type run struct {
 	key, asked, from, to int
+	by                   *worker
+	alone                bool // whether a ForgetUnshared in its function said that nobody else has its result
+	unshared             bool // whether its leader was told that nobody has joined
+	others               int  // how many others have its result
 }
 
 type stampOf struct {
@@ -169,7 +173,7 @@ func (k *keyState) ended(it *run, asked int) bool {
 
 // A function of a key that somebody asked for at this moment.
 func (w *world) load(key, asked int, body func()) (any, error) {
-	me := &run{key: key, asked: asked, from: w.now}
+	me := &run{key: key, asked: asked, from: w.now, by: w.running}
 	state := &w.keys[key]
 	for _, other := range state.runs {
 		if other.to != 0 {
@@ -186,10 +190,44 @@ func (w *world) load(key, asked int, body func()) (any, error) {
 	}
 	defer func() { me.to = w.now; w.log("its run of key %d, begun at %d, ends", key, me.from); yield() }()
 	body()
+	if w.random.Intn(8) == 0 {
+		mine := len(state.forgets)
+		me.alone = w.forgetUnshared(key)
+		// Where another Forget has closed the call, those who had joined it before have its result all
+		// the same.
+		for i, f := range state.forgets {
+			if i != mine && (f.to == 0 || f.to > asked) {
+				me.alone = false
+			}
+		}
+	}
 	return me, nil
 }
 
-func (w *world) got(key, asked int, v any) {
+// A ForgetUnshared of the key is a Forget if it says yes, and else nothing.
+func (w *world) forgetUnshared(key int) bool {
+	state := &w.keys[key]
+	state.forgets = append(state.forgets, interval{from: w.now})
+	mine := len(state.forgets) - 1
+	alone := w.group.ForgetUnshared(w.name(key))
+	w.now++
+	state.forgets[mine].to = w.now
+	if !alone {
+		state.forgets[mine] = interval{0, -1}
+	}
+	w.log("ForgetUnshared of key %d: %v", key, alone)
+	return alone
+}
+
+func (w *world) name(key int) string {
+	name := fmt.Sprint("key-", key)
+	if key == 3 {
+		name += " of more than the forty bytes that the library keeps of a key"
+	}
+	return name
+}
+
+func (w *world) got(key, asked int, v any, shared bool) {
 	it, ok := v.(*run)
 	if !ok || it.key != key {
 		w.problem("key %d has a result of another: %v", key, v)
@@ -198,6 +236,17 @@ func (w *world) got(key, asked int, v any) {
 	w.log("has key %d of the run begun at %d", key, it.from)
 	if forgotten := w.keys[key].forgotten(asked); it.from < forgotten {
 		w.problem("key %d asked for at %d has a result of a run begun at %d, and was forgotten at %d", key, asked, it.from, forgotten)
+	}
+	if it.by == w.running && it.asked == asked {
+		it.unshared = !shared
+	} else {
+		it.others++
+	}
+	if it.unshared && it.others > 0 {
+		w.problem("key %d: others have the result of the run begun at %d, and its leader was told of none", key, it.from)
+	}
+	if it.alone && it.by != w.running {
+		w.problem("key %d: the result of the run begun at %d, whose ForgetUnshared said that nobody else has it", key, it.from)
 	}
 	if last := w.running.last[key]; last != nil && last.from > it.from && !w.keys[key].ended(last, it.asked) {
 		w.problem("key %d: an answer went back, from %d to %d", key, last.from, it.from)
@@ -216,10 +265,7 @@ func (w *world) act(depth, least int) {
 	if w.few {
 		key %= 2
 	}
-	name := fmt.Sprint("key-", key)
-	if key == 3 {
-		name += " of more than the forty bytes that the library keeps of a key"
-	}
+	name := w.name(key)
 	asked := w.now
 	mayPanic := w.random.Intn(12) == 0
 	body := func() {
@@ -240,12 +286,12 @@ func (w *world) act(depth, least int) {
 	switch what := w.random.Intn(21); {
 	case what < 8 || w.few:
 		w.log("asks for key %d", key)
-		v, err, _, stamp := w.group.DoStamped(name, func() (any, error) { return w.load(key, asked, body) })
+		v, err, shared, stamp := doStamped(w.group, name, func() (any, error) { return w.load(key, asked, body) })
 		if err != nil {
 			w.problem("an error of a Do: %v", err)
 			return
 		}
-		w.got(key, asked, v)
+		w.got(key, asked, v, shared)
 		if it, ok := v.(*run); ok {
 			w.stamps = append(w.stamps, stampOf{stamp, Call{}, it})
 		}
@@ -253,13 +299,15 @@ func (w *world) act(depth, least int) {
 		ctx, cancel := context.WithCancel(context.Background())
 		w.cancels = append(w.cancels, cancel)
 		w.log("asks for key %d, and may leave", key)
-		v, err, _ := w.group.DoContext(ctx, name, func(own context.Context) (any, error) {
+		me := w.running
+		v, err, shared := doContext(ctx, w.group, name, func(own context.Context) (any, error) {
 			v, err := w.load(key, asked, func() {
 				for n := w.random.Intn(8); n > 0 && own.Err() == nil; n-- {
 					yield()
 				}
 				body()
 			})
+			v.(*run).by = me
 			if own.Err() != nil && w.random.Intn(2) == 0 {
 				return nil, errEnded
 			}
@@ -270,8 +318,10 @@ func (w *world) act(depth, least int) {
 		} else if err != nil {
 			w.problem("an error of a DoContext: %v", err)
 		} else {
-			w.got(key, asked, v)
+			w.got(key, asked, v, shared)
 		}
+	case what < 14:
+		w.forgetUnshared(key)
 	case what < 15:
 		w.keys[key].forgets = append(w.keys[key].forgets, interval{from: w.now})
 		mine := len(w.keys[key].forgets) - 1

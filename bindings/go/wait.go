@@ -12,6 +12,7 @@ type wait struct {
 	settled   bool          // whether the call is
 	done      chan struct{} // closed then
 	waiting   int           // how many wait
+	joined    int           // how many have joined by a caller of their own, and wait or waited
 	followers int           // how many have joined without a caller of their own
 	strangers int           // how many callers that asked for another key were left at it
 	left      []*seat       // of those who have left, and whose letters will come

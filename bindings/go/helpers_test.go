@@ -1,0 +1,34 @@
+package singleflight
+
+import "context"
+
+// What Of's Do returns, for a Group whose function takes no context.
+func doCall(
+	g *Group, key string, fn func() (any, error),
+) (v any, err error, shared bool, call Call) {
+	r, err := g.Of.Do(always, key, func(context.Context) (any, error) { return fn() })
+	return r.Val, err, r.Shared, r.Call
+}
+
+func doStamped(
+	g *Group, key string, fn func() (any, error),
+) (v any, err error, shared bool, stamp Stamp) {
+	r, err := g.Of.Do(always, key, func(context.Context) (any, error) { return fn() })
+	return r.Val, err, r.Shared, r.Stamp
+}
+
+func doContext(
+	ctx context.Context, g *Group, key string, fn func(context.Context) (any, error),
+) (v any, err error, shared bool) {
+	r, err := g.Of.Do(ctx, key, fn)
+	return r.Val, err, r.Shared
+}
+
+// A function that tells that it runs, and returns the value when it is released.
+func held[V any](v V, started, release chan struct{}) func(context.Context) (V, error) {
+	return func(context.Context) (V, error) { close(started); <-release; return v, nil }
+}
+
+func heldAny(v any, started, release chan struct{}) func() (any, error) {
+	return func() (any, error) { close(started); <-release; return v, nil }
+}

@@ -1,0 +1,575 @@
+package singleflight
+
+import (
+	"bytes"
+	"context"
+	"errors"
+	"fmt"
+	"runtime"
+	"strings"
+	"sync"
+	"sync/atomic"
+	"testing"
+	"time"
+)
+
+// Returns the value, whatever the context is.
+func typed[V any](v V) func(context.Context) (V, error) {
+	return func(context.Context) (V, error) { return v, nil }
+}
+
+func receiveGot[V any](t *testing.T, ch <-chan ResultOf[V]) (got ResultOf[V]) {
+	t.Helper()
+	select {
+	case got = <-ch:
+	case <-time.After(10 * time.Second):
+		t.Fatal("it hangs")
+	}
+	return got
+}
+
+// The goroutine that calls it.
+func goroutine() string {
+	var stack [64]byte
+	return string(bytes.Fields(stack[:runtime.Stack(stack[:], false)])[1])
+}
+
+func TestOf(t *testing.T) {
+	type name string
+	var users Of[name, int]
+	defer users.Close()
+	got, err := users.Do(always, "ada", typed(7))
+	alone := ResultOf[int]{Val: 7, Call: got.Call, Stamp: got.Stamp}
+	if got != alone || err != nil || got.Call == (Call{}) || !users.IsStill(got.Stamp) {
+		t.Error("one who asks alone", got, err)
+	}
+	if hit := users.ForgetCall("ada", got.Call); hit != Cleared || users.IsStill(got.Stamp) {
+		t.Error("its call is forgotten", hit)
+	}
+	failed := errors.New("failed")
+	got, err = users.Do(always, "ada", func(context.Context) (int, error) { return 3, failed })
+	if got.Val != 3 || err != failed || got.Err != failed {
+		t.Error("an error comes with the value", got, err)
+	}
+	if st := users.Stats(); st.Leads != 2 {
+		t.Error("numbers", st)
+	}
+
+	// The bytes of a key may be changed once Do or DoChan has returned.
+	var pages Of[[]byte, string]
+	defer pages.Close()
+	key := []byte(strings.Repeat("a long key ", 5))
+	for _, key := range [][]byte{key[:3], key} {
+		started, release := chans()
+		first := pages.DoChan(always, key, held("page", started, release))
+		<-started
+		same := append([]byte{}, key...)
+		key[0]++
+		second := pages.DoChan(always, same, typed("other"))
+		close(release)
+		a, b := receiveGot(t, first), receiveGot(t, second)
+		if a.Val != "page" || a != b || !a.Shared || a.Joiners != 1 {
+			t.Error("one call for equal bytes", a, b)
+		}
+		pages.Forget(same)
+		if pages.IsStill(a.Stamp) {
+			t.Error("its key is forgotten")
+		}
+		key[0]--
+	}
+
+	users.Close()
+	if err := users.Err(); err != ErrClosed {
+		t.Error("why it has no library", err)
+	}
+	got, err = users.Do(always, "ada", typed(8))
+	if got.Val != 8 || err != nil || got.Stamp != (Stamp{}) {
+		t.Error("a closed one goes on beside the library", got, err)
+	}
+}
+
+// Nil interfaces, nil pointers and values of interface types come back as they are, to the leader
+// and to who joined.
+func TestOfNils(t *testing.T) {
+	comesBack(t, "a nil interface", error(nil), func(v error) bool { return v == nil })
+	comesBack(t, "a nil any", any(nil), func(v any) bool { return v == nil })
+	comesBack(t, "a nil pointer", (*int)(nil), func(v *int) bool { return v == nil })
+	comesBack(t, "a nil pointer in an interface", any((*int)(nil)), func(v any) bool {
+		return v != nil && v == any((*int)(nil))
+	})
+	comesBack(t, "an interface's value", fmt.Stringer(Closed), func(v fmt.Stringer) bool {
+		return v == fmt.Stringer(Closed)
+	})
+	comesBack(t, "a nil slice", []byte(nil), func(v []byte) bool { return v == nil })
+	comesBack(t, "a struct of no size", struct{}{}, func(struct{}) bool { return true })
+}
+
+func comesBack[V any](t *testing.T, what string, v V, is func(V) bool) {
+	t.Helper()
+	var o Of[string, V]
+	defer o.Close()
+	started, release := chans()
+	leader := o.DoChan(always, "key", held(v, started, release))
+	<-started
+	joiner := o.DoChan(always, "key", typed(v))
+	close(release)
+	for _, ch := range []<-chan ResultOf[V]{leader, joiner} {
+		if got := receiveGot(t, ch); !is(got.Val) || got.Err != nil || got.Joiners != 1 {
+			t.Error(what, got)
+		}
+	}
+}
+
+type keyOfValue struct{}
+
+// With a context that can never end, the function runs in the caller's goroutine, with that
+// context; else in one of its own.
+func TestOfGoroutines(t *testing.T) {
+	var o Of[string, string]
+	defer o.Close()
+	forever := context.WithValue(always, keyOfValue{}, "ada")
+	ends, cancel := context.WithCancel(forever)
+	defer cancel()
+	for _, ctx := range []context.Context{forever, ends} {
+		got, err := o.Do(ctx, "key", func(own context.Context) (string, error) {
+			if own.Value(keyOfValue{}) != "ada" {
+				t.Error("the values of the context")
+			}
+			return goroutine(), nil
+		})
+		if same := got.Val == goroutine(); same != (ctx.Done() == nil) || err != nil {
+			t.Error("the function's goroutine", same, err)
+		}
+	}
+}
+
+func TestOfDeadlines(t *testing.T) {
+	var o Of[string, int]
+	defer o.Close()
+	ended, cancel := context.WithCancel(always)
+	cancel()
+	none := func(context.Context) (int, error) { t.Error("it runs nothing"); return 1, nil }
+	canceled := ResultOf[int]{Err: context.Canceled}
+	if got, err := o.Do(ended, "key", none); got != canceled || err != context.Canceled {
+		t.Error("a context that has ended", got, err)
+	}
+	if got := receiveGot(t, o.DoChan(ended, "key", none)); got != canceled {
+		t.Error("a context that has ended", got)
+	}
+	for _, chans := range []bool{false, true} {
+		ctx, cancel := context.WithTimeout(always, time.Millisecond)
+		load := func(own context.Context) (int, error) { <-own.Done(); return 0, own.Err() }
+		var got ResultOf[int]
+		var err error
+		if chans {
+			got = receiveGot(t, o.DoChan(ctx, "key", load))
+			err = got.Err
+		} else {
+			got, err = o.Do(ctx, "key", load)
+		}
+		late := ResultOf[int]{Err: context.DeadlineExceeded}
+		if got != late || err != context.DeadlineExceeded {
+			t.Error("a deadline", chans, got, err)
+		}
+		cancel()
+	}
+	// One that joins, and has a deadline.
+	started, release := chans()
+	leader := o.DoChan(always, "other", held(2, started, release))
+	<-started
+	ctx, cancel := context.WithTimeout(always, time.Millisecond)
+	defer cancel()
+	if got, err := o.Do(ctx, "other", none); err != context.DeadlineExceeded || got.Val != 0 {
+		t.Error("who joins leaves", got, err)
+	}
+	close(release)
+	if got := receiveGot(t, leader); got.Val != 2 || !got.Shared || got.Joiners != 1 {
+		t.Error("who has left is counted", got)
+	}
+	until(t, "nothing is left", func() bool { return o.Stats().InUse == 0 && o.InFlight() == 0 })
+}
+
+// A Do of an Of allocates no more than one of a Group, but for the box of a value that is no
+// pointer.
+func TestOfBoxes(t *testing.T) {
+	if isRaceDetected {
+		t.Skip("the race detector allocates")
+	}
+	var g Group
+	defer g.Close()
+	value := new(int)
+	boxed := any(value)
+	load := func() (any, error) { return boxed, nil }
+	plain := testing.AllocsPerRun(1000, func() { g.Do("key", load) })
+	var pointers Of[string, *int]
+	defer pointers.Close()
+	pointer := typed(value)
+	if n := testing.AllocsPerRun(1000, func() { pointers.Do(always, "key", pointer) }); n > plain {
+		t.Error("a pointer is boxed", n, plain)
+	}
+	var anys Of[string, any]
+	defer anys.Close()
+	ready := typed(boxed)
+	if n := testing.AllocsPerRun(1000, func() { anys.Do(always, "key", ready) }); n > plain {
+		t.Error("a value of an interface is boxed", n, plain)
+	}
+	var numbers Of[string, int]
+	defer numbers.Close()
+	number := typed(1000)
+	if n := testing.AllocsPerRun(1000, func() { numbers.Do(always, "key", number) }); n > plain+1 {
+		t.Error("a number is boxed once", n, plain)
+	}
+}
+
+// Panics and the end of a goroutine go on in everyone, by Do in the leader's goroutine and in
+// another.
+func TestOfPanics(t *testing.T) {
+	failed := errors.New("failed")
+	for _, ends := range []bool{false, true} {
+		o, err := New[string, int](WithCallers(4), WithName("panics"))
+		if err != nil || o.Name() != "panics" {
+			t.Fatal(err, o.Name())
+		}
+		ctx := always
+		if ends {
+			own, cancel := context.WithCancel(always)
+			defer cancel()
+			ctx = own
+		}
+		started, release := chans()
+		recovered := make(chan any, 2)
+		ask := func(fn func(context.Context) (int, error)) {
+			defer func() { recovered <- recover() }()
+			o.Do(ctx, "key", fn)
+		}
+		go ask(func(context.Context) (int, error) { close(started); <-release; panic(failed) })
+		<-started
+		go ask(typed(1))
+		until(t, "another waits", func() bool { return waiting(o) >= 1 && o.Stats().Joins == 1 })
+		close(release)
+		for i := 0; i < 2; i++ {
+			if err, ok := (<-recovered).(error); !ok || !errors.Is(err, failed) {
+				t.Error("the panic", ends, err)
+			}
+		}
+		o.Close()
+	}
+	if _, err := New[string, int](WithSlots(0)); !errors.Is(err, ErrSize) {
+		t.Error("a size out of range", err)
+	}
+}
+
+// Everyone of a call is told the same number of joiners: by callers of the library, without one,
+// and beside the library.
+func TestJoiners(t *testing.T) {
+	for _, callers := range []uint32{16, 3, 1} {
+		g := openFixed(t, callers)
+		if callers == 1 {
+			// The one caller is taken.
+			end := make(chan struct{})
+			defer close(end)
+			g.DoChan("other", func() (any, error) { <-end; return 0, nil })
+		}
+		started, release := chans()
+		all := []<-chan Result{g.DoChan("key", heldAny(1, started, release))}
+		<-started
+		for i := 0; i < 5; i++ {
+			all = append(all, g.DoChan("key", value(2)))
+		}
+		ctx, cancel := context.WithCancel(always)
+		gone := make(chan error)
+		go func() {
+			_, err, _ := doContext(ctx, g, "key", loadOf(3))
+			gone <- err
+		}()
+		until(t, "one more joins", func() bool { return g.Stats().Joins == 6 })
+		cancel()
+		<-gone
+		close(release)
+		for i, ch := range all {
+			if r := receive(t, ch); r.Val != 1 || !r.Shared || r.Joiners != 6 {
+				t.Error("joiners", callers, i, r)
+			}
+		}
+		if r := receive(t, g.DoChan("key", value(4))); r.Shared || r.Joiners != 0 {
+			t.Error("one alone", callers, r)
+		}
+	}
+}
+
+// Who has joined another key's call at the slot is not among its joiners, when the call is settled
+// later.
+func TestStrangersAreNoJoiners(t *testing.T) {
+	g := onePlace(t, 8)
+	started, release := chans()
+	leader := g.DoChan("key", heldAny(1, started, release))
+	<-started
+	for i := 0; i < 3; i++ {
+		r := receive(t, g.DoChan(fmt.Sprint("other-", i), value(2)))
+		if r.Shared || r.Joiners != 0 {
+			t.Error("a call of its own", r)
+		}
+	}
+	joiner := g.DoChan("key", value(3))
+	close(release)
+	for _, ch := range []<-chan Result{leader, joiner} {
+		if r := receive(t, ch); r.Val != 1 || r.Joiners != 1 {
+			t.Error("joiners", r)
+		}
+	}
+}
+
+// Many who ask at one time: everyone of a call has the same number, and that is how many have its
+// result.
+func TestJoinersOfManyCalls(t *testing.T) {
+	g := open(t, 64)
+	type run struct{ got, told atomic.Int64 }
+	var mu sync.Mutex
+	var runs []*run
+	var all sync.WaitGroup
+	for i := 0; i < 8; i++ {
+		all.Add(1)
+		go func() {
+			defer all.Done()
+			for n := 0; n < 500; n++ {
+				load := func() (any, error) {
+					it := &run{}
+					it.told.Store(-1)
+					mu.Lock()
+					runs = append(runs, it)
+					mu.Unlock()
+					runtime.Gosched()
+					return it, nil
+				}
+				var r Result
+				g.pool().do(&r, "key", load, true)
+				it := r.Val.(*run)
+				it.got.Add(1)
+				told := it.told.Swap(int64(r.Joiners))
+				if told >= 0 && told != int64(r.Joiners) || r.Shared != (r.Joiners > 0) {
+					t.Error("two numbers of one call", told, r)
+				}
+			}
+		}()
+	}
+	all.Wait()
+	joined := 0
+	for _, it := range runs {
+		if it.got.Load() != it.told.Load()+1 {
+			t.Error("how many have the result", it.got.Load(), it.told.Load())
+		}
+		joined += int(it.told.Load())
+	}
+	t.Log(len(runs), "runs,", joined, "joined")
+}
+
+// A ForgetUnshared closes a call that nobody has joined, and leaves one alone that somebody has: by
+// a caller, without one, beside the library, in an epoch that drains, and with a long key.
+func TestForgetUnshared(t *testing.T) {
+	long := strings.Repeat("a long key ", 5)
+	for what, at := range map[string]struct {
+		key     string
+		callers uint32
+		drains  bool
+		leaves  bool
+	}{
+		"by a caller":          {"key", 16, false, false},
+		"without one":          {"key", 16, false, true},
+		"beside the library":   {"key", 1, false, false},
+		"of an old epoch":      {"key", 16, true, false},
+		"a long key":           {long, 16, false, false},
+		"a long key, no cell":  {long, 1, false, true},
+		"a long key, an epoch": {long, 16, true, true},
+	} {
+		g := openFixed(t, at.callers)
+		if at.callers == 1 {
+			end := make(chan struct{})
+			defer close(end)
+			g.DoChan("other", func() (any, error) { <-end; return 0, nil })
+		}
+		if !g.ForgetUnshared(at.key) {
+			t.Error(what, "a key that nobody has asked for")
+		}
+		begin := func(v any) (<-chan Result, chan struct{}) {
+			started, release := chans()
+			ch := g.DoChan(at.key, heldAny(v, started, release))
+			<-started
+			if at.drains {
+				p := g.pool()
+				p.lock()
+				p.replace(p.size, true)
+				p.mu.Unlock()
+			}
+			return ch, release
+		}
+		joins := func() (done func() any) {
+			ch := make(chan any, 1)
+			go func() {
+				if at.leaves {
+					ctx, cancel := context.WithCancel(always)
+					defer cancel()
+					v, _, _ := doContext(ctx, g, at.key, loadOf("own"))
+					ch <- v
+				} else {
+					v, _, _ := g.Do(at.key, value("own"))
+					ch <- v
+				}
+			}()
+			until(t, what+": it joins and waits", func() bool { return joinedBy(g) > 0 })
+			return func() any { return <-ch }
+		}
+		// Alone.
+		first, release := begin("first")
+		if n := g.InFlight(); n != 1 && at.callers > 1 {
+			t.Error(what, "in flight", n)
+		}
+		if !g.ForgetUnshared(at.key) {
+			t.Error(what, "nobody has joined the call")
+		}
+		if st := g.Stats(); st.Closed != 1 {
+			t.Error(what, "numbers", st)
+		}
+		// A newer call of the key, with one who joins.
+		second, release2 := begin("second")
+		joined := joins()
+		if g.ForgetUnshared(at.key) {
+			t.Error(what, "somebody has joined the call")
+		}
+		another := g.DoChan(at.key, value("another"))
+		close(release)
+		if r := receive(t, first); r.Val != "first" || r.Shared || r.Joiners != 0 {
+			t.Error(what, "its own result", r)
+		}
+		close(release2)
+		r, v := receive(t, second), joined()
+		want := 2
+		if at.drains {
+			// The second who asks joins the call of the first, which takes the result.
+			want = 1
+		}
+		if r.Val != "second" || v != "second" || r.Joiners != want {
+			t.Error(what, "the shared call goes on", r, v)
+		}
+		if r := receive(t, another); r.Val != "second" {
+			t.Error(what, "who asks after a no joins it", r)
+		}
+		// A result that has come is forgotten, as by Forget.
+		third := receive(t, g.DoChan(at.key, value("third")))
+		if !g.ForgetUnshared(at.key) || g.IsStill(third.Stamp) {
+			t.Error(what, "no call is open", third)
+		}
+		if st := g.Stats(); st.Closed != 1 {
+			t.Error(what, "numbers", st)
+		}
+	}
+	var unused Group
+	if !unused.ForgetUnshared("key") || unused.made.Load() != nil {
+		t.Error("nothing is made")
+	}
+}
+
+// How many have joined open calls, and have said so.
+func joinedBy(g *Group) (n int) {
+	p := g.pool()
+	p.lock()
+	defer p.mu.Unlock()
+	count := func(_ uint32, s *seat) {
+		s.mu.Lock()
+		if s.waits != nil {
+			n += s.waits.joined + s.waits.followers
+		}
+		s.mu.Unlock()
+	}
+	p.now.Load().each(count)
+	for _, e := range p.draining {
+		e.each(count)
+	}
+	for _, w := range p.runs {
+		n += w.followers
+	}
+	return n
+}
+
+// A ForgetUnshared of one key leaves another key's call at the slot alone.
+func TestForgetUnsharedOfAnotherKey(t *testing.T) {
+	g := onePlace(t, 4)
+	started, release := chans()
+	first := g.DoChan("ada", heldAny(1, started, release))
+	<-started
+	if !g.ForgetUnshared("grace") {
+		t.Error("it has no call")
+	}
+	second := g.DoChan("ada", value(2))
+	close(release)
+	if r, s := receive(t, first), receive(t, second); r.Val != 1 || s.Val != 1 {
+		t.Error("the other key's call is joined still", r, s)
+	}
+}
+
+// After a yes of ForgetUnshared within the function nobody but its leader has the function's
+// result; after a no somebody else has joined. Many ask at one time, and epochs are replaced.
+func TestForgetUnsharedAmongMany(t *testing.T) {
+	for _, callers := range []uint32{64, 4} {
+		s := sizes{places: 4, callers: callers, fixed: true, fixedCallers: true, generations: 1000}
+		var g Group
+		g.set(newPool(s))
+		defer g.Close()
+		type run struct{ by, alone int }
+		var yes, no, both, early atomic.Int64
+		rounds := 5000
+		if isRaceDetected || testing.Short() {
+			rounds = 500
+		}
+		var all sync.WaitGroup
+		for i := 0; i < 8; i++ {
+			all.Add(1)
+			go func(i int) {
+				defer all.Done()
+				for n := 0; n < rounds; n++ {
+					key := fmt.Sprint("key-", n%3)
+					load := func(context.Context) (any, error) {
+						it := &run{by: i}
+						for spin := 0; spin < n%4; spin++ {
+							runtime.Gosched()
+						}
+						if g.ForgetUnshared(key) {
+							it.alone = 1
+						}
+						return it, nil
+					}
+					var v any
+					var shared bool
+					if n%8 == 0 {
+						ctx, cancel := context.WithCancel(always)
+						v, _, shared = doContext(ctx, &g, key, load)
+						cancel()
+					} else {
+						v, _, shared = g.Do(key, func() (any, error) { return load(always) })
+					}
+					it := v.(*run)
+					switch {
+					case it.by != i && it.alone == 1:
+						t.Error("a result after a yes, of another's function")
+					case it.by != i:
+						both.Add(1)
+					case it.alone == 1:
+						yes.Add(1)
+					case !shared:
+						early.Add(1)
+					default:
+						no.Add(1)
+					}
+				}
+			}(i)
+		}
+		within(t, 5*time.Minute, "ForgetUnshared", all.Wait)
+		t.Log("yes, no, joined, about to:", yes.Load(), no.Load(), both.Load(), early.Load())
+		// A caller in a new epoch that is about to join an older call.
+		if most := 8 * int64(g.Stats().Epochs-1); early.Load() > most {
+			t.Error("a no, and nobody has joined", early.Load(), most)
+		}
+		until(t, "all seats are back", func() bool {
+			return g.Stats().InUse == 0 && g.InFlight() == 0
+		})
+	}
+}
