@@ -165,7 +165,8 @@ func TestAPI(t *testing.T) {
 func TestExamples(t *testing.T) {
 	for _, folder := range folders {
 		fset, tests := parse(t, folder, true)
-		named := map[string]bool{}
+		// Those of prometheus.Collector are called by a registry.
+		named := map[string]bool{"Describe": true, "Collect": true}
 		for _, example := range doc.Examples(tests...) {
 			for _, part := range strings.Split(example.Name, "_") {
 				named[part] = true
