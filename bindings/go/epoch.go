@@ -3,6 +3,7 @@ package singleflight
 import (
 	"sync"
 	"sync/atomic"
+	"unsafe"
 )
 
 const (
@@ -11,7 +12,7 @@ const (
 )
 
 // A seat is a caller of the library, and what became of the call that it led, until everyone who joined by a caller of
-// their own has read that. It fills whole cache lines.
+// their own has read that. It fills whole cache lines where the library runs.
 type seat struct {
 	slot
 	taken    uint32 // whether somebody has it, where it is hot
@@ -31,6 +32,37 @@ type seat struct {
 	waits    *wait
 	joiners  atomic.Uint32 // how many have joined its call, once that is told; until all have their answers
 	lone     atomic.Uint32 // the generation of its last call that was forgotten as one that nobody has joined
+	closes   atomic.Uint64 // Forgets by it that closed a call
+	idles    atomic.Uint64 // and those that closed none
+	_        [8]byte
+}
+
+// Counts a Forget. A counter that all share would be what many Forgets wait for.
+func (s *seat) told(closed bool) {
+	n := &s.idles
+	if closed {
+		n = &s.closes
+	}
+	if hasPlainStores {
+		*(*uint64)(unsafe.Pointer(n))++
+	} else {
+		n.Add(1)
+	}
+}
+
+// What callers have counted: how often they led and joined, and their Forgets.
+type tally struct{ leads, joins, closes, idles uint64 }
+
+func (t *tally) add(s *seat) {
+	leads, joins := s.counts()
+	t.plus(tally{leads, joins, s.closes.Load(), s.idles.Load()})
+}
+
+func (t *tally) plus(more tally) {
+	t.leads += more.leads
+	t.joins += more.joins
+	t.closes += more.closes
+	t.idles += more.idles
 }
 
 // The wait of the call that it leads. Its lock is held.
@@ -63,7 +95,7 @@ func (s *seat) take() bool {
 	return atomic.LoadUint32(&s.taken) == 0 && atomic.CompareAndSwapUint32(&s.taken, 0, 1)
 }
 
-type chunk [chunkSize]atomic.Pointer[seat]
+type chunk [chunkSize]seatPointer
 
 // An epoch is one group of the library, with its callers. Seats are split off as they are needed, and go back when their
 // calls have ended. An epoch that was replaced frees each seat as it comes back. The pool's lock protects what has no
@@ -73,7 +105,7 @@ type epoch struct {
 	size    sizes
 	closed  atomic.Bool
 	nos     atomic.Uint64                                    // stamps of this epoch that were not current
-	hot     [hotSeats]atomic.Pointer[seat]                   // who is taken first, each by the goroutines of some stacks
+	hot     [hotSeats]seatPointer                            // who is taken first, each by the goroutines of some stacks
 	chunks  [mostCallers/chunkSize + 2]atomic.Pointer[chunk] // seats by their numbers
 	root    *seat                                            // splits seats off; asks questions and forgets where no seat is free
 	free    []*seat
@@ -175,10 +207,23 @@ func (p *pool) take(e *epoch) *seat {
 	return s
 }
 
+// Frees a hot seat. On amd64 a store is a release, and does not wait as Go's atomic one does. So a
+// drain may miss it that begins in the same moment; later makes another.
+func (s *seat) release() {
+	if hasPlainStores {
+		s.taken = 0
+	} else {
+		atomic.StoreUint32(&s.taken, 0)
+	}
+}
+
+// Whether Go's plain stores do for a word that others read meanwhile.
+const hasPlainStores = isProved && !isRaceDetected
+
 func (p *pool) put(s *seat) {
 	e := s.epoch
 	if s.hot {
-		atomic.StoreUint32(&s.taken, 0)
+		s.release()
 	} else {
 		p.lock()
 		e.free = append(e.free, s)
@@ -213,22 +258,17 @@ func (p *pool) drain(e *epoch) {
 		if it == e {
 			p.draining = append(p.draining[:i:i], p.draining[i+1:]...)
 			e.root.close()
-			leads, joins := e.counts()
-			p.past.leads += leads
-			p.past.joins += joins
+			p.past.plus(e.counts())
 			p.write(nil)
 		}
 	}
 }
 
-// How often its callers led and joined.
-func (e *epoch) counts() (leads, joins uint64) {
-	e.each(func(_ uint32, s *seat) {
-		led, joined := s.counts()
-		leads += led
-		joins += joined
-	})
-	return leads, joins
+// What its callers have counted.
+func (e *epoch) counts() (all tally) {
+	all.add(e.root)
+	e.each(func(_ uint32, s *seat) { all.add(s) })
+	return all
 }
 
 // How many callers are not free. One that comes or goes meanwhile is counted or not.

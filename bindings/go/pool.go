@@ -34,12 +34,12 @@ import (
 // begins again where now has changed meanwhile. The order matters: a leader that comes between finds no old run to take the
 // result of, and one that took it before is closed. A Forget leaves open calls of other keys alone.
 type pool struct {
-	now    atomic.Pointer[epoch] // none where the group is closed, or there is no memory
+	now    epochPointer // none where the group is closed, or there is no memory
 	record func(Load)
 	seed   maphash.Seed
 	alert  [alerts]atomic.Int32 // by fingerprint: how many runs, open calls of old epochs, strangers and replacements there are to look for
 	spare  maphash.Seed         // of the second half of a long key's digest
-	closes atomic.Uint64
+	closes atomic.Uint64        // Forgets that no seat has counted, as closes and idles of a seat
 	idles  atomic.Uint64
 	alone  atomic.Uint64 // runs beside the library
 	open   atomic.Int64  // those that have not ended
@@ -59,9 +59,6 @@ type pool struct {
 	label    string
 	onPanic  func(value any, stack []byte)
 }
-
-// How often callers led and joined.
-type tally struct{ leads, joins uint64 }
 
 // What Stats reads without the lock. Each epoch is among these, or among those that are gone.
 type book struct {
@@ -460,6 +457,13 @@ func (p *pool) change(next *epoch) {
 	p.write(nil)
 	old.closed.Store(true)
 	p.drain(old)
+	if old.gone.Load() < old.made.Load() {
+		later(func() {
+			p.lock()
+			p.drain(old)
+			p.mu.Unlock()
+		})
+	}
 }
 
 // The seat asked in an epoch that was replaced, and joined: nobody has to look for a call that it leads.
@@ -528,29 +532,38 @@ func (p *pool) told(closed bool) {
 	}
 }
 
-// Whether that closed a call of the key.
-func (p *pool) forget(key string) (closed bool) {
+// Forgets the key, and counts that.
+func (p *pool) forget(key string) {
 	k := p.keyed(key)
+	closed := false
 	for {
 		e := p.now.Load()
 		if p.alertOf(k.print).Load() != 0 {
 			closed = p.forgetBeside(k) || closed
 		}
 		yield()
+		var s *seat
 		if e != nil {
-			s := e.takeHot()
-			if s == nil {
+			if s = e.takeHot(); s == nil {
 				s = p.any(e)
 			}
-			if s != nil {
-				closed = p.forgetBy(e, s, k) || closed
-				p.putAny(s)
-			}
+		}
+		if s != nil {
+			closed = p.forgetBy(e, s, k) || closed
 		}
 		yield()
 		// A leader of a newer epoch may have taken the result of a run before that was dropped.
-		if p.now.Load() == e {
-			return closed
+		ends := p.now.Load() == e
+		if s != nil {
+			if ends {
+				s.told(closed)
+			}
+			p.putAny(s)
+		} else if ends {
+			p.told(closed)
+		}
+		if ends {
+			return
 		}
 	}
 }
@@ -831,7 +844,7 @@ func (p *pool) noted(e *epoch) {
 	if e.size.fixed || nos < 256 || nos < uint64(e.size.places)/8 || nos%64 != 0 {
 		return
 	}
-	if nos-p.forgetsSince(e) < uint64(e.size.places)/8 || nos < p.forgetsSince(e) {
+	if forgets := p.forgetsSince(e); nos < forgets || nos-forgets < uint64(e.size.places)/8 {
 		return
 	}
 	p.lock()
@@ -841,7 +854,10 @@ func (p *pool) noted(e *epoch) {
 	}
 }
 
-func (p *pool) forgetsSince(e *epoch) uint64 { return p.closes.Load() + p.idles.Load() - e.forgets }
+func (p *pool) forgetsSince(e *epoch) uint64 {
+	all := e.counts()
+	return all.closes + all.idles + p.closes.Load() + p.idles.Load() - e.forgets
+}
 
 // Settles the call with what the result has, tells the result of the call, and wakes all that wait for it.
 func (p *pool) settle(a *asking, r *Result, k keyed, watched *wait) {
@@ -875,6 +891,8 @@ func (p *pool) settleBy(s *seat, r *Result, k keyed, all, watched bool) {
 		s.owed.Store(0)
 	}
 	var letter letter
+	// One who follows it has its stamp too.
+	all = all || s.followed.Load() != 0
 	s.finish(&letter, all)
 	if all {
 		r.Stamp, r.Call = letter.stamp, callOf(letter.call)
@@ -1108,18 +1126,17 @@ func (p *pool) stats() Stats {
 	voids, adopts, parted := p.voids.Load(), p.adopts.Load(), p.parted.Load()
 	b := p.book.Load()
 	st := Stats{Epochs: b.number, Proved: isProved}
-	leads, joins := b.past.leads, b.past.joins
+	all := b.past
 	for _, e := range b.epochs {
-		l, j := e.counts()
-		leads += l
-		joins += j
+		all.plus(e.counts())
 		st.InUse += e.inUse()
 	}
 	if b.now != nil {
 		st.Made = b.now.made.Load()
 	}
-	st.Leads = leads - voids - adopts
-	st.Joins = joins + p.beside.Load() + adopts - parted
-	st.Alone, st.Closed, st.Idle = p.alone.Load(), p.closes.Load(), p.idles.Load()
+	st.Leads = all.leads - voids - adopts
+	st.Joins = all.joins + p.beside.Load() + adopts - parted
+	st.Alone = p.alone.Load()
+	st.Closed, st.Idle = all.closes+p.closes.Load(), all.idles+p.idles.Load()
 	return st
 }

@@ -5,6 +5,7 @@ package singleflight
 import (
 	"hash/maphash"
 	"sync"
+	"time"
 	"unsafe"
 )
 
@@ -28,6 +29,9 @@ func await(done, stop <-chan struct{}) bool {
 }
 
 func spawn(do func()) { go do() }
+
+// Calls it when each processor has written what it has stored until now.
+func later(do func()) { time.AfterFunc(time.Millisecond, do) }
 
 func hash(seed maphash.Seed, key string) uint64 { return maphash.String(seed, key) }
 

@@ -5,6 +5,7 @@ package singleflight
 import (
 	"hash/maphash"
 	"sync"
+	"time"
 )
 
 // By this tag the package runs under a scheduler of the tests, which lets one goroutine run at a time and picks at random
@@ -62,6 +63,13 @@ func spawn(do func()) {
 		go do()
 	} else {
 		schedule.spawn(do)
+	}
+}
+
+// A scheduler runs one goroutine at a time, each of which sees what the others have stored.
+func later(do func()) {
+	if schedule == nil {
+		time.AfterFunc(time.Millisecond, do)
 	}
 }
 
