@@ -55,20 +55,14 @@ TEXT ·cAsk(SB), NOSPLIT, $0-48
 	MOVQ AX, ret+40(FP)
 	RET
 
-// func cNamed(s *slot, key unsafe.Pointer, n uintptr) uint64
-TEXT ·cNamed(SB), NOSPLIT, $0-32
+// func cNamed(s *slot, key unsafe.Pointer, n uintptr) (place, call uint64)
+TEXT ·cNamed(SB), NOSPLIT, $0-40
 	MOVQ s+0(FP), DI
 	MOVQ key+8(FP), SI
 	MOVQ n+16(FP), DX
 	CALLC(sfgo_named)
-	MOVQ AX, ret+24(FP)
-	RET
-
-// func cCall(s *slot) uint64
-TEXT ·cCall(SB), NOSPLIT, $0-16
-	MOVQ s+0(FP), DI
-	CALLC(sfgo_call)
-	MOVQ AX, ret+8(FP)
+	MOVQ AX, place+24(FP)
+	MOVQ DX, call+32(FP)
 	RET
 
 // func cFinish(s *slot, l *letter, all bool)
@@ -86,23 +80,21 @@ TEXT ·cPoll(SB), NOSPLIT, $0-16
 	CALLC(sfgo_poll)
 	RET
 
-// func cIsStill(s *slot, place, call uint64) uint32
-TEXT ·cIsStill(SB), NOSPLIT, $0-28
+// func cIsStill(s *slot, place, call uint64) bool
+TEXT ·cIsStill(SB), NOSPLIT, $0-25
 	MOVQ s+0(FP), DI
 	MOVQ place+8(FP), SI
 	MOVQ call+16(FP), DX
 	CALLC(sfgo_is_still)
-	MOVL AX, ret+24(FP)
+	MOVB AX, ret+24(FP)
 	RET
 
-// func cForgetCall(s *slot, key unsafe.Pointer, n uintptr, caller, generation, tries uint32) uint32
-TEXT ·cForgetCall(SB), NOSPLIT, $0-44
+// func cForgetCall(s *slot, place, call uint64, tries uint32) uint32
+TEXT ·cForgetCall(SB), NOSPLIT, $0-36
 	MOVQ s+0(FP), DI
-	MOVQ key+8(FP), SI
-	MOVQ n+16(FP), DX
-	MOVL caller+24(FP), CX
-	MOVL generation+28(FP), R8
-	MOVL tries+32(FP), R9
+	MOVQ place+8(FP), SI
+	MOVQ call+16(FP), DX
+	MOVL tries+24(FP), CX
 	CALLC(sfgo_forget_call)
-	MOVL AX, ret+40(FP)
+	MOVL AX, ret+32(FP)
 	RET

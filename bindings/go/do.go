@@ -26,7 +26,7 @@ func (p *pool) do(r *Result, key string, fn func() (any, error), all bool) {
 				code, call = p.askBy(s, k)
 			}
 			yield()
-			if code == codeLeads && p.now.Load() == e && alert.Load() == 0 && p.record == nil {
+			if code == codeLed && p.now.Load() == e && alert.Load() == 0 && p.record == nil {
 				p.leadBy(r, s, k, fn, all)
 				return
 			}

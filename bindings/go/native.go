@@ -24,6 +24,7 @@ type slot struct {
 	generation   uint64 // of the call that its asking may lead, until that is about to be settled; else 0
 	print        uint64 // the fingerprint of the key that it asked for last; stored before the generation
 	last         uint64 // the generation after which it is spent
+	led          uint64 // the call that it led last: its number, and in the upper half the generation
 }
 
 // The library's code, at which no Go code may point: calls_amd64.s knows where in it the calls below stand.
@@ -42,22 +43,19 @@ func cClose(s *slot)
 func cAsk(s *slot, key unsafe.Pointer, n uintptr, tries uint32, print uint64) uint64
 
 //go:noescape
-func cCall(s *slot) uint64
-
-//go:noescape
 func cFinish(s *slot, l *letter, all bool)
 
 //go:noescape
 func cPoll(s *slot, l *letter)
 
 //go:noescape
-func cIsStill(s *slot, place, call uint64) uint32
+func cIsStill(s *slot, place, call uint64) bool
 
 //go:noescape
-func cNamed(s *slot, key unsafe.Pointer, n uintptr) uint64
+func cNamed(s *slot, key unsafe.Pointer, n uintptr) (place, call uint64)
 
 //go:noescape
-func cForgetCall(s *slot, key unsafe.Pointer, n uintptr, caller, generation, tries uint32) uint32
+func cForgetCall(s *slot, place, call uint64, tries uint32) uint32
 
 // So often a call tries before the goroutine may be stopped.
 const tries = 64
@@ -100,24 +98,27 @@ func (s *slot) ask(key string, print uint64) (uint8, Call) {
 
 // The call that the key's slot names: the one that was led there last, unless a Forget cleared it.
 func (s *slot) named(key string) (Call, bool) {
-	call := cNamed(s, bytesOf(key), uintptr(len(key)))
-	return callOf(call), call != 0
+	place, word := cNamed(s, bytesOf(key), uintptr(len(key)))
+	call := callOf(word)
+	call.place = uint32(place)
+	return call, word != 0
 }
 
 // The call that it leads.
-func (s *slot) leading() Call { return callOf(cCall(s)) }
+func (s *slot) leading() Call { return callOf(s.led) }
 
 // Settles the call that it leads. The letter tells how many joined, and where all is wanted, its stamp and call.
 func (s *slot) finish(l *letter, all bool) { cFinish(s, l, all) }
 
 func (s *slot) poll(l *letter) { cPoll(s, l) }
 
-func (s *slot) isStill(stamp Stamp) bool { return cIsStill(s, stamp.Place, stamp.Call) == codeDone }
+func (s *slot) isStill(stamp Stamp) bool { return cIsStill(s, stamp.Place, stamp.Call) }
 
-func (s *slot) forgetCall(key string, call Call) uint32 {
-	code := cForgetCall(s, bytesOf(key), uintptr(len(key)), call.caller, call.generation, tries)
+// Forgets the call, which named told.
+func (s *slot) forgetCall(call Call) uint32 {
+	code := cForgetCall(s, uint64(call.place), wordOf(call), tries)
 	for code == codeBusy {
-		code = cForgetCall(s, bytesOf(key), uintptr(len(key)), call.caller, call.generation, tries)
+		code = cForgetCall(s, uint64(call.place), wordOf(call), tries)
 	}
 	return code
 }

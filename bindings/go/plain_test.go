@@ -64,14 +64,14 @@ func same(t *testing.T, seed int64) {
 			var l, m letter
 			s.poll(&l)
 			p.poll(&m)
-			if l.code == codeOther || l.code == codeNotYet {
+			if l.code == codeOther || l.code == codePending {
 				// The stamp is no letter's, and only what came of the call is told.
 				l, m = letter{code: l.code}, letter{code: m.code}
 			} else {
 				stamps = append(stamps, l.stamp)
 			}
 			got, want = fmt.Sprint("poll ", l), fmt.Sprint("poll ", m)
-			if l.code != codeNotYet {
+			if l.code != codePending {
 				states[i] = free
 			}
 		case states[i] == free && did < 5:
@@ -86,10 +86,11 @@ func same(t *testing.T, seed int64) {
 		case states[i] == free && did == 5:
 			call, ok := s.named(key)
 			call2, ok2 := p.named(key)
+			call.place, call2.place = 0, 0 // by two hashes
 			got, want = fmt.Sprint("named ", call, ok), fmt.Sprint("named ", call2, ok2)
 		case states[i] == free && did == 6 && len(calls) > 0:
 			call := calls[len(calls)-1-r.Intn(min(3, len(calls)))]
-			got, want = fmt.Sprint("forget call ", s.forgetCall(key, call)), fmt.Sprint("forget call ", p.forgetCall(key, call))
+			got, want = fmt.Sprint("forget call ", forgetNamed(s, key, call)), fmt.Sprint("forget call ", forgetNamed(p, key, call))
 		case did == 7 && len(stamps) > 0:
 			stamp := stamps[len(stamps)-1-r.Intn(min(3, len(stamps)))]
 			got, want = fmt.Sprint("is still ", s.isStill(stamp)), fmt.Sprint("is still ", p.isStill(stamp))

@@ -183,7 +183,7 @@ func (p *pool) try(a *asking, k keyed, leaves bool) bool {
 func (p *pool) asked(a *asking, s *seat, code uint8, call Call, k keyed) bool {
 	e := s.epoch
 	switch code {
-	case codeLeads:
+	case codeLed:
 		yield()
 		if p.now.Load() == e && p.alertOf(k.print).Load() == 0 {
 			*a = asking{seat: s, leads: true}
@@ -220,7 +220,7 @@ func (p *pool) leaveStranger(s, leader *seat, k keyed) bool {
 	p.parted.Add(1)
 	acquire(&leader.mu)
 	s.poll(&letter)
-	if letter.code == codeNotYet {
+	if letter.code == codePending {
 		w := leader.wait()
 		w.strangers++
 		w.left = append(w.left, s)
@@ -584,8 +584,7 @@ func (p *pool) forgetBeside(k keyed) bool {
 // key. A call that was led meanwhile is newer than this Forget. Whether that closed a call.
 func (p *pool) forgetBy(e *epoch, by *seat, k keyed) bool {
 	var digest [16]byte
-	name := p.name(k, &digest)
-	call, ok := by.named(name)
+	call, ok := by.named(p.name(k, &digest))
 	if !ok {
 		return false
 	}
@@ -593,7 +592,7 @@ func (p *pool) forgetBy(e *epoch, by *seat, k keyed) bool {
 	if generation, print := e.numbered(call.caller).asking(); uint32(generation) == call.generation && print != k.print {
 		return false
 	}
-	return by.forgetCall(name, call) == codeDone
+	return by.forgetCall(call) == codeDone
 }
 
 // Forgets the key as forget does, unless somebody has joined its open call: then alone is false, and
@@ -616,7 +615,7 @@ func (p *pool) forgetUnshared(key string) (alone, closed bool) {
 			if s != nil {
 				it, shared := p.sole(e, s, name, k)
 				if !shared {
-					closed = it.forget(name)
+					closed = it.forget()
 				}
 				p.putAny(s)
 				if shared || closed {
@@ -659,7 +658,7 @@ func (p *pool) forgetUnsharedBeside(k keyed, name string) (alone, closed bool) {
 		all = append(all, it)
 	}
 	for _, it := range all {
-		closed = it.forget(name) || closed
+		closed = it.forget() || closed
 	}
 	return true, closed
 }
@@ -711,7 +710,7 @@ func (it sole) unlock() {
 // before: so whoever has joined it sees that. Where this does not close the call, others may have
 // its result already, and lone is what it was: so the leader is never told that nobody has joined
 // while somebody has the result.
-func (it sole) forget(name string) (closed bool) {
+func (it sole) forget() (closed bool) {
 	s := it.leader
 	if s == nil {
 		return false
@@ -722,7 +721,7 @@ func (it sole) forget(name string) (closed bool) {
 		s.lone.Store(it.call.generation)
 		yield()
 	}
-	if closed = it.by.forgetCall(name, it.call) == codeDone; !closed {
+	if closed = it.by.forgetCall(it.call) == codeDone; !closed {
 		s.lone.Store(before)
 	}
 	return closed
@@ -733,14 +732,13 @@ func (it sole) forget(name string) (closed bool) {
 // have the newer result of the run first, and then join that call. The lock is held.
 func (p *pool) endStamp(e *epoch, k keyed) {
 	var digest [16]byte
-	name := p.name(k, &digest)
-	call, ok := e.root.named(name)
+	call, ok := e.root.named(p.name(k, &digest))
 	if !ok {
 		return
 	}
 	yield()
 	if generation, _ := e.numbered(call.caller).asking(); uint32(generation) != call.generation {
-		e.root.forgetCall(name, call)
+		e.root.forgetCall(call)
 	}
 }
 
@@ -770,7 +768,7 @@ func (p *pool) forgetCall(key string, call Call) Hit {
 	if s == nil {
 		return p.forgetOld(k, call)
 	}
-	code := s.forgetCall(name, call)
+	code := forgetNamed(s, name, call)
 	p.putAny(s)
 	switch code {
 	case codeDone:
@@ -781,13 +779,25 @@ func (p *pool) forgetCall(key string, call Call) Hit {
 	return Missed
 }
 
+// Forgets the call, if it is the one that the key's slot names. One that is not has nothing to forget: it is not current.
+func forgetNamed(by interface {
+	named(string) (Call, bool)
+	forgetCall(Call) uint32
+}, name string, call Call) uint32 {
+	named, ok := by.named(name)
+	if !ok || wordOf(named) != wordOf(call) {
+		return codeNothing
+	}
+	return by.forgetCall(named)
+}
+
 // The same for a call of an epoch that was replaced. Its result is not current any more, but it may be open.
 func (p *pool) forgetOld(k keyed, call Call) Hit {
 	p.lock()
 	defer p.mu.Unlock()
 	var digest [16]byte
 	for _, e := range p.draining {
-		if e.number == call.epoch && e.root.forgetCall(p.name(k, &digest), call) == codeDone {
+		if e.number == call.epoch && forgetNamed(e.root, p.name(k, &digest), call) == codeDone {
 			return Closed
 		}
 	}
@@ -1003,6 +1013,8 @@ type letter struct {
 
 func callOf(word uint64) Call { return Call{caller: uint32(word), generation: uint32(word >> 32)} }
 
+func wordOf(call Call) uint64 { return uint64(call.generation)<<32 | uint64(call.caller) }
+
 // Waits until the call is settled that it joined, or until stop is closed.
 func (p *pool) join(
 	r *Result, a *asking, k keyed, stop <-chan struct{}, all bool,
@@ -1016,9 +1028,9 @@ func (p *pool) join(
 	s, led := a.seat, a.leader
 	var letter letter
 	s.poll(&letter)
-	for letter.code == codeNotYet {
+	for letter.code == codePending {
 		acquire(&led.mu)
-		if s.poll(&letter); letter.code != codeNotYet {
+		if s.poll(&letter); letter.code != codePending {
 			led.mu.Unlock()
 			break
 		}

@@ -71,8 +71,6 @@ func (w *words) placeOf(key string) uint64 {
 	return hash(w.seed, key)%uint64(len(w.current)) + 1
 }
 
-func wordOf(call Call) uint64 { return uint64(call.generation)<<32 | uint64(call.caller) }
-
 // Asks for the key, whose fingerprint is told too. The code, and the call where that is codeJoined.
 func (s *plainSlot) ask(key string, print uint64) (uint8, Call) {
 	w := s.words
@@ -98,7 +96,7 @@ func (s *plainSlot) ask(key string, print uint64) (uint8, Call) {
 	w.open[place], w.current[place-1] = c, c.stamp.Call
 	s.call = c
 	s.leads.Add(1)
-	return codeLeads, Call{}
+	return codeLed, Call{}
 }
 
 // The call that the key's slot names: the one that was led there last, unless a Forget cleared it.
@@ -107,8 +105,10 @@ func (s *plainSlot) named(key string) (Call, bool) {
 	place := w.placeOf(key)
 	w.mu.Lock()
 	defer w.mu.Unlock()
-	call := w.current[place-1]
-	return callOf(call), call != 0
+	word := w.current[place-1]
+	call := callOf(word)
+	call.place = uint32(place)
+	return call, word != 0
 }
 
 // The call that it leads.
@@ -142,7 +142,7 @@ func (s *plainSlot) poll(l *letter) {
 	defer w.mu.Unlock()
 	switch {
 	case !c.settled:
-		l.code = codeNotYet
+		l.code = codePending
 		return
 	case c.key != s.key:
 		l.code = codeOther
@@ -160,13 +160,13 @@ func (s *plainSlot) isStill(stamp Stamp) bool {
 	return stamp.Call != 0 && stamp.Place-1 < uint64(len(w.current)) && w.current[stamp.Place-1] == stamp.Call
 }
 
-func (s *plainSlot) forgetCall(key string, call Call) uint32 {
-	w := s.words
-	place := w.placeOf(key)
+// Forgets the call, which named told.
+func (s *plainSlot) forgetCall(call Call) uint32 {
+	w, place := s.words, uint64(call.place)
 	w.mu.Lock()
 	defer w.mu.Unlock()
 	if w.current[place-1] != wordOf(call) {
-		return codeMissed
+		return codeNothing
 	}
 	w.current[place-1] = 0
 	if c := w.open[place]; c != nil && w.shut(c) {

@@ -2,21 +2,35 @@
 #include <stddef.h>
 #include "sflight.h"
 
-// What the library has of a seat: see slot in native.go. Only who has the seat writes; others may read meanwhile.
+// What the library has of a seat: see slot in native.go. Only the goroutine that has the seat writes; others may read meanwhile.
 typedef struct {
 	sflight_slot slot;
 	uint64_t leads, joins;
 	void *stack;
-	uint64_t generation, print, last;
+	uint64_t generation, print, last, led;
 } seat;
 
-// What came of a call: see letter in native.go.
+// A stamp as two words: see Stamp in singleflight.go.
+typedef struct {
+	uint64_t place, call;
+} words;
+
+// What came of a call: see letter in pool.go.
 typedef struct {
 	uint32_t code, joiners;
-	uint64_t stamp[2], call;
+	words stamp;
+	uint64_t call;
 } letter;
 
 static void count(uint64_t *n) { __atomic_store_n(n, *n + 1, __ATOMIC_RELAXED); }
+
+static words words_of(const sflight_stamp *stamp) {
+	return (words){(uint64_t)stamp->reserved << 32 | stamp->place, (uint64_t)stamp->generation << 32 | stamp->caller};
+}
+
+static sflight_stamp stamp_of(uint64_t place, uint64_t call) {
+	return (sflight_stamp){(uint32_t)place, (uint32_t)(place >> 32), (uint32_t)call, (uint32_t)(call >> 32)};
+}
 
 uint32_t sfgo_open(seat *s, uint32_t places, uint32_t callers, uint64_t seed0, uint64_t seed1) {
 	return sflight_open(&s->slot, places, callers, seed0, seed1);
@@ -31,16 +45,9 @@ uint32_t sfgo_split(seat *s, seat *other) {
 
 void sfgo_close(seat *s) { sflight_close(&s->slot); }
 
-// Which call the seat leads or waits for, or had the letter of last: its leader's number, and in the upper half the generation.
-uint64_t sfgo_call(seat *s) {
-	uint32_t leader = 0, generation = 0;
-	sflight_call(&s->slot, &leader, &generation);
-	return (uint64_t)generation << 32 | leader;
-}
-
 // Where the seat joined, the number of the leader stands above the code, in 16 bits from bit 8 on, and the generation in the upper half.
 //
-// The generation was 0. The fingerprint and then the generation are stored before the slot is changed. So who reads the generation, the
+// The generation was 0. The fingerprint and then the generation are stored before the slot is changed. So a goroutine that reads the generation, the
 // fingerprint and the same generation again has the fingerprint of that asking's key. Each asking that leads or joins uses the next
 // generation.
 uint64_t sfgo_ask(seat *s, const uint8_t *key, size_t len, uint32_t tries, uint64_t print) {
@@ -48,8 +55,10 @@ uint64_t sfgo_ask(seat *s, const uint8_t *key, size_t len, uint32_t tries, uint6
 	if (generation > s->last) return SFLIGHT_SPENT;
 	__atomic_store_n(&s->print, print, __ATOMIC_RELEASE);
 	__atomic_store_n(&s->generation, generation, __ATOMIC_RELEASE);
-	uint32_t code = sflight_ask(&s->slot, key, len, tries);
-	if (code == SFLIGHT_LEADS) {
+	sflight_stamp call;
+	uint32_t code = sflight_ask(&s->slot, key, len, tries, &call);
+	if (code == SFLIGHT_LED) {
+		s->led = words_of(&call).call;
 		count(&s->leads);
 		return code;
 	}
@@ -57,44 +66,48 @@ uint64_t sfgo_ask(seat *s, const uint8_t *key, size_t len, uint32_t tries, uint6
 	__atomic_store_n(&s->generation, 0, __ATOMIC_SEQ_CST);
 	if (code == SFLIGHT_JOINED) {
 		count(&s->joins);
-		uint64_t call = sfgo_call(s);
-		return (call >> 32) << 32 | (uint32_t)call << 8 | code;
+		return (uint64_t)call.generation << 32 | (uint64_t)call.caller << 8 | code;
 	}
 	return code;
 }
 
-// Which call the key's slot names, as sfgo_call tells it; or 0.
-uint64_t sfgo_named(seat *s, const uint8_t *key, size_t len) {
-	uint32_t leader, generation;
-	if (sflight_named(&s->slot, key, len, &leader, &generation) != SFLIGHT_DONE) return 0;
-	return (uint64_t)generation << 32 | leader;
+// Which call the key's slot names: its stamp, or zeros.
+words sfgo_named(seat *s, const uint8_t *key, size_t len) {
+	sflight_stamp stamp;
+	if (sflight_named(&s->slot, key, len, &stamp) != SFLIGHT_DONE) return (words){0, 0};
+	return words_of(&stamp);
 }
 
 // Settles the call that the seat leads, and tells of it what is wanted: a Do wants no more than how many joined. First it says so by the
 // generation: the locked exchange by which the library settles stands between that and what the package reads then.
 void sfgo_finish(seat *s, letter *l, uint32_t all) {
+	sflight_answer answer;
 	__atomic_store_n(&s->generation, 0, __ATOMIC_RELEASE);
-	if (sflight_finish(&s->slot, 0, &l->joiners) == SFLIGHT_OWES) {
-		while (sflight_go_on(&s->slot, &l->joiners) == SFLIGHT_OWES) {}
+	if (sflight_finish(&s->slot, 0, &answer) == SFLIGHT_OWES) {
+		while (sflight_go_on(&s->slot, &answer) == SFLIGHT_OWES) {}
 	}
+	l->joiners = answer.joiners;
 	if (all) {
-		sflight_stamp(&s->slot, l->stamp);
-		l->call = sfgo_call(s);
+		l->stamp = words_of(&answer.stamp);
+		l->call = l->stamp.call;
 	}
 }
 
-// What came of the call that the seat joined; or the code is SFLIGHT_NOT_YET, or SFLIGHT_OTHER.
+// What came of the call that the seat joined; or the code is SFLIGHT_PENDING, or SFLIGHT_OTHER_KEY.
 void sfgo_poll(seat *s, letter *l) {
-	uint64_t value;
-	l->code = sflight_poll(&s->slot, &value, &l->joiners);
-	if (l->code == SFLIGHT_DONE) sflight_stamp(&s->slot, l->stamp);
+	sflight_answer answer;
+	l->code = sflight_poll(&s->slot, &answer);
+	if (l->code != SFLIGHT_DONE) return;
+	l->joiners = answer.joiners;
+	l->stamp = words_of(&answer.stamp);
 }
 
 uint32_t sfgo_is_still(seat *s, uint64_t place, uint64_t call) {
-	uint64_t stamp[2] = {place, call};
-	return sflight_is_still(&s->slot, stamp);
+	sflight_stamp stamp = stamp_of(place, call);
+	return sflight_is_still(&s->slot, &stamp);
 }
 
-uint32_t sfgo_forget_call(seat *s, const uint8_t *key, size_t len, uint32_t caller, uint32_t generation, uint32_t tries) {
-	return sflight_forget_call(&s->slot, key, len, caller, generation, tries);
+uint32_t sfgo_forget_call(seat *s, uint64_t place, uint64_t call, uint32_t tries) {
+	sflight_stamp stamp = stamp_of(place, call);
+	return sflight_forget_call(&s->slot, &stamp, tries);
 }
