@@ -223,18 +223,31 @@ const hasPlainStores = isProved && !isRaceDetected
 func (p *pool) put(s *seat) {
 	e := s.epoch
 	if s.hot {
-		s.release()
-	} else {
-		p.lock()
-		e.free = append(e.free, s)
-		e.resting.Store(uint32(len(e.free)))
-		p.mu.Unlock()
+		p.putHot(e, s)
+		return
 	}
+	p.lock()
+	e.free = append(e.free, s)
+	e.resting.Store(uint32(len(e.free)))
+	p.mu.Unlock()
 	if e.closed.Load() {
-		p.lock()
-		p.drain(e)
-		p.mu.Unlock()
+		p.tidy(e)
 	}
+}
+
+// The same of a hot seat of the epoch.
+func (p *pool) putHot(e *epoch, s *seat) {
+	s.release()
+	if e.closed.Load() {
+		p.tidy(e)
+	}
+}
+
+// Drains an epoch that was replaced.
+func (p *pool) tidy(e *epoch) {
+	p.lock()
+	p.drain(e)
+	p.mu.Unlock()
 }
 
 // Frees the seats of a replaced epoch that are free. The lock is held.

@@ -7,6 +7,7 @@ import (
 	"hash/maphash"
 	"sync"
 	"sync/atomic"
+	"unsafe"
 )
 
 // How the package keeps its promises over the library.
@@ -129,6 +130,11 @@ func (p *pool) name(k keyed, digest *[16]byte) string {
 	}
 	binary.LittleEndian.PutUint64(digest[:8], k.print)
 	binary.LittleEndian.PutUint64(digest[8:], hash(p.spare, k.key))
+	if isProved {
+		// The library keeps none of it, so it may stay where the caller has it.
+		bytes := digest[:]
+		return *(*string)(unsafe.Pointer(&bytes))
+	}
 	return string(digest[:])
 }
 
@@ -458,11 +464,7 @@ func (p *pool) change(next *epoch) {
 	old.closed.Store(true)
 	p.drain(old)
 	if old.gone.Load() < old.made.Load() {
-		later(func() {
-			p.lock()
-			p.drain(old)
-			p.mu.Unlock()
-		})
+		later(func() { p.tidy(old) })
 	}
 }
 
@@ -833,14 +835,16 @@ func (p *pool) isStill(stamp Stamp) bool {
 		return false
 	}
 	stamp.Place &= 1<<placeBits - 1
-	s := e.takeHot()
-	if s == nil {
-		if s = p.any(e); s == nil {
-			return false
-		}
+	var still bool
+	if s := e.takeHot(); s != nil {
+		still = s.isStill(stamp)
+		p.putHot(e, s)
+	} else if s = p.any(e); s != nil {
+		still = s.isStill(stamp)
+		p.putAny(s)
+	} else {
+		return false
 	}
-	still := s.isStill(stamp)
-	p.putAny(s)
 	if !still {
 		p.noted(e)
 	}
