@@ -206,7 +206,6 @@ impl<T> Caller<T> {
                 match taken.epoch.look(Some(&mut taken.seat), key, fingerprint) {
                     (Some(call), Whose::Same) => match taken.epoch.post(call.caller).follow(call, fingerprint) {
                         Some(wait) => {
-                            wait.join();
                             self.count(|counters| &counters.joins);
                             return Asked::Follows(wait);
                         }
@@ -331,8 +330,8 @@ impl<T> Caller<T> {
                 return Some(Asked::Joined(call));
             }
             Whose::Same => {
-                if let Some(wait) = post.follow(call, fingerprint) {
-                    wait.join();
+                // Its seat has joined, by which the library counts it.
+                if let Some(wait) = post.watch(call, fingerprint) {
                     self.count(|counters| &counters.joins);
                     self.leave(call, false);
                     return Some(Asked::Follows(wait));
@@ -376,7 +375,7 @@ impl<T> Caller<T> {
 
     /// Follows its own call, for one who waits elsewhere and is not counted as one who joined.
     pub(crate) fn own_wait(&self, key: &[u8], call: Call) -> Option<Arc<Wait<T>>> {
-        self.taken.as_ref()?.post().follow(call, self.pool.fingerprint(key))
+        self.taken.as_ref()?.post().watch(call, self.pool.fingerprint(key))
     }
 
     // What the letter brings of the call that it joined. None where one has to ask again.

@@ -389,13 +389,12 @@ impl<T> Pool<T> {
     pub(crate) fn beside(&self, key: &[u8], fingerprint: u64, has_seat: bool) -> Beside<T> {
         let mut side = lock(&self.side);
         loop {
-            if let Some(run) = side.runs.get(key) {
-                run.join();
+            // A run is taken out before it is settled, and a moved call after that.
+            if let Some(run) = side.runs.get(key).filter(|run| run.join()) {
                 return Beside::Follow(run.clone());
             }
-            if let Some(moved) = side.moved_of(fingerprint) {
-                moved.join();
-                return Beside::Follow(moved.clone());
+            if let Some(moved) = side.join_moved(fingerprint) {
+                return Beside::Follow(moved);
             }
             let alert = self.alert_of(fingerprint);
             point();
@@ -407,7 +406,6 @@ impl<T> Pool<T> {
                     point();
                     alert.fetch_sub(1, SeqCst);
                     if let Some(wait) = epoch.post(call.caller).follow(call, fingerprint) {
-                        wait.join();
                         return Beside::Follow(wait);
                     }
                 }
@@ -620,9 +618,9 @@ impl<T> Pool<T> {
 }
 
 impl<T> Side<T> {
-    // A moved call of a key with this fingerprint. One that is settled is about to be taken out.
-    fn moved_of(&mut self, fingerprint: u64) -> Option<&Arc<Wait<T>>> {
-        self.moved.get(&fingerprint)?.iter().find(|wait| !wait.is_settled())
+    // Joins a moved call of a key with this fingerprint. One that is settled is about to be taken out.
+    fn join_moved(&self, fingerprint: u64) -> Option<Arc<Wait<T>>> {
+        self.moved.get(&fingerprint)?.iter().find(|wait| wait.join()).cloned()
     }
 
     fn unmove(&mut self, wait: &Arc<Wait<T>>) -> bool {

@@ -197,13 +197,24 @@ impl<T> Post<T> {
         self.word.fetch_update(AcqRel, Acquire, set).is_ok()
     }
 
-    /// Follows the call, unless it has ended. The leader's exchange with 0 comes after the mark, or the mark is not set.
+    /// Joins the call without a seat, unless it has ended. The leader's exchange with 0 comes after the mark, or the mark is not set. And it
+    /// takes the lock before it counts who followed, so that it counts this one.
     pub(crate) fn follow(&self, call: Call, fingerprint: u64) -> Option<Arc<Wait<T>>> {
+        self.waits_for(call, fingerprint, true)
+    }
+
+    /// The same for one who was counted elsewhere, or has not joined.
+    pub(crate) fn watch(&self, call: Call, fingerprint: u64) -> Option<Arc<Wait<T>>> {
+        self.waits_for(call, fingerprint, false)
+    }
+
+    fn waits_for(&self, call: Call, fingerprint: u64, joins: bool) -> Option<Arc<Wait<T>>> {
         let mut waits = lock(&self.waits);
         if !self.mark(call.generation, FOLLOWED) {
             return None;
         }
-        Some(waits.wait.get_or_insert_with(|| Wait::new(fingerprint, Some(call))).clone())
+        let wait = waits.wait.get_or_insert_with(|| Wait::new(fingerprint, Some(call))).clone();
+        (!joins || wait.join()).then_some(wait)
     }
 
     /// Enters the call that the caller asks for, or leads, among those that are moved to the next epoch; unless there is none, or a

@@ -7,7 +7,7 @@
 //!
 //! `SFLIGHT_SCHEDULES` says how many are drawn, and `SFLIGHT_SEED` with which one it begins.
 
-use crate::{Answer, Caller, Group, Plan, Stamp};
+use crate::{Caller, Got, Group, Plan, Stamp};
 use std::arch::global_asm;
 use std::cell::Cell;
 use std::collections::HashMap;
@@ -219,6 +219,9 @@ struct Value {
     moment: u64,
     is_counted: bool,
     live: Rc<Cell<i64>>,
+    // Whether its leader has returned and said that nobody joined, and whether somebody has returned it who joined.
+    is_alone: Cell<bool>,
+    is_joined: Cell<bool>,
 }
 
 // SAFETY: one thread plays.
@@ -286,7 +289,13 @@ impl World {
 
     fn value(&self, (moment, is_counted): (u64, bool)) -> Value {
         self.live.set(self.live.get() + 1);
-        Value { moment, is_counted, live: self.live.clone() }
+        Value {
+            moment,
+            is_counted,
+            live: self.live.clone(),
+            is_alone: Cell::new(false),
+            is_joined: Cell::new(false),
+        }
     }
 
     // What an answer has to be at least that is asked for now.
@@ -294,7 +303,17 @@ impl World {
         self.keys[key].returned.get().max(self.keys[key].forgotten.get())
     }
 
-    fn returned(&self, key: usize, least: u64, answer: &Answer<Value>) {
+    // A receiver of the job that its own caller had has not joined.
+    fn returned(&self, key: usize, least: u64, got: &Got<Value>, has_joined: bool) {
+        let answer = &got.answer;
+        if got.led && !got.shared() {
+            answer.is_alone.set(true);
+        }
+        if !got.led && has_joined {
+            answer.is_joined.set(true);
+            check(got.shared(), || format!("an answer of {key} that was joined is not shared"));
+        }
+        check(!answer.is_alone.get() || !answer.is_joined.get(), || format!("the leader of {key} has not seen who joined"));
         check(answer.moment >= least, || format!("an answer of {key} from {}, after one from {least} or a Forget then", answer.moment));
         // A load that began after its call was forgotten may begin after the one that is current.
         if answer.is_counted {
@@ -319,8 +338,8 @@ struct Actor {
 }
 
 impl Actor {
-    fn got(&mut self, key: usize, least: u64, got: crate::Got<Value>) {
-        self.world.returned(key, least, &got.answer);
+    fn got(&mut self, key: usize, least: u64, got: Got<Value>, has_joined: bool) {
+        self.world.returned(key, least, &got, has_joined);
         self.last.insert(key, (got.answer.moment, got.stamp(), got.call()));
     }
 
@@ -341,7 +360,7 @@ impl Actor {
                     world.ends(key + 1, moment);
                     world.value(moment)
                 });
-                world.returned(key + 1, least, &got.unwrap().answer);
+                world.returned(key + 1, least, &got.unwrap(), true);
             }
             point();
             world.ends(key, moment);
@@ -353,7 +372,7 @@ impl Actor {
         };
         self.second = second;
         if let Ok(got) = got {
-            self.got(key, least, got);
+            self.got(key, least, got, true);
         }
     }
 
@@ -389,7 +408,7 @@ impl Actor {
             }
         }
         if let Some(got) = got {
-            self.got(key, least, got);
+            self.got(key, least, got, true);
         }
     }
 
@@ -406,16 +425,17 @@ impl Actor {
                     world.ends(key, moment);
                     world.value(moment)
                 });
-                world.returned(key, least, &got.answer);
+                world.returned(key, least, &got, false);
             } else {
                 point();
                 drop(job);
             }
         };
+        let has_joined = job.is_none();
         job.map(run);
         for _ in 0..self.random.below(30) {
             if let Ok(got) = receiver.try_recv() {
-                self.got(key, least, got);
+                self.got(key, least, got, has_joined);
                 break;
             }
             is_blocked();

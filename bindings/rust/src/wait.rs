@@ -68,15 +68,13 @@ impl<T> Wait<T> {
         self.is_settled.load(Acquire)
     }
 
-    /// One more follows.
-    pub(crate) fn join(&self) {
+    /// Counts one more follower; or does not, where the call is settled: its members were counted then. So each member's answer is
+    /// shared or none is.
+    pub(crate) fn join(&self) -> bool {
         let mut state = lock(&self.state);
-        // One that was settled meanwhile is told here: whoever joined has a shared answer.
-        if let Some(Outcome::Answer { joiners, .. }) = &mut state.outcome {
-            *joiners += 1;
-        } else {
-            state.followers += 1;
-        }
+        let is_open = state.outcome.is_none();
+        state.followers += u32::from(is_open);
+        is_open
     }
 
     /// Sleeps until it is settled, or until the deadline: whether it is settled.
