@@ -15,7 +15,14 @@ trait Asker {
 
 impl Asker for singleflight::Caller<u64> {
     fn get(&mut self, key: &[u8], load: impl FnOnce() -> u64) -> u64 {
-        *self.do_with(key, load).unwrap().answer
+        *self.get_or_load(key, load).value
+    }
+}
+
+// By the group itself, without a caller of one's own.
+impl Asker for &Group<u64> {
+    fn get(&mut self, key: &[u8], load: impl FnOnce() -> u64) -> u64 {
+        *self.get_or_load(key, load).value
     }
 }
 
@@ -105,10 +112,10 @@ fn by_length<A: Asker>(len: usize, mut asker: A) -> f64 {
 // Nanoseconds each thread takes to ask whether an answer is current still, by a caller of its own or by the group.
 fn still(threads: usize, by_group: bool) -> f64 {
     let group = Group::<u64>::new();
-    let stamp = group.caller().unwrap().do_with(b"key", || 1).unwrap().stamp();
-    let took = time(threads, || group.caller().unwrap(), |_, caller| {
+    let stamp = group.caller().get_or_load(b"key", || 1).stamp();
+    let took = time(threads, || group.caller(), |_, caller| {
         for _ in 0..GETS {
-            assert!(if by_group { group.is_still(stamp) } else { caller.is_still(stamp) });
+            assert!(if by_group { group.is_current(stamp) } else { caller.is_current(stamp) });
         }
     });
     took.as_nanos() as f64 / GETS as f64
@@ -128,7 +135,7 @@ fn chosen(count: usize) -> Vec<[u8; 8]> {
 // Nanoseconds a get of these keys in turn, by one thread over 65,536 places.
 fn in_turn(keys: &[[u8; 8]]) -> f64 {
     let group = Group::<u64>::open(65_536, 4).unwrap();
-    let mut caller = group.caller().unwrap();
+    let mut caller = group.caller();
     let from = Instant::now();
     for key in keys {
         USED.fetch_xor(caller.get(key, || 1), Relaxed);
@@ -208,7 +215,7 @@ fn main() {
     let open = |callers| Group::<u64>::open(1 << 20, callers).unwrap();
     for len in [8, 32, 128, 250, 1000] {
         let group = open(1);
-        let ours = best(|| by_length(len, group.caller().unwrap()));
+        let ours = best(|| by_length(len, group.caller()));
         let plains = best(|| by_length(len, &Plain::default()));
         println!("a key of {len} bytes, 1 thread: {ours:.0} ns a get; mutex, map and condition variable {plains:.0} ns");
     }
@@ -222,20 +229,21 @@ fn main() {
     for (what, hot) in [("own keys", false), ("one hot key", true)] {
         for threads in [1, 4] {
             let (group, plain) = (open(4), Plain::default());
-            let ours = best(|| gets(threads, hot, || group.caller().unwrap()));
+            let ours = best(|| gets(threads, hot, || group.caller()));
+            let groups = best(|| gets(threads, hot, || &group));
             let plains = best(|| gets(threads, hot, || &plain));
-            println!("{what}, {threads} threads: {ours:.0} ns a get; mutex, map and condition variable {plains:.0} ns");
+            println!("{what}, {threads} threads: {ours:.0} ns a get, {groups:.0} by the group; mutex, map and condition variable {plains:.0} ns");
         }
     }
     for load in [1, 10, 100] {
         let (group, plain) = (open(64), Plain::default());
-        let ours = latency(64, Duration::from_micros(load), || group.caller().unwrap());
+        let ours = latency(64, Duration::from_micros(load), || group.caller());
         let plains = latency(64, Duration::from_micros(load), || &plain);
         println!("64 threads, one key, a load of {load} us: p50 {:.0} us, p99 {:.0}; mutex {:.0}, {:.0}", ours[0], ours[1], plains[0], plains[1]);
     }
     for waiters in [0, 3000] {
         let (group, plain) = (open(4000), Plain::default());
-        let ours = beside_waiters(waiters, || group.caller().unwrap());
+        let ours = beside_waiters(waiters, || group.caller());
         let plains = beside_waiters(waiters, || &plain);
         println!("{waiters} waiters for one key: {} gets of 16 others, least of one {}; mutex {}, {}", ours[0], ours[1], plains[0], plains[1]);
     }

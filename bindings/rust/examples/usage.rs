@@ -6,16 +6,14 @@ fn main() {
     let group = Group::<String>::new();
     std::thread::scope(|scope| {
         for _ in 0..4 {
-            let mut caller = group.caller().unwrap();
-            scope.spawn(move || {
-                let got = caller.do_with(b"user-7", || "Ada".to_string()).unwrap();
-                assert_eq!(*got.answer, "Ada");
+            scope.spawn(|| {
+                let got = group.get_or_load("user-7", || "Ada".to_string());
+                assert_eq!(*got.value, "Ada");
             });
         }
     });
     // After an update the key is forgotten: nobody who asks later gets what was loaded before.
-    let mut caller = group.caller().unwrap();
-    caller.forget(b"user-7").unwrap();
-    let got = caller.do_with(b"user-7", || "Grace".to_string()).unwrap();
-    println!("{}, shared: {}", *got.answer, got.shared());
+    group.forget("user-7");
+    let got = group.get_or_load("user-7", || "Grace".to_string());
+    println!("{}, shared: {}", got.value, got.shared());
 }

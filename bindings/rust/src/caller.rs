@@ -1,597 +1,226 @@
-//! Who asks: leading, joining, forgetting.
+//! A caller: what a thread or task keeps that asks many times.
 
-use crate::answer::Answer;
-use crate::epoch::Taken;
-use crate::pool::{Beside, FIRST, Letter, Pool};
-use crate::post::{Counter, Counters, Whose};
-use crate::sync::point;
-use crate::wait::Wait;
-use crate::{Call, Error, Got, Hit, Note, Stamp, raw, refusal};
-use std::borrow::Cow;
+use crate::asker::Asker;
+#[cfg(feature = "notes")]
+use crate::notes::Note;
+use crate::pool::Pool;
+use crate::{Call, Error, ForgetOutcome, Job, Loaded, Receiver, Stamp};
 use std::fmt;
+use std::future::Future;
 use std::sync::Arc;
-use std::time::{Duration, Instant};
+use std::time::Duration;
 
-/// One who asks, in one thread or task at a time. Where it is dropped it goes back to its group.
-pub struct Caller<T> {
-    pub(crate) pool: Arc<Pool<T>>,
-    // None where no caller of the library was free, or after a call that it left.
-    taken: Option<Taken<T>>,
-    // Of the answer that it got last.
-    pub(crate) last: Option<Stamp>,
+/// A caller of a group, for one thread or task at a time. [`Group::caller`](crate::Group::caller) returns one.
+///
+/// A [`Group`](crate::Group) has the same methods. A caller saves a call the search for a free place in the library, and remembers
+/// the value that it got last ([`Caller::last_is_current`]). When it is dropped, its place goes back to the group.
+///
+/// ```
+/// let group = singleflight::Group::<u32>::new();
+/// std::thread::scope(|scope| {
+///     for _ in 0..4 {
+///         let mut caller = group.caller();
+///         scope.spawn(move || {
+///             for _ in 0..10 {
+///                 assert_eq!(*caller.get_or_load("key", || 7).value, 7);
+///             }
+///         });
+///     }
+/// });
+/// ```
+pub struct Caller<T>(pub(crate) Asker<T, Arc<Pool<T>>>);
+
+impl<T> fmt::Debug for Caller<T> {
+    fn fmt(&self, f: &mut fmt::Formatter<'_>) -> fmt::Result {
+        f.debug_struct("Caller").field("number", &self.0.number()).finish()
+    }
 }
 
 impl<T> Caller<T> {
     pub(crate) fn of(pool: Arc<Pool<T>>) -> Self {
-        let taken = pool.take();
-        Caller {
-            pool,
-            taken,
-            last: None,
-        }
-    }
-
-    // A call that it led and whose job or future was neither run nor dropped: nobody can load for it any more.
-    fn abandon(&mut self) {
-        if self.taken.as_ref().is_some_and(|taken| taken.seat.leads) {
-            self.settle(0, |wait, _| wait.void());
-        }
-    }
-
-    /// Settles the call that it leads with the number: how many joined by callers. `end` settles the wait of those who follow it.
-    fn settle(&mut self, number: u64, end: impl FnOnce(&Wait<T>, (u32, Stamp))) -> (u32, Stamp) {
-        let taken = self.taken.as_mut().expect("who leads has a seat");
-        taken.post().is_over(taken.seat.next - 1);
-        let slot = &mut taken.seat.slot;
-        let mut joiners = 0;
-        point();
-        unsafe {
-            let mut code = raw::sflight_finish(slot, number, &mut joiners);
-            while code == raw::OTHERWISE {
-                code = raw::sflight_go_on(slot, &mut joiners);
-            }
-        }
-        taken.seat.leads = false;
-        let stamp = taken.seat.stamp(taken.epoch.number);
-        let is_followed = taken.post().end();
-        if joiners > 0 || is_followed {
-            let woken = taken.post().wake();
-            self.pool.serve(&taken.epoch, woken, |wait| end(wait, (joiners, stamp)));
-        }
-        (joiners, stamp)
+        let mut asker = Asker::new(pool);
+        asker.refresh();
+        Caller(asker)
     }
 }
 
-impl<T> fmt::Debug for Caller<T> {
-    fn fmt(&self, f: &mut fmt::Formatter<'_>) -> fmt::Result {
-        f.debug_struct("Caller").field("number", &self.taken.as_ref().map(|taken| taken.seat.number)).finish()
-    }
-}
-
-impl<T> Drop for Caller<T> {
-    fn drop(&mut self) {
-        self.abandon();
-        if let Some(taken) = self.taken.take() {
-            self.pool.put(taken);
-        }
-    }
-}
-
-/// A call that a caller leads. Where its load ends without an answer, as by a panic, it is settled with nothing, so that who
-/// joined asks again.
-pub(crate) struct Leading<'a, T> {
-    caller: &'a mut Caller<T>,
-    key: Cow<'a, [u8]>,
-    call: Call,
-}
-
-impl<T> Leading<'_, T> {
-    pub(crate) fn end(self, value: T) -> Got<T> {
-        let answer = Answer::lent(value);
-        let (caller, key) = (&mut *self.caller, &*self.key);
-        let mut followers = None;
-        let (joiners, stamp) = caller.settle(answer.number(), |wait, (joiners, stamp)| {
-            answer.settle(u64::from(joiners));
-            followers = Some(wait.end(key, &answer, joiners, stamp));
-        });
-        if followers.is_none() {
-            answer.settle(u64::from(joiners));
-        }
-        caller.last = Some(stamp);
-        let call = Some(self.call);
-        Got {
-            answer,
-            joiners: joiners + followers.unwrap_or(0),
-            led: true,
-            call,
-            stamp,
-        }
-    }
-}
-
-impl<T> Drop for Leading<'_, T> {
-    fn drop(&mut self) {
-        // It does nothing where the call is settled.
-        self.caller.abandon();
-    }
-}
-
-/// A load beside the library. Where it ends without an answer, each joiner asks again.
-pub(crate) struct Running<'a, T> {
-    caller: &'a mut Caller<T>,
-    key: Cow<'a, [u8]>,
-    run: Arc<Wait<T>>,
-}
-
-impl<T> Running<'_, T> {
-    pub(crate) fn end(self, value: T) -> Got<T> {
-        let answer = Answer::own(value);
-        self.caller.pool.end_run(&self.key, &self.run);
-        let joiners = self.run.end(&self.key, &answer, 0, Stamp::default());
-        self.caller.last = None;
-        Got {
-            answer,
-            joiners,
-            led: true,
-            call: None,
-            stamp: Stamp::default(),
-        }
-    }
-}
-
-impl<T> Drop for Running<'_, T> {
-    fn drop(&mut self) {
-        if !self.run.is_settled() {
-            self.caller.pool.end_run(&self.key, &self.run);
-            self.run.void();
-        }
-    }
-}
-
-/// What an asking came to.
-pub(crate) enum Asked<T> {
-    Leads(Call),
-    /// It loads beside the library.
-    Runs(Arc<Wait<T>>),
-    /// It follows a call without a seat.
-    Follows(Arc<Wait<T>>),
-    /// It has joined a call by its seat.
-    Joined(Call),
-    /// It had joined, and the letter is there.
-    Settled(Got<T>),
-}
-
-/// How one waits for the call of another.
-#[derive(Clone, Copy, PartialEq, Eq)]
-pub(crate) enum By {
-    /// By its own seat.
-    Seat,
-    /// Without one: a seat that waits for a load that hangs is gone, and each caller with a deadline would leave one there.
-    Following,
-}
-
-impl<T> Caller<T> {
-    /// Its seat, which is free and of the current epoch. None where all are taken.
-    #[inline]
-    fn refresh(&mut self) {
-        self.abandon();
-        let now = self.pool.now();
-        if self.taken.as_ref().is_some_and(|taken| taken.epoch.number == now) {
-            return;
-        }
-        if let Some(taken) = self.taken.take() {
-            self.pool.put(taken);
-        }
-        self.taken = self.pool.take();
-    }
-
-    /// Adds one to a number of its own.
-    fn count(&self, counter: impl FnOnce(&Counters) -> &Counter) {
-        match &self.taken {
-            Some(taken) => counter(&taken.post().counters).add(),
-            None => counter(&self.pool.counters).add_shared(),
-        }
-    }
-
-    /// Asks for the key.
-    pub(crate) fn ask(&mut self, key: &[u8], by: By) -> Asked<T> {
-        let fingerprint = self.pool.fingerprint(key);
-        loop {
-            self.refresh();
-            if self.taken.is_none() || self.pool.is_alert(fingerprint) {
-                if let Some(asked) = self.beside(key, fingerprint) {
-                    return asked;
-                }
-            } else if let Some(taken) = self.taken.as_mut().filter(|taken| by == By::Following || taken.epoch.has_strangers()) {
-                match taken.epoch.look(Some(&mut taken.seat), key, fingerprint) {
-                    (Some(call), Whose::Same) => match taken.epoch.post(call.caller).follow(call, fingerprint) {
-                        Some(wait) => {
-                            self.count(|counters| &counters.joins);
-                            return Asked::Follows(wait);
-                        }
-                        None => continue,
-                    },
-                    (_, Whose::Other) => {
-                        self.pool.clash(&taken.epoch);
-                        if let Some(asked) = self.beside(key, fingerprint) {
-                            return asked;
-                        }
-                    }
-                    _ => {}
-                }
-            }
-            if let Some(asked) = self.ask_library(key, fingerprint, by) {
-                return asked;
-            }
-        }
-    }
-
-    // Looks beside the library. None where one asks it.
-    fn beside(&mut self, key: &[u8], fingerprint: u64) -> Option<Asked<T>> {
-        match self.pool.beside(key, fingerprint, self.taken.is_some()) {
-            Beside::Follow(wait) => {
-                self.count(|counters| &counters.joins);
-                Some(Asked::Follows(wait))
-            }
-            Beside::Run(run) => {
-                self.count(|counters| &counters.alone);
-                if self.taken.is_none() {
-                    self.pool.grow();
-                }
-                Some(Asked::Runs(run))
-            }
-            Beside::Nothing => None,
-        }
-    }
-
-    // Asks the library once. None where one has to ask again.
-    fn ask_library(&mut self, key: &[u8], fingerprint: u64, by: By) -> Option<Asked<T>> {
-        let taken = self.taken.as_mut()?;
-        let (epoch, seat, post) = taken.parts();
-        if seat.next - FIRST >= self.pool.calls() {
-            self.retire();
-            return None;
-        }
-        post.begin(fingerprint, seat.next);
-        let name = epoch.names.of(key);
-        let code = loop {
-            point();
-            match unsafe { raw::sflight_ask(&mut seat.slot, name.as_ptr(), name.len(), raw::MOST_TRIES) } {
-                raw::BUSY => std::hint::spin_loop(),
-                code => break code,
-            }
-        };
-        match code {
-            raw::DONE => {
-                let call = Call {
-                    epoch: epoch.number,
-                    caller: seat.number,
-                    generation: seat.next,
-                };
-                assert!(!cfg!(test) || call == seat.call(epoch.number), "the generation is known beforehand");
-                seat.next += 1;
-                seat.leads = true;
-                if self.pool.may_load(epoch.number, key, fingerprint) {
-                    post.counters.leads.add();
-                    return Some(Asked::Leads(call));
-                }
-                self.abandon();
-                None
-            }
-            raw::OTHERWISE => {
-                seat.next += 1;
-                let call = seat.call(epoch.number);
-                self.withdraw();
-                self.joined(call, fingerprint, by, key)
-            }
-            raw::SPENT => {
-                self.withdraw();
-                self.retire();
-                None
-            }
-            // No memory for a long key.
-            _ => {
-                self.withdraw();
-                match self.taken.take() {
-                    Some(taken) => {
-                        let asked = self.beside(key, fingerprint);
-                        self.taken = Some(taken);
-                        asked
-                    }
-                    None => None,
-                }
-            }
-        }
-    }
-
-    // The asking leads nothing. Who took it for a leader when its epoch was replaced asks again.
-    fn withdraw(&mut self) {
-        if let Some(taken) = &self.taken {
-            if taken.post().end() {
-                let woken = taken.post().wake();
-                self.pool.serve(&taken.epoch, woken, Wait::void);
-            }
-        }
-    }
-
-    fn retire(&mut self) {
-        if let Some(taken) = self.taken.take() {
-            self.pool.retire(taken);
-        }
-    }
-
-    // It has joined this call by its seat, whichever key that is of.
-    fn joined(&mut self, call: Call, fingerprint: u64, by: By, key: &[u8]) -> Option<Asked<T>> {
-        let taken = self.taken.as_mut()?;
-        let post = taken.epoch.post(call.caller);
-        match post.whose(call.generation, fingerprint) {
-            Whose::Same if by == By::Seat => {
-                self.count(|counters| &counters.joins);
-                return Some(Asked::Joined(call));
-            }
-            Whose::Same => {
-                // Its seat has joined, by which the library counts it.
-                if let Some(wait) = post.watch(call, fingerprint) {
-                    self.count(|counters| &counters.joins);
-                    self.leave(call, false);
-                    return Some(Asked::Follows(wait));
-                }
-            }
-            // To wait for it could be to wait for oneself: a load may ask for other keys.
-            Whose::Other => {
-                let epoch = taken.epoch.clone();
-                self.leave(call, true);
-                self.pool.clash(&epoch);
-                self.refresh();
-                return self.beside(key, fingerprint);
-            }
-            Whose::Ended => {}
-        }
-        // The call has ended, so the letter is there.
-        let letter = self.taken.as_mut()?.seat.poll()?;
-        self.read(letter, call).map(Asked::Settled)
-    }
-
-    // Leaves the call that its seat joined: the seat comes back with the letter.
-    fn leave(&mut self, call: Call, is_stranger: bool) {
-        if let Some(taken) = self.taken.take() {
-            self.pool.leave(taken, call.caller, is_stranger);
-        }
-    }
-
-    /// The call that it leads for this key.
-    pub(crate) fn leading<'a>(&'a mut self, key: Cow<'a, [u8]>, call: Call) -> Leading<'a, T> {
-        Leading {
-            caller: self,
-            key,
-            call,
-        }
-    }
-
-    /// The load that it runs for this key.
-    pub(crate) fn running<'a>(&'a mut self, key: Cow<'a, [u8]>, run: Arc<Wait<T>>) -> Running<'a, T> {
-        Running { caller: self, key, run }
-    }
-
-    /// Follows its own call, for one who waits elsewhere and is not counted as one who joined.
-    pub(crate) fn own_wait(&self, key: &[u8], call: Call) -> Option<Arc<Wait<T>>> {
-        self.taken.as_ref()?.post().watch(call, self.pool.fingerprint(key))
-    }
-
-    // What the letter brings of the call that it joined. None where one has to ask again.
-    fn read(&mut self, letter: Letter, call: Call) -> Option<Got<T>> {
-        let Letter::Own(number, joiners) = letter else {
-            self.pool.give_back(letter);
-            return None;
-        };
-        // SAFETY: the leader counts each who joined, and each takes its letter once.
-        let answer = unsafe { Answer::of_number(number) }?;
-        let taken = self.taken.as_mut()?;
-        let stamp = taken.seat.stamp(taken.epoch.number);
-        self.last = Some(stamp);
-        Some(Got {
-            answer,
-            joiners,
-            led: false,
-            call: Some(call),
-            stamp,
-        })
-    }
-
-    /// What the call came to that it followed. None where one has to ask again.
-    pub(crate) fn read_wait(&mut self, wait: &Wait<T>, key: &[u8]) -> Option<Got<T>> {
-        let got = wait.read(key)?;
-        self.last = got.call.map(|_| got.stamp);
-        Some(got)
-    }
-
-    /// The answer of the key's open call; or where there is none, of a new one, for which `load` is called.
+impl<T: Send + Sync> Caller<T> {
+    /// Returns the value of the key, as [`Group::get_or_load`](crate::Group::get_or_load) does.
     ///
     /// ```
-    /// # let group = singleflight::Group::<u32>::open(1, 1).unwrap();
-    /// # let mut caller = group.caller().unwrap();
-    /// let got = caller.do_with(b"k", || 7).unwrap();
-    /// assert!(*got.answer == 7 && got.led && !got.shared());
+    /// let group = singleflight::Group::<u32>::new();
+    /// let mut caller = group.caller();
+    /// let got = caller.get_or_load("key", || 7);
+    /// assert!(*got.value == 7 && got.led && !got.shared());
     /// ```
-    pub fn do_with(&mut self, key: &[u8], load: impl FnOnce() -> T) -> Result<Got<T>, Error> {
-        self.do_until(key, None, By::Seat, load)
+    pub fn get_or_load(&mut self, key: impl AsRef<[u8]>, load: impl FnOnce() -> T) -> Loaded<T> {
+        self.0.get(key.as_ref(), load)
     }
 
-    /// The same, but waits no longer than the timeout for the answer of a call that another leads: `TimedOut` then, and the call goes
-    /// on. A load of its own takes as long as it takes.
+    /// Returns the value of the key, as [`Group::get_or_load_timeout`](crate::Group::get_or_load_timeout) does.
+    ///
+    /// # Errors
+    /// [`Error::TimedOut`] where the load of another caller takes longer than the timeout.
     ///
     /// ```
     /// # use singleflight::{Error, Group};
     /// # use std::time::Duration;
-    /// # let group = Group::<u32>::open(1, 2).unwrap();
-    /// let (mut leader, mut other) = (group.caller().unwrap(), group.caller().unwrap());
-    /// leader.do_with(b"k", || {
-    ///     let late = other.do_with_timeout(b"k", Duration::from_millis(1), || 8);
+    /// let group = Group::<u32>::new();
+    /// let (mut leader, mut other) = (group.caller(), group.caller());
+    /// leader.get_or_load("key", || {
+    ///     let late = other.get_or_load_timeout("key", Duration::from_millis(1), || 8);
     ///     assert_eq!(late.err(), Some(Error::TimedOut));
     ///     7
-    /// }).unwrap();
+    /// });
     /// ```
-    pub fn do_with_timeout(&mut self, key: &[u8], timeout: Duration, load: impl FnOnce() -> T) -> Result<Got<T>, Error> {
-        self.do_until(key, Instant::now().checked_add(timeout), By::Following, load)
+    pub fn get_or_load_timeout(&mut self, key: impl AsRef<[u8]>, timeout: Duration, load: impl FnOnce() -> T) -> Result<Loaded<T>, Error> {
+        self.0.get_timeout(key.as_ref(), timeout, load).ok_or(Error::TimedOut)
     }
 
-    fn do_until(&mut self, key: &[u8], deadline: Option<Instant>, by: By, load: impl FnOnce() -> T) -> Result<Got<T>, Error> {
-        loop {
-            let got = match self.ask(key, by) {
-                Asked::Leads(call) => {
-                    let leading = self.leading(key.into(), call);
-                    return Ok(leading.end(load()));
-                }
-                Asked::Runs(run) => {
-                    let running = self.running(key.into(), run);
-                    return Ok(running.end(load()));
-                }
-                Asked::Settled(got) => Some(got),
-                Asked::Joined(call) => {
-                    let taken = self.taken.as_mut().expect("who joined by a seat has it");
-                    let letter = taken.epoch.post(call.caller).wait(&mut taken.seat);
-                    self.read(letter, call)
-                }
-                Asked::Follows(wait) => {
-                    if !wait.wait(deadline) {
-                        self.last = None;
-                        return Err(Error::TimedOut);
-                    }
-                    self.read_wait(&wait, key)
-                }
-            };
-            if let Some(got) = got {
-                return Ok(got);
-            }
-        }
-    }
-
-    /// Closes the key's open call, if there is one: who asks from now on gets a later one's answer. Whether there was one.
+    /// Returns the value of the key in a task, as [`Group::get_or_load_async`](crate::Group::get_or_load_async) does. The future
+    /// borrows the caller. One that is leaked (`mem::forget`) while it loads settles its call when the caller is used again or dropped.
     ///
     /// ```
-    /// # let group = singleflight::Group::<u32>::open(1, 2).unwrap();
-    /// let (mut first, mut second) = (group.caller().unwrap(), group.caller().unwrap());
-    /// first.do_with(b"k", || {
-    ///     assert_eq!(second.forget(b"k"), Ok(true));
-    ///     assert!(second.do_with(b"k", || 2).unwrap().led);
+    /// # use std::{future::Future, pin::pin, task::{Context, Poll, Waker}};
+    /// # fn block_on<F: Future>(future: F) -> F::Output {
+    /// #     match pin!(future).poll(&mut Context::from_waker(Waker::noop())) {
+    /// #         Poll::Ready(done) => done,
+    /// #         Poll::Pending => unreachable!(),
+    /// #     }
+    /// # }
+    /// let group = singleflight::Group::<u32>::new();
+    /// let mut caller = group.caller();
+    /// block_on(async {
+    ///     let got = caller.get_or_load_async("key", async { 7 }).await;
+    ///     assert!(*got.value == 7 && got.led);
+    /// });
+    /// ```
+    pub async fn get_or_load_async(&mut self, key: impl AsRef<[u8]>, load: impl Future<Output = T>) -> Loaded<T> {
+        self.0.get_async(key.as_ref(), load).await
+    }
+
+    /// Joins the key's open call or leads a new one, as [`Group::subscribe`](crate::Group::subscribe) does. The job borrows the caller.
+    /// One that is leaked (`mem::forget`) settles its call when the caller is used again or dropped.
+    ///
+    /// ```
+    /// let group = singleflight::Group::<u32>::new();
+    /// let mut caller = group.caller();
+    /// let (mut receiver, job) = caller.subscribe("key");
+    /// let waits = std::thread::spawn(move || *receiver.recv().unwrap().value);
+    /// if let Some(job) = job {
+    ///     job.run(|| 7);
+    /// }
+    /// assert_eq!(waits.join().unwrap(), 7);
+    /// ```
+    pub fn subscribe(&mut self, key: impl AsRef<[u8]>) -> (Receiver<T>, Option<Job<'_, T>>) {
+        Job::subscribe(self.into(), key.as_ref())
+    }
+
+    /// Forgets the key, as [`Group::forget`](crate::Group::forget) does.
+    ///
+    /// ```
+    /// let group = singleflight::Group::<u32>::new();
+    /// let (mut first, mut second) = (group.caller(), group.caller());
+    /// first.get_or_load("key", || {
+    ///     assert!(second.forget("key"));
+    ///     assert!(second.get_or_load("key", || 2).led);
     ///     1
-    /// }).unwrap();
+    /// });
     /// ```
-    pub fn forget(&mut self, key: &[u8]) -> Result<bool, Error> {
-        self.refresh();
-        let fingerprint = self.pool.fingerprint(key);
-        let closed = self.pool.forget(&mut self.taken, key, fingerprint);
-        self.count(|counters| if closed { &counters.closed } else { &counters.idle });
-        Ok(closed)
+    pub fn forget(&mut self, key: impl AsRef<[u8]>) -> bool {
+        self.0.forget(key.as_ref())
     }
 
-    /// Forgets this call of the key alone, and leaves a newer one as it is: of two that reload one stale answer the later does not
-    /// end the call that the first made.
+    /// Forgets one call of the key, as [`Group::forget_call`](crate::Group::forget_call) does.
     ///
     /// ```
-    /// # use singleflight::{Group, Hit};
-    /// # let group = Group::<u32>::open(1, 1).unwrap();
-    /// # let mut caller = group.caller().unwrap();
-    /// let stale = caller.do_with(b"k", || 1).unwrap().call().unwrap();
-    /// assert_eq!(caller.forget_call(b"k", stale), Ok(Hit::Cleared));
-    /// assert_eq!(caller.forget_call(b"k", stale), Ok(Hit::Missed));
+    /// # use singleflight::{ForgetOutcome, Group};
+    /// let group = Group::<u32>::new();
+    /// let mut caller = group.caller();
+    /// let stale = caller.get_or_load("key", || 1).call().unwrap();
+    /// assert_eq!(caller.forget_call("key", stale), ForgetOutcome::Cleared);
+    /// assert_eq!(caller.forget_call("key", stale), ForgetOutcome::Missed);
     /// ```
-    pub fn forget_call(&mut self, key: &[u8], call: Call) -> Result<Hit, Error> {
-        self.refresh();
-        let fingerprint = self.pool.fingerprint(key);
-        let hit = self.pool.forget_call(&mut self.taken, key, fingerprint, call);
-        self.count(|counters| if hit == Hit::Closed { &counters.closed } else { &counters.idle });
-        Ok(hit)
+    pub fn forget_call(&mut self, key: impl AsRef<[u8]>, call: Call) -> ForgetOutcome {
+        self.0.forget_call(key.as_ref(), call)
     }
 
-    /// Which call the key names: the one that was led last, unless a Forget has ended it.
+    /// Returns the call that the key names now, as [`Group::current_call`](crate::Group::current_call) does.
     ///
     /// ```
-    /// # let group = singleflight::Group::<u32>::open(1, 1).unwrap();
-    /// # let mut caller = group.caller().unwrap();
-    /// assert_eq!(caller.named(b"k"), Ok(None));
+    /// let group = singleflight::Group::<u32>::new();
+    /// let mut caller = group.caller();
+    /// assert_eq!(caller.current_call("key"), None);
+    /// let got = caller.get_or_load("key", || 1);
+    /// assert_eq!(caller.current_call("key"), got.call());
     /// ```
-    pub fn named(&mut self, key: &[u8]) -> Result<Option<Call>, Error> {
-        self.refresh();
-        Ok(match &mut self.taken {
-            Some(taken) => taken.epoch.named(Some(&mut taken.seat), key),
-            None => self.pool.current().named(None, key),
-        })
+    pub fn current_call(&mut self, key: impl AsRef<[u8]>) -> Option<Call> {
+        self.0.named(key.as_ref())
     }
 
-    /// Whether the call of the stamp is its place's current one: no Forget of a key of that place has ended it, and no newer call was led
-    /// there. A yes is right for any stamp of the group, whichever caller got it; a no may come of another key of the place. It costs
-    /// three loads, and takes no lock.
+    /// Returns whether a value with this stamp may still be used, as [`Group::is_current`](crate::Group::is_current) does. It
+    /// takes no lock while the caller has a place in the library: three loads.
     ///
     /// ```
-    /// # let group = singleflight::Group::<u32>::open(1, 2).unwrap();
-    /// let (mut first, mut second) = (group.caller().unwrap(), group.caller().unwrap());
-    /// let stamp = first.do_with(b"k", || 1).unwrap().stamp();
-    /// assert!(second.is_still(stamp));
-    /// first.forget(b"k").unwrap();
-    /// assert!(!second.is_still(stamp));
+    /// let group = singleflight::Group::<u32>::new();
+    /// let (mut first, mut second) = (group.caller(), group.caller());
+    /// let stamp = first.get_or_load("key", || 1).stamp();
+    /// assert!(second.is_current(stamp));
+    /// first.forget("key");
+    /// assert!(!second.is_current(stamp));
     /// ```
-    pub fn is_still(&mut self, stamp: Stamp) -> bool {
-        self.pool.is_still(self.taken.as_mut(), stamp)
+    pub fn is_current(&mut self, stamp: Stamp) -> bool {
+        self.0.is_current(stamp)
     }
 
-    /// Whether the call of the answer that this caller got last is its place's current one still. None where it has none: before the
-    /// first, after a wait that it left, and after a load without a call.
+    /// Returns whether the value that this caller got last may still be used. `None` where it has none: before its first, after a wait
+    /// that it left, and after a load beside the library. A load that ended without a value changes nothing.
     ///
     /// ```
-    /// # let group = singleflight::Group::<u32>::open(1, 1).unwrap();
-    /// # let mut caller = group.caller().unwrap();
-    /// caller.do_with(b"k", || 1).unwrap();
-    /// assert_eq!(caller.is_current(), Some(true));
-    /// caller.forget(b"k").unwrap();
-    /// assert_eq!(caller.is_current(), Some(false));
+    /// let group = singleflight::Group::<u32>::new();
+    /// let mut caller = group.caller();
+    /// assert_eq!(caller.last_is_current(), None);
+    /// caller.get_or_load("key", || 1);
+    /// assert_eq!(caller.last_is_current(), Some(true));
+    /// caller.forget("key");
+    /// assert_eq!(caller.last_is_current(), Some(false));
     /// ```
-    pub fn is_current(&mut self) -> Option<bool> {
-        let stamp = self.last?;
-        Some(self.is_still(stamp))
+    pub fn last_is_current(&mut self) -> Option<bool> {
+        let stamp = self.0.last?;
+        Some(self.is_current(stamp))
     }
 
-    /// A note of what this caller has seen, for [`Caller::learn`].
+    /// Returns a note of what this caller has seen, for [`Caller::learn`].
+    ///
+    /// # Errors
+    /// [`Error::OutOfMemory`].
     ///
     /// ```
-    /// # let group = singleflight::Group::<u32>::open(1, 2).unwrap();
-    /// let (mut first, mut second) = (group.caller().unwrap(), group.caller().unwrap());
-    /// first.forget(b"k").unwrap();
-    /// let mut note = first.tell().unwrap();
+    /// let group = singleflight::Group::<u32>::new();
+    /// let (mut first, mut second) = (group.caller(), group.caller());
+    /// first.forget("key");
+    /// let mut note = first.note().unwrap();
     /// std::thread::spawn(move || second.learn(&mut note).unwrap()).join().unwrap();
     /// ```
-    pub fn tell(&mut self) -> Result<Note<T>, Error> {
-        self.abandon();
-        let mut note = raw::Note::NONE;
-        let mut epoch = 0;
-        if let Some(taken) = &mut self.taken {
-            epoch = taken.epoch.number;
-            match unsafe { raw::sflight_tell(&mut taken.seat.slot, &mut note) } {
-                raw::DONE => {}
-                code => return Err(refusal(code)),
-            }
-        }
-        Ok(Note {
-            note,
-            epoch,
-            pool: self.pool.clone(),
-        })
+    #[cfg(feature = "notes")]
+    pub fn note(&mut self) -> Result<Note<T>, Error> {
+        Note::of(&mut self.0)
     }
 
-    /// This caller has then seen what the note tells: nothing that it asks from now on has an answer from before a Forget of
-    /// which the note tells.
+    /// Lets this caller see what the note's caller had seen: no value that it gets from now on was loaded before a Forget that the
+    /// note's caller had seen.
+    ///
+    /// # Errors
+    /// [`Error::OtherGroup`] where the note is of another group.
+    ///
+    /// ```
+    /// # use singleflight::{Error, Group};
+    /// let (group, other) = (Group::<u32>::new(), Group::<u32>::new());
+    /// let mut note = group.caller().note().unwrap();
+    /// assert_eq!(other.caller().learn(&mut note), Err(Error::OtherGroup));
+    /// ```
+    #[cfg(feature = "notes")]
     pub fn learn(&mut self, note: &mut Note<T>) -> Result<(), Error> {
-        if !Arc::ptr_eq(&self.pool, &note.pool) {
-            return Err(Error::OtherGroup);
-        }
-        self.abandon();
-        // A note of another epoch, or of a caller without a seat, has nothing for the library: who has it comes after who made it.
-        match &mut self.taken {
-            Some(taken) if taken.epoch.number == note.epoch => match unsafe { raw::sflight_learn(&mut taken.seat.slot, &mut note.note) } {
-                raw::DONE => Ok(()),
-                code => Err(refusal(code)),
-            },
-            _ => Ok(()),
-        }
+        note.learned_by(&mut self.0)
     }
 }

@@ -1,36 +1,100 @@
-//! Askings whose answer comes to another caller, who waits elsewhere.
+//! Calls whose value comes to a receiver, and whose load is a job.
 
-use crate::caller::{Asked, By, Caller, Leading, Running};
-use crate::wait::Wait;
-use crate::{Error, Got};
+use crate::asker::{Asked, By};
+use crate::wait::{Wait, Waker};
+use crate::{Caller, Loaded};
 use std::fmt;
+use std::future::Future;
+use std::pin::Pin;
 use std::sync::Arc;
-use std::sync::mpsc::{RecvError, TryRecvError};
+use std::sync::mpsc::{RecvError, RecvTimeoutError, TryRecvError};
+use std::task::{Context, Poll};
+use std::time::{Duration, Instant};
 
-/// A load that its caller has to run. Where it is dropped, its call is settled with nothing.
-#[must_use]
-pub struct Job<'a, T>(Work<'a, T>);
-
-enum Work<'a, T> {
-    Leading(Leading<'a, T>),
-    Running(Running<'a, T>),
+/// A load that has to be run, by any thread or task. Where it is dropped, its call ends without a value: its receivers get an error,
+/// and callers that joined load themselves.
+#[must_use = "a job that is dropped ends its call without a value"]
+pub struct Job<'a, T> {
+    caller: Handle<'a, T>,
+    key: Box<[u8]>,
 }
 
-impl<T> Job<'_, T> {
-    /// Loads, and settles the call.
+/// A caller that the job has, or has borrowed.
+pub(crate) enum Handle<'a, T> {
+    Own(Caller<T>),
+    Lent(&'a mut Caller<T>),
+}
+
+impl<'a, T> From<&'a mut Caller<T>> for Handle<'a, T> {
+    fn from(caller: &'a mut Caller<T>) -> Self {
+        Handle::Lent(caller)
+    }
+}
+
+impl<T> Handle<'_, T> {
+    fn caller(&mut self) -> &mut Caller<T> {
+        match self {
+            Handle::Own(caller) => caller,
+            Handle::Lent(caller) => caller,
+        }
+    }
+}
+
+impl<'a, T> Job<'a, T> {
+    pub(crate) fn subscribe(mut caller: Handle<'a, T>, key: &[u8]) -> (Receiver<T>, Option<Self>) {
+        let asker = &mut caller.caller().0;
+        let (source, loads) = match asker.ask(key, By::Following) {
+            Asked::Loads => (asker.own_wait(key).map_or(Source::Nothing, Source::Call), true),
+            Asked::Follows(wait) => (Source::Call(wait), false),
+            Asked::Settled(got) => (Source::Value(got), false),
+            Asked::Joined(_) => unreachable!("who follows joins by no seat"),
+        };
+        let receiver = Receiver {
+            key: key.into(),
+            source,
+            waker: Waker::default(),
+        };
+        let job = loads.then(|| Job {
+            caller,
+            key: key.into(),
+        });
+        (receiver, job)
+    }
+
+    /// Runs the load, settles the call with its value, and returns that.
     ///
     /// ```
-    /// # let group = singleflight::Group::<u32>::open(1, 2).unwrap();
-    /// # let (mut caller, other) = (group.caller().unwrap(), group.caller().unwrap());
-    /// let (receiver, job) = caller.do_chan(other, b"k").unwrap();
-    /// assert!(*job.unwrap().run(|| 7).answer == 7);
+    /// let group = singleflight::Group::<u32>::new();
+    /// let (receiver, job) = group.subscribe("key");
+    /// assert_eq!(*job.unwrap().run(|| 7).value, 7);
     /// # drop(receiver);
     /// ```
-    pub fn run(self, load: impl FnOnce() -> T) -> Got<T> {
-        match self.0 {
-            Work::Leading(leading) => leading.end(load()),
-            Work::Running(running) => running.end(load()),
-        }
+    pub fn run(mut self, load: impl FnOnce() -> T) -> Loaded<T> {
+        let guard = self.caller.caller().0.load();
+        guard.end(&self.key, load())
+    }
+
+    /// Awaits the load, settles the call with its value, and returns that. Where the future is dropped before, its call ends without a
+    /// value, once the load is dropped.
+    ///
+    /// ```
+    /// # use std::{future::Future, pin::pin, task::{Context, Poll, Waker}};
+    /// let group = singleflight::Group::<u32>::new();
+    /// let (mut receiver, job) = group.subscribe("key");
+    /// let mut task = pin!(job.unwrap().run_async(async { 7 }));
+    /// # let Poll::Ready(got) = task.as_mut().poll(&mut Context::from_waker(Waker::noop())) else { unreachable!() };
+    /// # assert_eq!(*got.value, 7);
+    /// assert_eq!(*receiver.recv().unwrap().value, 7);
+    /// ```
+    pub async fn run_async(mut self, load: impl Future<Output = T>) -> Loaded<T> {
+        self.caller.caller().0.load_async(&self.key, load).await
+    }
+}
+
+impl<T> Drop for Job<'_, T> {
+    fn drop(&mut self) {
+        // It does nothing where it was run.
+        self.caller.caller().0.abandon();
     }
 }
 
@@ -40,107 +104,128 @@ impl<T> fmt::Debug for Job<'_, T> {
     }
 }
 
-enum Comes<T> {
-    From(Arc<Wait<T>>),
-    There(Got<T>),
-    // It was taken, or there was none.
+enum Source<T> {
+    Call(Arc<Wait<T>>),
+    Value(Loaded<T>),
+    // The value was taken, or there was none.
     Nothing,
 }
 
-/// The end of a call where its answer comes, once.
-#[must_use]
+/// Receives the value of a call, once: in a thread by [`Receiver::recv`], in a task by `.await`. It has no load of its own: where its call
+/// ends without a value it gets an error, and may subscribe again. One that is dropped leaves its call.
+///
+/// ```
+/// # use std::{future::Future, pin::pin, task::{Context, Poll, Waker}};
+/// let group = singleflight::Group::<u32>::new();
+/// let (receiver, job) = group.subscribe("key");
+/// job.unwrap().run(|| 7);
+/// let mut task = pin!(async { *receiver.await.unwrap().value });
+/// # let Poll::Ready(value) = task.as_mut().poll(&mut Context::from_waker(Waker::noop())) else { unreachable!() };
+/// # assert_eq!(value, 7);
+/// ```
+#[must_use = "a receiver that is dropped leaves its call"]
 pub struct Receiver<T> {
-    caller: Caller<T>,
     key: Box<[u8]>,
-    comes: Comes<T>,
+    source: Source<T>,
+    waker: Waker,
 }
 
-impl<T: Send + Sync> Receiver<T> {
-    /// The answer, if it is there. `Disconnected` where there is none: the load ended without an answer, or did not begin, or the
-    /// answer was taken before.
-    pub fn try_recv(&mut self) -> Result<Got<T>, TryRecvError> {
-        if matches!(&self.comes, Comes::From(wait) if !wait.is_settled()) {
+impl<T> Receiver<T> {
+    /// Returns the value if it is there.
+    ///
+    /// # Errors
+    /// `Empty` while the call is open. `Disconnected` where it ended without a value, or the value was taken before.
+    ///
+    /// ```
+    /// let group = singleflight::Group::<u32>::new();
+    /// let (mut receiver, job) = group.subscribe("key");
+    /// assert!(receiver.try_recv().is_err());
+    /// job.unwrap().run(|| 7);
+    /// assert_eq!(*receiver.try_recv().unwrap().value, 7);
+    /// ```
+    pub fn try_recv(&mut self) -> Result<Loaded<T>, TryRecvError> {
+        if matches!(&self.source, Source::Call(wait) if !wait.is_settled()) {
             return Err(TryRecvError::Empty);
         }
         self.read().ok_or(TryRecvError::Disconnected)
     }
 
-    /// Waits for the answer. An error where there is none.
-    pub fn recv(&mut self) -> Result<Got<T>, RecvError> {
-        if let Comes::From(wait) = &self.comes {
+    /// Blocks until the call has ended, and returns its value.
+    ///
+    /// # Errors
+    /// An error where it ended without a value, or the value was taken before.
+    ///
+    /// ```
+    /// let group = singleflight::Group::<u32>::new();
+    /// let (mut receiver, job) = group.subscribe("key");
+    /// drop(job);
+    /// assert!(receiver.recv().is_err());
+    /// ```
+    pub fn recv(&mut self) -> Result<Loaded<T>, RecvError> {
+        if let Source::Call(wait) = &self.source {
             wait.wait(None);
         }
         self.read().ok_or(RecvError)
     }
 
-    fn read(&mut self) -> Option<Got<T>> {
-        match std::mem::replace(&mut self.comes, Comes::Nothing) {
-            Comes::From(wait) => self.caller.read_wait(&wait, &self.key),
-            Comes::There(got) => Some(got),
-            Comes::Nothing => None,
-        }
-    }
-
-    /// The caller that waited, once its answer was taken; else the receiver.
+    /// Blocks until the call has ended, no longer than the timeout, and returns its value.
+    ///
+    /// # Errors
+    /// `Timeout` where the call is open still; the receiver may be asked again. `Disconnected` where it ended without a
+    /// value, or the value was taken before.
     ///
     /// ```
-    /// # let group = singleflight::Group::<u32>::open(1, 2).unwrap();
-    /// # let (mut caller, other) = (group.caller().unwrap(), group.caller().unwrap());
-    /// let (mut receiver, job) = caller.do_chan(other, b"k").unwrap();
-    /// assert!(receiver.try_recv().is_err());
-    /// job.unwrap().run(|| 7);
-    /// assert!(*receiver.try_recv().unwrap().answer == 7);
-    /// assert!(receiver.into_caller().is_ok());
+    /// # use std::{sync::mpsc::RecvTimeoutError, time::Duration};
+    /// let group = singleflight::Group::<u32>::new();
+    /// let (mut receiver, job) = group.subscribe("key");
+    /// assert_eq!(receiver.recv_timeout(Duration::from_millis(1)).err(), Some(RecvTimeoutError::Timeout));
+    /// # drop(job);
     /// ```
-    pub fn into_caller(self) -> Result<Caller<T>, Self> {
-        if matches!(self.comes, Comes::Nothing) { Ok(self.caller) } else { Err(self) }
+    pub fn recv_timeout(&mut self, timeout: Duration) -> Result<Loaded<T>, RecvTimeoutError> {
+        if let Source::Call(wait) = &self.source {
+            if !wait.wait(Instant::now().checked_add(timeout)) {
+                return Err(RecvTimeoutError::Timeout);
+            }
+        }
+        self.read().ok_or(RecvTimeoutError::Disconnected)
+    }
+
+    fn read(&mut self) -> Option<Loaded<T>> {
+        match std::mem::replace(&mut self.source, Source::Nothing) {
+            Source::Call(wait) => wait.read(&self.key),
+            Source::Value(got) => Some(got),
+            Source::Nothing => None,
+        }
+    }
+}
+
+impl<T> Future for Receiver<T> {
+    type Output = Result<Loaded<T>, RecvError>;
+
+    fn poll(mut self: Pin<&mut Self>, context: &mut Context<'_>) -> Poll<Self::Output> {
+        let Receiver { source, waker, .. } = &mut *self;
+        if let Source::Call(wait) = source {
+            if wait.poll(waker, context.waker()).is_pending() {
+                return Poll::Pending;
+            }
+        }
+        Poll::Ready(self.read().ok_or(RecvError))
+    }
+}
+
+// Nothing of it is pinned.
+impl<T> Unpin for Receiver<T> {}
+
+impl<T> Drop for Receiver<T> {
+    fn drop(&mut self) {
+        if let Source::Call(wait) = &self.source {
+            wait.leave(&mut self.waker);
+        }
     }
 }
 
 impl<T> fmt::Debug for Receiver<T> {
     fn fmt(&self, f: &mut fmt::Formatter<'_>) -> fmt::Result {
-        f.debug_struct("Receiver").field("caller", &self.caller).finish_non_exhaustive()
-    }
-}
-
-impl<T: Send + Sync> Caller<T> {
-    /// Asks for the key for the other caller, whose answer comes by the receiver, to whichever thread has that. Where no call is
-    /// open, this caller leads a new one, and has to run the job; else it has nothing to do.
-    ///
-    /// ```
-    /// # let group = singleflight::Group::<u32>::open(1, 2).unwrap();
-    /// let (mut caller, other) = (group.caller().unwrap(), group.caller().unwrap());
-    /// let (mut receiver, job) = caller.do_chan(other, b"k").unwrap();
-    /// let waits = std::thread::spawn(move || *receiver.recv().unwrap().answer);
-    /// if let Some(job) = job {
-    ///     job.run(|| 7);
-    /// }
-    /// assert_eq!(waits.join().unwrap(), 7);
-    /// ```
-    pub fn do_chan(&mut self, other: Caller<T>, key: &[u8]) -> Result<(Receiver<T>, Option<Job<'_, T>>), (Error, Caller<T>)> {
-        if !Arc::ptr_eq(&self.pool, &other.pool) {
-            return Err((Error::OtherGroup, other));
-        }
-        let asked = self.ask(key, By::Following);
-        let comes = match &asked {
-            Asked::Leads(call) => self.own_wait(key, *call).map_or(Comes::Nothing, Comes::From),
-            Asked::Runs(wait) | Asked::Follows(wait) => Comes::From(wait.clone()),
-            Asked::Settled(_) | Asked::Joined(_) => Comes::Nothing,
-        };
-        let mut receiver = Receiver {
-            caller: other,
-            key: key.into(),
-            comes,
-        };
-        let job = match asked {
-            Asked::Leads(call) => Some(Work::Leading(self.leading(key.to_vec().into(), call))),
-            Asked::Runs(run) => Some(Work::Running(self.running(key.to_vec().into(), run))),
-            Asked::Settled(got) => {
-                receiver.comes = Comes::There(got);
-                None
-            }
-            Asked::Follows(_) | Asked::Joined(_) => None,
-        };
-        Ok((receiver, job.map(Job)))
+        f.debug_struct("Receiver").finish_non_exhaustive()
     }
 }

@@ -5,7 +5,8 @@ use crate::pool::Seat;
 use crate::post::{Post, Whose};
 use crate::raw::{self, Slot};
 use crate::sync::{lock, point};
-use crate::{Call, Error, refusal};
+use crate::lent::Lent;
+use crate::{Call, Error};
 use std::collections::hash_map::RandomState;
 use std::hash::BuildHasher;
 use std::sync::atomic::{
@@ -16,6 +17,9 @@ use std::ptr::NonNull;
 use std::sync::{Arc, Mutex, OnceLock};
 
 const CHUNK: usize = 32;
+
+/// The posts of so many callers, made where the first of them is used.
+type Chunk<T> = OnceLock<Box<[Post<T>]>>;
 
 struct Seats {
     // Each seat is split off from it, and it looks and forgets for those who have none. It is closed where the epoch is replaced.
@@ -30,7 +34,7 @@ pub(crate) struct Epoch<T> {
     pub(crate) places: u32,
     pub(crate) callers: u32,
     pub(crate) names: Names,
-    posts: Box<[OnceLock<Box<[Post<T>]>>]>,
+    posts: Box<[Chunk<T>]>,
     seats: Mutex<Seats>,
     // How many seats wait for calls of keys that they did not ask for: while there are some, one looks before one asks.
     strangers: AtomicU32,
@@ -44,18 +48,26 @@ pub(crate) struct Epoch<T> {
 pub(crate) struct Taken<T> {
     pub(crate) seat: Seat,
     pub(crate) epoch: Arc<Epoch<T>>,
+    // For the value of its next call.
+    pub(crate) spare: Option<Box<Lent<T>>>,
     // That of the seat's number, in the epoch.
     post: NonNull<Post<T>>,
 }
 
 // SAFETY: the post is a part of the epoch, which has a share here.
 unsafe impl<T> Send for Taken<T> where Arc<Epoch<T>>: Send {}
+// SAFETY: as above.
 unsafe impl<T> Sync for Taken<T> where Arc<Epoch<T>>: Sync {}
 
 impl<T> Taken<T> {
     pub(crate) fn new(seat: Seat, epoch: Arc<Epoch<T>>) -> Self {
         let post = NonNull::from(epoch.post(seat.number));
-        Taken { seat, epoch, post }
+        Taken {
+            seat,
+            epoch,
+            spare: None,
+            post,
+        }
     }
 
     #[inline]
@@ -78,10 +90,10 @@ impl<T> Taken<T> {
 impl<T> Epoch<T> {
     pub(crate) fn open(number: u32, places: u32, callers: u32) -> Result<Self, Error> {
         // The slot from which the callers are split off has one of its own.
-        let all = callers.checked_add(1).filter(|all| *all > 1).ok_or(Error::Size)?;
+        let all = callers.saturating_add(1);
         let mut root = Slot::NONE;
         let random = RandomState::new();
-        match unsafe { raw::sflight_open(&mut root, places, all, random.hash_one(0), random.hash_one(1)) } {
+        match raw::sflight_open(&mut root, places, all, random.hash_one(0), random.hash_one(1)) {
             raw::DONE => Ok(Epoch {
                 number,
                 places,
@@ -98,7 +110,7 @@ impl<T> Epoch<T> {
                 clashes: AtomicU64::new(0),
                 spent: AtomicU32::new(0),
             }),
-            code => Err(refusal(code)),
+            _ => Err(Error::OutOfMemory),
         }
     }
 
@@ -120,6 +132,11 @@ impl<T> Epoch<T> {
         caller <= self.callers + 1
     }
 
+    /// A free seat that was used before.
+    pub(crate) fn take_free(&self) -> Option<Seat> {
+        lock(&self.seats).free.pop()
+    }
+
     /// A free seat; and whether it is a new one. None where all are taken, or there is no memory, or the epoch is replaced.
     pub(crate) fn take(&self) -> Option<(Seat, bool)> {
         let mut seats = lock(&self.seats);
@@ -131,12 +148,12 @@ impl<T> Epoch<T> {
         }
         let mut slot = Slot::NONE;
         point();
-        if unsafe { raw::sflight_split(&mut seats.root, &mut slot) } != raw::DONE {
+        if raw::sflight_split(&mut seats.root, &mut slot) != raw::DONE {
             return None;
         }
         seats.made += 1;
         let mut number = 0;
-        unsafe { raw::sflight_number(&mut slot, &mut number) };
+        raw::sflight_number(&mut slot, &mut number);
         Some((Seat::new(slot, number), true))
     }
 
@@ -152,7 +169,7 @@ impl<T> Epoch<T> {
     pub(crate) fn replace(&self) {
         let mut seats = lock(&self.seats);
         seats.is_replaced = true;
-        unsafe { raw::sflight_close(&mut seats.root) };
+        raw::sflight_close(&mut seats.root);
         let free = std::mem::take(&mut seats.free);
         drop(seats);
         drop(free);
@@ -172,7 +189,7 @@ impl<T> Epoch<T> {
         let name = self.names.of(key);
         let code = self.by(seat, |slot| {
             point();
-            unsafe { raw::sflight_named(slot, name.as_ptr(), name.len(), &mut caller, &mut generation) }
+            raw::named(slot, &name, &mut caller, &mut generation)
         });
         (code == raw::DONE).then_some(Call {
             epoch: self.number,

@@ -1,5 +1,5 @@
-//! Singleflight with Forget: of those who ask for one key at one time one loads, and the others get its answer. After a
-//! [`Caller::forget`] nobody who asks later gets an answer from before.
+//! Singleflight with Forget. Of the callers that want the value of one key at one time, one loads it, and the others share its value.
+//! After [`Group::forget`] no caller receives a value that was loaded before.
 //!
 //! ```
 //! use singleflight::Group;
@@ -7,148 +7,206 @@
 //! let group = Group::<String>::new();
 //! std::thread::scope(|scope| {
 //!     for _ in 0..4 {
-//!         let mut caller = group.caller().unwrap();
-//!         scope.spawn(move || {
-//!             let got = caller.do_with(b"key", || "loaded".to_string()).unwrap();
-//!             assert_eq!(&*got.answer, "loaded");
-//!             caller.forget(b"key").unwrap();
+//!         scope.spawn(|| {
+//!             let got = group.get_or_load("user-7", || "Ada".to_string());
+//!             assert_eq!(*got.value, "Ada");
 //!         });
 //!     }
 //! });
 //! ```
 //!
-//! Each thread or task has a [`Caller`] of its own, which goes back to its group when it is dropped. Asking, settling and forgetting
-//! take no lock on the usual path. A caller that joins a call parks until the call's leader wakes it.
+//! A [`Group`] may be shared between threads by reference, or cloned. A thread or task that asks often may keep a [`Caller`].
+//! A leader that nobody joins takes no lock on the usual path. A joiner sleeps until its leader wakes it.
 //!
 //! # Promises
 //!
-//! 1. No call waits for the load of another key. A load may ask for other keys.
-//! 2. At most one load of a key runs at a time, unless a Forget of the key ended the earlier one. So without a Forget answers do not go
-//!    backwards.
+//! 1. No call waits for the load of another key. A load may ask for other keys. A load that asks for its own key would wait for itself.
+//! 2. At most one load of a key runs at a time, unless a Forget of the key ended the earlier one. So without a Forget values do not
+//!    go backwards.
 //! 3. Nothing wears out.
 //! 4. A Forget always forgets.
 //! 5. A new group is small, and grows with its use.
 //!
-//! Any number of keys of any length come and go: a group has hash slots, and keys may share one. At each slot the library has one open
-//! call. A call that finds another key's there, or for which the library has no caller, goes beside the library: it joins the key's open
-//! call, or loads, under a lock. [`Stats::alone`] counts these loads. They have no stamp, so a cache cannot keep their answers. A group of
-//! [`Group::new`] grows where they are frequent. Give [`Group::open`] 1,000 slots for each call that is open at one time, or 16 for each
-//! cached answer.
+//! Keys are bytes of any length, and any number of them come and go. A group hashes them to slots, and two keys may share one. The
+//! library has one open call per slot. A call that finds another key's call there, or for which no place in the library is free, goes
+//! beside the library: it joins the key's open call, or loads, under a lock. [`Stats::alone`] counts these loads. They have no
+//! current stamp, so a cache cannot keep their values. A group of [`Group::new`] grows where they are frequent. Give [`Group::open`]
+//! 1,000 slots per call that is open at one time, or 16 per cached value.
 //!
-//! # Answers in a cache
+//! # Loads that fail
 //!
-//! A [`Stamp`] tells of an answer whether it may be used still. Ask before it is put into the cache, so that it was not loaded before a
-//! Forget that came meanwhile; and ask again when it is taken out: who has seen a Forget and asks then gets a no for all that was
-//! current before it.
+//! The value may be a `Result`: callers then share the error too. A load that panics, or whose future is dropped, settles nothing: each
+//! joiner then asks again, and one of them loads.
 //!
 //! ```
-//! use singleflight::{Answer, Caller, Group, Stamp};
-//! use std::{collections::HashMap, sync::Mutex};
+//! let group = singleflight::Group::<Result<u16, std::num::ParseIntError>>::new();
+//! let got = group.get_or_load("port", || "http".parse());
+//! assert!(got.value.is_err());
+//! ```
 //!
-//! type Cache = Mutex<HashMap<&'static str, (Answer<String>, Stamp)>>;
+//! # Values in a cache
 //!
-//! fn get(cache: &Cache, caller: &mut Caller<String>, key: &'static str) -> Answer<String> {
+//! A [`Stamp`] tells whether a value may still be used. Ask [`Group::is_current`] before you put a value into the cache: the key may have
+//! been forgotten while it was loaded. Ask again when you take it out: a caller that has learned of a Forget then gets `false` for
+//! all values loaded before it.
+//!
+//! ```
+//! use singleflight::{Group, Stamp};
+//! use std::{collections::HashMap, sync::{Arc, Mutex}};
+//!
+//! type Cache = Mutex<HashMap<&'static str, (Arc<String>, Stamp)>>;
+//!
+//! fn get(cache: &Cache, group: &Group<String>, key: &'static str) -> Arc<String> {
 //!     let found = cache.lock().unwrap().get(key).cloned();
-//!     if let Some((answer, stamp)) = found {
-//!         if caller.is_still(stamp) {
-//!             return answer;
+//!     if let Some((value, stamp)) = found {
+//!         if group.is_current(stamp) {
+//!             return value;
 //!         }
 //!     }
-//!     let got = caller.do_with(key.as_bytes(), || format!("the page of {key}")).unwrap();
-//!     if caller.is_still(got.stamp()) {
-//!         cache.lock().unwrap().insert(key, (got.answer.clone(), got.stamp()));
+//!     let got = group.get_or_load(key, || format!("the page of {key}"));
+//!     if group.is_current(got.stamp()) {
+//!         cache.lock().unwrap().insert(key, (got.value.clone(), got.stamp()));
 //!     }
-//!     got.answer
+//!     got.value
 //! }
 //!
 //! let (group, cache) = (Group::new(), Cache::default());
-//! let mut caller = group.caller().unwrap();
 //! for _ in 0..2 {
-//!     assert_eq!(*get(&cache, &mut caller, "ada"), "the page of ada");
+//!     assert_eq!(*get(&cache, &group, "ada"), "the page of ada");
 //! }
 //! assert_eq!(group.stats().leads, 1);
-//! caller.forget(b"ada").unwrap();
-//! get(&cache, &mut caller, "ada");
+//! group.forget("ada");
+//! get(&cache, &group, "ada");
 //! assert_eq!(group.stats().leads, 2);
 //! ```
+//!
+//! # Features and platforms
+//!
+//! The feature `notes` has [`Caller`]s hand on what they have seen. No program needs it. The library is machine code for Linux on x86-64 (v2).
 
+#![deny(unsafe_op_in_unsafe_fn)]
+#![deny(clippy::undocumented_unsafe_blocks)]
 #![warn(missing_docs)]
 
-mod answer;
+#[cfg(not(all(target_os = "linux", target_arch = "x86_64")))]
+compile_error!("singleflight is for Linux on x86-64 alone: the library that it links is machine code for that");
+
+mod asker;
 mod caller;
 mod chan;
 mod epoch;
-mod future;
 mod hash;
+mod lent;
+#[cfg(feature = "notes")]
+mod notes;
 mod pool;
 mod post;
 mod raw;
 #[cfg(test)]
 mod schedules;
+mod stash;
 mod sync;
 mod wait;
 
-pub use answer::Answer;
+/// The example of the README.
+#[cfg(doctest)]
+#[doc = include_str!("../README.md")]
+struct Readme;
+
+use asker::Asker;
 pub use caller::Caller;
+use chan::Handle;
 pub use chan::{Job, Receiver};
+#[cfg(feature = "notes")]
+pub use notes::Note;
 pub use pool::Stats;
 use pool::{Plan, Pool};
 use std::fmt;
+use std::future::Future;
 use std::sync::Arc;
+use std::time::Duration;
 
 /// What a new group begins with.
 const PLACES: u32 = 1024;
 const CALLERS: u32 = 32;
+/// What a group may have at most.
+const MOST_PLACES: u32 = 134_217_728;
+const MOST_CALLERS: u32 = 65_534;
 /// After so many calls a caller of the library is spent.
 const CALLS: u32 = u32::MAX - 1;
 
-/// Why a call made nothing.
+/// Why a call did nothing.
+///
+/// ```
+/// use singleflight::{Error, Group};
+/// let why = Group::<u32>::open(0, 16).unwrap_err();
+/// assert_eq!(why, Error::Slots(0));
+/// assert_eq!(why.to_string(), "0 hash slots: a group has from 1 to 134,217,728");
+/// ```
 #[derive(Clone, Copy, Debug, PartialEq, Eq)]
+#[non_exhaustive]
 pub enum Error {
-    /// A size is out of range.
-    Size,
+    /// [`Group::open`] was given so many hash slots.
+    Slots(u32),
+    /// [`Group::open`] was given so many callers.
+    Callers(u32),
     /// There is no memory for a group, or for a note.
-    NothingLeft,
-    /// No call returns it: a group replaces the callers that have had all their calls.
-    Spent,
-    /// The answer did not come in time.
+    OutOfMemory,
+    /// The load of another caller took longer than the timeout.
     TimedOut,
-    /// The other caller, or the note, is of another group.
+    /// The note is of another group.
     OtherGroup,
 }
 
 impl fmt::Display for Error {
     fn fmt(&self, f: &mut fmt::Formatter<'_>) -> fmt::Result {
-        f.write_str(match self {
-            Error::Size => "a size is out of range",
-            Error::NothingLeft => "no memory is left",
-            Error::Spent => "caller spent",
-            Error::TimedOut => "timed out",
-            Error::OtherGroup => "of another group",
-        })
+        match self {
+            Error::Slots(count) => write!(f, "{count} hash slots: a group has from 1 to 134,217,728"),
+            Error::Callers(count) => write!(f, "{count} callers: a group has from 1 to 65,534"),
+            Error::OutOfMemory => f.write_str("out of memory: free some, or open the group with fewer hash slots"),
+            Error::TimedOut => f.write_str("timed out: the key's load goes on; ask again, or forget the key to load it anew"),
+            Error::OtherGroup => f.write_str("the note is of another group: learn it with a caller of its own group"),
+        }
     }
 }
 
 impl std::error::Error for Error {}
 
-/// A group of callers. It is `Sync`: each thread takes its caller from it.
+/// Runs one load per key at a time, for all who ask. It is shared between threads by reference or by a clone, which is a handle to the
+/// same group. A group is freed with the last of its handles, callers and jobs.
+///
+/// Values go to other threads, and are shared between them:
+///
+/// ```compile_fail,E0277
+/// // An `Rc` is not `Send`.
+/// let group = singleflight::Group::<std::rc::Rc<u32>>::new();
+/// ```
+///
+/// ```compile_fail,E0277
+/// // A `Cell` is not `Sync`.
+/// let group = singleflight::Group::<std::cell::Cell<u32>>::new();
+/// ```
 pub struct Group<T> {
     pool: Arc<Pool<T>>,
 }
 
-/// What a caller has seen, for another thread's caller to learn.
-pub struct Note<T> {
-    note: raw::Note,
-    epoch: u32,
-    pool: Arc<Pool<T>>,
-}
-
-/// What an asking got.
+/// What a caller got: the value, and how.
+///
+/// ```
+/// let group = singleflight::Group::<String>::new();
+/// let got = group.get_or_load("key", || "Ada".to_string());
+/// assert!(got.led && got.joiners == 0);
+/// // Nobody else has the value, so it can be taken out.
+/// let name: String = std::sync::Arc::try_unwrap(got.value).unwrap();
+/// assert_eq!(name, "Ada");
+/// ```
 #[derive(Debug)]
-pub struct Got<T> {
-    /// What the call was settled with, or what was loaded without one.
-    pub answer: Answer<T>,
-    /// How many joined the call, those included who asked for another key of its place.
+#[non_exhaustive]
+pub struct Loaded<T> {
+    /// The value, which all members of the call share.
+    pub value: Arc<T>,
+    /// How many others joined the call. A joiner may know of fewer than the leader does, but of one at least: itself. Those that the hash slot
+    /// brought there from another key are counted too.
     pub joiners: u32,
     /// Whether this caller loaded it.
     pub led: bool,
@@ -156,93 +214,108 @@ pub struct Got<T> {
     stamp: Stamp,
 }
 
-/// A call of a group: no two calls of one have all numbers the same.
+/// A call of a group. No two calls of one group have all numbers the same.
 ///
 /// ```
-/// # let group = singleflight::Group::<u32>::open(1, 1).unwrap();
-/// # let mut caller = group.caller().unwrap();
-/// let first = caller.do_with(b"k", || 1).unwrap().call();
-/// assert_ne!(caller.do_with(b"k", || 2).unwrap().call(), first);
+/// let group = singleflight::Group::<u32>::new();
+/// let first = group.get_or_load("key", || 1).call();
+/// assert_ne!(group.get_or_load("key", || 2).call(), first);
 /// ```
 #[derive(Clone, Copy, Debug, PartialEq, Eq, Hash)]
 pub struct Call {
-    /// Which of the group's tables it was led in, from 1 on: a group that grows, or whose callers are worn, opens a new one.
+    /// The table of the group in which it was led, from 1 on. A group that grows, or whose callers are spent, opens a new one.
     pub epoch: u32,
     /// The number of its leader, from 1 to 65,535.
     pub caller: u32,
-    /// Which of the calls that its leader led or joined it is, from 1 on.
+    /// The number of the call among those that its leader led or joined, from 1 on.
     pub generation: u32,
 }
 
-/// The place and the call of an answer, for [`Caller::is_still`]: 16 plain bytes, to be kept with the answer. The default is that
-/// of no call, which is never a current one.
+/// The hash slot and the call of a value, for [`Group::is_current`]: 16 plain bytes, to be kept with the value. The default is the
+/// stamp of no call, which is never current.
 ///
 /// ```
-/// # use singleflight::{Group, Stamp};
-/// # let group = Group::<u32>::open(1, 1).unwrap();
-/// # let mut caller = group.caller().unwrap();
-/// let stamp = caller.do_with(b"k", || 1).unwrap().stamp();
-/// assert!(caller.is_still(stamp) && !caller.is_still(Stamp::default()));
+/// use singleflight::{Group, Stamp};
+/// let group = Group::<u32>::new();
+/// let stamp = group.get_or_load("key", || 1).stamp();
+/// assert!(group.is_current(stamp) && !group.is_current(Stamp::default()));
 /// ```
 #[derive(Clone, Copy, Debug, Default, PartialEq, Eq, Hash)]
 pub struct Stamp([u64; 2]);
 
-/// What a Forget of one call found.
+/// What [`Group::forget_call`] found.
+///
+/// ```
+/// use singleflight::{ForgetOutcome, Group};
+/// let group = Group::<u32>::new();
+/// let call = group.get_or_load("key", || 1).call().unwrap();
+/// assert_eq!(group.forget_call("key", call), ForgetOutcome::Cleared);
+/// ```
 #[derive(Clone, Copy, Debug, PartialEq, Eq)]
-pub enum Hit {
-    /// It was open, and takes no more callers.
+pub enum ForgetOutcome {
+    /// The call was open. It takes no more joiners, and its value is not current.
     Closed,
-    /// It was settled and current, and is current no more.
+    /// The call was settled, and its value was current. It is current no more.
     Cleared,
-    /// It was not current, and nothing changed.
+    /// The call was not current, and nothing changed.
     Missed,
 }
 
-impl<T> Got<T> {
-    /// Whether somebody joined the call.
+impl<T> Clone for Loaded<T> {
+    fn clone(&self) -> Self {
+        Loaded {
+            value: self.value.clone(),
+            ..*self
+        }
+    }
+}
+
+impl<T> Loaded<T> {
+    /// Returns whether the call was joined.
     ///
     /// ```
-    /// # let group = singleflight::Group::<u32>::open(1, 1).unwrap();
-    /// assert!(!group.caller().unwrap().do_with(b"k", || 1).unwrap().shared());
+    /// let group = singleflight::Group::<u32>::new();
+    /// assert!(!group.get_or_load("key", || 1).shared());
     /// ```
     pub fn shared(&self) -> bool {
         self.joiners > 0
     }
 
-    /// The call that the answer came from, for [`Caller::forget_call`]. None where it was loaded without one.
+    /// Returns the call that the value came from, for [`Group::forget_call`]. `None` where it was loaded beside the library.
     ///
     /// ```
-    /// # let group = singleflight::Group::<u32>::open(1, 1).unwrap();
-    /// # let mut caller = group.caller().unwrap();
-    /// let got = caller.do_with(b"k", || 1).unwrap();
-    /// assert_eq!(caller.named(b"k").unwrap(), got.call());
+    /// let group = singleflight::Group::<u32>::new();
+    /// let got = group.get_or_load("key", || 1);
+    /// assert_eq!(group.current_call("key"), got.call());
     /// ```
     pub fn call(&self) -> Option<Call> {
         self.call
     }
 
-    /// The stamp of the answer, by which one asks later whether it is current still. That of an answer that was loaded without a call
-    /// is the default.
+    /// Returns the stamp of the value, by which one asks later whether it is current. The stamp of a value that was loaded beside
+    /// the library is the default.
+    ///
+    /// ```
+    /// let group = singleflight::Group::<u32>::new();
+    /// let stamp = group.get_or_load("key", || 1).stamp();
+    /// group.forget("key");
+    /// assert!(!group.is_current(stamp));
+    /// ```
     pub fn stamp(&self) -> Stamp {
         self.stamp
     }
 }
 
-fn refusal(code: u32) -> Error {
-    match code {
-        raw::SPENT => Error::Spent,
-        raw::BAD_NUMBER => Error::Size,
-        _ => Error::NothingLeft,
-    }
-}
-
 impl<T: Send + Sync> Group<T> {
-    /// A group that begins with 1,024 hash slots and 32 callers of the library, in 40 kB, and grows with its use: to 1,048,576 slots and
-    /// 65,534 callers at most. It panics where there is no memory.
+    /// Makes a group that begins with 1,024 hash slots and 32 callers of the library, in 40 kB, and grows with its use: to 1,048,576
+    /// slots and 65,534 callers.
+    ///
+    /// # Panics
+    /// Where there is no memory.
     ///
     /// ```
     /// let group = singleflight::Group::<u32>::new();
-    /// assert_eq!(*group.caller().unwrap().do_with(b"any key", || 7).unwrap().answer, 7);
+    /// assert_eq!(*group.get_or_load("any key", || 7).value, 7);
     /// ```
     pub fn new() -> Self {
         let plan = Plan {
@@ -254,30 +327,33 @@ impl<T: Send + Sync> Group<T> {
         Self::of(plan).expect("memory for a group")
     }
 
-    /// A group that does not grow, with 1 to 134,217,728 hash slots and 1 to 65,534 callers of the library. A slot takes 8 bytes, twice that
-    /// while the group is opened. A caller takes 240 bytes, and 300 more once it was used. Calls for which there is no caller run
-    /// beside the library, under a lock. `Size` or `NothingLeft` where it is refused.
+    /// Makes a group that does not grow, with 1 to 134,217,728 hash slots and 1 to 65,534 callers of the library. A slot takes 8
+    /// bytes, and twice that while the group is opened. A caller takes 240 bytes, and 300 more once it was used. Calls for which no
+    /// caller is free run beside the library, under a lock.
+    ///
+    /// # Errors
+    /// [`Error::Slots`] and [`Error::Callers`] where a number is out of range. [`Error::OutOfMemory`].
     ///
     /// ```
     /// use singleflight::{Error, Group};
-    ///
     /// assert!(Group::<u32>::open(65_536, 16).is_ok());
-    /// assert_eq!(Group::<u32>::open(0, 16).err(), Some(Error::Size));
+    /// assert_eq!(Group::<u32>::open(65_536, 0).err(), Some(Error::Callers(0)));
     /// ```
-    pub fn open(places: u32, callers: u32) -> Result<Self, Error> {
-        Self::of(Plan {
-            places,
-            callers,
-            grows: false,
-            calls: CALLS,
-        })
+    pub fn open(slots: u32, callers: u32) -> Result<Self, Error> {
+        Self::open_spent_after(slots, callers, CALLS)
     }
 
     /// For tests: `open` with callers that are spent after so many calls.
     #[doc(hidden)]
-    pub fn open_spent_after(places: u32, callers: u32, calls: u32) -> Result<Self, Error> {
+    pub fn open_spent_after(slots: u32, callers: u32, calls: u32) -> Result<Self, Error> {
+        if !(1..=MOST_PLACES).contains(&slots) {
+            return Err(Error::Slots(slots));
+        }
+        if !(1..=MOST_CALLERS).contains(&callers) {
+            return Err(Error::Callers(callers));
+        }
         Self::of(Plan {
-            places,
+            places: slots,
             callers,
             grows: false,
             calls: calls.clamp(1, CALLS),
@@ -289,38 +365,181 @@ impl<T: Send + Sync> Group<T> {
         Ok(Group { pool })
     }
 
-    /// A caller, for one thread or task at a time. It is always there: any number of them may ask, and those for which the library
-    /// has no caller ask beside it.
-    ///
-    /// ```
-    /// # let group = singleflight::Group::<u32>::open(1, 1).unwrap();
-    /// let (mut first, mut second) = (group.caller().unwrap(), group.caller().unwrap());
-    /// assert_eq!(*first.do_with(b"k", || *second.do_with(b"m", || 7).unwrap().answer).unwrap().answer, 7);
-    /// ```
-    pub fn caller(&self) -> Option<Caller<T>> {
-        Some(Caller::of(self.pool.clone()))
+    // One who asks once.
+    fn asker(&self) -> Asker<T, &Pool<T>> {
+        Asker::new(&*self.pool)
     }
 
-    /// [`Caller::is_still`] for who has no caller. It takes a lock.
+    /// Returns the value of the key. Where a call of the key is open, it joins that, and blocks until its leader has the value. Else it
+    /// leads a new call, and runs `load`.
+    ///
+    /// It never fails, however many callers there are. Where `load` panics the panic goes on, and each joiner asks again.
     ///
     /// ```
-    /// # let group = singleflight::Group::<u32>::open(1, 1).unwrap();
-    /// let stamp = group.caller().unwrap().do_with(b"k", || 1).unwrap().stamp();
-    /// assert!(group.is_still(stamp));
+    /// let group = singleflight::Group::<String>::new();
+    /// let got = group.get_or_load("user-7", || "Ada".to_string());
+    /// assert!(*got.value == "Ada" && got.led);
     /// ```
-    pub fn is_still(&self, stamp: Stamp) -> bool {
-        self.pool.is_still(None, stamp)
+    pub fn get_or_load(&self, key: impl AsRef<[u8]>, load: impl FnOnce() -> T) -> Loaded<T> {
+        self.asker().get(key.as_ref(), load)
     }
 
-    /// The numbers of the group's calls. It costs a look at each caller that was made.
+    /// Returns the value of the key, and waits no longer than the timeout for the load of another caller, which goes on. A load of
+    /// its own takes as long as it takes.
+    ///
+    /// # Errors
+    /// [`Error::TimedOut`] where the load of another caller takes longer.
     ///
     /// ```
-    /// # let group = singleflight::Group::<u32>::open(1, 1).unwrap();
-    /// group.caller().unwrap().do_with(b"k", || 1).unwrap();
+    /// use singleflight::{Error, Group};
+    /// use std::time::Duration;
+    ///
+    /// let group = Group::<u32>::new();
+    /// group.get_or_load("key", || {
+    ///     let late = group.get_or_load_timeout("key", Duration::from_millis(1), || 8);
+    ///     assert_eq!(late.err(), Some(Error::TimedOut));
+    ///     7
+    /// });
+    /// ```
+    pub fn get_or_load_timeout(&self, key: impl AsRef<[u8]>, timeout: Duration, load: impl FnOnce() -> T) -> Result<Loaded<T>, Error> {
+        self.asker().get_timeout(key.as_ref(), timeout, load).ok_or(Error::TimedOut)
+    }
+
+    /// Returns the value of the key in a task: from the key's open call, or by awaiting `load`. The future runs under any executor,
+    /// keeps the group alive, and does nothing before its first poll.
+    ///
+    /// It is cancellation safe. One that is dropped while it waits leaves the call. One that is dropped while it loads drops the load
+    /// first, and then each joiner asks again. So a timeout is one of the executor's, around it. Do not leak one (`mem::forget`) that
+    /// loads: its call would stay open until the key is forgotten.
+    ///
+    /// ```
+    /// # use std::{future::Future, pin::pin, task::{Context, Poll, Waker}};
+    /// # fn block_on<F: Future>(future: F) -> F::Output {
+    /// #     match pin!(future).poll(&mut Context::from_waker(Waker::noop())) {
+    /// #         Poll::Ready(done) => done,
+    /// #         Poll::Pending => unreachable!(),
+    /// #     }
+    /// # }
+    /// let group = singleflight::Group::<u32>::new();
+    /// let got = block_on(group.get_or_load_async("key", async { 7 }));
+    /// assert!(*got.value == 7 && got.led);
+    /// ```
+    pub fn get_or_load_async<K, F>(&self, key: K, load: F) -> impl Future<Output = Loaded<T>>
+    where
+        K: AsRef<[u8]>,
+        F: Future<Output = T>,
+    {
+        let pool = self.pool.clone();
+        async move { Asker::new(pool).get_async(key.as_ref(), load).await }
+    }
+
+    /// Joins the key's open call, or leads a new one: returns a receiver of its value; and where a new call was led, the job that loads
+    /// it, which any thread or task may run.
+    ///
+    /// A receiver that came with a job does not count as a joiner of that. Do not leak a job (`mem::forget`): its call
+    /// would stay open until the key is forgotten.
+    ///
+    /// ```
+    /// let group = singleflight::Group::<u32>::new();
+    /// let (mut receiver, job) = group.subscribe("key");
+    /// if let Some(job) = job {
+    ///     std::thread::spawn(move || job.run(|| 7));
+    /// }
+    /// assert_eq!(*receiver.recv().unwrap().value, 7);
+    /// ```
+    pub fn subscribe<'a>(&self, key: impl AsRef<[u8]>) -> (Receiver<T>, Option<Job<'a, T>>)
+    where
+        T: 'a,
+    {
+        Job::subscribe(Handle::Own(Caller(Asker::new(self.pool.clone()))), key.as_ref())
+    }
+
+    /// Forgets the key: a caller that asks from now on never receives a value whose load began before. Those who have joined
+    /// the open call still get its value. Returns whether a call was open.
+    ///
+    /// ```
+    /// let group = singleflight::Group::<u32>::new();
+    /// group.get_or_load("key", || {
+    ///     assert!(group.forget("key"));
+    ///     assert_eq!(*group.get_or_load("key", || 2).value, 2);
+    ///     1
+    /// });
+    /// ```
+    pub fn forget(&self, key: impl AsRef<[u8]>) -> bool {
+        self.asker().forget(key.as_ref())
+    }
+
+    /// Forgets this call of the key alone, and leaves a newer one as it is: of two callers that reload one stale value, the later does not
+    /// end the call that the first made. Returns what it found.
+    ///
+    /// ```
+    /// use singleflight::{ForgetOutcome, Group};
+    /// let group = Group::<u32>::new();
+    /// let stale = group.get_or_load("key", || 1).call().unwrap();
+    /// assert_eq!(group.forget_call("key", stale), ForgetOutcome::Cleared);
+    /// assert_eq!(group.forget_call("key", stale), ForgetOutcome::Missed);
+    /// ```
+    pub fn forget_call(&self, key: impl AsRef<[u8]>, call: Call) -> ForgetOutcome {
+        self.asker().forget_call(key.as_ref(), call)
+    }
+
+    /// Returns the call that was led last at the key's hash slot, unless a Forget has ended it. It may be of another key that shares the slot.
+    ///
+    /// ```
+    /// let group = singleflight::Group::<u32>::new();
+    /// assert_eq!(group.current_call("key"), None);
+    /// let got = group.get_or_load("key", || 1);
+    /// assert_eq!(group.current_call("key"), got.call());
+    /// ```
+    pub fn current_call(&self, key: impl AsRef<[u8]>) -> Option<Call> {
+        self.asker().named(key.as_ref())
+    }
+
+    /// Returns whether the call of the stamp is the current one of its hash slot: no Forget of a key of that slot has ended it, and no newer
+    /// call was led there. `true` is right for any stamp of the group, whichever caller got it. `false` may come too early, when another key uses
+    /// the same slot or the group has grown.
+    ///
+    /// ```
+    /// let group = singleflight::Group::<u32>::new();
+    /// let stamp = group.get_or_load("key", || 1).stamp();
+    /// assert!(group.is_current(stamp));
+    /// group.forget("key");
+    /// assert!(!group.is_current(stamp));
+    /// ```
+    pub fn is_current(&self, stamp: Stamp) -> bool {
+        self.pool.is_current_by_any(stamp)
+    }
+
+    /// Returns a caller, for one thread or task at a time. There is always one: those for which the library has no place ask
+    /// beside it.
+    ///
+    /// ```
+    /// let group = singleflight::Group::<u32>::new();
+    /// let (mut first, mut second) = (group.caller(), group.caller());
+    /// let got = first.get_or_load("page", || *second.get_or_load("user", || 7).value);
+    /// assert_eq!(*got.value, 7);
+    /// ```
+    pub fn caller(&self) -> Caller<T> {
+        Caller::of(self.pool.clone())
+    }
+
+    /// Returns the numbers of the group's calls. It costs a look at each caller that was made.
+    ///
+    /// ```
+    /// let group = singleflight::Group::<u32>::new();
+    /// group.get_or_load("key", || 1);
     /// assert!(group.stats().leads == 1 && group.stats().in_use == 0);
     /// ```
     pub fn stats(&self) -> Stats {
         self.pool.stats()
+    }
+}
+
+impl<T> Clone for Group<T> {
+    fn clone(&self) -> Self {
+        Group {
+            pool: self.pool.clone(),
+        }
     }
 }
 
@@ -335,16 +554,3 @@ impl<T> fmt::Debug for Group<T> {
         f.debug_struct("Group").field("stats", &self.pool.stats()).finish()
     }
 }
-
-impl<T> fmt::Debug for Note<T> {
-    fn fmt(&self, f: &mut fmt::Formatter<'_>) -> fmt::Result {
-        f.debug_struct("Note").finish_non_exhaustive()
-    }
-}
-
-impl<T> Drop for Note<T> {
-    fn drop(&mut self) {
-        unsafe { raw::sflight_drop_note(&mut self.note) }
-    }
-}
-

@@ -41,14 +41,14 @@
 //! the slot; a run R of L's key finds that one, loads, and returns a newer answer; now the renewal would enter L, and the next asker
 //! would follow it.
 
-use crate::answer::Answer;
 use crate::epoch::{Epoch, Taken};
 use crate::hash::Fingerprints;
 use crate::post::{Counters, Left, Whose, Woken};
 use crate::raw::{self, Slot};
+use crate::stash::Stash;
 use crate::sync::{lock, point};
 use crate::wait::Wait;
-use crate::{Call, Error, Hit, Stamp};
+use crate::{Call, Error, ForgetOutcome, Stamp, lent};
 use std::collections::HashMap;
 use std::sync::atomic::{
     AtomicBool, AtomicU32,
@@ -70,8 +70,6 @@ pub(crate) struct Seat {
     pub(crate) number: u32,
     /// The generation that its next asking uses, if that leads or joins. The library's first is 1.
     pub(crate) next: u32,
-    /// Whether it leads a call.
-    pub(crate) leads: bool,
 }
 
 impl Seat {
@@ -80,7 +78,6 @@ impl Seat {
             slot,
             number,
             next: FIRST,
-            leads: false,
         }
     }
 
@@ -89,7 +86,7 @@ impl Seat {
     pub(crate) fn poll(&mut self) -> Option<Letter> {
         let (mut number, mut joiners) = (0, 0);
         point();
-        match unsafe { raw::sflight_poll(&mut self.slot, &mut number, &mut joiners) } {
+        match raw::sflight_poll(&mut self.slot, &mut number, &mut joiners) {
             raw::DONE => Some(Letter::Own(number, joiners)),
             raw::OTHER => Some(Letter::Other(number)),
             _ => None,
@@ -100,7 +97,7 @@ impl Seat {
     #[inline]
     pub(crate) fn stamp(&mut self, epoch: u32) -> Stamp {
         let mut stamp = Stamp::default();
-        unsafe { raw::sflight_stamp(&mut self.slot, &mut stamp.0) };
+        raw::sflight_stamp(&mut self.slot, &mut stamp.0);
         // The library leaves the upper half of the place 0.
         stamp.0[0] |= u64::from(epoch) << 32;
         stamp
@@ -109,7 +106,7 @@ impl Seat {
     /// The call that it leads or waits for.
     pub(crate) fn call(&mut self, epoch: u32) -> Call {
         let (mut caller, mut generation) = (0, 0);
-        unsafe { raw::sflight_call(&mut self.slot, &mut caller, &mut generation) };
+        raw::sflight_call(&mut self.slot, &mut caller, &mut generation);
         Call {
             epoch,
             caller,
@@ -120,29 +117,38 @@ impl Seat {
 
 impl Drop for Seat {
     fn drop(&mut self) {
-        unsafe { raw::sflight_close(&mut self.slot) }
+        raw::sflight_close(&mut self.slot);
     }
 }
 
 /// The first generation of a caller of the library.
 pub(crate) const FIRST: u32 = 1;
 
-/// The numbers of a group.
+/// The numbers of a group. [`Group::stats`](crate::Group::stats) returns them.
+///
+/// ```
+/// let group = singleflight::Group::<u32>::new();
+/// group.get_or_load("key", || 7);
+/// group.forget("key");
+/// let stats = group.stats();
+/// assert!(stats.leads == 1 && stats.joins == 0 && stats.closed == 0 && stats.idle == 1);
+/// ```
 #[derive(Clone, Copy, Debug, Default, PartialEq, Eq)]
+#[non_exhaustive]
 pub struct Stats {
     /// Calls that were led.
     pub leads: u64,
-    /// Calls that were joined, those included that one left.
+    /// Calls that were joined, including those that the joiner left.
     pub joins: u64,
-    /// Loads without a call of the library: no caller was free, or another key's call was open at the key's place.
+    /// Loads beside the library: no place in it was free, or another key's call was open at the key's hash slot.
     pub alone: u64,
     /// Forgets that ended an open call.
     pub closed: u64,
-    /// Forgets that found none.
+    /// Forgets that found no open call. One of these may have ended a value that was current.
     pub idle: u64,
     /// Callers of the library that were made.
     pub made: u32,
-    /// Those of them that are in use: taken, or waiting for a letter that its asker has left.
+    /// Those of them that are in use: by a caller, by a call under way, or waiting for the value of a call that was left.
     pub in_use: u32,
 }
 
@@ -201,7 +207,10 @@ pub(crate) struct Pool<T> {
     // Of those who have no seat.
     pub(crate) counters: Counters,
     made: AtomicU32,
+    // With those in the stash.
     in_use: AtomicU32,
+    // Seats of the current epoch that are free.
+    stash: Stash<T>,
 }
 
 /// What the side table has for a key.
@@ -235,6 +244,7 @@ impl<T> Pool<T> {
             counters: Counters::default(),
             made: AtomicU32::new(0),
             in_use: AtomicU32::new(0),
+            stash: Stash::new(),
         })
     }
 
@@ -267,15 +277,47 @@ impl<T> Pool<T> {
     }
 
     /// A free seat of the current epoch. None where all are taken, or there is no memory.
+    #[inline]
     pub(crate) fn take(&self) -> Option<Taken<T>> {
+        self.current_one(self.stash.take_own()).or_else(|| self.take_elsewhere())
+    }
+
+    // A seat that the stash had, unless that is of an epoch that was replaced before: one who asked by it could join a call there whose
+    // load is over, and go back behind an answer of the current epoch.
+    #[inline]
+    fn current_one(&self, taken: Option<Taken<T>>) -> Option<Taken<T>> {
+        let taken = taken?;
+        if taken.epoch.number == self.now() {
+            return Some(taken);
+        }
+        self.put_back(taken);
+        None
+    }
+
+    fn take_elsewhere(&self) -> Option<Taken<T>> {
         let epoch = self.current();
+        if let Some(seat) = epoch.take_free() {
+            self.in_use.fetch_add(1, Relaxed);
+            return Some(Taken::new(seat, epoch));
+        }
+        // No seat is made while one is left.
+        if let Some(taken) = self.current_one(self.stash.take_any()) {
+            return Some(taken);
+        }
         let (seat, is_new) = epoch.take()?;
         self.made.fetch_add(u32::from(is_new), Relaxed);
         self.in_use.fetch_add(1, Relaxed);
         Some(Taken::new(seat, epoch))
     }
 
+    #[inline]
     pub(crate) fn put(&self, taken: Taken<T>) {
+        if let Err(taken) = self.stash.put(taken, |taken| taken.epoch.number == self.now()) {
+            self.put_back(taken);
+        }
+    }
+
+    fn put_back(&self, taken: Taken<T>) {
         let (seat, epoch) = taken.into_parts();
         self.put_in(&epoch, seat);
         if epoch.number != self.now() {
@@ -367,6 +409,10 @@ impl<T> Pool<T> {
         }
         drop(side);
         old.replace();
+        for taken in self.stash.drain() {
+            let (seat, epoch) = taken.into_parts();
+            self.put_in(&epoch, seat);
+        }
         self.sweep(&mut lock(&self.epochs));
     }
 
@@ -415,7 +461,7 @@ impl<T> Pool<T> {
                     return Beside::Nothing;
                 }
                 _ => {
-                    let run = Wait::new(fingerprint, None);
+                    let run = Wait::run(fingerprint, key);
                     side.runs.insert(key.into(), run.clone());
                     return Beside::Run(run);
                 }
@@ -439,10 +485,10 @@ impl<T> Pool<T> {
     }
 
     /// A run ends: it is taken out before its followers learn of it, so that who asks later loads anew.
-    pub(crate) fn end_run(&self, key: &[u8], run: &Arc<Wait<T>>) {
+    pub(crate) fn end_run(&self, run: &Arc<Wait<T>>) {
         let mut side = lock(&self.side);
-        if side.runs.get(key).is_some_and(|entered| Arc::ptr_eq(entered, run)) {
-            let entered = side.runs.remove_entry(key);
+        if side.runs.get(&run.key).is_some_and(|entered| Arc::ptr_eq(entered, run)) {
+            let entered = side.runs.remove_entry(&run.key);
             point();
             self.alert_of(run.fingerprint).fetch_sub(1, SeqCst);
             drop(side);
@@ -491,7 +537,7 @@ impl<T> Pool<T> {
                 if post.whose(call.generation, fingerprint) != Whose::Other {
                     post.forget(call.generation);
                     let hit = epoch.forget_call(taken.as_mut().map(|taken| &mut taken.seat), key, call);
-                    closed |= hit == Hit::Closed;
+                    closed |= hit == ForgetOutcome::Closed;
                 }
             }
             if self.now() == epoch.number {
@@ -505,16 +551,16 @@ impl<T> Pool<T> {
     }
 
     /// Forgets one call of the key.
-    pub(crate) fn forget_call(&self, taken: &mut Option<Taken<T>>, key: &[u8], fingerprint: u64, call: Call) -> Hit {
+    pub(crate) fn forget_call(&self, taken: &mut Option<Taken<T>>, key: &[u8], fingerprint: u64, call: Call) -> ForgetOutcome {
         let epoch = self.epoch_of(taken);
         if call.epoch == epoch.number && epoch.has(call.caller) {
             let post = epoch.post(call.caller);
             if post.whose(call.generation, fingerprint) == Whose::Other {
-                return Hit::Missed;
+                return ForgetOutcome::Missed;
             }
             post.forget(call.generation);
             let hit = epoch.forget_call(taken.as_mut().map(|taken| &mut taken.seat), key, call);
-            if hit != Hit::Missed {
+            if hit != ForgetOutcome::Missed {
                 if self.now() == epoch.number {
                     return hit;
                 }
@@ -522,7 +568,7 @@ impl<T> Pool<T> {
                 return hit;
             }
         }
-        if self.forget_moved(fingerprint, call) { Hit::Closed } else { Hit::Missed }
+        if self.forget_moved(fingerprint, call) { ForgetOutcome::Closed } else { ForgetOutcome::Missed }
     }
 
     fn forget_moved(&self, fingerprint: u64, call: Call) -> bool {
@@ -541,8 +587,8 @@ impl<T> Pool<T> {
         taken.as_ref().map_or_else(|| self.current(), |taken| taken.epoch.clone())
     }
 
-    /// Whether the call of the stamp is current.
-    pub(crate) fn is_still(&self, taken: Option<&mut Taken<T>>, stamp: Stamp) -> bool {
+    /// Whether the call of the stamp is current, as one who has this seat sees it.
+    pub(crate) fn is_current(&self, taken: Option<&mut Taken<T>>, stamp: Stamp) -> bool {
         let now = self.now();
         if stamp.0[0] >> 32 != u64::from(now) {
             return false;
@@ -550,7 +596,7 @@ impl<T> Pool<T> {
         let plain = [stamp.0[0] & u64::from(u32::MAX), stamp.0[1]];
         let still = |slot: &mut Slot| {
             point();
-            unsafe { raw::sflight_is_still(slot, &plain) == raw::DONE }
+            raw::sflight_is_still(slot, &plain) == raw::DONE
         };
         match taken {
             Some(taken) if taken.epoch.number == now => still(&mut taken.seat.slot),
@@ -561,11 +607,22 @@ impl<T> Pool<T> {
         }
     }
 
+    /// The same for one who has no seat: by one of the stash, where there is one near.
+    pub(crate) fn is_current_by_any(&self, stamp: Stamp) -> bool {
+        let mut taken = self.stash.take_own();
+        let is_current = self.is_current(taken.as_mut(), stamp);
+        if let Some(taken) = taken {
+            self.put(taken);
+        }
+        is_current
+    }
+
     /// Gives the count of the answer back that the letter brought, which nobody uses.
     pub(crate) fn give_back(&self, letter: Letter) {
         let (Letter::Own(number, _) | Letter::Other(number)) = letter;
-        // SAFETY: the leader counts each who joined, also one who asked for another key, and each takes its letter once.
-        drop(unsafe { Answer::<T>::of_number(number) });
+        // SAFETY: the number is of a call of this group, which counts each who joined by a seat, also one who asked for another key,
+        // and each reads its letter once.
+        drop(unsafe { lent::take::<T>(number) });
     }
 
     /// Serves those who waited for a call of the epoch that is settled: `end` settles the wait.
@@ -612,7 +669,9 @@ impl<T> Pool<T> {
         drop(epochs);
         stats.add(&self.counters);
         stats.made = self.made.load(Relaxed);
-        stats.in_use = self.in_use.load(Relaxed);
+        // A seat that is left in the stash between these two looks counts as in use.
+        let stashed = self.stash.count();
+        stats.in_use = self.in_use.load(Relaxed).saturating_sub(stashed);
         stats
     }
 }
@@ -638,16 +697,16 @@ impl<T> Side<T> {
 }
 
 impl<T> Epoch<T> {
-    fn forget_call(&self, seat: Option<&mut Seat>, key: &[u8], call: Call) -> Hit {
+    fn forget_call(&self, seat: Option<&mut Seat>, key: &[u8], call: Call) -> ForgetOutcome {
         let Call { caller, generation, .. } = call;
         let name = self.names.of(key);
         self.by(seat, |slot| loop {
             point();
-            match unsafe { raw::sflight_forget_call(slot, name.as_ptr(), name.len(), caller, generation, raw::MOST_TRIES) } {
-                raw::DONE => return Hit::Closed,
-                raw::CLEARED => return Hit::Cleared,
+            match raw::forget_call(slot, &name, caller, generation) {
+                raw::DONE => return ForgetOutcome::Closed,
+                raw::CLEARED => return ForgetOutcome::Cleared,
                 raw::BUSY => std::hint::spin_loop(),
-                _ => return Hit::Missed,
+                _ => return ForgetOutcome::Missed,
             }
         })
     }

@@ -1,6 +1,7 @@
 //! What stands at the number of a library's caller: which call it leads, and who waits for that.
 
 use crate::pool::{Letter, Seat};
+use crate::stash::processors;
 use crate::sync::{lock, point, sleep};
 use crate::wait::Wait;
 use crate::Call;
@@ -8,7 +9,7 @@ use std::sync::atomic::{
     AtomicU64, AtomicUsize,
     Ordering::{AcqRel, Acquire, Relaxed, Release},
 };
-use std::sync::{Arc, Condvar, Mutex, OnceLock};
+use std::sync::{Arc, Condvar, Mutex};
 use std::time::{Duration, Instant};
 
 /// So long one looks for a letter before one sleeps, about as long as it takes to sleep and be woken.
@@ -17,17 +18,11 @@ const LOOKING_TIME: Duration = Duration::from_micros(10);
 /// How many threads look for a letter now.
 static LOOKING: AtomicUsize = AtomicUsize::new(0);
 
-/// How many may look at one time: each with a processor of its own, and one left for who loads.
-fn most_looking() -> usize {
-    static MOST: OnceLock<usize> = OnceLock::new();
-    *MOST.get_or_init(|| std::thread::available_parallelism().map_or(0, |processors| processors.get() - 1))
-}
-
-/// Looks for the letter for some time, unless as many look as may.
+/// Looks for the letter for some time, unless as many look as may: each with a processor of its own, and one left for who loads.
 fn look(seat: &mut Seat) -> Option<Letter> {
     let before = LOOKING.fetch_add(1, Relaxed);
     let mut found = seat.poll();
-    if before < most_looking() && !cfg!(test) {
+    if before + 1 < processors() && !cfg!(test) {
         let until = Instant::now() + LOOKING_TIME;
         while found.is_none() && Instant::now() < until {
             std::hint::spin_loop();
@@ -213,7 +208,7 @@ impl<T> Post<T> {
         if !self.mark(call.generation, FOLLOWED) {
             return None;
         }
-        let wait = waits.wait.get_or_insert_with(|| Wait::new(fingerprint, Some(call))).clone();
+        let wait = waits.wait.get_or_insert_with(|| Wait::new(fingerprint, call)).clone();
         (!joins || wait.join()).then_some(wait)
     }
 
@@ -244,7 +239,7 @@ impl<T> Post<T> {
                 caller,
                 generation,
             };
-            let wait = waits.wait.get_or_insert_with(|| Wait::new(fingerprint, Some(call))).clone();
+            let wait = waits.wait.get_or_insert_with(|| Wait::new(fingerprint, call)).clone();
             wait.moved.store(true, Relaxed);
             return Some(wait);
         }

@@ -1,5 +1,6 @@
 //! The functions of `sflight.h`.
 
+/// A caller of the library, or nothing.
 #[repr(C)]
 pub struct Slot {
     at: *mut u8,
@@ -13,12 +14,15 @@ impl Slot {
     };
 }
 
+/// What a caller of the library has seen, or nothing.
+#[cfg(feature = "notes")]
 #[repr(C)]
 pub struct Note {
     at: *mut u8,
     live: bool,
 }
 
+#[cfg(feature = "notes")]
 impl Note {
     pub const NONE: Note = Note {
         at: std::ptr::null_mut(),
@@ -28,6 +32,8 @@ impl Note {
 
 // SAFETY: the library has a proof that what a slot or a note holds may go to another thread.
 unsafe impl Send for Slot {}
+// SAFETY: as above.
+#[cfg(feature = "notes")]
 unsafe impl Send for Note {}
 
 pub const DONE: u32 = 0;
@@ -35,25 +41,48 @@ pub const OTHERWISE: u32 = 1;
 pub const SPENT: u32 = 2;
 pub const BUSY: u32 = 3;
 pub const OTHER: u32 = 4;
-pub const BAD_NUMBER: u32 = 8;
 pub const CLEARED: u32 = 10;
 pub const MOST_TRIES: u32 = 65_536;
 
-extern "C" {
-    pub fn sflight_open(slot: &mut Slot, places: u32, callers: u32, seed0: u64, seed1: u64) -> u32;
-    pub fn sflight_split(slot: &mut Slot, other: &mut Slot) -> u32;
-    pub fn sflight_ask(slot: &mut Slot, key: *const u8, len: usize, tries: u32) -> u32;
-    pub fn sflight_finish(slot: &mut Slot, value: u64, joiners: &mut u32) -> u32;
-    pub fn sflight_go_on(slot: &mut Slot, joiners: &mut u32) -> u32;
-    pub fn sflight_poll(slot: &mut Slot, value: &mut u64, joiners: &mut u32) -> u32;
-    pub fn sflight_call(slot: &mut Slot, caller: &mut u32, generation: &mut u32) -> u32;
-    pub fn sflight_number(slot: &mut Slot, number: &mut u32) -> u32;
-    pub fn sflight_forget_call(slot: &mut Slot, key: *const u8, len: usize, caller: u32, generation: u32, tries: u32) -> u32;
-    pub fn sflight_named(slot: &mut Slot, key: *const u8, len: usize, caller: &mut u32, generation: &mut u32) -> u32;
-    pub fn sflight_stamp(slot: &mut Slot, stamp: &mut [u64; 2]) -> u32;
-    pub fn sflight_is_still(slot: &mut Slot, stamp: &[u64; 2]) -> u32;
-    pub fn sflight_tell(slot: &mut Slot, note: &mut Note) -> u32;
-    pub fn sflight_learn(slot: &mut Slot, note: &mut Note) -> u32;
-    pub fn sflight_drop_note(note: &mut Note);
-    pub fn sflight_close(slot: &mut Slot);
+// SAFETY: the signatures are those of `sflight.h`. Those that are safe have all duties of that header met by their types: a slot
+// or a note begins as `NONE`, and nobody can copy one; two that are given to one call are two, since both are borrowed; what is written
+// is borrowed too. The groups have seeds of their own, drawn at random.
+unsafe extern "C" {
+    pub safe fn sflight_open(slot: &mut Slot, places: u32, callers: u32, seed0: u64, seed1: u64) -> u32;
+    pub safe fn sflight_split(slot: &mut Slot, other: &mut Slot) -> u32;
+    unsafe fn sflight_ask(slot: &mut Slot, key: *const u8, len: usize, tries: u32) -> u32;
+    pub safe fn sflight_finish(slot: &mut Slot, value: u64, joiners: &mut u32) -> u32;
+    pub safe fn sflight_go_on(slot: &mut Slot, joiners: &mut u32) -> u32;
+    pub safe fn sflight_poll(slot: &mut Slot, value: &mut u64, joiners: &mut u32) -> u32;
+    pub safe fn sflight_call(slot: &mut Slot, caller: &mut u32, generation: &mut u32) -> u32;
+    pub safe fn sflight_number(slot: &mut Slot, number: &mut u32) -> u32;
+    unsafe fn sflight_forget_call(slot: &mut Slot, key: *const u8, len: usize, caller: u32, generation: u32, tries: u32) -> u32;
+    unsafe fn sflight_named(slot: &mut Slot, key: *const u8, len: usize, caller: &mut u32, generation: &mut u32) -> u32;
+    pub safe fn sflight_stamp(slot: &mut Slot, stamp: &mut [u64; 2]) -> u32;
+    pub safe fn sflight_is_still(slot: &mut Slot, stamp: &[u64; 2]) -> u32;
+    #[cfg(feature = "notes")]
+    pub safe fn sflight_tell(slot: &mut Slot, note: &mut Note) -> u32;
+    #[cfg(feature = "notes")]
+    pub safe fn sflight_learn(slot: &mut Slot, note: &mut Note) -> u32;
+    #[cfg(feature = "notes")]
+    pub safe fn sflight_drop_note(note: &mut Note);
+    pub safe fn sflight_close(slot: &mut Slot);
+}
+
+#[inline]
+pub fn ask(slot: &mut Slot, key: &[u8]) -> u32 {
+    // SAFETY: the key has so many bytes.
+    unsafe { sflight_ask(slot, key.as_ptr(), key.len(), MOST_TRIES) }
+}
+
+#[inline]
+pub fn forget_call(slot: &mut Slot, key: &[u8], caller: u32, generation: u32) -> u32 {
+    // SAFETY: the key has so many bytes.
+    unsafe { sflight_forget_call(slot, key.as_ptr(), key.len(), caller, generation, MOST_TRIES) }
+}
+
+#[inline]
+pub fn named(slot: &mut Slot, key: &[u8], caller: &mut u32, generation: &mut u32) -> u32 {
+    // SAFETY: the key has so many bytes.
+    unsafe { sflight_named(slot, key.as_ptr(), key.len(), caller, generation) }
 }

@@ -7,16 +7,15 @@
 //!
 //! `SFLIGHT_SCHEDULES` says how many are drawn, and `SFLIGHT_SEED` with which one it begins.
 
-use crate::{Caller, Got, Group, Plan, Stamp};
+use crate::{Caller, Group, Loaded, Plan, Stamp};
 use std::arch::global_asm;
 use std::cell::Cell;
 use std::collections::HashMap;
 use std::future::Future;
 use std::panic::{AssertUnwindSafe, catch_unwind};
-use std::pin::pin;
+use std::pin::{Pin, pin};
 use std::ptr::null_mut;
 use std::rc::Rc;
-use std::sync::Arc;
 use std::task::{Context, Poll, Waker};
 use std::time::Duration;
 
@@ -41,8 +40,13 @@ global_asm!(
     "ret",
 );
 
-extern "C" {
-    fn sflight_rust_switch(from: *mut usize, to: usize);
+// SAFETY: it is the code above.
+unsafe extern "C" {
+    /// Goes on where `to` was left, and leaves the caller's stack pointer at `from`, to be gone on with later.
+    ///
+    /// # Safety
+    /// `to` was left so, or is a stack that `play` made, and nobody has gone on there since.
+    unsafe fn sflight_rust_switch(from: *mut usize, to: usize);
 }
 
 const STACK: usize = 256 << 10;
@@ -90,71 +94,76 @@ pub(crate) fn is_blocked() {
     step(true);
 }
 
+// What `run` makes of the play. None where nothing is played.
+fn with<R>(run: impl FnOnce(&mut Play) -> R) -> Option<R> {
+    // SAFETY: the play stands in `play`, which waits until all coroutines are over. One thread plays, `run` switches no coroutine, and
+    // does not come here.
+    unsafe { PLAY.get().as_mut() }.map(run)
+}
+
 fn step(is_blocked: bool) {
-    let play = PLAY.get();
-    if play.is_null() {
-        return;
-    }
-    // SAFETY: one thread plays, and nothing of the play is borrowed while coroutines are switched.
-    unsafe {
-        (*play).steps += 1;
-        if (*play).steps > MOST_STEPS {
-            fail("it does not end".into());
+    let ends = with(|play| {
+        play.steps += 1;
+        if play.steps > MOST_STEPS {
+            play.failure.get_or_insert("it does not end".into());
             // The coroutines are left as they are.
-            switch_to_main();
+            return Some(play.back_to_main());
         }
-        let turn = (*play).turn;
-        if is_blocked || (*play).random.below(turn) == 0 {
-            if (*play).has_stalls && !is_blocked && (*play).random.below(16) == 0 {
-                let until = (*play).steps + (*play).random.below(500);
-                (&mut (*play).coroutines)[(*play).current].stalls = until;
-            }
-            switch(is_blocked);
+        if !is_blocked && play.random.below(play.turn) != 0 {
+            return None;
         }
+        if play.has_stalls && !is_blocked && play.random.below(16) == 0 {
+            let until = play.steps + play.random.below(500);
+            play.coroutines[play.current].stalls = until;
+        }
+        play.next_turn(is_blocked)
+    });
+    if let Some((from, to)) = ends.flatten() {
+        // SAFETY: the play says where each coroutine was left.
+        unsafe { sflight_rust_switch(from, to) };
     }
 }
 
-unsafe fn switch(is_blocked: bool) {
-    let play = PLAY.get();
-    let (from, count) = ((*play).current, (*play).coroutines.len());
-    let live = |at: &usize| !(&(*play).coroutines)[*at].is_over;
-    let goes_on = |at: &usize| live(at) && (&(*play).coroutines)[*at].stalls <= (*play).steps && !(is_blocked && *at == from);
-    let first = (*play).random.below(count as u64) as usize;
-    let all = || (0..count).map(|i| (first + i) % count);
-    let Some(to) = all().find(goes_on).or_else(|| all().find(live)) else {
-        return switch_to_main();
-    };
-    if to != from {
-        (*play).current = to;
-        let (old, new) = (&mut (&mut (*play).coroutines)[from].at as *mut usize, (&(*play).coroutines)[to].at);
-        sflight_rust_switch(old, new);
+impl Play {
+    // Where this coroutine is left, and where the next one goes on, or all end. None where this one goes on.
+    fn next_turn(&mut self, is_blocked: bool) -> Option<(*mut usize, usize)> {
+        let (from, count) = (self.current, self.coroutines.len());
+        let first = self.random.below(count as u64) as usize;
+        let live = |at: &usize| !self.coroutines[*at].is_over;
+        let goes_on = |at: &usize| live(at) && self.coroutines[*at].stalls <= self.steps && !(is_blocked && *at == from);
+        let all = || (0..count).map(|i| (first + i) % count);
+        let Some(to) = all().find(goes_on).or_else(|| all().find(live)) else {
+            return Some(self.back_to_main());
+        };
+        self.current = to;
+        (to != from).then(|| (&raw mut self.coroutines[from].at, self.coroutines[to].at))
     }
-}
 
-unsafe fn switch_to_main() {
-    let play = PLAY.get();
-    let old = &mut (&mut (*play).coroutines)[(*play).current].at as *mut usize;
-    sflight_rust_switch(old, (*play).main);
+    fn back_to_main(&mut self) -> (*mut usize, usize) {
+        (&raw mut self.coroutines[self.current].at, self.main)
+    }
 }
 
 extern "C" fn enter() {
-    let play = PLAY.get();
-    // SAFETY: as in `step`.
-    unsafe {
-        let task = (&mut (*play).coroutines)[(*play).current].task.take().unwrap();
-        if let Err(panic) = catch_unwind(AssertUnwindSafe(task)) {
-            let text = panic.downcast_ref::<String>().cloned();
-            fail(text.or(panic.downcast_ref::<&str>().map(|text| text.to_string())).unwrap_or_default());
-        }
-        (&mut (*play).coroutines)[(*play).current].is_over = true;
-        switch(false);
+    let task = with(|play| play.coroutines[play.current].task.take()).flatten().unwrap();
+    if let Err(panic) = catch_unwind(AssertUnwindSafe(task)) {
+        let text = panic.downcast_ref::<String>().cloned();
+        fail(text.or(panic.downcast_ref::<&str>().map(|text| text.to_string())).unwrap_or_default());
     }
+    let ends = with(|play| {
+        play.coroutines[play.current].is_over = true;
+        play.next_turn(false)
+    });
+    let (from, to) = ends.flatten().expect("one that is over takes no turn");
+    // SAFETY: as in `step`.
+    unsafe { sflight_rust_switch(from, to) };
     unreachable!("a coroutine that is over takes no turn");
 }
 
 fn fail(why: String) {
-    // SAFETY: as in `step`.
-    unsafe { (*PLAY.get()).failure.get_or_insert(why) };
+    with(|play| {
+        play.failure.get_or_insert(why);
+    });
 }
 
 fn check(holds: bool, why: impl FnOnce() -> String) {
@@ -184,7 +193,7 @@ fn play(random: Random, turn: u64, stacks: &mut Vec<Box<[u128]>>, tasks: Vec<Tas
     };
     PLAY.set(&mut made);
     // SAFETY: it comes back when all are over, or one says that they do not end.
-    unsafe { sflight_rust_switch(&mut made.main, made.coroutines[0].at) };
+    unsafe { sflight_rust_switch(&raw mut made.main, made.coroutines[0].at) };
     PLAY.set(null_mut());
     if let Some(why) = made.failure.take() {
         std::mem::forget(made);
@@ -226,6 +235,7 @@ struct Value {
 
 // SAFETY: one thread plays.
 unsafe impl Send for Value {}
+// SAFETY: one thread plays.
 unsafe impl Sync for Value {}
 
 impl Drop for Value {
@@ -304,8 +314,8 @@ impl World {
     }
 
     // A receiver of the job that its own caller had has not joined.
-    fn returned(&self, key: usize, least: u64, got: &Got<Value>, has_joined: bool) {
-        let answer = &got.answer;
+    fn returned(&self, key: usize, least: u64, got: &Loaded<Value>, has_joined: bool) {
+        let answer = &got.value;
         if got.led && !got.shared() {
             answer.is_alone.set(true);
         }
@@ -323,9 +333,10 @@ impl World {
     }
 }
 
-/// One who asks, with two callers.
+/// One who asks, by the group and by two callers.
 struct Actor {
     world: Rc<World>,
+    group: Group<Value>,
     caller: Caller<Value>,
     second: Option<Caller<Value>>,
     random: Random,
@@ -338,9 +349,9 @@ struct Actor {
 }
 
 impl Actor {
-    fn got(&mut self, key: usize, least: u64, got: Got<Value>, has_joined: bool) {
+    fn got(&mut self, key: usize, least: u64, got: Loaded<Value>, has_joined: bool) {
         self.world.returned(key, least, &got, has_joined);
-        self.last.insert(key, (got.answer.moment, got.stamp(), got.call()));
+        self.last.insert(key, (got.value.moment, got.stamp(), got.call()));
     }
 
     fn get(&mut self, key: usize, is_nested: bool, timeout: bool) {
@@ -354,21 +365,24 @@ impl Actor {
             // A load asks for greater keys alone, so that no two wait for each other.
             if let Some(other) = second.as_mut().filter(|_| is_nested && key + 1 < KEYS) {
                 let (asked, least) = (world.tick(), world.least(key + 1));
-                let got = other.do_with(NAMES[key + 1], || {
+                let got = other.get_or_load(NAMES[key + 1], || {
                     let moment = world.begins(key + 1, asked);
                     point();
                     world.ends(key + 1, moment);
                     world.value(moment)
                 });
-                world.returned(key + 1, least, &got.unwrap(), true);
+                world.returned(key + 1, least, &got, true);
             }
             point();
             world.ends(key, moment);
             world.value(moment)
         };
-        let got = match timeout {
-            true => self.caller.do_with_timeout(NAMES[key], Duration::ZERO, load),
-            false => self.caller.do_with(NAMES[key], load),
+        let (caller, group, name) = (&mut self.caller, &self.group, NAMES[key]);
+        let got = match (timeout, self.random.below(2)) {
+            (true, 0) => caller.get_or_load_timeout(name, Duration::ZERO, load),
+            (true, _) => group.get_or_load_timeout(name, Duration::ZERO, load),
+            (false, 0) => Ok(caller.get_or_load(name, load)),
+            (false, _) => Ok(group.get_or_load(name, load)),
         };
         self.second = second;
         if let Ok(got) = got {
@@ -398,10 +412,13 @@ impl Actor {
         };
         let mut got = None;
         {
-            let mut task = pin!(self.caller.do_async(NAMES[key], load));
+            let mut task: Pin<Box<dyn Future<Output = Loaded<Value>> + '_>> = match self.random.below(2) {
+                0 => Box::pin(self.caller.get_or_load_async(NAMES[key], load)),
+                _ => Box::pin(self.group.get_or_load_async(NAMES[key], load)),
+            };
             for _ in 0..polls {
                 if let Poll::Ready(ready) = task.as_mut().poll(&mut Context::from_waker(Waker::noop())) {
-                    got = Some(ready.unwrap());
+                    got = Some(ready);
                     break;
                 }
                 is_blocked();
@@ -413,10 +430,13 @@ impl Actor {
     }
 
     fn channel(&mut self, key: usize) {
-        let Some(second) = self.second.take() else { return };
         let (world, asked, least) = (self.world.clone(), self.world.tick(), self.world.least(key));
-        let is_run = self.random.below(4) > 0;
-        let (mut receiver, job) = self.caller.do_chan(second, NAMES[key]).ok().unwrap();
+        let (is_run, by_group) = (self.random.below(4) > 0, self.random.below(2) == 0);
+        let (receiver, job) = match by_group {
+            true => self.group.subscribe(NAMES[key]),
+            false => self.caller.subscribe(NAMES[key]),
+        };
+        let has_joined = job.is_none();
         let run = |job: crate::Job<'_, Value>| {
             if is_run {
                 let got = job.run(|| {
@@ -426,21 +446,34 @@ impl Actor {
                     world.value(moment)
                 });
                 world.returned(key, least, &got, false);
-            } else {
-                point();
+                return;
+            }
+            point();
+            // One that is leaked ends with the next use of its caller.
+            if by_group {
                 drop(job);
+            } else {
+                std::mem::forget(job);
             }
         };
-        let has_joined = job.is_none();
         job.map(run);
+        let mut receives = pin!(receiver);
+        let mut context = Context::from_waker(Waker::noop());
         for _ in 0..self.random.below(30) {
-            if let Ok(got) = receiver.try_recv() {
+            let got = match self.random.below(2) {
+                0 => receives.try_recv().ok(),
+                _ => match receives.as_mut().poll(&mut context) {
+                    Poll::Ready(got) => got.ok(),
+                    Poll::Pending => None,
+                },
+            };
+            if let Some(got) = got {
                 self.got(key, least, got, has_joined);
                 break;
             }
             is_blocked();
         }
-        self.second = receiver.into_caller().ok();
+        self.caller.current_call(NAMES[key]);
     }
 
     fn forget(&mut self, key: usize) {
@@ -448,7 +481,10 @@ impl Actor {
         let (began, of) = (world.tick(), &world.keys[key]);
         of.forgetting.set(of.forgetting.get() + 1);
         of.running.set(Vec::new());
-        self.caller.forget(NAMES[key]).unwrap();
+        match self.random.below(2) {
+            0 => self.caller.forget(NAMES[key]),
+            _ => self.group.forget(NAMES[key]),
+        };
         of.forgetting.set(of.forgetting.get() - 1);
         of.forgot.set(world.tick());
         of.forgotten.set(of.forgotten.get().max(began));
@@ -458,13 +494,20 @@ impl Actor {
     fn last(&mut self, key: usize) {
         let Some((moment, stamp, call)) = self.last.get(&key).copied() else { return };
         let floor = self.world.keys[key].forgotten.get();
-        if self.caller.is_still(stamp) {
+        let is_current = match self.random.below(2) {
+            0 => self.caller.is_current(stamp),
+            _ => self.group.is_current(stamp),
+        };
+        if is_current {
             check(moment >= floor, || format!("a stamp of {key} from {moment} is current after a Forget from {floor}"));
             self.world.current.set(self.world.current.get() + 1);
         }
         if let Some(call) = call.filter(|_| self.random.below(3) == 0) {
-            self.caller.forget_call(NAMES[key], call).unwrap();
-            check(!self.caller.is_still(stamp), || format!("a call of {key} that was forgotten is current"));
+            match self.random.below(2) {
+                0 => self.caller.forget_call(NAMES[key], call),
+                _ => self.group.forget_call(NAMES[key], call),
+            };
+            check(!self.caller.is_current(stamp), || format!("a call of {key} that was forgotten is current"));
         }
     }
 
@@ -507,7 +550,7 @@ fn schedule(seed: u64, stacks: &mut Vec<Box<[u128]>>, all: &mut Played) -> Resul
         grows: is_scene || random.below(2) == 0,
         calls: [1, 2, 4, 1000][random.below(4) as usize],
     };
-    let group = Rc::new(Group::of(plan).map_err(|why| why.to_string())?);
+    let group = Group::of(plan).map_err(|why| why.to_string())?;
     let world = Rc::new(World::default());
     let actors = if is_scene { 4 } else { 2 + random.below(3) as usize };
     let turn = [1, 2, 4, 16][random.below(4) as usize];
@@ -516,7 +559,8 @@ fn schedule(seed: u64, stacks: &mut Vec<Box<[u128]>>, all: &mut Played) -> Resul
         let (world, group, random) = (world.clone(), group.clone(), Random::new(random.next()));
         let script = if is_scene { SCENE[number] } else { &[] };
         Box::new(move || {
-            let mut actor = Actor { world, caller: group.caller().unwrap(), second: group.caller(), random, keys, script, last: HashMap::new() };
+            let (caller, second, last) = (group.caller(), Some(group.caller()), HashMap::new());
+            let mut actor = Actor { world, group, caller, second, random, keys, script, last };
             for _ in 0..acts {
                 actor.act();
             }
@@ -590,5 +634,4 @@ fn the_coroutines_take_turns() {
     assert!(turns.len() == 9 && turns[..3] != turns[3..6] || turns.windows(2).any(|two| two[0] != two[1]), "{turns:?}");
     turns.sort();
     assert_eq!(turns, [0, 0, 0, 1, 1, 1, 2, 2, 2]);
-    let _ = Arc::new(());
 }

@@ -1,16 +1,17 @@
 //! Those who follow a call without a caller of the library: threads that sleep, and tasks that are woken.
 
-use crate::answer::Answer;
 use crate::sync::{lock, point, sleep};
-use crate::{Call, Got, Stamp};
+use crate::{Call, Loaded, Stamp};
 use std::collections::BTreeMap;
+use std::future::Future;
 use std::panic::{AssertUnwindSafe, catch_unwind};
+use std::pin::Pin;
 use std::sync::atomic::{
     AtomicBool,
     Ordering::{Acquire, Release},
 };
 use std::sync::{Arc, Condvar, Mutex};
-use std::task::{Poll, Waker};
+use std::task::{self, Context, Poll};
 use std::time::Instant;
 
 /// What a call came to.
@@ -19,7 +20,7 @@ enum Outcome<T> {
     Void,
     Answer {
         key: Box<[u8]>,
-        answer: Answer<T>,
+        value: Arc<T>,
         joiners: u32,
         stamp: Stamp,
     },
@@ -29,15 +30,21 @@ struct State<T> {
     outcome: Option<Outcome<T>>,
     followers: u32,
     asleep: u32,
-    wakers: BTreeMap<u64, Waker>,
+    wakers: BTreeMap<u64, task::Waker>,
     next: u64,
 }
+
+/// The number of a task's waker, which is 0 before it has one.
+#[derive(Default)]
+pub(crate) struct Waker(u64);
 
 /// A call that others follow: of the library, or of a run beside it.
 pub(crate) struct Wait<T> {
     pub(crate) fingerprint: u64,
     /// None for a run beside the library.
     pub(crate) call: Option<Call>,
+    /// That of a run beside the library.
+    pub(crate) key: Box<[u8]>,
     /// Whether it was entered into the table of calls that were moved. Written with the lock of its post held.
     pub(crate) moved: AtomicBool,
     is_settled: AtomicBool,
@@ -46,10 +53,21 @@ pub(crate) struct Wait<T> {
 }
 
 impl<T> Wait<T> {
-    pub(crate) fn new(fingerprint: u64, call: Option<Call>) -> Arc<Self> {
+    /// One of a call of the library.
+    pub(crate) fn new(fingerprint: u64, call: Call) -> Arc<Self> {
+        Self::with(fingerprint, Some(call), Box::default())
+    }
+
+    /// One of a run beside the library.
+    pub(crate) fn run(fingerprint: u64, key: &[u8]) -> Arc<Self> {
+        Self::with(fingerprint, None, key.into())
+    }
+
+    fn with(fingerprint: u64, call: Option<Call>, key: Box<[u8]>) -> Arc<Self> {
         Arc::new(Wait {
             fingerprint,
             call,
+            key,
             moved: AtomicBool::new(false),
             is_settled: AtomicBool::new(false),
             state: Mutex::new(State {
@@ -95,8 +113,8 @@ impl<T> Wait<T> {
         true
     }
 
-    /// Whether it is settled; else the waker is woken when it is. The number is that of the task's waker, and 0 before there is one.
-    pub(crate) fn poll(&self, number: &mut u64, waker: &Waker) -> Poll<()> {
+    /// Whether it is settled; else the task is woken when it is.
+    pub(crate) fn poll(&self, own: &mut Waker, waker: &task::Waker) -> Poll<()> {
         if self.is_settled() {
             return Poll::Ready(());
         }
@@ -106,32 +124,34 @@ impl<T> Wait<T> {
         if state.outcome.is_some() {
             return Poll::Ready(());
         }
-        if *number == 0 {
+        if own.0 == 0 {
             state.next += 1;
-            *number = state.next;
+            own.0 = state.next;
         }
-        let before = state.wakers.insert(*number, waker);
+        let before = state.wakers.insert(own.0, waker);
         drop(state);
         drop(before);
         Poll::Pending
     }
 
     /// The task does not wait any more.
-    pub(crate) fn leave(&self, number: u64) {
-        let waker = lock(&self.state).wakers.remove(&number);
-        drop(waker);
+    pub(crate) fn leave(&self, own: &mut Waker) {
+        if own.0 != 0 {
+            let waker = lock(&self.state).wakers.remove(&own.0);
+            drop(waker);
+        }
     }
 
     /// Settles it with an answer, and wakes who follows: how many do, and `joiners` more joined by callers.
-    pub(crate) fn end(&self, key: &[u8], answer: &Answer<T>, joiners: u32, stamp: Stamp) -> u32 {
+    pub(crate) fn end(&self, key: &[u8], value: &Arc<T>, joiners: u32, stamp: Stamp) -> u32 {
         let key = key.into();
-        let answer = answer.clone();
+        let value = value.clone();
         let mut followers = 0;
         self.settle(|count| {
             followers = count;
             Outcome::Answer {
                 key,
-                answer,
+                value,
                 joiners: joiners + count,
                 stamp,
             }
@@ -164,22 +184,57 @@ impl<T> Wait<T> {
     }
 
     /// What it was settled with, for one who asked for this key. None where one has to ask again.
-    pub(crate) fn read(&self, key: &[u8]) -> Option<Got<T>> {
+    pub(crate) fn read(&self, key: &[u8]) -> Option<Loaded<T>> {
         let state = lock(&self.state);
         match &state.outcome {
             Some(Outcome::Answer {
                 key: of,
-                answer,
+                value,
                 joiners,
                 stamp,
-            }) if **of == *key => Some(Got {
-                answer: answer.clone(),
+            }) if **of == *key => Some(Loaded {
+                value: value.clone(),
                 joiners: *joiners,
                 led: false,
                 call: self.call,
                 stamp: *stamp,
             }),
             _ => None,
+        }
+    }
+}
+
+/// Waits for the call in a task. Where it is dropped before, the task has left the call.
+pub(crate) struct Waiting<'a, T> {
+    wait: &'a Wait<T>,
+    waker: Waker,
+    is_over: bool,
+}
+
+impl<'a, T> Waiting<'a, T> {
+    pub(crate) fn new(wait: &'a Wait<T>) -> Self {
+        Waiting {
+            wait,
+            waker: Waker::default(),
+            is_over: false,
+        }
+    }
+}
+
+impl<T> Future for Waiting<'_, T> {
+    type Output = ();
+
+    fn poll(mut self: Pin<&mut Self>, context: &mut Context<'_>) -> Poll<()> {
+        let polled = self.wait.poll(&mut self.waker, context.waker());
+        self.is_over = polled.is_ready();
+        polled
+    }
+}
+
+impl<T> Drop for Waiting<'_, T> {
+    fn drop(&mut self) {
+        if !self.is_over {
+            self.wait.leave(&mut self.waker);
         }
     }
 }

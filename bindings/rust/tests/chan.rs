@@ -1,106 +1,168 @@
-//! Answers that come to a second caller, and notes.
-use singleflight::{Caller, Error, Group, Receiver};
+//! Values that come to a receiver.
+use singleflight::{Caller, Group, Job, Receiver};
+use std::future::Future;
 use std::panic::{AssertUnwindSafe, catch_unwind};
-use std::sync::mpsc::{RecvError, TryRecvError};
+use std::pin::Pin;
+use std::sync::atomic::{AtomicU64, Ordering::SeqCst};
+use std::sync::mpsc::{RecvError, RecvTimeoutError, TryRecvError};
 use std::sync::{Arc, Weak};
+use std::task::{Context, Poll, Wake, Waker};
 use std::time::Duration;
 
-fn open(callers: u32) -> (Group<Arc<u32>>, Vec<Caller<Arc<u32>>>) {
-    let group = Group::open(1, callers).unwrap();
-    let all = (0..callers).map(|_| group.caller().unwrap()).collect();
-    (group, all)
+// Counts how often it wakes.
+#[derive(Default)]
+struct Wakes(AtomicU64);
+
+impl Wake for Wakes {
+    fn wake(self: Arc<Self>) {
+        self.0.fetch_add(1, SeqCst);
+    }
 }
 
-fn free<T: Send + Sync>(receiver: Receiver<T>) -> Caller<T> {
-    receiver.into_caller().ok().expect("the answer was there")
+fn once<F: Future + Unpin>(future: &mut F, wakes: &Arc<Wakes>) -> Poll<F::Output> {
+    Pin::new(future).poll(&mut Context::from_waker(&Waker::from(wakes.clone())))
 }
 
-fn refused<A, B>(made: Result<A, B>) -> B {
-    made.err().expect("a refusal")
+// By a caller, or by the group.
+fn subscribe<'a, T: Send + Sync>(group: &Group<T>, caller: Option<&'a mut Caller<T>>) -> (Receiver<T>, Option<Job<'a, T>>) {
+    match caller {
+        Some(caller) => caller.subscribe("k"),
+        None => group.subscribe("k"),
+    }
 }
 
 #[test]
 fn a_receiver_of_a_new_call() {
-    let (_group, mut all) = open(3);
-    let (mut third, second, mut first) = (all.remove(2), all.remove(1), all.remove(0));
-    let (mut receiver, job) = first.do_chan(second, b"k").ok().unwrap();
-    assert!(receiver.try_recv().err() == Some(TryRecvError::Empty), "not yet");
-    let thread = std::thread::spawn(move || (receiver.recv().unwrap(), free(receiver)));
-    std::thread::sleep(Duration::from_millis(50));
-    let got = job.unwrap().run(|| Arc::new(7));
-    assert!(**got.answer == 7 && got.led && !got.shared(), "the leader's answer");
-    let (got, second) = thread.join().unwrap();
-    assert!(**got.answer == 7 && !got.led && got.joiners == 0, "the receiver's answer");
-    assert!(third.is_current().is_none() && first.is_current() == Some(true), "letters");
+    let group = Group::<Arc<u32>>::open(1, 3).unwrap();
+    for by_group in [false, true] {
+        let mut first = group.caller();
+        let (mut receiver, job) = subscribe(&group, (!by_group).then_some(&mut first));
+        assert!(receiver.try_recv().err() == Some(TryRecvError::Empty), "not yet");
+        let late = receiver.recv_timeout(Duration::from_millis(1)).err();
+        assert!(late == Some(RecvTimeoutError::Timeout), "nor in time");
+        let thread = std::thread::spawn(move || receiver.recv().unwrap());
+        std::thread::sleep(Duration::from_millis(50));
+        let led = job.unwrap().run(|| Arc::new(7));
+        assert!(**led.value == 7 && led.led && !led.shared(), "the leader's value");
+        let got = thread.join().unwrap();
+        assert!(Arc::ptr_eq(&got.value, &led.value) && !got.led && got.joiners == 0, "the receiver's value");
+        assert!(got.call() == led.call() && got.call().is_some() && group.is_current(got.stamp()), "of one call");
+        assert!(by_group || first.last_is_current() == Some(true), "the caller has it too");
+    }
+}
 
-    // While another leads, the first has nothing to do.
-    let got = third
-        .do_with(b"k", || {
-            let (receiver, job) = first.do_chan(second, b"k").ok().unwrap();
-            assert!(job.is_none(), "the first has nothing to do");
-            drop(job);
-            assert!(receiver.into_caller().is_err(), "the second waits");
-            first.forget(b"k").unwrap();
-            Arc::new(8)
-        })
-        .unwrap();
-    assert!(**got.answer == 8 && got.joiners == 1, "a receiver that was dropped had joined");
+#[test]
+fn a_receiver_that_joins() {
+    let group = Group::<u32>::open(1, 4).unwrap();
+    for by_group in [false, true] {
+        let (mut first, mut second) = (group.caller(), group.caller());
+        let (before, mut joined) = (group.stats(), None);
+        let got = first.get_or_load("k", || {
+            let (receiver, job) = subscribe(&group, (!by_group).then_some(&mut second));
+            assert!(job.is_none(), "there is nothing to load");
+            drop(subscribe(&group, None).0);
+            joined = Some(receiver);
+            8
+        });
+        let seen = joined.unwrap().recv_timeout(Duration::MAX).unwrap();
+        assert!(*seen.value == 8 && !seen.led && seen.joiners == 2 && got.joiners == 2, "one that was dropped had joined");
+        let after = group.stats();
+        assert!(after.leads == before.leads + 1 && after.joins == before.joins + 2, "{after:?}");
+    }
+}
+
+#[test]
+fn a_receiver_in_a_task() {
+    let group = Group::<u32>::open(1, 4).unwrap();
+    let (mut receiver, job) = group.subscribe("k");
+    let (mut second, _) = group.subscribe("k");
+    let (mut third, _) = group.subscribe("k");
+    let (early, wakes, left) = (Arc::<Wakes>::default(), Arc::<Wakes>::default(), Arc::<Wakes>::default());
+    assert!(once(&mut receiver, &early).is_pending() && once(&mut receiver, &wakes).is_pending(), "it waits");
+    assert!(once(&mut second, &left).is_pending() && once(&mut third, &wakes).is_pending(), "others too");
+    drop(second);
+    assert!(Arc::strong_count(&left) == 1 && Arc::strong_count(&early) == 1, "no waker is kept that is not needed");
+    assert!(*job.unwrap().run(|| 7).value == 7);
+    assert!(wakes.0.load(SeqCst) == 2 && early.0.load(SeqCst) == 0 && left.0.load(SeqCst) == 0, "each is woken once, by its last waker");
+    for receiver in [&mut receiver, &mut third] {
+        assert!(matches!(once(receiver, &wakes), Poll::Ready(Ok(got)) if *got.value == 7), "its value");
+        assert!(matches!(once(receiver, &wakes), Poll::Ready(Err(RecvError))), "once");
+    }
 }
 
 #[test]
 fn a_receiver_whose_leader_panics() {
-    let (_group, mut all) = open(2);
-    let (second, mut first) = (all.remove(1), all.remove(0));
-    let (mut receiver, job) = first.do_chan(second, b"k").ok().unwrap();
-    assert!(catch_unwind(AssertUnwindSafe(|| job.unwrap().run(|| panic!("the load")))).is_err(), "the panic goes on");
-    assert!(receiver.recv().err() == Some(RecvError) && receiver.recv().err() == Some(RecvError), "no answer");
-    let (mut receiver, job) = first.do_chan(free(receiver), b"k").ok().unwrap();
-    drop(job);
-    assert!(receiver.try_recv().err() == Some(TryRecvError::Disconnected), "a job that nobody runs");
+    let group = Group::<Arc<u32>>::open(1, 2).unwrap();
+    let mut first = group.caller();
+    for by_group in [false, true] {
+        let (mut receiver, job) = subscribe(&group, (!by_group).then_some(&mut first));
+        assert!(catch_unwind(AssertUnwindSafe(|| job.unwrap().run(|| panic!("the load")))).is_err(), "the panic goes on");
+        assert!(receiver.recv().err() == Some(RecvError) && receiver.recv().err() == Some(RecvError), "no value");
+        let (mut receiver, job) = subscribe(&group, (!by_group).then_some(&mut first));
+        drop(job);
+        assert!(receiver.try_recv().err() == Some(TryRecvError::Disconnected), "a job that nobody runs");
+        let late = receiver.recv_timeout(Duration::ZERO).err();
+        assert!(late == Some(RecvTimeoutError::Disconnected), "nor later");
+    }
+}
+
+#[test]
+fn a_job_of_a_group_goes_to_another_thread() {
+    let group = Group::<u32>::new();
+    let (mut receiver, job) = group.subscribe("k");
+    let job = job.unwrap();
+    std::thread::spawn(move || job.run(|| 7)).join().unwrap();
+    assert_eq!(*receiver.recv().unwrap().value, 7);
+    let (mut receiver, job) = group.subscribe("k");
+    drop(group);
+    let mut task = Box::pin(job.unwrap().run_async(std::future::pending()));
+    assert!(once(&mut task, &Arc::default()).is_pending() && receiver.try_recv().err() == Some(TryRecvError::Empty), "it loads");
+    drop(task);
+    assert!(receiver.try_recv().err() == Some(TryRecvError::Disconnected), "a task that is dropped");
 }
 
 #[test]
 fn receivers_that_are_dropped_leak_nothing() {
-    let (group, mut all) = open(3);
-    let (third, second, mut first) = (all.remove(2), all.remove(1), all.remove(0));
+    let group = Group::<Arc<u32>>::open(1, 3).unwrap();
+    let mut first = group.caller();
     let value = Arc::new(5);
     let weak: Weak<u32> = Arc::downgrade(&value);
-    let (receiver, job) = first.do_chan(second, b"k").ok().unwrap();
+    let (receiver, job) = first.subscribe("k");
     drop(receiver);
-    assert!(group.stats().in_use == 2, "a receiver holds no caller of the library");
+    assert!(group.stats().in_use == 1, "a receiver holds no caller of the library");
     drop(job.unwrap().run(|| value));
-    assert!(weak.upgrade().is_none(), "no answer is kept for the receiver that was dropped");
-    let (receiver, job) = first.do_chan(third, b"k").ok().unwrap();
+    assert!(weak.upgrade().is_none(), "no value is kept for the receiver that was dropped");
+    let (receiver, job) = first.subscribe("k");
     drop((receiver, job));
     drop(first);
+    let (receiver, job) = group.subscribe("k");
+    assert!(group.stats().in_use == 1 && job.is_some(), "the job has one");
+    drop((receiver, job));
     assert!(group.stats().in_use == 0, "all are back");
 }
 
+// A job that is leaked ends its call when its caller is used again, also where it would have run beside the library.
 #[test]
-fn refusals_of_two_callers() {
-    let (_group, mut all) = open(2);
-    let (_other_group, mut others) = open(1);
-    let (second, mut first) = (all.remove(1), all.remove(0));
-    let (why, other) = refused(first.do_chan(others.remove(0), b"k"));
-    assert!(why == Error::OtherGroup, "of another group");
-    let (receiver, job) = first.do_chan(second, b"k").ok().unwrap();
-    job.unwrap().run(|| Arc::new(1));
-    let mut receiver = receiver;
-    assert!(receiver.try_recv().is_ok() && receiver.try_recv().err() == Some(TryRecvError::Disconnected), "once");
-    drop(other);
-}
-
-#[test]
-fn notes() {
-    let (_group, mut all) = open(2);
-    let (_other_group, mut others) = open(1);
-    let (mut second, mut first) = (all.remove(1), all.remove(0));
-    assert!(first.forget(b"k") == Ok(false), "nothing is open");
-    let mut note = first.tell().unwrap();
-    assert!(others[0].learn(&mut note) == Err(Error::OtherGroup), "of another group");
-    let second = std::thread::spawn(move || {
-        assert!(second.learn(&mut note) == Ok(()) && second.learn(&mut note) == Ok(()), "learnt in another thread");
-        second
-    });
-    assert!(**second.join().unwrap().do_with(b"k", || Arc::new(3)).unwrap().answer == 3, "and goes on");
+fn a_job_that_is_leaked() {
+    let group = Group::<u32>::open(1, 2).unwrap();
+    let (mut first, mut second) = (group.caller(), group.caller());
+    for beside in [false, true] {
+        let mut leaks = || {
+            let (mut receiver, job) = second.subscribe("k");
+            std::mem::forget(job.unwrap());
+            assert!(receiver.try_recv().err() == Some(TryRecvError::Empty), "its call is open");
+            assert!(second.get_or_load("m", || 1).led && receiver.try_recv().err() == Some(TryRecvError::Disconnected), "and has ended");
+            assert!(group.get_or_load("k", || 2).led, "it can be loaded");
+        };
+        if beside {
+            first.get_or_load("other", || {
+                leaks();
+                0
+            });
+        } else {
+            leaks();
+        }
+    }
+    drop((first, second));
+    assert!(group.stats().in_use == 0, "{:?}", group.stats());
 }

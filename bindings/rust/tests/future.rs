@@ -57,7 +57,7 @@ async fn yield_now() {
 
 fn open(callers: u32) -> (Group<Arc<u32>>, Vec<Caller<Arc<u32>>>) {
     let group = Group::open(1 << 20, callers).unwrap();
-    let all = (0..callers).map(|_| group.caller().unwrap()).collect();
+    let all = (0..callers).map(|_| group.caller()).collect();
     (group, all)
 }
 
@@ -67,66 +67,65 @@ fn a_task_joins_a_thread_and_a_thread_joins_a_task() {
     let (mut first, mut second) = (all.remove(0), all.remove(0));
     std::thread::scope(|scope| {
         let mut task = None;
-        let got = first.do_with(b"k", || {
-            task = Some(scope.spawn(|| block_on(second.do_async(b"k", async { panic!("a second load") })).unwrap()));
+        let got = first.get_or_load(b"k", || {
+            task = Some(scope.spawn(|| block_on(second.get_or_load_async(b"k", async { panic!("a second load") }))));
             while group.stats().joins == 0 {
                 std::thread::yield_now();
             }
             Arc::new(7)
         });
-        let (got, seen) = (got.unwrap(), task.unwrap().join().unwrap());
-        assert!(**got.answer == 7 && got.led && **seen.answer == 7 && !seen.led && seen.joiners == 1, "the task joined");
+        let (got, seen) = (got, task.unwrap().join().unwrap());
+        assert!(**got.value == 7 && got.led && **seen.value == 7 && !seen.led && seen.joiners == 1, "the task joined");
         assert!(got.call() == seen.call(), "of one call");
     });
     std::thread::scope(|scope| {
         let mut thread = None;
-        let got = block_on(first.do_async(b"k", async {
-            thread = Some(scope.spawn(|| second.do_with(b"k", || panic!("a second load")).unwrap()));
+        let got = block_on(first.get_or_load_async(b"k", async {
+            thread = Some(scope.spawn(|| second.get_or_load(b"k", || panic!("a second load"))));
             while group.stats().joins == 1 {
                 yield_now().await;
             }
             Arc::new(8)
         }));
-        let (got, seen) = (got.unwrap(), thread.unwrap().join().unwrap());
-        assert!(**got.answer == 8 && got.led && **seen.answer == 8 && !seen.led, "the thread joined");
+        let (got, seen) = (got, thread.unwrap().join().unwrap());
+        assert!(**got.value == 8 && got.led && **seen.value == 8 && !seen.led, "the thread joined");
     });
-    assert!(first.is_current() == Some(true) && group.stats().leads == 2, "two loads");
+    assert!(first.last_is_current() == Some(true) && group.stats().leads == 2, "two loads");
 }
 
 #[test]
 fn three_thousand_tasks_are_woken_once_each() {
     let group = Group::<u32>::open(1 << 20, 3010).unwrap();
-    let mut callers: Vec<_> = (0..3000).map(|_| group.caller().unwrap()).collect();
+    let mut callers: Vec<_> = (0..3000).map(|_| group.caller()).collect();
     let wakes: Vec<Arc<Wakes>> = callers.iter().map(|_| Arc::default()).collect();
-    let mut slow = group.caller().unwrap();
+    let mut slow = group.caller();
     let mut tasks = Vec::new();
-    let got = slow.do_with(b"slow", || {
-        tasks = callers.iter_mut().map(|caller| Box::pin(caller.do_async(b"slow", async { unreachable!() }))).collect();
+    let got = slow.get_or_load(b"slow", || {
+        tasks = callers.iter_mut().map(|caller| Box::pin(caller.get_or_load_async(b"slow", async { unreachable!() }))).collect();
         for (task, wakes) in tasks.iter_mut().zip(&wakes) {
             assert!(once(task.as_mut(), wakes).is_pending(), "it waits");
             assert!(once(task.as_mut(), wakes).is_pending(), "also if it is polled again");
         }
         // Calls of other keys, each with one who waits and is woken.
-        let (mut first, mut second) = (group.caller().unwrap(), group.caller().unwrap());
+        let (mut first, mut second) = (group.caller(), group.caller());
         for round in 0..1000u32 {
             let (key, woken) = (format!("k{}", round % 15), Arc::<Wakes>::default());
-            let mut joined = pin!(second.do_async(key.as_bytes(), async { unreachable!() }));
+            let mut joined = pin!(second.get_or_load_async(key.as_bytes(), async { unreachable!() }));
             first
-                .do_with(key.as_bytes(), || {
+                .get_or_load(key.as_bytes(), || {
                     assert!(once(joined.as_mut(), &woken).is_pending(), "it joins");
                     round
-                })
-                .unwrap();
+                });
             assert!(woken.0.load(SeqCst) == 1, "it is woken");
-            assert!(matches!(once(joined.as_mut(), &woken), Poll::Ready(Ok(got)) if *got.answer == round), "its answer");
+            assert!(matches!(once(joined.as_mut(), &woken), Poll::Ready(got) if *got.value == round), "its answer");
         }
         assert!(wakes.iter().all(|wakes| wakes.0.load(SeqCst) == 0), "who waits for the slow key was not woken");
         7
     });
-    assert!(got.unwrap().joiners == 3000, "all joined");
+    assert!(got.joiners == 3000, "all joined");
     assert!(wakes.iter().all(|wakes| wakes.0.load(SeqCst) == 1), "each was woken once");
     for (task, wakes) in tasks.iter_mut().zip(&wakes) {
-        assert!(matches!(once(task.as_mut(), wakes), Poll::Ready(Ok(got)) if *got.answer == 7), "its answer");
+        assert!(matches!(once(task.as_mut(), wakes), Poll::Ready(got) if *got.value == 7), "its answer");
     }
 }
 
@@ -137,17 +136,18 @@ fn a_task_that_is_dropped_leaves() {
     let (mut first, mut second) = (all.remove(0), all.remove(0));
     let (value, wakes) = (Arc::new(5), Arc::<Wakes>::default());
     let weak = Arc::downgrade(&value);
-    let got = first.do_with(b"k", || {
+    let got = first.get_or_load(b"k", || {
         {
-            let mut task = pin!(second.do_async(b"k", async { unreachable!() }));
+            let mut task = pin!(second.get_or_load_async(b"k", async { unreachable!() }));
             assert!(once(task.as_mut(), &wakes).is_pending(), "it waits");
         }
-        assert!(second.is_current().is_none() && group.stats().in_use == 2, "it has left");
-        let got = block_on(second.do_async(b"m", async { Arc::new(6) })).unwrap();
-        assert!(**got.answer == 6 && group.stats().in_use == 2, "another key, by the same caller of the library");
+        assert!(second.last_is_current().is_none() && group.stats().in_use == 1, "it has left, and holds nothing");
+        let got = block_on(second.get_or_load_async(b"m", async { Arc::new(6) }));
+        assert!(**got.value == 6 && group.stats().in_use == 2, "another key, by the same caller of the library");
         value
     });
-    assert!(got.unwrap().joiners == 1, "it had joined");
+    assert!(got.joiners == 1, "it had joined");
+    drop(got);
     assert!(wakes.0.load(SeqCst) == 0 && weak.upgrade().is_none(), "nobody is woken, and its count is given back");
     assert!(group.stats().in_use == 2 && group.stats().made == 3, "no further caller was made");
 }
@@ -157,16 +157,16 @@ fn a_load_that_is_dropped() {
     let (group, mut all) = open(2);
     let (mut first, mut second) = (all.remove(0), all.remove(0));
     let wakes = Arc::<Wakes>::default();
-    let mut joined = Box::pin(second.do_async(b"k", async { Arc::new(2) }));
+    let mut joined = Box::pin(second.get_or_load_async(b"k", async { Arc::new(2) }));
     {
-        let mut task = pin!(first.do_async(b"k", std::future::pending()));
+        let mut task = pin!(first.get_or_load_async(b"k", std::future::pending()));
         assert!(once(task.as_mut(), &wakes).is_pending(), "it loads");
         assert!(once(joined.as_mut(), &wakes).is_pending(), "another joined");
     }
     assert!(wakes.0.load(SeqCst) == 1, "who joined is woken");
-    let got = block_on(joined).unwrap();
-    assert!(**got.answer == 2 && got.led, "and loads itself");
-    assert!(**block_on(first.do_async(b"k", async { Arc::new(3) })).unwrap().answer == 3, "the first goes on");
+    let got = block_on(joined);
+    assert!(**got.value == 2 && got.led, "and loads itself");
+    assert!(**block_on(first.get_or_load_async(b"k", async { Arc::new(3) })).value == 3, "the first goes on");
     drop((first, second));
     assert!(group.stats().in_use == 0, "all are back");
 }
@@ -178,17 +178,17 @@ fn a_task_that_is_forgotten() {
     let (mut third, mut second, mut first) = (all.remove(2), all.remove(1), all.remove(0));
     drop(all);
     let wakes = Arc::<Wakes>::default();
-    let mut led = Box::pin(first.do_async(b"k", std::future::pending()));
+    let mut led = Box::pin(first.get_or_load_async(b"k", std::future::pending()));
     assert!(once(led.as_mut(), &wakes).is_pending(), "it loads");
-    let mut waits = Box::pin(second.do_async(b"k", async { unreachable!() }));
+    let mut waits = Box::pin(second.get_or_load_async(b"k", async { unreachable!() }));
     assert!(once(waits.as_mut(), &wakes).is_pending(), "it waits");
     std::mem::forget((led, waits));
-    let late = third.do_with_timeout(b"k", std::time::Duration::from_millis(5), || Arc::new(0));
+    let late = third.get_or_load_timeout(b"k", std::time::Duration::from_millis(5), || Arc::new(0));
     assert!(late.err() == Some(Error::TimedOut), "the call is open");
-    assert!(**first.do_with(b"m", || Arc::new(1)).unwrap().answer == 1, "who led goes on");
+    assert!(**first.get_or_load(b"m", || Arc::new(1)).value == 1, "who led goes on");
     assert!(wakes.0.load(SeqCst) == 1, "and who waited was woken");
-    assert!(**third.do_with(b"k", || Arc::new(2)).unwrap().answer == 2, "the key can be loaded");
-    assert!(**second.do_with(b"k", || Arc::new(3)).unwrap().answer == 3 && group.stats().made == 4, "who waited goes on");
+    assert!(**third.get_or_load(b"k", || Arc::new(2)).value == 2, "the key can be loaded");
+    assert!(**second.get_or_load(b"k", || Arc::new(3)).value == 3 && group.stats().made == 4, "who waited goes on");
 }
 
 type Task = Mutex<Option<Pin<Box<dyn Future<Output = ()> + Send>>>>;
@@ -285,13 +285,13 @@ fn random_tasks() {
     let tasks = (0..1000).map(|_| {
         let (world, group, live) = (world.clone(), group.clone(), live.clone());
         let task = async move {
-            let mut caller = group.caller().unwrap();
+            let mut caller = group.caller();
             for _ in 0..30 {
                 let number = draw() as usize % KEYS;
                 let key = [b'k', number as u8];
                 if draw() % 5 == 0 {
                     let now = world.clock.load(SeqCst);
-                    caller.forget(&key).unwrap();
+                    caller.forget(key);
                     world.forgotten[number].fetch_max(now, SeqCst);
                     continue;
                 }
@@ -303,10 +303,9 @@ fn random_tasks() {
                     (number, world.clock.fetch_add(1, SeqCst), live.clone())
                 };
                 let polls = if draw() % 3 == 0 { draw() % 2 } else { u64::MAX };
-                match at_most(polls, caller.do_async(&key, load)).await {
+                match at_most(polls, caller.get_or_load_async(&key, load)).await {
                     Some(got) => {
-                        let got = got.unwrap();
-                        assert!(got.answer.0 == number && got.answer.1 >= before, "an answer of its key, and no older than a forget");
+                        assert!(got.value.0 == number && got.value.1 >= before, "an answer of its key, and no older than a forget");
                     }
                     None => drop(world.dropped.fetch_add(1, SeqCst)),
                 }

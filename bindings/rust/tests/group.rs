@@ -32,7 +32,7 @@ fn random_gets_and_forgets() {
     let group = Group::<Counted>::open(1 << 20, 16).unwrap();
     std::thread::scope(|scope| {
         for thread in 0..8u64 {
-            let (mut caller, mut second) = (group.caller().unwrap(), group.caller());
+            let mut caller = group.caller();
             let (live, clock, loads, shares, forgotten) = (&live, &clock, &loads, &shares, &forgotten);
             scope.spawn(move || {
                 let mut seed = 88_172_645_463_325_252 + thread;
@@ -42,7 +42,7 @@ fn random_gets_and_forgets() {
                     let key = format!("k{number}");
                     if draw(&mut seed) % 5 == 0 {
                         let now = clock.load(SeqCst);
-                        caller.forget(key.as_bytes()).unwrap();
+                        caller.forget(key.as_bytes());
                         forgotten[number].fetch_max(now, SeqCst);
                         continue;
                     }
@@ -57,26 +57,25 @@ fn random_gets_and_forgets() {
                         Counted { key: number, moment: clock.fetch_add(1, SeqCst), live }
                     };
                     let got = if draw(&mut seed) % 4 == 0 {
-                        let (mut receiver, job) = caller.do_chan(second.take().unwrap(), key.as_bytes()).ok().unwrap();
+                        let (mut receiver, job) = caller.subscribe(&key);
                         let has_led = job.map(|job| job.run(load).led).unwrap_or(false);
                         let got = receiver.recv().unwrap();
                         assert!(has_led || got.shared(), "who joined has a shared answer");
-                        second = receiver.into_caller().ok();
                         shares.fetch_add(u64::from(!has_led), SeqCst);
                         got
                     } else {
-                        let got = caller.do_with(key.as_bytes(), load).unwrap();
+                        let got = caller.get_or_load(key.as_bytes(), load);
                         assert!(got.led || got.shared(), "who joined has a shared answer");
                         shares.fetch_add(u64::from(!got.led), SeqCst);
                         got
                     };
-                    assert!(got.answer.key == number, "an answer of another key");
-                    assert!(got.answer.moment >= before, "an answer from before a forget");
+                    assert!(got.value.key == number, "an answer of another key");
+                    assert!(got.value.moment >= before, "an answer from before a forget");
                     if round % 16 == 0 {
-                        kept.push(got.answer.clone());
+                        kept.push(got.value.clone());
                     }
                 }
-                assert!(caller.is_current().is_some(), "there were letters");
+                assert!(caller.last_is_current().is_some(), "there were letters");
             });
         }
     });
@@ -91,18 +90,16 @@ fn one_load_for_all_who_ask_at_once() {
     let all: Vec<(bool, u32)> = std::thread::scope(|scope| {
         let threads: Vec<_> = (0..4)
             .map(|_| {
-                let mut caller = group.caller().unwrap();
+                let mut caller = group.caller();
                 let (started, loads) = (&started, &loads);
                 scope.spawn(move || {
                     started.wait();
-                    let got = caller
-                        .do_with(b"k", || {
-                            loads.fetch_add(1, SeqCst);
-                            std::thread::sleep(Duration::from_millis(300));
-                            7
-                        })
-                        .unwrap();
-                    assert!(*got.answer == 7, "the answer");
+                    let got = caller.get_or_load(b"k", || {
+                        loads.fetch_add(1, SeqCst);
+                        std::thread::sleep(Duration::from_millis(300));
+                        7
+                    });
+                    assert!(*got.value == 7, "the answer");
                     (got.led, got.joiners)
                 })
             })
@@ -116,38 +113,52 @@ fn one_load_for_all_who_ask_at_once() {
 #[test]
 fn a_load_that_panics() {
     let group = Group::<u32>::open(1, 2).unwrap();
-    let (mut one, mut two) = (group.caller().unwrap(), group.caller().unwrap());
+    let (mut one, mut two) = (group.caller(), group.caller());
     let inside = Arc::new(Barrier::new(2));
     let other = inside.clone();
     let thread = std::thread::spawn(move || {
         let failed = catch_unwind(AssertUnwindSafe(|| {
-            let _ = one.do_with(b"k", || {
+            let _ = one.get_or_load(b"k", || {
                 other.wait();
                 std::thread::sleep(Duration::from_millis(200));
                 panic!("the load")
             });
         }));
         assert!(failed.is_err(), "the panic goes on");
-        assert!(*one.do_with(b"k", || 3).unwrap().answer > 0, "the caller is free");
+        assert!(*one.get_or_load(b"k", || 3).value > 0, "the caller is free");
     });
     inside.wait();
-    let got = two.do_with(b"k", || 2).unwrap();
-    assert!(*got.answer == 2 || *got.answer == 3, "who joined asks again");
+    let got = two.get_or_load(b"k", || 2);
+    assert!(*got.value == 2 || *got.value == 3, "who joined asks again");
     thread.join().unwrap();
 }
 
 #[test]
 fn sizes_that_are_refused() {
-    for (places, callers) in [(0, 1), (134_217_729, 1), (u32::MAX, 1), (1, 0), (1, 65_535), (1, u32::MAX)] {
-        assert!(Group::<u32>::open(places, callers).err() == Some(Error::Size), "{places} places, {callers} callers");
+    for slots in [0, 134_217_729, u32::MAX] {
+        assert_eq!(Group::<u32>::open(slots, 1).err(), Some(Error::Slots(slots)));
+    }
+    for callers in [0, 65_535, u32::MAX] {
+        assert_eq!(Group::<u32>::open(1, callers).err(), Some(Error::Callers(callers)));
+    }
+    // Each error says what to do, and is one of the standard library's.
+    for (error, says) in [
+        (Error::Slots(0), "from 1 to 134,217,728"),
+        (Error::Callers(70_000), "70000 callers: a group has from 1 to 65,534"),
+        (Error::OutOfMemory, "out of memory: free some"),
+        (Error::TimedOut, "timed out: the key's load goes on; ask again"),
+        (Error::OtherGroup, "of another group"),
+    ] {
+        let error: Box<dyn std::error::Error + Send + Sync> = error.into();
+        assert!(error.to_string().contains(says), "{error}");
     }
     let group = Group::<u32>::open(1, 1).unwrap();
-    let mut caller = group.caller().unwrap();
-    assert!(caller.is_current().is_none(), "no letter yet");
-    let got = caller.do_with(b"k", || 1).unwrap();
-    assert!(got.led && !got.shared() && *got.answer == 1, "leads alone");
-    assert!(caller.is_current() == Some(true), "current");
-    assert!(caller.forget(b"k") == Ok(false), "nothing is open");
+    let mut caller = group.caller();
+    assert!(caller.last_is_current().is_none(), "no letter yet");
+    let got = caller.get_or_load(b"k", || 1);
+    assert!(got.led && !got.shared() && *got.value == 1, "leads alone");
+    assert!(caller.last_is_current() == Some(true), "current");
+    assert!(!caller.forget(b"k"), "nothing is open");
     drop(group);
-    assert!(*caller.do_with(b"k", || 9).unwrap().answer == 9, "a caller keeps its group");
+    assert!(*caller.get_or_load(b"k", || 9).value == 9, "a caller keeps its group");
 }

@@ -24,15 +24,15 @@ fn keys_come_and_go_in_bounded_memory() {
         for thread in 0..THREADS {
             let (group, all, kilobytes, together) = (&group, &all, &kilobytes, &together);
             scope.spawn(move || {
-                let mut caller = group.caller().unwrap();
+                let mut caller = group.caller();
                 for part in 0..10 {
                     let mut own = Vec::new();
                     for batch in 0..tenth / BATCH {
                         let from = Instant::now();
                         for number in 0..BATCH {
                             let number = ((part * tenth + batch * BATCH + number) * THREADS + thread).to_le_bytes();
-                            let got = caller.do_with(&number, || u64::from_le_bytes(number)).unwrap();
-                            assert!(*got.answer == u64::from_le_bytes(number), "its own answer");
+                            let got = caller.get_or_load(&number, || u64::from_le_bytes(number));
+                            assert!(*got.value == u64::from_le_bytes(number), "its own answer");
                         }
                         own.push(from.elapsed().as_nanos() as u64 / BATCH);
                     }

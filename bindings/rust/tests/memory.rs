@@ -25,9 +25,9 @@ fn groups_by_their_number() {
         let groups: Vec<_> = (0..count)
             .map(|_| {
                 let group = Group::<u64>::new();
-                let mut callers: Vec<_> = (0..32).map(|_| group.caller().unwrap()).collect();
+                let mut callers: Vec<_> = (0..32).map(|_| group.caller()).collect();
                 for (number, caller) in (0..).zip(&mut callers) {
-                    caller.do_with(&[number], || 1).unwrap();
+                    caller.get_or_load(&[number], || 1);
                 }
                 drop(callers);
                 assert!(group.stats().made == 32 && group.stats().alone == 0, "{:?}", group.stats());
@@ -51,10 +51,10 @@ fn long_keys_are_not_kept() {
     let _one = ONE_AT_A_TIME.lock().unwrap();
     let group = Group::<u64>::new();
     let before = memory();
-    let mut callers: Vec<_> = (0..1000).map(|_| group.caller().unwrap()).collect();
+    let mut callers: Vec<_> = (0..1000).map(|_| group.caller()).collect();
     for (number, caller) in (0..).zip(&mut callers) {
         let key = vec![number as u8; 65_536];
-        assert_eq!(*caller.do_with(&key, || number).unwrap().answer, number);
+        assert_eq!(*caller.get_or_load(&key, || number).value, number);
     }
     let took = memory().saturating_sub(before);
     assert!(took < 20_000, "{took} kB for 1,000 callers");

@@ -28,9 +28,9 @@ fn open(callers: u32) -> Group<String> {
 fn nested_calls_in_one_thread() {
     ends("nested", || {
         let group = open(2);
-        let (mut outer, mut inner) = (group.caller().unwrap(), group.caller().unwrap());
-        let got = outer.do_with(b"page", || inner.do_with(b"user", || "ada".into()).unwrap().answer.to_uppercase());
-        assert!(*got.unwrap().answer == "ADA");
+        let (mut outer, mut inner) = (group.caller(), group.caller());
+        let got = outer.get_or_load(b"page", || inner.get_or_load(b"user", || "ada".into()).value.to_uppercase());
+        assert!(*got.value == "ADA");
     });
 }
 
@@ -38,12 +38,12 @@ fn nested_calls_in_one_thread() {
 fn nested_calls_with_a_deadline() {
     ends("nested, with a deadline", || {
         let group = open(2);
-        let (mut outer, mut inner) = (group.caller().unwrap(), group.caller().unwrap());
-        let got = outer.do_with(b"page", || {
-            let got = inner.do_with_timeout(b"user", Duration::from_secs(3600), || "ada".into());
-            got.unwrap().answer.to_uppercase()
+        let (mut outer, mut inner) = (group.caller(), group.caller());
+        let got = outer.get_or_load(b"page", || {
+            let got = inner.get_or_load_timeout(b"user", Duration::from_secs(3600), || "ada".into());
+            got.unwrap().value.to_uppercase()
         });
-        assert!(*got.unwrap().answer == "ADA");
+        assert!(*got.value == "ADA");
     });
 }
 
@@ -55,12 +55,12 @@ fn crossed_calls_in_two_threads() {
         std::thread::scope(|scope| {
             for [outer, inner] in [["a", "b"], ["c", "d"]] {
                 scope.spawn(move || {
-                    let (mut first, mut second) = (group.caller().unwrap(), group.caller().unwrap());
-                    let got = first.do_with(outer.as_bytes(), || {
+                    let (mut first, mut second) = (group.caller(), group.caller());
+                    let got = first.get_or_load(outer.as_bytes(), || {
                         together.wait();
-                        second.do_with(inner.as_bytes(), || inner.into()).unwrap().answer.repeat(2)
+                        second.get_or_load(inner.as_bytes(), || inner.into()).value.repeat(2)
                     });
-                    assert!(*got.unwrap().answer == inner.repeat(2));
+                    assert!(*got.value == inner.repeat(2));
                 });
             }
         });
@@ -71,12 +71,12 @@ fn crossed_calls_in_two_threads() {
 fn nested_futures() {
     ends("a future", || {
         let group = open(2);
-        let (mut outer, mut inner) = (group.caller().unwrap(), group.caller().unwrap());
-        let load = async { inner.do_async(b"user", async { "ada".into() }).await.unwrap().answer.to_uppercase() };
-        let mut task = pin!(outer.do_async(b"page", load));
+        let (mut outer, mut inner) = (group.caller(), group.caller());
+        let load = async { inner.get_or_load_async(b"user", async { "ada".into() }).await.value.to_uppercase() };
+        let mut task = pin!(outer.get_or_load_async(b"page", load));
         let Poll::Ready(got) = task.as_mut().poll(&mut Context::from_waker(Waker::noop())) else {
             panic!("it waits for itself");
         };
-        assert!(*got.unwrap().answer == "ADA");
+        assert!(*got.value == "ADA");
     });
 }

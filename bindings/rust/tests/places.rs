@@ -15,81 +15,83 @@ fn look<F: Future>(future: Pin<&mut F>) -> Poll<F::Output> {
 #[test]
 fn a_caller_that_finds_another_keys_call_loads_alone() {
     let group = Group::<Arc<&str>>::open(1, 2).unwrap();
-    let (mut first, mut second) = (group.caller().unwrap(), group.caller().unwrap());
+    let (mut first, mut second) = (group.caller(), group.caller());
     let (value, other) = (Arc::new("ada"), Arc::new("grace"));
     let weak = Arc::downgrade(&value);
-    assert!(second.do_with(b"grace", || other.clone()).is_ok() && second.is_current() == Some(true), "a letter before");
-    let got = first.do_with(b"ada", || {
-        let got = second.do_with(b"grace", || other.clone()).unwrap();
-        assert!(**got.answer == "grace" && got.led && !got.shared(), "its own load");
+    assert!(second.get_or_load(b"grace", || other.clone()).led && second.last_is_current() == Some(true), "a letter before");
+    let got = first.get_or_load(b"ada", || {
+        let got = second.get_or_load(b"grace", || other.clone());
+        assert!(**got.value == "grace" && got.led && !got.shared(), "its own load");
         assert!(got.call().is_none() && got.stamp() == Stamp::default(), "of no call");
-        assert!(second.is_current().is_none(), "there is no call to ask about");
+        assert!(second.last_is_current().is_none(), "there is no call to ask about");
         value
     });
-    assert!(**got.unwrap().answer == "ada" && first.is_current() == Some(true), "the first has its own");
+    assert!(**got.value == "ada" && first.last_is_current() == Some(true), "the first has its own");
+    drop(got);
     assert!(weak.upgrade().is_none(), "the count of the caller that left is given back");
     assert!(Arc::strong_count(&other) == 1, "the answer is gone with who had it");
-    assert!(group.stats() == Stats { leads: 2, alone: 1, made: 2, in_use: 1, ..Stats::default() }, "{:?}", group.stats());
-    assert!(*second.do_with(b"ada", || Arc::new("hopper")).unwrap().answer == Arc::new("hopper"), "its caller is back");
+    let mut stats = Stats::default();
+    (stats.leads, stats.alone, stats.made, stats.in_use) = (2, 1, 2, 1);
+    assert_eq!(group.stats(), stats);
+    assert!(*second.get_or_load(b"ada", || Arc::new("hopper")).value == Arc::new("hopper"), "its caller is back");
 }
 
 #[test]
 fn a_task_that_finds_another_keys_call_loads_alone() {
     let group = Group::<u32>::open(1, 2).unwrap();
-    let (mut first, mut second) = (group.caller().unwrap(), group.caller().unwrap());
+    let (mut first, mut second) = (group.caller(), group.caller());
     first
-        .do_with(b"key", || {
-            let mut task = pin!(second.do_async(b"other", async { 1 }));
-            let Poll::Ready(Ok(got)) = look(task.as_mut()) else { panic!("it waits") };
-            assert!(*got.answer == 1 && got.led && got.call().is_none(), "its own load");
+        .get_or_load(b"key", || {
+            let mut task = pin!(second.get_or_load_async(b"other", async { 1 }));
+            let Poll::Ready(got) = look(task.as_mut()) else { panic!("it waits") };
+            assert!(*got.value == 1 && got.led && got.call().is_none(), "its own load");
             7
-        })
-        .unwrap();
+        });
     assert!(group.stats().alone == 1, "{:?}", group.stats());
 }
 
 #[test]
 fn a_receiver_beside_another_keys_call_has_a_job() {
     let group = Group::<u32>::open(1, 3).unwrap();
-    let (mut first, mut second, third) = (group.caller().unwrap(), group.caller().unwrap(), group.caller().unwrap());
-    let mut fourth = group.caller().unwrap();
-    let got = first.do_with(b"key", || {
-        let (mut receiver, job) = second.do_chan(third, b"other").unwrap();
+    let (mut first, mut second) = (group.caller(), group.caller());
+    let mut fourth = group.caller();
+    let got = first.get_or_load(b"key", || {
+        let (mut receiver, job) = second.subscribe(b"other");
         assert!(receiver.try_recv().err() == Some(TryRecvError::Empty), "not yet");
         let got = job.expect("another key's call is no answer").run(|| {
-            let late = fourth.do_with_timeout(b"other", Duration::from_millis(1), || 9);
+            let late = fourth.get_or_load_timeout(b"other", Duration::from_millis(1), || 9);
             assert!(late.err() == Some(Error::TimedOut), "one load of the key at a time");
             8
         });
-        assert!(*got.answer == 8 && got.led && got.joiners == 1, "its load");
+        assert!(*got.value == 8 && got.led && got.joiners == 1, "its load");
         let got = receiver.recv().unwrap();
-        assert!(*got.answer == 8 && !got.led && got.call().is_none(), "the receiver has it");
-        let (mut receiver, job) = second.do_chan(receiver.into_caller().unwrap(), b"other").unwrap();
+        assert!(*got.value == 8 && !got.led && got.call().is_none(), "the receiver has it");
+        let (mut receiver, job) = second.subscribe(b"other");
         drop(job);
         assert!(receiver.recv().is_err(), "a job that nobody runs");
         7
     });
-    assert!(*got.unwrap().answer == 7, "the first has its own");
+    assert!(*got.value == 7, "the first has its own");
 }
 
 #[test]
 fn keys_of_any_length() {
     let group = Group::<usize>::open(1, 2).unwrap();
-    let (mut first, mut second) = (group.caller().unwrap(), group.caller().unwrap());
+    let (mut first, mut second) = (group.caller(), group.caller());
     for len in [0, 1, 249, 250, 251, 252, 1000, 100_000] {
         let key = vec![b'k'; len];
         let other = [&key[..], b"l"].concat();
-        let got = first.do_with(&key, || {
+        let got = first.get_or_load(&key, || {
             // One byte more makes another key.
-            let got = second.do_with(&other, || len + 1).unwrap();
-            assert!(*got.answer == len + 1 && got.led, "another key");
+            let got = second.get_or_load(&other, || len + 1);
+            assert!(*got.value == len + 1 && got.led, "another key");
             len
         });
-        assert!(*got.unwrap().answer == len && first.is_current() == Some(true), "the answer");
-        assert!(*second.do_with(&other, || len + 1).unwrap().answer == len + 1, "the other's");
-        let call = second.do_with(&key, || len).unwrap().call();
-        assert!(call.is_some() && first.named(&key) == Ok(call), "the call that it names");
-        assert!(second.forget(&key) == Ok(false), "nothing is open");
+        assert!(*got.value == len && first.last_is_current() == Some(true), "the answer");
+        assert!(*second.get_or_load(&other, || len + 1).value == len + 1, "the other's");
+        let call = second.get_or_load(&key, || len).call();
+        assert!(call.is_some() && first.current_call(&key) == call, "the call that it names");
+        assert!(!second.forget(&key), "nothing is open");
     }
 }
 
@@ -123,7 +125,7 @@ fn stress(places: u32, answers: u64, cached: bool) -> Stats {
     let names: Vec<String> = (0..KEYS).map(|number| format!("{}{number}", "key".repeat(number % 8 * 20))).collect();
     let hits = AtomicU64::new(0);
     let group = Group::<Page>::open(places, 8).unwrap();
-    let callers: Vec<_> = (0..8u64).map(|thread| (thread, group.caller().unwrap())).collect();
+    let callers: Vec<_> = (0..8u64).map(|thread| (thread, group.caller())).collect();
     std::thread::scope(|scope| {
         for (thread, mut caller) in callers {
             let (live, clock, forgotten, names, cache, hits) = (&live, &clock, &forgotten, &names, &cache, &hits);
@@ -134,14 +136,14 @@ fn stress(places: u32, answers: u64, cached: bool) -> Stats {
                     let key = names[number].as_bytes();
                     if draw(&mut seed) % 16 == 0 {
                         let now = clock.load(SeqCst);
-                        caller.forget(key).unwrap();
+                        caller.forget(key);
                         forgotten[number].fetch_max(now, SeqCst);
                     }
                     let before = forgotten[number].load(SeqCst);
                     if cached {
-                        let found: Option<(singleflight::Answer<Page>, Stamp)> = cache[number].lock().unwrap().clone();
+                        let found: Option<(Arc<Page>, Stamp)> = cache[number].lock().unwrap().clone();
                         if let Some((page, stamp)) = found {
-                            if caller.is_still(stamp) {
+                            if caller.is_current(stamp) {
                                 assert!(page.key == names[number] && page.moment >= before, "a hit of its key, and no older than a forget");
                                 hits.fetch_add(1, SeqCst);
                                 continue;
@@ -155,11 +157,11 @@ fn stress(places: u32, answers: u64, cached: bool) -> Stats {
                         live.fetch_add(1, SeqCst);
                         Page { key: names[number].clone(), moment, live }
                     };
-                    let got = caller.do_with(key, load).unwrap();
-                    assert!(got.answer.key == names[number], "an answer of another key");
-                    assert!(got.answer.moment >= before, "an answer from before a forget");
-                    if cached && caller.is_still(got.stamp()) {
-                        *cache[number].lock().unwrap() = Some((got.answer.clone(), got.stamp()));
+                    let got = caller.get_or_load(key, load);
+                    assert!(got.value.key == names[number], "an answer of another key");
+                    assert!(got.value.moment >= before, "an answer from before a forget");
+                    if cached && caller.is_current(got.stamp()) {
+                        *cache[number].lock().unwrap() = Some((got.value.clone(), got.stamp()));
                     }
                 }
             });

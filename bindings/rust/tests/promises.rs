@@ -1,6 +1,6 @@
 //! The promises: no call waits for another key's load, one load of a key at a time, nothing wears out, a Forget always forgets, and a
 //! group is small at first.
-use singleflight::{Caller, Error, Group, Hit, Stamp};
+use singleflight::{Caller, Error, ForgetOutcome, Group, Stamp};
 use std::collections::HashSet;
 use std::future::Future;
 use std::panic::{AssertUnwindSafe, catch_unwind};
@@ -41,7 +41,7 @@ impl Hung {
                     until("told to end", || over.load(SeqCst));
                     1
                 };
-                group.caller().unwrap().do_with(&key, load).unwrap();
+                group.caller().get_or_load(&key, load);
             }
         });
         until("it loads", || loads.load(SeqCst) || thread.is_finished());
@@ -60,14 +60,14 @@ impl Drop for Hung {
 fn loads_that_hang_hold_up_no_other_key() {
     let group = Arc::new(Group::<u64>::new());
     let hung: Vec<_> = (0..200).map(|key| Hung::new(&group, format!("hung {key}").into_bytes())).collect();
-    let mut caller = group.caller().unwrap();
+    let mut caller = group.caller();
     for number in 0..20_000u64 {
-        let got = caller.do_with(format!("key {number}").as_bytes(), || number).unwrap();
-        assert!(*got.answer == number && got.led, "its own load");
+        let got = caller.get_or_load(format!("key {number}").as_bytes(), || number);
+        assert!(*got.value == number && got.led, "its own load");
     }
     // The keys that hang are asked for with a deadline, in their epoch or a later one.
     for key in 0..200 {
-        let late = caller.do_with_timeout(format!("hung {key}").as_bytes(), NOW, || panic!("a second load"));
+        let late = caller.get_or_load_timeout(format!("hung {key}").as_bytes(), NOW, || panic!("a second load"));
         assert!(late.err() == Some(Error::TimedOut), "its load runs");
     }
     drop(hung);
@@ -84,19 +84,19 @@ fn one_load_for_more_than_there_are_callers() {
             for thread in 0..THREADS {
                 let (group, loads, others) = (&group, &loads, &others);
                 scope.spawn(move || {
-                    let mut caller = group.caller().unwrap();
+                    let mut caller = group.caller();
                     // Some of them hold a caller of the library for another key.
                     if thread % 3 == 0 {
-                        others.fetch_add(*caller.do_with(format!("own {thread}").as_bytes(), || 1).unwrap().answer, SeqCst);
+                        others.fetch_add(*caller.get_or_load(format!("own {thread}").as_bytes(), || 1).value, SeqCst);
                     }
-                    let got = caller.do_with(b"one key", || {
+                    let got = caller.get_or_load(b"one key", || {
                         let number = loads.fetch_add(1, SeqCst);
                         until("all ask", || group.stats().joins >= THREADS - 1);
                         // A call that followed an asking that led nothing has joined twice.
                         std::thread::sleep(Duration::from_millis(50));
                         number
                     });
-                    assert!(*got.unwrap().answer == 0, "the only load's");
+                    assert!(*got.value == 0, "the only load's");
                 });
             }
         });
@@ -110,16 +110,16 @@ fn one_load_for_more_than_there_are_callers() {
 fn one_load_for_a_hundred_thousand_tasks() {
     const TASKS: usize = 100_000;
     let group = Group::<u64>::new();
-    let mut callers: Vec<_> = (0..TASKS).map(|_| group.caller().unwrap()).collect();
+    let mut callers: Vec<_> = (0..TASKS).map(|_| group.caller()).collect();
     let mut tasks = Vec::new();
-    let got = group.caller().unwrap().do_with(b"one key", || {
-        tasks = callers.iter_mut().map(|caller| Box::pin(caller.do_async(b"one key", async { panic!("a second load") }))).collect();
+    let got = group.caller().get_or_load(b"one key", || {
+        tasks = callers.iter_mut().map(|caller| Box::pin(caller.get_or_load_async(b"one key", async { panic!("a second load") }))).collect();
         assert!(tasks.iter_mut().all(|task| look(task.as_mut()).is_pending()), "all wait");
         7
     });
-    assert!(got.unwrap().joiners == TASKS as u32, "all have joined");
+    assert!(got.joiners == TASKS as u32, "all have joined");
     for task in &mut tasks {
-        assert!(matches!(look(task.as_mut()), Poll::Ready(Ok(got)) if *got.answer == 7), "the answer");
+        assert!(matches!(look(task.as_mut()), Poll::Ready(got) if *got.value == 7), "the answer");
     }
     assert!(group.stats().made <= 32 + 256 && group.stats().leads + group.stats().alone == 1, "{:?}", group.stats());
 }
@@ -129,7 +129,7 @@ fn one_load_for_a_hundred_thousand_tasks() {
 fn answers_do_not_go_backwards() {
     let group = Group::<u64>::open(1, 1).unwrap();
     let (version, together) = (AtomicU64::new(1), Barrier::new(2));
-    let mut caller = group.caller().unwrap();
+    let mut caller = group.caller();
     std::thread::scope(|scope| {
         let first = scope.spawn(|| {
             let load = || {
@@ -138,17 +138,17 @@ fn answers_do_not_go_backwards() {
                 together.wait();
                 seen
             };
-            *caller.do_with(b"k", load).unwrap().answer
+            *caller.get_or_load(b"k", load).value
         });
         together.wait();
         version.store(2, SeqCst);
         // Without a caller of the library this one joins the load that runs.
-        let mut other = group.caller().unwrap();
-        let late = other.do_with_timeout(b"k", NOW, || version.load(SeqCst));
+        let mut other = group.caller();
+        let late = other.get_or_load_timeout(b"k", NOW, || version.load(SeqCst));
         assert!(late.err() == Some(Error::TimedOut), "one load at a time");
         together.wait();
         assert!(first.join().unwrap() == 1, "the first's");
-        assert!(*other.do_with(b"k", || version.load(SeqCst)).unwrap().answer == 2, "and then a newer one");
+        assert!(*other.get_or_load(b"k", || version.load(SeqCst)).value == 2, "and then a newer one");
     });
 }
 
@@ -157,18 +157,18 @@ fn answers_do_not_go_backwards() {
 fn a_forget_without_a_caller() {
     let group = Arc::new(Group::<u64>::open(1, 1).unwrap());
     let hung = Hung::new(&group, b"hung".to_vec());
-    let (mut first, mut second) = (group.caller().unwrap(), group.caller().unwrap());
-    let got = first.do_with(b"k", || {
-        let late = second.do_with_timeout(b"k", NOW, || 9);
+    let (mut first, mut second) = (group.caller(), group.caller());
+    let got = first.get_or_load(b"k", || {
+        let late = second.get_or_load_timeout(b"k", NOW, || 9);
         assert!(late.err() == Some(Error::TimedOut), "it runs");
-        assert!(second.forget(b"k") == Ok(true) && second.forget(b"k") == Ok(false), "it is forgotten, once");
-        assert!(*second.do_with(b"k", || 2).unwrap().answer == 2, "a newer load");
+        assert!(second.forget(b"k") && !second.forget(b"k"), "it is forgotten, once");
+        assert!(*second.get_or_load(b"k", || 2).value == 2, "a newer load");
         1
     });
-    assert!(*got.unwrap().answer == 1 && group.stats().closed == 1 && group.stats().alone == 2, "{:?}", group.stats());
-    let late = second.do_with_timeout(b"hung", NOW, || 9);
-    assert!(late.err() == Some(Error::TimedOut) && second.forget(b"hung") == Ok(true), "and what hangs");
-    assert!(*second.do_with(b"hung", || 3).unwrap().answer == 3, "so that it can be loaded");
+    assert!(*got.value == 1 && group.stats().closed == 1 && group.stats().alone == 2, "{:?}", group.stats());
+    let late = second.get_or_load_timeout(b"hung", NOW, || 9);
+    assert!(late.err() == Some(Error::TimedOut) && second.forget(b"hung"), "and what hangs");
+    assert!(*second.get_or_load(b"hung", || 3).value == 3, "so that it can be loaded");
     drop(hung);
 }
 
@@ -176,24 +176,24 @@ fn a_forget_without_a_caller() {
 fn a_forget_beside_many_who_wait_with_deadlines() {
     let group = Arc::new(Group::<u64>::open(64, 4).unwrap());
     let hung = Hung::new(&group, b"origin".to_vec());
-    let mut callers: Vec<_> = (0..64).map(|_| group.caller().unwrap()).collect();
+    let mut callers: Vec<_> = (0..64).map(|_| group.caller()).collect();
     for _ in 0..20 {
         for caller in &mut callers {
-            assert!(caller.do_with_timeout(b"origin", NOW, || 2).err() == Some(Error::TimedOut), "it hangs");
+            assert!(caller.get_or_load_timeout(b"origin", NOW, || 2).err() == Some(Error::TimedOut), "it hangs");
         }
     }
-    let mut tasks: Vec<_> = callers.iter_mut().map(|caller| Box::pin(caller.do_async(b"origin", async { 2 }))).collect();
+    let mut tasks: Vec<_> = callers.iter_mut().map(|caller| Box::pin(caller.get_or_load_async(b"origin", async { 2 }))).collect();
     assert!(tasks.iter_mut().all(|task| look(task.as_mut()).is_pending()), "tasks wait");
     drop(tasks);
     drop(callers);
     assert!(group.stats().in_use == 1, "one caller is in use: {:?}", group.stats());
-    let mut caller = group.caller().unwrap();
+    let mut caller = group.caller();
     for key in 0..64 {
         let key = format!("key {key}");
-        let stamp = caller.do_with(key.as_bytes(), || 1).unwrap().stamp();
-        assert!(stamp == Stamp::default() || caller.is_still(stamp), "a result that can be cached");
-        caller.forget(key.as_bytes()).unwrap();
-        assert!(!caller.is_still(stamp), "and is forgotten");
+        let stamp = caller.get_or_load(key.as_bytes(), || 1).stamp();
+        assert!(stamp == Stamp::default() || caller.is_current(stamp), "a result that can be cached");
+        caller.forget(key.as_bytes());
+        assert!(!caller.is_current(stamp), "and is forgotten");
     }
     drop(hung);
 }
@@ -202,36 +202,36 @@ fn a_forget_beside_many_who_wait_with_deadlines() {
 #[test]
 fn a_forget_ends_no_call_of_another_key() {
     let group = Group::<u64>::open(1, 4).unwrap();
-    let (mut first, mut second) = (group.caller().unwrap(), group.caller().unwrap());
-    let got = first.do_with(b"ada", || {
-        assert!(second.forget(b"grace") == Ok(false), "nothing of it is open");
-        let late = second.do_with_timeout(b"ada", NOW, || 2);
+    let (mut first, mut second) = (group.caller(), group.caller());
+    let got = first.get_or_load(b"ada", || {
+        assert!(!second.forget(b"grace"), "nothing of it is open");
+        let late = second.get_or_load_timeout(b"ada", NOW, || 2);
         assert!(late.err() == Some(Error::TimedOut), "one load of ada");
-        let named = second.named(b"grace").unwrap().unwrap();
-        assert!(second.forget_call(b"grace", named) == Ok(Hit::Missed), "nor by its call");
+        let named = second.current_call(b"grace").unwrap();
+        assert!(second.forget_call(b"grace", named) == ForgetOutcome::Missed, "nor by its call");
         1
     });
-    let stamp = got.unwrap().stamp();
-    assert!(first.is_still(stamp), "its answer is current");
-    second.forget(b"ada").unwrap();
-    assert!(!first.is_still(stamp), "until it is forgotten itself");
+    let stamp = got.stamp();
+    assert!(first.is_current(stamp), "its answer is current");
+    second.forget(b"ada");
+    assert!(!first.is_current(stamp), "until it is forgotten itself");
 }
 
 #[test]
 fn callers_that_are_spent_are_renewed() {
     let group = Group::<u64>::open_spent_after(4, 3, 5).unwrap();
-    let mut caller = group.caller().unwrap();
+    let mut caller = group.caller();
     let (mut epochs, mut stamps) = (HashSet::new(), 0);
     for round in 0..30_000u64 {
         let key = [b'a' + (round % 3) as u8];
-        let got = caller.do_with(&key, || round).unwrap();
-        assert!(*got.answer == round && got.led, "its own load");
+        let got = caller.get_or_load(&key, || round);
+        assert!(*got.value == round && got.led, "its own load");
         let call = got.call().expect("a call of the library");
         epochs.insert(call.epoch);
-        stamps += u64::from(caller.is_still(got.stamp()));
+        stamps += u64::from(caller.is_current(got.stamp()));
         if round % 5 == 0 {
-            caller.forget(&key).unwrap();
-            assert!(!caller.is_still(got.stamp()) && caller.forget_call(&key, call) == Ok(Hit::Missed), "forgotten");
+            caller.forget(key);
+            assert!(!caller.is_current(got.stamp()) && caller.forget_call(key, call) == ForgetOutcome::Missed, "forgotten");
         }
     }
     assert!(epochs.len() >= 3000 && stamps > 25_000, "{} epochs, {stamps} current stamps", epochs.len());
@@ -245,48 +245,48 @@ fn calls_that_are_open_when_their_callers_are_renewed() {
     let group = Group::<u64>::open_spent_after(16, 8, 3).unwrap();
     // Some keys have the slot of the open call, and are loaded beside the library.
     let spend = |caller: &mut Caller<u64>| {
-        let mut epochs = (0..1000u64).filter_map(|key| Some(caller.do_with(&key.to_le_bytes(), || 0).unwrap().call()?.epoch));
+        let mut epochs = (0..1000u64).filter_map(|key| Some(caller.get_or_load(&key.to_le_bytes(), || 0).call()?.epoch));
         let from = epochs.next().unwrap();
         assert!(epochs.any(|epoch| epoch >= from + 3), "its callers are spent");
     };
-    let (mut first, mut second) = (group.caller().unwrap(), group.caller().unwrap());
-    let got = first.do_with(b"k", || {
-        let call = second.named(b"k").unwrap().unwrap();
+    let (mut first, mut second) = (group.caller(), group.caller());
+    let got = first.get_or_load(b"k", || {
+        let call = second.current_call(b"k").unwrap();
         spend(&mut second);
-        assert!(second.do_with_timeout(b"k", NOW, || 2).err() == Some(Error::TimedOut), "its load runs");
-        let mut task = pin!(second.do_async(b"k", async { 3 }));
+        assert!(second.get_or_load_timeout(b"k", NOW, || 2).err() == Some(Error::TimedOut), "its load runs");
+        let mut task = pin!(second.get_or_load_async(b"k", async { 3 }));
         assert!(look(task.as_mut()).is_pending(), "a task joins it");
-        let mut third = group.caller().unwrap();
-        assert!(third.forget_call(b"k", call) == Ok(Hit::Closed) && third.forget_call(b"k", call) == Ok(Hit::Missed), "by its name");
-        assert!(*third.do_with(b"k", || 4).unwrap().answer == 4, "a newer load");
+        let mut third = group.caller();
+        assert!(third.forget_call(b"k", call) == ForgetOutcome::Closed && third.forget_call(b"k", call) == ForgetOutcome::Missed, "by its name");
+        assert!(*third.get_or_load(b"k", || 4).value == 4, "a newer load");
         1
     });
-    assert!(*got.as_ref().unwrap().answer == 1 && !second.is_still(got.unwrap().stamp()), "it is of an epoch that is gone");
-    let got = first.do_with(b"k", || {
+    assert!(*got.value == 1 && !second.is_current(got.stamp()), "it is of an epoch that is gone");
+    let got = first.get_or_load(b"k", || {
         spend(&mut second);
-        assert!(second.forget(b"k") == Ok(true), "a Forget finds it");
-        assert!(*second.do_with(b"k", || 5).unwrap().answer == 5, "and who asks later loads anew");
+        assert!(second.forget(b"k"), "a Forget finds it");
+        assert!(*second.get_or_load(b"k", || 5).value == 5, "and who asks later loads anew");
         spend(&mut second);
-        assert!(*second.do_with(b"k", || 7).unwrap().answer == 7, "also in a later epoch");
+        assert!(*second.get_or_load(b"k", || 7).value == 7, "also in a later epoch");
         6
     });
-    assert!(*got.unwrap().answer == 6);
+    assert!(*got.value == 6);
 }
 
 #[test]
 fn a_group_grows_with_its_use() {
     let group = Arc::new(Group::<u64>::new());
     let hung: Vec<_> = (0..300).map(|key| Hung::new(&group, format!("hung {key}").into_bytes())).collect();
-    let mut callers: Vec<_> = (0..40).map(|_| group.caller().unwrap()).collect();
+    let mut callers: Vec<_> = (0..40).map(|_| group.caller()).collect();
     for caller in &mut callers {
-        caller.do_with(b"k", || 1).unwrap();
+        caller.get_or_load(b"k", || 1);
     }
-    let call = callers[0].do_with(b"k", || 1).unwrap().call().expect("there are callers again");
+    let call = callers[0].get_or_load(b"k", || 1).call().expect("there are callers again");
     assert!(call.epoch >= 3, "it has grown twice: {call:?}");
     drop(hung);
     let alone = group.stats().alone;
     for caller in &mut callers {
-        assert!(caller.do_with(b"k", || 1).unwrap().call().is_some(), "by the library");
+        assert!(caller.get_or_load(b"k", || 1).call().is_some(), "by the library");
     }
     assert!(group.stats().alone == alone && alone < 20, "{:?}", group.stats());
 }
@@ -294,28 +294,28 @@ fn a_group_grows_with_its_use() {
 #[test]
 fn no_forgotten_answer_is_current_after_a_load_without_one() {
     let group = Group::<u64>::open(1024, 4).unwrap();
-    let (mut caller, mut other) = (group.caller().unwrap(), group.caller().unwrap());
+    let (mut caller, mut other) = (group.caller(), group.caller());
     for how in 0..4 {
-        caller.do_with(b"k", || 1).unwrap();
-        assert!(caller.is_current() == Some(true));
-        other.forget(b"k").unwrap();
+        caller.get_or_load(b"k", || 1);
+        assert!(caller.last_is_current() == Some(true));
+        other.forget(b"k");
         match how {
-            0 => assert!(catch_unwind(AssertUnwindSafe(|| caller.do_with(b"m", || panic!("the load")).is_ok())).is_err()),
+            0 => assert!(catch_unwind(AssertUnwindSafe(|| caller.get_or_load(b"m", || panic!("the load")).led)).is_err()),
             1 => {
-                let mut task = pin!(caller.do_async(b"m", std::future::pending()));
+                let mut task = pin!(caller.get_or_load_async(b"m", std::future::pending()));
                 assert!(look(task.as_mut()).is_pending());
             }
             2 => {
-                let (receiver, job) = caller.do_chan(group.caller().unwrap(), b"m").unwrap();
+                let (receiver, job) = caller.subscribe(b"m");
                 drop((receiver, job));
             }
             _ => {
-                let (receiver, job) = caller.do_chan(group.caller().unwrap(), b"m").unwrap();
+                let (receiver, job) = caller.subscribe(b"m");
                 std::mem::forget(job);
                 drop(receiver);
             }
         }
-        assert!(caller.is_current() == Some(false), "after {how}: the answer that it got last is forgotten");
+        assert!(caller.last_is_current() == Some(false), "after {how}: the answer that it got last is forgotten");
     }
 }
 
@@ -339,7 +339,7 @@ fn waker(run: fn(&str)) -> Waker {
     unsafe { Waker::from_raw(RawWaker::new(run as *const (), &TABLE)) }
 }
 
-type Task = std::pin::Pin<Box<dyn Future<Output = Result<singleflight::Got<u64>, Error>> + Send>>;
+type Task = std::pin::Pin<Box<dyn Future<Output = singleflight::Loaded<u64>> + Send>>;
 
 // Another task of the same call, which the first one's waker polls in each of its parts, as an executor may.
 static OTHER: Mutex<Option<Task>> = Mutex::new(None);
@@ -353,24 +353,24 @@ fn wakers_run_without_a_lock_and_one_that_panics_hurts_nobody() {
         }
     }
     fn owned(mut caller: Caller<u64>) -> Task {
-        Box::pin(async move { caller.do_async(b"k", async { 6 }).await })
+        Box::pin(async move { caller.get_or_load_async(b"k", async { 6 }).await })
     }
     static GOT: AtomicU64 = AtomicU64::new(0);
     let group = Group::<u64>::open(1, 8).unwrap();
-    let mut leader = group.caller().unwrap();
+    let mut leader = group.caller();
     let polls = waker(|_| {
         let Ok(mut other) = OTHER.try_lock() else { return };
         if let Some(Poll::Ready(got)) = other.as_mut().map(|task| look(task.as_mut())) {
-            GOT.store(*got.unwrap().answer, SeqCst);
+            GOT.store(*got.value, SeqCst);
             *other = None;
         }
     });
     let panics = waker(|part| assert!(part != "wake", "a waker that panics"));
     let told = Arc::new(Told(AtomicBool::new(false)));
     let wakers = [polls, panics, Waker::from(told.clone())];
-    let mut tasks: Vec<Task> = (0..3).map(|_| owned(group.caller().unwrap())).collect();
-    let got = leader.do_with(b"k", || {
-        let mut other = owned(group.caller().unwrap());
+    let mut tasks: Vec<Task> = (0..3).map(|_| owned(group.caller())).collect();
+    let got = leader.get_or_load(b"k", || {
+        let mut other = owned(group.caller());
         assert!(look(other.as_mut()).is_pending(), "it waits");
         *OTHER.lock().unwrap() = Some(other);
         for (task, waker) in tasks.iter_mut().zip(&wakers) {
@@ -380,9 +380,9 @@ fn wakers_run_without_a_lock_and_one_that_panics_hurts_nobody() {
         }
         7
     });
-    assert!(*got.unwrap().answer == 7 && told.0.load(SeqCst), "the leader has its answer, and the others were woken");
+    assert!(*got.value == 7 && told.0.load(SeqCst), "the leader has its answer, and the others were woken");
     assert!(GOT.load(SeqCst) == 7, "a waker has polled another task");
     for task in &mut tasks {
-        assert!(matches!(look(task.as_mut()), Poll::Ready(Ok(got)) if *got.answer == 7), "its answer");
+        assert!(matches!(look(task.as_mut()), Poll::Ready(got) if *got.value == 7), "its answer");
     }
 }

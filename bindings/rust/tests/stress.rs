@@ -119,8 +119,9 @@ fn polled<F: Future>(future: F, mut polls: u64) -> Option<F::Output> {
     }
 }
 
-struct Actor<'a> {
+struct Actor<'a, 'g> {
     world: &'a World,
+    group: &'g Group<Value<'a>>,
     random: Random,
     // What it got last of each key, and how many Forgets had returned before it asked.
     last: Vec<(u64, u64)>,
@@ -128,22 +129,22 @@ struct Actor<'a> {
 
 struct Boom;
 
-impl<'a> Actor<'a> {
+impl<'a> Actor<'a, '_> {
     fn get(&mut self, callers: &mut [Caller<Value<'a>>], key: usize) {
         let Some((caller, rest)) = callers.split_first_mut() else { return };
-        let (world, of) = (self.world, &self.world.keys[key]);
+        let (world, of, group) = (self.world, &self.world.keys[key], self.group);
         let ended = of.ended.load(SeqCst);
         let least = of.forgotten.load(SeqCst);
         if self.random.below(4) == 0 {
             let cached = *of.cached.lock().unwrap();
             if let Some((moment, stamp)) = cached {
-                if caller.is_still(stamp) {
+                if caller.is_current(stamp) {
                     assert!(moment >= least, "a stamp from {moment} is current after a Forget from {least}");
                     world.hits.fetch_add(1, SeqCst);
                 }
             }
         }
-        let (how, polls) = (self.random.below(16), self.random.below(3));
+        let (how, by_group, polls) = (self.random.below(16), self.random.below(2) == 0, self.random.below(3));
         let (is_nested, panics, yields) = (self.random.below(3) == 0, self.random.below(50) == 0, self.random.below(3));
         let time = Duration::from_micros(self.random.below(100));
         let other = key + 1 + self.random.below(4) as usize;
@@ -160,10 +161,14 @@ impl<'a> Actor<'a> {
             world.value(key, load.2)
         };
         let got = catch_unwind(AssertUnwindSafe(|| match how {
-            0..=2 => caller.do_with_timeout(&of.name, time, load).ok(),
-            3..=4 => polled(caller.do_async(&of.name, async { load() }), polls).map(Result::unwrap),
-            5 => polled(caller.do_async(&of.name, std::future::pending()), 0).map(Result::unwrap),
-            _ => Some(caller.do_with(&of.name, &mut load).unwrap()),
+            0..=2 if by_group => group.get_or_load_timeout(&of.name, time, load).ok(),
+            0..=2 => caller.get_or_load_timeout(&of.name, time, load).ok(),
+            3..=4 if by_group => polled(group.get_or_load_async(&of.name, async { load() }), polls),
+            3..=4 => polled(caller.get_or_load_async(&of.name, async { load() }), polls),
+            5 if by_group => polled(group.get_or_load_async(&of.name, std::future::pending()), 0),
+            5 => polled(caller.get_or_load_async(&of.name, std::future::pending()), 0),
+            _ if by_group => Some(group.get_or_load(&of.name, &mut load)),
+            _ => Some(caller.get_or_load(&of.name, &mut load)),
         }));
         let got = match got {
             Ok(got) => got,
@@ -171,15 +176,15 @@ impl<'a> Actor<'a> {
             Err(panic) => resume_unwind(panic),
         };
         let Some(got) = got else { return };
-        let moment = got.answer.moment;
-        assert!(got.answer.key == key, "an answer of another key");
+        let moment = got.value.moment;
+        assert!(got.value.key == key, "an answer of another key");
         assert!(moment >= least, "an answer from {moment} after a Forget from {least}");
         let (last, before) = self.last[key];
         assert!(moment >= last || of.begun.load(SeqCst) != before, "an answer from {moment} after one from {last}");
         self.last[key] = (moment, ended);
         if let Some(call) = got.call() {
             world.epoch.fetch_max(u64::from(call.epoch), SeqCst);
-            if caller.is_still(got.stamp()) {
+            if if by_group { group.is_current(got.stamp()) } else { caller.is_current(got.stamp()) } {
                 *of.cached.lock().unwrap() = Some((moment, got.stamp()));
             }
         }
@@ -189,7 +194,7 @@ impl<'a> Actor<'a> {
         let of = &self.world.keys[key];
         of.begun.fetch_add(1, SeqCst);
         let began = self.world.tick();
-        caller.forget(&of.name).unwrap();
+        caller.forget(&of.name);
         of.forgotten.fetch_max(began, SeqCst);
         of.ended.fetch_add(1, SeqCst);
     }
@@ -209,8 +214,8 @@ fn stress(what: &str, times: u64, open: impl FnOnce() -> Group<Value<'static>>) 
             .map(|thread| {
                 let (group, done) = (&group, &done);
                 scope.spawn(move || {
-                    let mut callers: Vec<_> = (0..DEPTH).map(|_| group.caller().unwrap()).collect();
-                    let mut actor = Actor { world, random: Random(88_172_645_463_325_252 + thread * 7), last: vec![(0, 0); KEYS] };
+                    let mut callers: Vec<_> = (0..DEPTH).map(|_| group.caller()).collect();
+                    let mut actor = Actor { world, group, random: Random(88_172_645_463_325_252 + thread * 7), last: vec![(0, 0); KEYS] };
                     for _ in 0..calls / THREADS {
                         // Half of all calls are for four keys.
                         let most = if actor.random.below(2) == 0 { 4 } else { KEYS as u64 };
@@ -218,7 +223,7 @@ fn stress(what: &str, times: u64, open: impl FnOnce() -> Group<Value<'static>>) 
                         match actor.random.below(16) {
                             0 => actor.forget(&mut callers[0], key),
                             // As a program does that has a caller for each request.
-                            1 => callers[0] = group.caller().unwrap(),
+                            1 => callers[0] = group.caller(),
                             _ => actor.get(&mut callers, key),
                         }
                         done.fetch_add(1, SeqCst);

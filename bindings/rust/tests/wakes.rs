@@ -17,13 +17,13 @@ fn calls_of_other_keys_wake_nobody() {
     let group = Group::<u32>::open(1 << 20, 100).unwrap();
     let (threads, woken) = (Mutex::new(Vec::new()), AtomicU32::new(0));
     std::thread::scope(|scope| {
-        let mut slow = group.caller().unwrap();
-        let got = slow.do_with(b"slow", || {
+        let mut slow = group.caller();
+        let got = slow.get_or_load(b"slow", || {
             for _ in 0..WAITERS {
                 scope.spawn(|| {
                     let path = std::fs::read_link("/proc/thread-self").unwrap();
                     threads.lock().unwrap().push(path.to_str().unwrap().to_string());
-                    assert!(*group.caller().unwrap().do_with(b"slow", || panic!("a second load")).unwrap().answer == 7, "the answer");
+                    assert!(*group.caller().get_or_load(b"slow", || panic!("a second load")).value == 7, "the answer");
                     woken.fetch_add(1, SeqCst);
                 });
             }
@@ -40,10 +40,10 @@ fn calls_of_other_keys_wake_nobody() {
             // Calls of 1,000 other keys, each with one who waits and is woken.
             for round in 0..1000u32 {
                 let key = format!("{round}-key");
-                let (mut first, mut second) = (group.caller().unwrap(), group.caller().unwrap());
+                let (mut first, mut second) = (group.caller(), group.caller());
                 let joins = group.stats().joins;
                 std::thread::scope(|scope| {
-                    let asks = || assert!(*second.do_with(key.as_bytes(), || panic!("a second load")).unwrap().answer == round, "the answer");
+                    let asks = || assert!(*second.get_or_load(key.as_bytes(), || panic!("a second load")).value == round, "the answer");
                     let load = || {
                         scope.spawn(asks);
                         while group.stats().joins == joins {
@@ -51,13 +51,13 @@ fn calls_of_other_keys_wake_nobody() {
                         }
                         round
                     };
-                    first.do_with(key.as_bytes(), load).unwrap();
+                    first.get_or_load(key.as_bytes(), load);
                 });
             }
             assert!(all() == before, "{} times a waiter of the slow key was woken", all() - before);
             7
         });
-        assert!(got.unwrap().joiners == WAITERS as u32, "all joined");
+        assert!(got.joiners == WAITERS as u32, "all joined");
     });
     assert!(woken.load(SeqCst) == WAITERS as u32, "each was woken by its leader");
 }

@@ -1,0 +1,510 @@
+//! How one asks: leading, joining, loading beside the library, and forgetting.
+
+use crate::epoch::Taken;
+use crate::lent::{self, Lending};
+use crate::pool::{Beside, FIRST, Letter, Pool};
+use crate::post::{Counter, Counters, Whose};
+use crate::sync::point;
+use crate::wait::{Wait, Waiting};
+use crate::{Call, ForgetOutcome, Loaded, Stamp, raw};
+use std::future::Future;
+use std::ops::Deref;
+use std::pin::pin;
+use std::sync::Arc;
+use std::time::{Duration, Instant};
+
+/// One who asks, in one thread or task at a time: a caller of the user, or for one call of a group.
+pub(crate) struct Asker<T, P: Deref<Target = Pool<T>>> {
+    pub(crate) pool: P,
+    // None where no caller of the library was free, while it waits without one, and after a call that it left.
+    taken: Option<Taken<T>>,
+    loading: Loading<T>,
+    // Of the answer that it got last.
+    pub(crate) last: Option<Stamp>,
+}
+
+/// The load that an asker has to run.
+enum Loading<T> {
+    Nothing,
+    /// Of the call that it leads.
+    Call(Call),
+    /// Beside the library.
+    Run(Arc<Wait<T>>),
+}
+
+/// What an asking came to.
+pub(crate) enum Asked<T> {
+    /// It has to load.
+    Loads,
+    /// It follows a call without a seat.
+    Follows(Arc<Wait<T>>),
+    /// It has joined a call by its seat.
+    Joined(Call),
+    /// It had joined, and the letter is there.
+    Settled(Loaded<T>),
+}
+
+/// How one waits for the call of another.
+#[derive(Clone, Copy, PartialEq, Eq)]
+pub(crate) enum By {
+    /// By its own seat.
+    Seat,
+    /// Without one: a seat that waits for a load that hangs is gone, and each caller with a deadline would leave one there.
+    Following,
+}
+
+/// Ends the load that its asker runs. Where that ends without an answer, as by a panic, it is settled with nothing, so that who joined
+/// asks again.
+pub(crate) struct Load<'a, T, P: Deref<Target = Pool<T>>>(&'a mut Asker<T, P>);
+
+impl<T, P: Deref<Target = Pool<T>>> Load<'_, T, P> {
+    /// The load has returned this.
+    pub(crate) fn end(self, key: &[u8], value: T) -> Loaded<T> {
+        let value = Arc::new(value);
+        match std::mem::replace(&mut self.0.loading, Loading::Nothing) {
+            Loading::Call(call) => self.0.end_call(call, key, value),
+            Loading::Run(run) => self.0.end_run(&run, key, value),
+            Loading::Nothing => unreachable!("it loads"),
+        }
+    }
+}
+
+impl<T, P: Deref<Target = Pool<T>>> Drop for Load<'_, T, P> {
+    fn drop(&mut self) {
+        // It does nothing where the load has ended with an answer.
+        self.0.abandon();
+    }
+}
+
+impl<T, P: Deref<Target = Pool<T>>> Drop for Asker<T, P> {
+    fn drop(&mut self) {
+        self.abandon();
+        self.rest();
+    }
+}
+
+impl<T, P: Deref<Target = Pool<T>>> Asker<T, P> {
+    /// One without a seat, which it takes where it asks.
+    pub(crate) fn new(pool: P) -> Self {
+        Asker {
+            pool,
+            taken: None,
+            loading: Loading::Nothing,
+            last: None,
+        }
+    }
+
+    /// Its seat, which is free and of the current epoch. None where all are taken.
+    #[inline]
+    pub(crate) fn refresh(&mut self) {
+        self.abandon();
+        let now = self.pool.now();
+        if self.taken.as_ref().is_some_and(|taken| taken.epoch.number == now) {
+            return;
+        }
+        self.rest();
+        self.taken = self.pool.take();
+    }
+
+    /// Has no seat until it asks again.
+    pub(crate) fn rest(&mut self) {
+        if let Some(taken) = self.taken.take() {
+            self.pool.put(taken);
+        }
+    }
+
+    /// The number of its seat.
+    pub(crate) fn number(&self) -> Option<u32> {
+        self.taken.as_ref().map(|taken| taken.seat.number)
+    }
+
+    /// The load that it has to run.
+    pub(crate) fn load(&mut self) -> Load<'_, T, P> {
+        Load(self)
+    }
+
+    /// Settles what it loads with nothing. Where its job or future was leaked nobody can load for it any more.
+    pub(crate) fn abandon(&mut self) {
+        match std::mem::replace(&mut self.loading, Loading::Nothing) {
+            Loading::Call(_) => drop(self.settle(0, |wait, _| wait.void())),
+            Loading::Run(run) => {
+                self.pool.end_run(&run);
+                run.void();
+            }
+            Loading::Nothing => {}
+        }
+    }
+
+    /// Settles the call that it leads with the number: how many joined by seats. `end` settles the wait of those who follow it.
+    fn settle(&mut self, number: u64, end: impl FnOnce(&Wait<T>, (u32, Stamp))) -> (u32, Stamp) {
+        let taken = self.taken.as_mut().expect("who leads has a seat");
+        taken.post().is_over(taken.seat.next - 1);
+        let slot = &mut taken.seat.slot;
+        let mut joiners = 0;
+        point();
+        let mut code = raw::sflight_finish(slot, number, &mut joiners);
+        while code == raw::OTHERWISE {
+            code = raw::sflight_go_on(slot, &mut joiners);
+        }
+        let stamp = taken.seat.stamp(taken.epoch.number);
+        let is_followed = taken.post().end();
+        if joiners > 0 || is_followed {
+            let woken = taken.post().wake();
+            self.pool.serve(&taken.epoch, woken, |wait| end(wait, (joiners, stamp)));
+        }
+        (joiners, stamp)
+    }
+
+    fn end_call(&mut self, call: Call, key: &[u8], value: Arc<T>) -> Loaded<T> {
+        let spare = self.taken.as_mut().and_then(|taken| taken.spare.take());
+        let lending = Lending::new(value.clone(), spare);
+        let mut followers = 0;
+        let (joiners, stamp) = self.settle(lending.number(), |wait, (joiners, stamp)| {
+            followers = wait.end(key, &value, joiners, stamp);
+        });
+        let spare = lending.settle(joiners);
+        if let Some(taken) = &mut self.taken {
+            taken.spare = spare;
+        }
+        self.last = Some(stamp);
+        Loaded {
+            value,
+            joiners: joiners + followers,
+            led: true,
+            call: Some(call),
+            stamp,
+        }
+    }
+
+    fn end_run(&mut self, run: &Arc<Wait<T>>, key: &[u8], value: Arc<T>) -> Loaded<T> {
+        self.pool.end_run(run);
+        let joiners = run.end(key, &value, 0, Stamp::default());
+        self.last = None;
+        Loaded {
+            value,
+            joiners,
+            led: true,
+            call: None,
+            stamp: Stamp::default(),
+        }
+    }
+
+    /// Adds one to a number of its own.
+    fn count(&self, counter: impl FnOnce(&Counters) -> &Counter) {
+        match &self.taken {
+            Some(taken) => counter(&taken.post().counters).add(),
+            None => counter(&self.pool.counters).add_shared(),
+        }
+    }
+
+    /// Asks for the key.
+    pub(crate) fn ask(&mut self, key: &[u8], by: By) -> Asked<T> {
+        let fingerprint = self.pool.fingerprint(key);
+        loop {
+            self.refresh();
+            if self.taken.is_none() || self.pool.is_alert(fingerprint) {
+                if let Some(asked) = self.beside(key, fingerprint) {
+                    return asked;
+                }
+            } else if let Some(taken) = self.taken.as_mut().filter(|taken| by == By::Following || taken.epoch.has_strangers()) {
+                match taken.epoch.look(Some(&mut taken.seat), key, fingerprint) {
+                    (Some(call), Whose::Same) => match taken.epoch.post(call.caller).follow(call, fingerprint) {
+                        Some(wait) => {
+                            self.count(|counters| &counters.joins);
+                            return Asked::Follows(wait);
+                        }
+                        None => continue,
+                    },
+                    (_, Whose::Other) => {
+                        self.pool.clash(&taken.epoch);
+                        if let Some(asked) = self.beside(key, fingerprint) {
+                            return asked;
+                        }
+                    }
+                    _ => {}
+                }
+            }
+            if let Some(asked) = self.ask_library(key, fingerprint, by) {
+                return asked;
+            }
+        }
+    }
+
+    // Looks beside the library. None where one asks it.
+    fn beside(&mut self, key: &[u8], fingerprint: u64) -> Option<Asked<T>> {
+        match self.pool.beside(key, fingerprint, self.taken.is_some()) {
+            Beside::Follow(wait) => {
+                self.count(|counters| &counters.joins);
+                Some(Asked::Follows(wait))
+            }
+            Beside::Run(run) => {
+                self.count(|counters| &counters.alone);
+                self.loading = Loading::Run(run);
+                if self.taken.is_none() {
+                    self.pool.grow();
+                }
+                Some(Asked::Loads)
+            }
+            Beside::Nothing => None,
+        }
+    }
+
+    // Asks the library once. None where one has to ask again.
+    fn ask_library(&mut self, key: &[u8], fingerprint: u64, by: By) -> Option<Asked<T>> {
+        let taken = self.taken.as_mut()?;
+        let (epoch, seat, post) = taken.parts();
+        if seat.next - FIRST >= self.pool.calls() {
+            self.retire();
+            return None;
+        }
+        post.begin(fingerprint, seat.next);
+        let name = epoch.names.of(key);
+        let code = loop {
+            point();
+            match raw::ask(&mut seat.slot, &name) {
+                raw::BUSY => std::hint::spin_loop(),
+                code => break code,
+            }
+        };
+        match code {
+            raw::DONE => {
+                let call = Call {
+                    epoch: epoch.number,
+                    caller: seat.number,
+                    generation: seat.next,
+                };
+                assert!(!cfg!(test) || call == seat.call(epoch.number), "the generation is known beforehand");
+                seat.next += 1;
+                self.loading = Loading::Call(call);
+                if self.pool.may_load(epoch.number, key, fingerprint) {
+                    post.counters.leads.add();
+                    return Some(Asked::Loads);
+                }
+                self.abandon();
+                None
+            }
+            raw::OTHERWISE => {
+                seat.next += 1;
+                let call = seat.call(epoch.number);
+                self.withdraw();
+                self.joined(call, fingerprint, by, key)
+            }
+            raw::SPENT => {
+                self.withdraw();
+                self.retire();
+                None
+            }
+            // No memory for a long key.
+            _ => {
+                self.withdraw();
+                match self.taken.take() {
+                    Some(taken) => {
+                        let asked = self.beside(key, fingerprint);
+                        self.taken = Some(taken);
+                        asked
+                    }
+                    None => None,
+                }
+            }
+        }
+    }
+
+    // The asking leads nothing. Who took it for a leader when its epoch was replaced asks again.
+    fn withdraw(&mut self) {
+        if let Some(taken) = &self.taken {
+            if taken.post().end() {
+                let woken = taken.post().wake();
+                self.pool.serve(&taken.epoch, woken, Wait::void);
+            }
+        }
+    }
+
+    fn retire(&mut self) {
+        if let Some(taken) = self.taken.take() {
+            self.pool.retire(taken);
+        }
+    }
+
+    // It has joined this call by its seat, whichever key that is of.
+    fn joined(&mut self, call: Call, fingerprint: u64, by: By, key: &[u8]) -> Option<Asked<T>> {
+        let taken = self.taken.as_mut()?;
+        let post = taken.epoch.post(call.caller);
+        match post.whose(call.generation, fingerprint) {
+            Whose::Same if by == By::Seat => {
+                self.count(|counters| &counters.joins);
+                return Some(Asked::Joined(call));
+            }
+            Whose::Same => {
+                // Its seat has joined, by which the library counts it.
+                if let Some(wait) = post.watch(call, fingerprint) {
+                    self.count(|counters| &counters.joins);
+                    self.leave(call, false);
+                    return Some(Asked::Follows(wait));
+                }
+            }
+            // To wait for it could be to wait for oneself: a load may ask for other keys.
+            Whose::Other => {
+                let epoch = taken.epoch.clone();
+                self.leave(call, true);
+                self.pool.clash(&epoch);
+                self.refresh();
+                return self.beside(key, fingerprint);
+            }
+            Whose::Ended => {}
+        }
+        // The call has ended, so the letter is there.
+        let letter = self.taken.as_mut()?.seat.poll()?;
+        self.read(letter, call).map(Asked::Settled)
+    }
+
+    // Leaves the call that its seat joined: the seat comes back with the letter.
+    fn leave(&mut self, call: Call, is_stranger: bool) {
+        if let Some(taken) = self.taken.take() {
+            self.pool.leave(taken, call.caller, is_stranger);
+        }
+    }
+
+    /// What it loads, for one who waits elsewhere and is not counted as one who joined.
+    pub(crate) fn own_wait(&self, key: &[u8]) -> Option<Arc<Wait<T>>> {
+        match &self.loading {
+            Loading::Call(call) => self.taken.as_ref()?.post().watch(*call, self.pool.fingerprint(key)),
+            Loading::Run(run) => Some(run.clone()),
+            Loading::Nothing => None,
+        }
+    }
+
+    // What the letter brings of the call that it joined. None where one has to ask again.
+    fn read(&mut self, letter: Letter, call: Call) -> Option<Loaded<T>> {
+        let Letter::Own(number, joiners) = letter else {
+            self.pool.give_back(letter);
+            return None;
+        };
+        // SAFETY: the number is of a call of this group, which counts each who joined by a seat, and each reads its letter once.
+        let value = unsafe { lent::take(number) }?;
+        let taken = self.taken.as_mut()?;
+        let stamp = taken.seat.stamp(taken.epoch.number);
+        self.last = Some(stamp);
+        Some(Loaded {
+            value,
+            joiners,
+            led: false,
+            call: Some(call),
+            stamp,
+        })
+    }
+
+    /// What the call came to that it followed. None where one has to ask again.
+    fn read_wait(&mut self, wait: &Wait<T>, key: &[u8]) -> Option<Loaded<T>> {
+        let got = wait.read(key)?;
+        self.last = got.call.map(|_| got.stamp);
+        Some(got)
+    }
+
+    /// Gets the key, by the load or from a call of another, however long that takes.
+    pub(crate) fn get(&mut self, key: &[u8], load: impl FnOnce() -> T) -> Loaded<T> {
+        self.get_until(key, None, By::Seat, load).expect("a wait without a deadline")
+    }
+
+    /// The same, and waits no longer than the timeout for a call of another. None then.
+    pub(crate) fn get_timeout(&mut self, key: &[u8], timeout: Duration, load: impl FnOnce() -> T) -> Option<Loaded<T>> {
+        self.get_until(key, Instant::now().checked_add(timeout), By::Following, load)
+    }
+
+    fn get_until(&mut self, key: &[u8], deadline: Option<Instant>, by: By, load: impl FnOnce() -> T) -> Option<Loaded<T>> {
+        loop {
+            let got = match self.ask(key, by) {
+                Asked::Loads => {
+                    let load_guard = self.load();
+                    return Some(load_guard.end(key, load()));
+                }
+                Asked::Settled(got) => Some(got),
+                Asked::Joined(call) => {
+                    let taken = self.taken.as_mut().expect("who joined by a seat has it");
+                    let letter = taken.epoch.post(call.caller).wait(&mut taken.seat);
+                    self.read(letter, call)
+                }
+                Asked::Follows(wait) => {
+                    self.rest();
+                    if !wait.wait(deadline) {
+                        self.last = None;
+                        return None;
+                    }
+                    self.read_wait(&wait, key)
+                }
+            };
+            if got.is_some() {
+                return got;
+            }
+        }
+    }
+
+    /// The same in a task.
+    pub(crate) async fn get_async(&mut self, key: &[u8], load: impl Future<Output = T>) -> Loaded<T> {
+        loop {
+            let wait = match self.ask(key, By::Following) {
+                Asked::Loads => return self.load_async(key, load).await,
+                Asked::Settled(got) => return got,
+                Asked::Joined(_) => unreachable!("who follows joins by no seat"),
+                Asked::Follows(wait) => wait,
+            };
+            self.rest();
+            let before = self.last.take();
+            // Where it is dropped here it has left the call.
+            Waiting::new(&wait).await;
+            self.last = before;
+            if let Some(got) = self.read_wait(&wait, key) {
+                return got;
+            }
+        }
+    }
+
+    /// Runs the load that it has to run.
+    pub(crate) async fn load_async(&mut self, key: &[u8], load: impl Future<Output = T>) -> Loaded<T> {
+        let guard = self.load();
+        // The load is dropped before its call is settled: so it has ended when another begins.
+        let value = {
+            let load = pin!(load);
+            load.await
+        };
+        guard.end(key, value)
+    }
+
+    /// Forgets the key: whether that ended an open call.
+    pub(crate) fn forget(&mut self, key: &[u8]) -> bool {
+        self.refresh();
+        let fingerprint = self.pool.fingerprint(key);
+        let closed = self.pool.forget(&mut self.taken, key, fingerprint);
+        self.count(|counters| if closed { &counters.closed } else { &counters.idle });
+        closed
+    }
+
+    /// Forgets this call of the key.
+    pub(crate) fn forget_call(&mut self, key: &[u8], call: Call) -> ForgetOutcome {
+        self.refresh();
+        let fingerprint = self.pool.fingerprint(key);
+        let outcome = self.pool.forget_call(&mut self.taken, key, fingerprint, call);
+        self.count(|counters| if outcome == ForgetOutcome::Closed { &counters.closed } else { &counters.idle });
+        outcome
+    }
+
+    /// Which call the key's hash slot names.
+    pub(crate) fn named(&mut self, key: &[u8]) -> Option<Call> {
+        self.refresh();
+        match &mut self.taken {
+            Some(taken) => taken.epoch.named(Some(&mut taken.seat), key),
+            None => self.pool.current().named(None, key),
+        }
+    }
+
+    /// Whether the call of the stamp is current.
+    pub(crate) fn is_current(&mut self, stamp: Stamp) -> bool {
+        self.pool.is_current(self.taken.as_mut(), stamp)
+    }
+
+    /// The slot that it has in the library, with the number of its epoch.
+    #[cfg(feature = "notes")]
+    pub(crate) fn slot(&mut self) -> Option<(&mut raw::Slot, u32)> {
+        self.abandon();
+        self.taken.as_mut().map(|taken| (&mut taken.seat.slot, taken.epoch.number))
+    }
+}
