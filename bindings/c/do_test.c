@@ -4,6 +4,7 @@
 #include <malloc.h>
 #include <pthread.h>
 #include <sched.h>
+#include <signal.h>
 #include <stdatomic.h>
 #include <stdio.h>
 #include <stdlib.h>
@@ -19,7 +20,19 @@
 #define ROUNDS 4000
 #endif
 
+/* After so many seconds it hangs. */
+#ifndef LIMIT
+#define LIMIT 110
+#endif
+
 static atomic_int passed, failed;
+
+static void hangs_at(int number) {
+    static const char text[] = "FAILED: it hangs\n";
+    (void)number;
+    if (write(STDOUT_FILENO, text, sizeof text - 1) < 0) _exit(2);
+    _exit(1);
+}
 
 static void check(bool holds, const char *what) {
     if (holds) { passed++; return; }
@@ -366,7 +379,43 @@ static void long_keys(void) {
     sflight_do_close(pool);
 }
 
+/* Eight keys of 70,000 bytes that differ in their last byte, each in the load of another: no two are one key, nor always of one slot. */
+enum { NEAR_KEY = 70000, NEAR = 8 };
+
+static uint64_t nearer(void *context, const uint8_t *key, size_t len) {
+    sflight_got got;
+    if (len != NEAR_KEY || key[len - 1] == NEAR) return len;
+    uint8_t *next = malloc(len);
+    if (!next) abort();
+    memcpy(next, key, len);
+    next[len - 1]++;
+    int code = sflight_do(context, next, len, nearer, context, 2000000000, &got);
+    free(next);
+    return code == SFLIGHT_DO_DONE && got.led ? got.value + 1 : 0;
+}
+
+static void near_keys(void) {
+    static uint8_t key[NEAR_KEY];
+    const sflight_do_sizes slot = {.slots = 1, .callers = 16, .is_fixed = true};
+    const sflight_do_sizes *all[] = {&slot, NULL};
+    for (int i = 0; i < 2; i++) {
+        sflight_pool *pool = sflight_do_open(all[i], NULL);
+        sflight_got got, shorter;
+        int code = sflight_do(pool, key, NEAR_KEY, nearer, pool, SFLIGHT_DO_FOREVER, &got);
+        check(code == SFLIGHT_DO_DONE && got.value == NEAR_KEY + NEAR, "each loads its own");
+        code = sflight_do(pool, key, NEAR_KEY - 1, nearer, pool, SFLIGHT_DO_FOREVER, &shorter);
+        check(code == SFLIGHT_DO_DONE && shorter.value == NEAR_KEY - 1, "a shorter one too");
+        check(all[i] || sflight_do_statistics(pool).alone < NEAR - 2, "few share a slot");
+        sflight_do_close(pool);
+    }
+}
+
 int main(void) {
+    setvbuf(stdout, NULL, _IOLBF, 0);
+    signal(SIGALRM, hangs_at);
+    alarm(LIMIT);
+    check(strcmp(sflight_version(), SFLIGHT_VERSION) == 0, "the version");
+    near_keys();
     long_keys();
     sizes();
     nested();
@@ -374,6 +423,10 @@ int main(void) {
     many();
     spent();
     small();
+    if (failed > 0) {
+        printf("%d passed, %d failed\n", passed, failed);
+        return 1;
+    }
     const sflight_do_sizes shared_slots = {.slots = 16, .callers = 64, .is_fixed = true}, few = {.slots = 16, .callers = 3, .is_fixed = true};
     const sflight_do_sizes worn = {.slots = 16, .callers = 4, .is_fixed = true, .calls = 1}, grows = {.slots = 1, .callers = 1};
     stress("keys that share slots", &shared_slots, 1);

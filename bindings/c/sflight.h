@@ -26,13 +26,24 @@
  *   nothing else.
  * - No function is called from a signal handler, or from the forked child of a process with
  *   threads.
- * - malloc, realloc and free come from one allocator, and align blocks as the C standard asks. */
+ * - malloc, realloc and free come from one allocator, and align blocks as the C standard asks.
+ *
+ * The library needs Linux on x86-64 with SSE4.2 and POPCNT (x86-64-v2). It needs no executable
+ * stack. It has no landing pads for indirect branches (IBT), so a program that links it statically
+ * runs without that. */
 #ifndef SFLIGHT_H
 #define SFLIGHT_H
 
 #include <stdbool.h>
 #include <stddef.h>
 #include <stdint.h>
+
+/* The version of this header. The number is for comparisons: 10,000 for each major version, 100 for each minor one. */
+#define SFLIGHT_VERSION_MAJOR 0
+#define SFLIGHT_VERSION_MINOR 1
+#define SFLIGHT_VERSION_PATCH 0
+#define SFLIGHT_VERSION_NUMBER (SFLIGHT_VERSION_MAJOR * 10000 + SFLIGHT_VERSION_MINOR * 100 + SFLIGHT_VERSION_PATCH)
+#define SFLIGHT_VERSION "0.1.0"
 
 #ifdef __cplusplus
 extern "C" {

@@ -2,7 +2,6 @@
  * the alerts, the side table of runs and of calls that were moved, and the renewal. This one is simpler: whoever joins a call follows it
  * by a wait of its own, and leaves its seat to the leader, which gives it back. */
 #include "sflight_do.h"
-#include "sflight.h"
 #include <errno.h>
 #include <pthread.h>
 #include <stdatomic.h>
@@ -154,6 +153,8 @@ static void name_of(struct name *name, const sflight_pool *pool, const uint8_t *
         name->len = sizeof name->digest;
     }
 }
+
+const char *sflight_version(void) { return SFLIGHT_VERSION; }
 
 /* Waits. */
 

@@ -88,6 +88,9 @@ bool sflight_do_is_still(sflight_pool *pool, const sflight_do_stamp *stamp);
 
 sflight_do_stats sflight_do_statistics(sflight_pool *pool);
 
+/* The version that sflight_do.c was compiled for, as "0.1.0": that of SFLIGHT_VERSION, where the program includes the same header. */
+const char *sflight_version(void);
+
 #ifdef __cplusplus
 }
 #endif

@@ -1,5 +1,6 @@
 /* A server's load path: worker threads get keys from a store behind a cache. Of the threads that miss one key at one time one loads, and
- * after an update nobody gets the old value. Built and run by bindings/check, with bindings/c/sflight_do.c. */
+ * after an update no thread gets the old value. It ends with 0 where none did, and every caller of the library is free again.
+ * Built and run by bindings/check, with bindings/c/sflight_do.c. */
 #include "sflight_do.h"
 #include <pthread.h>
 #include <stdatomic.h>
@@ -13,7 +14,7 @@
 
 enum { WORKERS = 4, KEYS = 8, REQUESTS = 2000 };
 
-/* The store: a version for each key, slow to read. */
+/* The store: a version for each key, slow to read and to write. */
 static atomic_uint versions[KEYS];
 static atomic_uint hits, loads, joined;
 
@@ -66,11 +67,17 @@ static uint64_t load(void *context, const uint8_t *name, size_t len) {
     return (uint64_t)key << 32 | version;
 }
 
-/* Writes the store first and forgets then: who asks from now on loads the new version. */
+static unsigned write_store(unsigned key) {
+    nanosleep(&(struct timespec){0, 100000}, NULL);
+    return atomic_fetch_add(&versions[key], 1) + 1;
+}
+
+/* Writes the store first and forgets then: a thread that asks from now on loads the new version. In the other order a thread could load the
+ * old version between the two, and the cache would keep it. */
 static unsigned update(unsigned key) {
     char name[16];
     size_t len = name_of(key, name);
-    unsigned version = atomic_fetch_add(&versions[key], 1) + 1;
+    unsigned version = write_store(key);
     sflight_do_forget(pool, (const uint8_t *)name, len);
     return version;
 }
@@ -101,6 +108,8 @@ int main(void) {
     }
     sflight_do_stats stats = sflight_do_statistics(pool);
     printf("hits %u, loads %u (%u beside), joined %u, stale %zu\n", atomic_load(&hits), atomic_load(&loads), (unsigned)stats.alone, atomic_load(&joined), stale);
+    bool is_well = stale == 0 && stats.in_use == 0 && atomic_load(&hits) > 0;
     sflight_do_close(pool);
-    return stale != 0;
+    for (int i = 0; i < KEYS; i++) pthread_mutex_destroy(&cache[i].lock);
+    return is_well ? 0 : 1;
 }
