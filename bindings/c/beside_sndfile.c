@@ -7,11 +7,12 @@
 int main(void) {
     SF_INFO info = {0};
     sflight_slot slot = SFLIGHT_SLOT_NONE;
-    uint32_t joiners = 5;
+    sflight_stamp stamp;
+    sflight_answer answer;
     const uint8_t key[] = "k";
     int holds = sf_open("/no such folder/file.wav", SFM_READ, &info) == NULL && strlen(sf_strerror(NULL)) > 0;
-    holds = holds && sflight_open(&slot, 1, 1, 1, 2) == SFLIGHT_DONE && sflight_ask(&slot, key, 1, 1) == SFLIGHT_LEADS;
-    holds = holds && sflight_finish(&slot, 7, &joiners) == SFLIGHT_DONE && joiners == 0;
+    holds = holds && sflight_open(&slot, 1, 1, 1, 2) == SFLIGHT_DONE && sflight_ask(&slot, key, 1, 1, &stamp) == SFLIGHT_LED;
+    holds = holds && sflight_finish(&slot, 7, &answer) == SFLIGHT_DONE && answer.joiners == 0;
     sflight_close(&slot);
     puts(holds ? "well" : "FAILED");
     return !holds;

@@ -12,13 +12,14 @@ static const std::uint8_t *bytes(const std::string &key) { return reinterpret_ca
 static bool by_the_library() {
     sflight_slot leader = SFLIGHT_SLOT_NONE, joiner = SFLIGHT_SLOT_NONE;
     const std::string key(70000, 'k');
-    std::uint64_t value = 0;
-    std::uint32_t joiners = 0;
+    sflight_stamp led, joined;
+    sflight_answer answer;
     bool holds = sflight_open(&leader, 16, 2, 1, 2) == SFLIGHT_DONE && sflight_split(&leader, &joiner) == SFLIGHT_DONE;
-    holds = holds && sflight_ask(&leader, bytes(key), key.size(), 1) == SFLIGHT_LEADS;
-    holds = holds && sflight_ask(&joiner, bytes(key), key.size(), 1) == SFLIGHT_JOINED;
-    holds = holds && sflight_finish(&leader, 7, &joiners) == SFLIGHT_DONE && joiners == 1;
-    holds = holds && sflight_poll(&joiner, &value, &joiners) == SFLIGHT_DONE && value == 7;
+    holds = holds && sflight_ask(&leader, bytes(key), key.size(), 1, &led) == SFLIGHT_LED;
+    holds = holds && sflight_ask(&joiner, bytes(key), key.size(), 1, &joined) == SFLIGHT_JOINED;
+    holds = holds && led.generation == joined.generation && led.caller == joined.caller;
+    holds = holds && sflight_finish(&leader, 7, &answer) == SFLIGHT_DONE && answer.joiners == 1;
+    holds = holds && sflight_poll(&joiner, &answer) == SFLIGHT_DONE && answer.value == 7;
     sflight_close(&joiner);
     sflight_close(&leader);
     return holds;

@@ -140,13 +140,14 @@ impl<T, P: Deref<Target = Pool<T>>> Asker<T, P> {
         let taken = self.taken.as_mut().expect("who leads has a seat");
         taken.post().is_over(taken.seat.next - 1);
         let slot = &mut taken.seat.slot;
-        let mut joiners = 0;
+        let mut answer = raw::Answer::default();
         point();
-        let mut code = raw::sflight_finish(slot, number, &mut joiners);
-        while code == raw::OTHERWISE {
-            code = raw::sflight_go_on(slot, &mut joiners);
+        let mut code = raw::sflight_finish(slot, number, &mut answer);
+        while code == raw::OWES {
+            code = raw::sflight_go_on(slot, &mut answer);
         }
-        let stamp = taken.seat.stamp(taken.epoch.number);
+        let joiners = answer.joiners;
+        let stamp = Stamp::of(taken.epoch.number, answer.stamp);
         let is_followed = taken.post().end();
         if joiners > 0 || is_followed {
             let woken = taken.post().wake();
@@ -259,21 +260,18 @@ impl<T, P: Deref<Target = Pool<T>>> Asker<T, P> {
         }
         post.begin(fingerprint, seat.next);
         let name = epoch.names.of(key);
+        let mut asked = raw::Stamp::default();
         let code = loop {
             point();
-            match raw::ask(&mut seat.slot, &name) {
+            match raw::ask(&mut seat.slot, &name, &mut asked) {
                 raw::BUSY => std::hint::spin_loop(),
                 code => break code,
             }
         };
         match code {
-            raw::DONE => {
-                let call = Call {
-                    epoch: epoch.number,
-                    caller: seat.number,
-                    generation: seat.next,
-                };
-                assert!(!cfg!(test) || call == seat.call(epoch.number), "the generation is known beforehand");
+            raw::LED => {
+                let call = Call::of(epoch.number, asked);
+                assert!(!cfg!(test) || (call.caller, call.generation) == (seat.number, seat.next), "the generation is known beforehand");
                 seat.next += 1;
                 self.loading = Loading::Call(call);
                 if self.pool.may_load(epoch.number, key, fingerprint) {
@@ -283,9 +281,9 @@ impl<T, P: Deref<Target = Pool<T>>> Asker<T, P> {
                 self.abandon();
                 None
             }
-            raw::OTHERWISE => {
+            raw::JOINED => {
                 seat.next += 1;
-                let call = seat.call(epoch.number);
+                let call = Call::of(epoch.number, asked);
                 self.withdraw();
                 self.joined(call, fingerprint, by, key)
             }
@@ -375,18 +373,17 @@ impl<T, P: Deref<Target = Pool<T>>> Asker<T, P> {
 
     // What the letter brings of the call that it joined. None where one has to ask again.
     fn read(&mut self, letter: Letter, call: Call) -> Option<Loaded<T>> {
-        let Letter::Own(number, joiners) = letter else {
+        let Letter::Own(answer) = letter else {
             self.pool.give_back(letter);
             return None;
         };
         // SAFETY: the number is of a call of this group, which counts each who joined by a seat, and each reads its letter once.
-        let value = unsafe { lent::take(number) }?;
-        let taken = self.taken.as_mut()?;
-        let stamp = taken.seat.stamp(taken.epoch.number);
+        let value = unsafe { lent::take(answer.value) }?;
+        let stamp = Stamp::of(self.taken.as_ref()?.epoch.number, answer.stamp);
         self.last = Some(stamp);
         Some(Loaded {
             value,
-            joiners,
+            joiners: answer.joiners,
             led: false,
             call: Some(call),
             stamp,

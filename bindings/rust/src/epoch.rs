@@ -185,17 +185,18 @@ impl<T> Epoch<T> {
 
     /// Which call the key's place names.
     pub(crate) fn named(&self, seat: Option<&mut Seat>, key: &[u8]) -> Option<Call> {
-        let (mut caller, mut generation) = (0, 0);
+        self.named_stamp(seat, key).map(|stamp| Call::of(self.number, stamp))
+    }
+
+    /// Its stamp.
+    pub(crate) fn named_stamp(&self, seat: Option<&mut Seat>, key: &[u8]) -> Option<raw::Stamp> {
+        let mut stamp = raw::Stamp::default();
         let name = self.names.of(key);
         let code = self.by(seat, |slot| {
             point();
-            raw::named(slot, &name, &mut caller, &mut generation)
+            raw::named(slot, &name, &mut stamp)
         });
-        (code == raw::DONE).then_some(Call {
-            epoch: self.number,
-            caller,
-            generation,
-        })
+        (code == raw::DONE).then_some(stamp)
     }
 
     /// Which call is open at the key's place, and whose it is.

@@ -56,11 +56,10 @@ use std::sync::atomic::{
 };
 use std::sync::{Arc, Mutex};
 
-/// What a settled call brings to one who joined it: the number that it was settled with, and how many joined; or that it was
-/// another key's, and its number.
+/// What a settled call brings to a caller that joined it; or that it was another key's, and its number.
 #[derive(Clone, Copy)]
 pub(crate) enum Letter {
-    Own(u64, u32),
+    Own(raw::Answer),
     Other(u64),
 }
 
@@ -84,33 +83,43 @@ impl Seat {
     /// The letter of the call that it joined, once.
     #[inline]
     pub(crate) fn poll(&mut self) -> Option<Letter> {
-        let (mut number, mut joiners) = (0, 0);
+        let mut answer = raw::Answer::default();
         point();
-        match raw::sflight_poll(&mut self.slot, &mut number, &mut joiners) {
-            raw::DONE => Some(Letter::Own(number, joiners)),
-            raw::OTHER => Some(Letter::Other(number)),
+        match raw::sflight_poll(&mut self.slot, &mut answer) {
+            raw::DONE => Some(Letter::Own(answer)),
+            raw::OTHER_KEY => Some(Letter::Other(answer.value)),
             _ => None,
         }
     }
+}
 
-    /// The stamp of the letter that it had last, in this epoch.
-    #[inline]
-    pub(crate) fn stamp(&mut self, epoch: u32) -> Stamp {
-        let mut stamp = Stamp::default();
-        raw::sflight_stamp(&mut self.slot, &mut stamp.0);
-        // The library leaves the upper half of the place 0.
-        stamp.0[0] |= u64::from(epoch) << 32;
-        stamp
+impl Stamp {
+    /// The stamp of a call of this epoch. The library leaves the upper half of the place 0.
+    pub(crate) fn of(epoch: u32, stamp: raw::Stamp) -> Self {
+        let two = |low, high| u64::from(low) | u64::from(high) << 32;
+        Stamp([two(stamp.place, epoch), two(stamp.caller, stamp.generation)])
     }
 
-    /// The call that it leads or waits for.
-    pub(crate) fn call(&mut self, epoch: u32) -> Call {
-        let (mut caller, mut generation) = (0, 0);
-        raw::sflight_call(&mut self.slot, &mut caller, &mut generation);
+    // Its epoch, and the library's stamp.
+    fn parts(self) -> (u32, raw::Stamp) {
+        let [place, call] = self.0.map(|word| [word as u32, (word >> 32) as u32]);
+        let stamp = raw::Stamp {
+            place: place[0],
+            reserved: 0,
+            caller: call[0],
+            generation: call[1],
+        };
+        (place[1], stamp)
+    }
+}
+
+impl Call {
+    /// The call of a stamp of this epoch.
+    pub(crate) fn of(epoch: u32, stamp: raw::Stamp) -> Self {
         Call {
             epoch,
-            caller,
-            generation,
+            caller: stamp.caller,
+            generation: stamp.generation,
         }
     }
 }
@@ -531,12 +540,12 @@ impl<T> Pool<T> {
         loop {
             let epoch = self.epoch_of(taken);
             closed |= self.forget_beside(key, fingerprint);
-            if let Some(call) = epoch.named(taken.as_mut().map(|taken| &mut taken.seat), key) {
-                let post = epoch.post(call.caller);
+            if let Some(stamp) = epoch.named_stamp(taken.as_mut().map(|taken| &mut taken.seat), key) {
+                let post = epoch.post(stamp.caller);
                 // Another key's open call stays: of this key nothing is open then, nor current.
-                if post.whose(call.generation, fingerprint) != Whose::Other {
-                    post.forget(call.generation);
-                    let hit = epoch.forget_call(taken.as_mut().map(|taken| &mut taken.seat), key, call);
+                if post.whose(stamp.generation, fingerprint) != Whose::Other {
+                    post.forget(stamp.generation);
+                    let hit = epoch.forget_stamp(taken.as_mut().map(|taken| &mut taken.seat), stamp);
                     closed |= hit == ForgetOutcome::Closed;
                 }
             }
@@ -590,13 +599,13 @@ impl<T> Pool<T> {
     /// Whether the call of the stamp is current, as one who has this seat sees it.
     pub(crate) fn is_current(&self, taken: Option<&mut Taken<T>>, stamp: Stamp) -> bool {
         let now = self.now();
-        if stamp.0[0] >> 32 != u64::from(now) {
+        let (epoch, plain) = stamp.parts();
+        if epoch != now {
             return false;
         }
-        let plain = [stamp.0[0] & u64::from(u32::MAX), stamp.0[1]];
         let still = |slot: &mut Slot| {
             point();
-            raw::sflight_is_still(slot, &plain) == raw::DONE
+            raw::sflight_is_still(slot, &plain)
         };
         match taken {
             Some(taken) if taken.epoch.number == now => still(&mut taken.seat.slot),
@@ -619,7 +628,7 @@ impl<T> Pool<T> {
 
     /// Gives the count of the answer back that the letter brought, which nobody uses.
     pub(crate) fn give_back(&self, letter: Letter) {
-        let (Letter::Own(number, _) | Letter::Other(number)) = letter;
+        let (Letter::Own(raw::Answer { value: number, .. }) | Letter::Other(number)) = letter;
         // SAFETY: the number is of a call of this group, which counts each who joined by a seat, also one who asked for another key,
         // and each reads its letter once.
         drop(unsafe { lent::take::<T>(number) });
@@ -697,12 +706,18 @@ impl<T> Side<T> {
 }
 
 impl<T> Epoch<T> {
-    fn forget_call(&self, seat: Option<&mut Seat>, key: &[u8], call: Call) -> ForgetOutcome {
-        let Call { caller, generation, .. } = call;
-        let name = self.names.of(key);
+    // Forgets the call, if it is the one that the key's place names. One that is not has nothing to forget: it is not current.
+    fn forget_call(&self, mut seat: Option<&mut Seat>, key: &[u8], call: Call) -> ForgetOutcome {
+        match self.named_stamp(seat.as_deref_mut(), key) {
+            Some(stamp) if Call::of(self.number, stamp) == call => self.forget_stamp(seat, stamp),
+            _ => ForgetOutcome::Missed,
+        }
+    }
+
+    fn forget_stamp(&self, seat: Option<&mut Seat>, stamp: raw::Stamp) -> ForgetOutcome {
         self.by(seat, |slot| loop {
             point();
-            match raw::forget_call(slot, &name, caller, generation) {
+            match raw::forget_call(slot, &stamp) {
                 raw::DONE => return ForgetOutcome::Closed,
                 raw::CLEARED => return ForgetOutcome::Cleared,
                 raw::BUSY => std::hint::spin_loop(),

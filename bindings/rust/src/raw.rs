@@ -30,6 +30,25 @@ impl Note {
     };
 }
 
+/// Which call. All zeros is that of no call.
+#[repr(C)]
+#[derive(Clone, Copy, Default)]
+pub struct Stamp {
+    pub place: u32,
+    pub reserved: u32,
+    pub caller: u32,
+    pub generation: u32,
+}
+
+/// What a settled call brings.
+#[repr(C)]
+#[derive(Clone, Copy, Default)]
+pub struct Answer {
+    pub value: u64,
+    pub joiners: u32,
+    pub stamp: Stamp,
+}
+
 // SAFETY: the library has a proof that what a slot or a note holds may go to another thread.
 unsafe impl Send for Slot {}
 // SAFETY: as above.
@@ -37,11 +56,13 @@ unsafe impl Send for Slot {}
 unsafe impl Send for Note {}
 
 pub const DONE: u32 = 0;
-pub const OTHERWISE: u32 = 1;
-pub const SPENT: u32 = 2;
-pub const BUSY: u32 = 3;
-pub const OTHER: u32 = 4;
-pub const CLEARED: u32 = 10;
+pub const LED: u32 = 1;
+pub const JOINED: u32 = 2;
+pub const OTHER_KEY: u32 = 4;
+pub const CLEARED: u32 = 6;
+pub const OWES: u32 = 7;
+pub const SPENT: u32 = 8;
+pub const BUSY: u32 = 9;
 pub const MOST_TRIES: u32 = 65_536;
 
 // SAFETY: the signatures are those of `sflight.h`. Those that are safe have all duties of that header met by their types: a slot
@@ -50,16 +71,14 @@ pub const MOST_TRIES: u32 = 65_536;
 unsafe extern "C" {
     pub safe fn sflight_open(slot: &mut Slot, places: u32, callers: u32, seed0: u64, seed1: u64) -> u32;
     pub safe fn sflight_split(slot: &mut Slot, other: &mut Slot) -> u32;
-    unsafe fn sflight_ask(slot: &mut Slot, key: *const u8, len: usize, tries: u32) -> u32;
-    pub safe fn sflight_finish(slot: &mut Slot, value: u64, joiners: &mut u32) -> u32;
-    pub safe fn sflight_go_on(slot: &mut Slot, joiners: &mut u32) -> u32;
-    pub safe fn sflight_poll(slot: &mut Slot, value: &mut u64, joiners: &mut u32) -> u32;
-    pub safe fn sflight_call(slot: &mut Slot, caller: &mut u32, generation: &mut u32) -> u32;
+    unsafe fn sflight_ask(slot: &mut Slot, key: *const u8, len: usize, tries: u32, stamp: &mut Stamp) -> u32;
+    pub safe fn sflight_finish(slot: &mut Slot, value: u64, answer: &mut Answer) -> u32;
+    pub safe fn sflight_go_on(slot: &mut Slot, answer: &mut Answer) -> u32;
+    pub safe fn sflight_poll(slot: &mut Slot, answer: &mut Answer) -> u32;
     pub safe fn sflight_number(slot: &mut Slot, number: &mut u32) -> u32;
-    unsafe fn sflight_forget_call(slot: &mut Slot, key: *const u8, len: usize, caller: u32, generation: u32, tries: u32) -> u32;
-    unsafe fn sflight_named(slot: &mut Slot, key: *const u8, len: usize, caller: &mut u32, generation: &mut u32) -> u32;
-    pub safe fn sflight_stamp(slot: &mut Slot, stamp: &mut [u64; 2]) -> u32;
-    pub safe fn sflight_is_still(slot: &mut Slot, stamp: &[u64; 2]) -> u32;
+    safe fn sflight_forget_call(slot: &mut Slot, stamp: &Stamp, tries: u32) -> u32;
+    unsafe fn sflight_named(slot: &mut Slot, key: *const u8, len: usize, stamp: &mut Stamp) -> u32;
+    pub safe fn sflight_is_still(slot: &mut Slot, stamp: &Stamp) -> bool;
     #[cfg(feature = "notes")]
     pub safe fn sflight_tell(slot: &mut Slot, note: &mut Note) -> u32;
     #[cfg(feature = "notes")]
@@ -70,19 +89,18 @@ unsafe extern "C" {
 }
 
 #[inline]
-pub fn ask(slot: &mut Slot, key: &[u8]) -> u32 {
+pub fn ask(slot: &mut Slot, key: &[u8], stamp: &mut Stamp) -> u32 {
     // SAFETY: the key has so many bytes.
-    unsafe { sflight_ask(slot, key.as_ptr(), key.len(), MOST_TRIES) }
+    unsafe { sflight_ask(slot, key.as_ptr(), key.len(), MOST_TRIES, stamp) }
 }
 
 #[inline]
-pub fn forget_call(slot: &mut Slot, key: &[u8], caller: u32, generation: u32) -> u32 {
-    // SAFETY: the key has so many bytes.
-    unsafe { sflight_forget_call(slot, key.as_ptr(), key.len(), caller, generation, MOST_TRIES) }
+pub fn forget_call(slot: &mut Slot, stamp: &Stamp) -> u32 {
+    sflight_forget_call(slot, stamp, MOST_TRIES)
 }
 
 #[inline]
-pub fn named(slot: &mut Slot, key: &[u8], caller: &mut u32, generation: &mut u32) -> u32 {
+pub fn named(slot: &mut Slot, key: &[u8], stamp: &mut Stamp) -> u32 {
     // SAFETY: the key has so many bytes.
-    unsafe { sflight_named(slot, key.as_ptr(), key.len(), caller, generation) }
+    unsafe { sflight_named(slot, key.as_ptr(), key.len(), stamp) }
 }
