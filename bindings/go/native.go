@@ -24,7 +24,6 @@ type slot struct {
 	generation   uint64 // of the call that its asking may lead, until that is about to be settled; else 0
 	print        uint64 // the fingerprint of the key that it asked for last; stored before the generation
 	last         uint64 // the generation after which it is spent
-	led          uint64 // the call that it led last: its number, and in the upper half the generation
 }
 
 // The library's code, at which no Go code may point: calls_amd64.s knows where in it the calls below stand.
@@ -103,9 +102,6 @@ func (s *slot) named(key string) (Call, bool) {
 	call.place = uint32(place)
 	return call, word != 0
 }
-
-// The call that it leads.
-func (s *slot) leading() Call { return callOf(s.led) }
 
 // Settles the call that it leads. The letter tells how many joined, and where all is wanted, its stamp and call.
 func (s *slot) finish(l *letter, all bool) { cFinish(s, l, all) }

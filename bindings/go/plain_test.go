@@ -50,11 +50,12 @@ func same(t *testing.T, seed int64) {
 		switch did := r.Intn(8); {
 		case states[i] == leads && did < 5:
 			var l, m letter
-			led, led2 := s.leading(), p.leading()
+			generation := uint32(s.generation)
 			s.finish(&l, true)
 			p.finish(&m, true)
-			if led != led2 || led != callOf(l.call) {
-				t.Fatal(seed, step, "which call it leads", led, led2, l)
+			led := callOf(l.call)
+			if led != callOf(m.call) || led.generation != generation {
+				t.Fatal(seed, step, "which call it led", led, m, generation)
 			}
 			calls = append(calls, led)
 			got, want = fmt.Sprint("finish ", l), fmt.Sprint("finish ", m)
@@ -101,7 +102,7 @@ func same(t *testing.T, seed int64) {
 		if s.generation != p.generation || s.print != p.print {
 			t.Fatal(seed, step, "what others read of a seat", s.generation, p.generation)
 		}
-		if states[i] == leads && uint32(s.generation) != s.leading().generation || states[i] != leads && s.generation != 0 {
+		if states[i] == leads && uint32(s.generation) != callOf(p.call.stamp.Call).generation || states[i] != leads && s.generation != 0 {
 			t.Fatal(seed, step, "the generation of the call that it leads", s.generation)
 		}
 	}

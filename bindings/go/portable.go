@@ -111,9 +111,6 @@ func (s *plainSlot) named(key string) (Call, bool) {
 	return call, word != 0
 }
 
-// The call that it leads.
-func (s *plainSlot) leading() Call { return callOf(s.call.stamp.Call) }
-
 // Settles the call that it leads. The letter tells how many joined, its stamp and call.
 func (s *plainSlot) finish(l *letter, _ bool) {
 	w, c := s.words, s.call

@@ -7,7 +7,7 @@ typedef struct {
 	sflight_slot slot;
 	uint64_t leads, joins;
 	void *stack;
-	uint64_t generation, print, last, led;
+	uint64_t generation, print, last;
 } seat;
 
 // A stamp as two words: see Stamp in singleflight.go.
@@ -58,7 +58,6 @@ uint64_t sfgo_ask(seat *s, const uint8_t *key, size_t len, uint32_t tries, uint6
 	sflight_stamp call;
 	uint32_t code = sflight_ask(&s->slot, key, len, tries, &call);
 	if (code == SFLIGHT_LED) {
-		s->led = words_of(&call).call;
 		count(&s->leads);
 		return code;
 	}
