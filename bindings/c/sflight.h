@@ -38,11 +38,13 @@
 #include <stddef.h>
 #include <stdint.h>
 
-/* The version of this header. The number is for comparisons: 10,000 for each major version, 100 for each minor one. */
+/* The version of this header. The number is for comparisons: 10,000 per major version, and 100 per
+ * minor version. */
 #define SFLIGHT_VERSION_MAJOR 0
 #define SFLIGHT_VERSION_MINOR 1
 #define SFLIGHT_VERSION_PATCH 0
-#define SFLIGHT_VERSION_NUMBER (SFLIGHT_VERSION_MAJOR * 10000 + SFLIGHT_VERSION_MINOR * 100 + SFLIGHT_VERSION_PATCH)
+#define SFLIGHT_VERSION_NUMBER \
+    (SFLIGHT_VERSION_MAJOR * 10000 + SFLIGHT_VERSION_MINOR * 100 + SFLIGHT_VERSION_PATCH)
 #define SFLIGHT_VERSION "0.1.0"
 
 #ifdef __cplusplus
@@ -77,8 +79,8 @@ typedef struct sflight_note {
 #define SFLIGHT_NOTE_NONE ((sflight_note){0})
 #endif
 
-/* Which call: 16 plain bytes, to be kept with a cached value. A group never gives two calls one stamp,
- * and all zeros is the stamp of no call. */
+/* Which call: 16 plain bytes, to be kept with a cached value. A group never gives two calls one
+ * stamp, and all zeros is the stamp of no call. */
 typedef struct sflight_stamp {
     uint32_t place;      /* from 1 to as many as the group has */
     uint32_t reserved;   /* 0 */
@@ -258,17 +260,19 @@ bool sflight_is_current(sflight_slot *slot);
 SFLIGHT_MUST_USE
 bool sflight_is_still(sflight_slot *slot, const sflight_stamp *stamp);
 
+/* The next two leave the slot as it is, and use it alone meanwhile, as every function does. */
+
 /* Writes how many others have the value of the answer that the slot had last, by sflight_finish or
  * sflight_poll: how many joined its call, and one more where this slot led it by sflight_ask_chan.
  * The count stays with that answer, whatever the slot asks for meanwhile. A program that counts
  * what a value stands for gives it so many counts more after sflight_finish, and each caller that
  * polls has one of them, by SFLIGHT_DONE or SFLIGHT_OTHER_KEY.
  * Returns SFLIGHT_DONE; SFLIGHT_NOTHING where the slot had no answer yet. */
-uint32_t sflight_joined(sflight_slot *slot, uint64_t *count);
+uint32_t sflight_joined(const sflight_slot *slot, uint64_t *count);
 
 /* Writes the number of the slot's caller, which is free: each caller of a group has its own,
  * from 1 to as many as there are. Returns SFLIGHT_DONE; SFLIGHT_WRONG_STATE. */
-uint32_t sflight_number(sflight_slot *slot, uint32_t *number);
+uint32_t sflight_number(const sflight_slot *slot, uint32_t *number);
 
 /* Puts what the slot's caller, which is free, has seen into the note, in place of what that
  * showed. A note may carry it to another thread. Returns SFLIGHT_DONE; SFLIGHT_WRONG_STATE where
