@@ -1,0 +1,55 @@
+package peers
+
+import (
+	"context"
+	"fmt"
+	"net/http"
+	"time"
+)
+
+// HealthHandler answers 200 while this process is worth keeping, and 503 once it has to be started again: the pool is closed, or
+// another process has this peer's name.
+func (p *Pool) HealthHandler() http.Handler {
+	return http.HandlerFunc(func(w http.ResponseWriter, r *http.Request) {
+		err := p.node.session.Load().failure()
+		if p.node.isClosed.Load() {
+			err = ErrClosed
+		}
+		tell(w, err)
+	})
+}
+
+// ReadyHandler answers 200 while Gets are served here, and 503 with the reason while they are not: this peer begins, or leaves, or
+// has no lease, or others do not have it on their lists.
+func (p *Pool) ReadyHandler() http.Handler {
+	return http.HandlerFunc(func(w http.ResponseWriter, r *http.Request) {
+		ctx, cancel := context.WithTimeout(r.Context(), readyFor)
+		defer cancel()
+		tell(w, p.Ready(ctx))
+	})
+}
+
+const readyFor = 100 * time.Millisecond
+
+func tell(w http.ResponseWriter, err error) {
+	w.Header().Set("Content-Type", "text/plain; charset=utf-8")
+	w.Header().Set("Cache-Control", "no-store")
+	switch err {
+	case nil:
+		fmt.Fprintln(w, "ok")
+	case context.DeadlineExceeded, context.Canceled:
+		w.WriteHeader(http.StatusServiceUnavailable)
+		fmt.Fprintln(w, "peers: this peer learns what it missed")
+	default:
+		w.WriteHeader(http.StatusServiceUnavailable)
+		fmt.Fprintln(w, err)
+	}
+}
+
+// failure returns why the session will never be ready, or nil.
+func (s *session) failure() error {
+	if is(s.over) {
+		return s.failed
+	}
+	return nil
+}
