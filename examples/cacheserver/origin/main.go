@@ -1,5 +1,5 @@
 // Command origin has pages for cacheserver: GET answers a page with its version, POST writes it, and GET /loads
-// answers how often pages were asked for.
+// answers how often pages were asked for. GET /slow takes a second.
 package main
 
 import (
@@ -8,6 +8,7 @@ import (
 	"log"
 	"net/http"
 	"sync"
+	"time"
 )
 
 func main() {
@@ -17,6 +18,9 @@ func main() {
 	written := map[string]int{}
 	loads := 0
 	log.Fatal(http.ListenAndServe(*listen, http.HandlerFunc(func(w http.ResponseWriter, r *http.Request) {
+		if r.Method == http.MethodGet && r.URL.Path == "/slow" {
+			time.Sleep(time.Second)
+		}
 		mu.Lock()
 		defer mu.Unlock()
 		page := r.URL.Path

@@ -1,0 +1,237 @@
+package peers
+
+import (
+	"context"
+	"errors"
+	"fmt"
+	"testing"
+	"time"
+)
+
+// A round of askings that waits for a paused peer takes a timeout, and the next begins after that. Gets go on meanwhile.
+func TestAPausedPeerDoesNotStallGets(t *testing.T) {
+	m := newMesh()
+	a, _, _ := beginAll(t, m, time.Minute)
+	a.every, a.timeout = time.Minute, 2*time.Minute
+	calls := m.calls
+	// The last round that has ended took a timeout, the next began a tick later, and is about to end after another one.
+	a.session.Load().asked.Store(&asked{at: time.Now().Add(-2*a.timeout - a.every)})
+	if err := a.wait(context.Background()); err != nil || m.calls != calls {
+		t.Errorf("a Get asks first: %v", err)
+	}
+}
+
+func TestForgetManyInOneRound(t *testing.T) {
+	m := newMesh()
+	a, b, c := beginAll(t, m, time.Minute)
+	b.versions.most, c.versions.most, a.versions.most = 5000, 5000, 5000
+	cache := newCache("users", a, nil)
+	var many []string
+	for i := 0; i < MostForgets; i++ {
+		many = append(many, fmt.Sprint("k", i))
+	}
+	calls := m.calls
+	if err := cache.ForgetMany(context.Background(), many...); err != nil {
+		t.Fatal(err)
+	}
+	if m.calls != calls+2 {
+		t.Errorf("%d messages to 2 peers", m.calls-calls)
+	}
+	for _, key := range many {
+		if of := keyItem("users", key); !has(b, a, of) || !has(c, a, of) {
+			t.Fatalf("%s is not forgotten", key)
+		}
+	}
+	if has(b, a, user) {
+		t.Error("another key is forgotten")
+	}
+	if err := cache.ForgetMany(context.Background(), append(many, "one more")...); err == nil {
+		t.Error("there may be one more")
+	}
+	if err := cache.ForgetMany(context.Background()); err != nil {
+		t.Errorf("of no key: %v", err)
+	}
+	if err := cache.ForgetMany(context.Background(), "1", string(make([]byte, MostKeyBytes+1))); err != ErrKeyTooLong {
+		t.Errorf("of a long key: %v", err)
+	}
+	long := make([]string, MostForgetBytes/MostKeyBytes+1)
+	for i := range long {
+		long[i] = fmt.Sprint(string(make([]byte, MostKeyBytes-4)), 1000+i)
+	}
+	if err := cache.ForgetMany(context.Background(), long[1:]...); err != nil {
+		t.Errorf("of the most bytes: %v", err)
+	}
+	if err := cache.ForgetMany(context.Background(), long...); err == nil {
+		t.Error("there may be too many bytes")
+	}
+}
+
+func TestForgetAll(t *testing.T) {
+	m := newMesh()
+	a, b, c := beginAll(t, m, time.Minute)
+	users, pages := newCache("users", a, nil), newCache("pages", a, nil)
+	of := keyItem("pages", "7")
+	before := map[string]bool{versionOf(b.versions, of): true}
+	if err := pages.ForgetAll(context.Background()); err != nil {
+		t.Fatal(err)
+	}
+	isFresh(t, of, before, a, b, c)
+	if !has(b, a, of) || has(b, a, user) {
+		t.Error("it is not all keys of the cache that are forgotten")
+	}
+	pool := &Pool{node: a}
+	if err := pool.ForgetAll(context.Background()); err != nil {
+		t.Fatal(err)
+	}
+	if !has(b, a, user) || !has(c, a, of) {
+		t.Error("a key is not forgotten")
+	}
+	// A peer that begins learns of it, too.
+	if err := users.ForgetAll(context.Background()); err != nil {
+		t.Fatal(err)
+	}
+	c = begin(t, m, "c", time.Minute)
+	if !has(c, a, user) {
+		t.Error("a peer that begins does not learn of it")
+	}
+}
+
+// A value gets no older than the TTL: its name is another one then. Keys change theirs at different times.
+func TestTTL(t *testing.T) {
+	n := start(t, newMesh(), "a", time.Minute, "a")
+	await(t, n.session.Load().ready, "it does not begin")
+	c := newCache("users", n, nil)
+	first, other := c.nameOf("7"), c.slotOf("8")
+	if c.ttl = time.Second; WithTTL(time.Second)(c) != nil || WithTTL(time.Second-1)(c) == nil || WithTTL(1001*time.Hour)(c) == nil {
+		t.Error("a TTL is 1 s to 1,000 h")
+	}
+	name, changes := c.nameOf("7"), time.Now()
+	if name == first || other != 0 {
+		t.Error("with a TTL the name is that without one")
+	}
+	until(t, func() bool { return c.nameOf("7") != name }, "the name does not change")
+	name, changes = c.nameOf("7"), time.Now()
+	until(t, func() bool { return c.nameOf("7") != name }, "the name does not change")
+	if took := time.Since(changes); took < time.Second/2 {
+		t.Errorf("the name has changed after %v", took)
+	}
+	slots := map[uint32]bool{}
+	for i := 0; i < 100; i++ {
+		slots[c.slotOf(fmt.Sprint(i))] = true
+	}
+	if len(slots) < 2 {
+		t.Error("all keys change their names at one time")
+	}
+}
+
+// A peer that leaves has the others learn what it alone knows, and they do not wait for it any more; its next process comes back.
+func TestLeave(t *testing.T) {
+	m := newMesh()
+	a, b, c := beginAll(t, m, time.Minute)
+	for _, n := range []string{"a", "b"} {
+		m.setCut(n, true)
+	}
+	if err := forget(c, user); err == nil {
+		t.Fatal("a Forget that nobody heard returns nil")
+	}
+	for _, n := range []string{"a", "b"} {
+		m.setCut(n, false)
+	}
+	pool := &Pool{node: c}
+	cache := newCache("users", c, nil)
+	cache.gate = &pool.gate
+	// Those that run are waited for.
+	if !pool.gate.enter() || !pool.values.enter() {
+		t.Fatal("the gate is closed")
+	}
+	left := make(chan error)
+	go func() {
+		ctx, cancel := context.WithTimeout(context.Background(), 20*time.Second)
+		defer cancel()
+		left <- pool.Leave(ctx)
+	}()
+	until(t, pool.gate.isClosed, "it does not leave")
+	if err := cache.Get(context.Background(), "7", nil); err != ErrClosed {
+		t.Errorf("a Get while it leaves: %v", err)
+	}
+	if err := cache.Forget(context.Background(), "7"); err != ErrClosed {
+		t.Errorf("a Forget while it leaves: %v", err)
+	}
+	if err := pool.Ready(context.Background()); err != ErrClosed {
+		t.Errorf("it is ready while it leaves: %v", err)
+	}
+	time.Sleep(20 * time.Millisecond)
+	if !a.knows("c") {
+		t.Error("it leaves while a Get runs")
+	}
+	pool.gate.leave()
+	until(t, func() bool { return !a.knows("c") && !b.knows("c") }, "the others have it on their lists")
+	if c.isClosed.Load() {
+		t.Error("it is closed while another peer's request runs")
+	}
+	pool.values.leave()
+	select {
+	case err := <-left:
+		if err != nil {
+			t.Error(err)
+		}
+	case <-time.After(20 * time.Second):
+		t.Fatal("it does not leave")
+	}
+	if !has(a, c, user) || !has(b, c, user) {
+		t.Error("what it alone knew is lost")
+	}
+	m.mu.Lock()
+	delete(m.answer, "c")
+	m.mu.Unlock()
+	if err := forget(a, user); err != nil {
+		t.Errorf("a Forget after it has left: %v", err)
+	}
+	if err := pool.Leave(context.Background()); err != nil {
+		t.Errorf("again: %v", err)
+	}
+	c = begin(t, m, "c", time.Minute)
+	if err := c.wait(context.Background()); err != nil || !has(c, a, user) {
+		t.Errorf("its next process: %v", err)
+	}
+	if err := forget(b, user); err != nil || !has(c, b, user) {
+		t.Errorf("a Forget after it is back: %v", err)
+	}
+	// One that cannot tell all says so.
+	m.setCut("b", true)
+	var unanswered *Unanswered
+	if err := (&Pool{node: c}).Leave(context.Background()); !errors.As(err, &unanswered) || unanswered.Peers[0].Peer != "b" {
+		t.Errorf("with b cut off: %v", err)
+	}
+	if !c.isClosed.Load() {
+		t.Error("it is not closed")
+	}
+}
+
+func TestGate(t *testing.T) {
+	var g gate
+	if !g.enter() || g.isClosed() {
+		t.Fatal("it is closed")
+	}
+	g.close()
+	g.close()
+	ctx, cancel := context.WithTimeout(context.Background(), 10*time.Millisecond)
+	defer cancel()
+	if err := g.drain(ctx); err != context.DeadlineExceeded || g.enter() || !g.isClosed() {
+		t.Errorf("while a call runs: %v", err)
+	}
+	g.leave()
+	if err := g.drain(context.Background()); err != nil {
+		t.Error(err)
+	}
+}
+
+func TestDetached(t *testing.T) {
+	type name struct{}
+	ctx, cancel := context.WithTimeout(context.WithValue(context.Background(), name{}, 7), time.Hour)
+	cancel()
+	d := detached{ctx}
+	if _, limited := d.Deadline(); limited || d.Err() != nil || d.Done() != nil || d.Value(name{}) != 7 {
+		t.Error("it ends, or has no values")
+	}
+}
