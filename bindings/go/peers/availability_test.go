@@ -12,7 +12,6 @@ import (
 func TestAPausedPeerDoesNotStallGets(t *testing.T) {
 	m := newMesh()
 	a, _, _ := beginAll(t, m, time.Minute)
-	a.every, a.timeout = time.Minute, 2*time.Minute
 	calls := m.calls
 	// The last round that has ended took a timeout, the next began a tick later, and is about to end after another one.
 	a.session.Load().asked.Store(&asked{at: time.Now().Add(-2*a.timeout - a.every)})
@@ -24,7 +23,6 @@ func TestAPausedPeerDoesNotStallGets(t *testing.T) {
 func TestForgetManyInOneRound(t *testing.T) {
 	m := newMesh()
 	a, b, c := beginAll(t, m, time.Minute)
-	b.versions.most, c.versions.most, a.versions.most = 5000, 5000, 5000
 	cache := newCache("users", a, nil)
 	var many []string
 	for i := 0; i < MostForgets; i++ {

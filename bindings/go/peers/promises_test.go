@@ -201,7 +201,7 @@ func TestALateMessageOfADeadProcess(t *testing.T) {
 	late := a.versions.forget(user)
 	before := map[string]bool{versionOf(a.versions, user): true}
 	a.close()
-	next, err := newNode(config{self: "a", most: 99, timeout: 300 * time.Millisecond, every: time.Minute, transport: meshed{m, "a"},
+	next, err := newNode(config{self: "a", most: 5000, timeout: 300 * time.Millisecond, every: time.Minute, transport: meshed{m, "a"},
 		coordinator: wentBack{NewStatic(names...)}, keys: testKeys})
 	if err != nil {
 		t.Fatal(err)

@@ -179,7 +179,6 @@ func TestNamesCannotBeForetold(t *testing.T) {
 func TestAPeerThatKnowsMuchIsAskedByPages(t *testing.T) {
 	m := newMesh()
 	a, _, _ := beginAll(t, m, time.Minute)
-	a.versions.most = 3000
 	const many = 2000
 	for i := 0; i < many; i++ {
 		a.versions.forget(keyItem("users", fmt.Sprint(strings.Repeat("k", MostKeyBytes-9), i)))
@@ -196,7 +195,6 @@ func TestAPeerThatKnowsMuchIsAskedByPages(t *testing.T) {
 	}
 	m.mu.Unlock()
 	c := start(t, m, "c", time.Minute, names...)
-	c.versions.most = 3000
 	await(t, c.session.Load().ready, "it does not begin")
 	if last := keyItem("users", fmt.Sprint(strings.Repeat("k", MostKeyBytes-9), many-1)); !has(c, a, last) || c.versions.keys != many {
 		t.Errorf("%d of %d keys", c.versions.keys, many)

@@ -1,0 +1,406 @@
+package etcd
+
+import (
+	"context"
+	"fmt"
+	"log"
+	"math/rand"
+	"os"
+	"os/exec"
+	"reflect"
+	"strings"
+	"testing"
+	"time"
+
+	"go.etcd.io/etcd/clientv3"
+	"go.uber.org/zap"
+	"sf.example/singleflight/peers"
+	"sf.example/singleflight/peers/internal/pooltest"
+)
+
+func TestMain(m *testing.M) {
+	pooltest.Main(m, pooltest.Hooks{Coordinator: func(s pooltest.Setting) (peers.Coordinator, error) {
+		client, err := connect(s.Coordinators)
+		if err != nil {
+			return nil, err
+		}
+		return New(client, "/test", WithTTL(ttl))
+	}})
+}
+
+// ttl is the shortest that a server of these tests takes.
+const ttl = 3 * time.Second
+
+func connect(endpoints []string) (*clientv3.Client, error) {
+	quiet := zap.NewProductionConfig()
+	quiet.Level = zap.NewAtomicLevelAt(zap.PanicLevel)
+	return clientv3.New(clientv3.Config{Endpoints: endpoints, DialTimeout: 5 * time.Second, DialKeepAliveTime: 2 * time.Second,
+		DialKeepAliveTimeout: 2 * time.Second, LogConfig: &quiet})
+}
+
+// A cluster is so many servers of etcd.
+type cluster struct {
+	t         *testing.T
+	endpoints []string
+	commands  []*exec.Cmd
+	arguments [][]string
+}
+
+func newCluster(t *testing.T, count int) *cluster {
+	program, err := exec.LookPath("etcd")
+	if err != nil {
+		t.Skip("there is no etcd")
+	}
+	c := &cluster{t: t}
+	var each, others []string
+	for i := 0; i < count; i++ {
+		c.endpoints = append(c.endpoints, "http://"+pooltest.FreeAddress(t))
+		others = append(others, "http://"+pooltest.FreeAddress(t))
+		each = append(each, fmt.Sprintf("n%d=%s", i, others[i]))
+	}
+	for i := range c.endpoints {
+		c.arguments = append(c.arguments, []string{program, "--name", fmt.Sprint("n", i), "--data-dir", t.TempDir(),
+			"--listen-client-urls", c.endpoints[i], "--advertise-client-urls", c.endpoints[i],
+			"--listen-peer-urls", others[i], "--initial-advertise-peer-urls", others[i],
+			"--initial-cluster", strings.Join(each, ","), "--log-level", "panic", "--logger", "zap", "--unsafe-no-fsync"})
+		c.commands = append(c.commands, nil)
+	}
+	t.Cleanup(func() {
+		for i := range c.commands {
+			c.kill(i)
+		}
+	})
+	for i := range c.commands {
+		c.start(i)
+	}
+	client := c.client()
+	for end := time.Now().Add(30 * time.Second); ; time.Sleep(50 * time.Millisecond) {
+		ctx, cancel := context.WithTimeout(context.Background(), time.Second)
+		_, err := client.Get(ctx, "none")
+		cancel()
+		if err == nil {
+			return c
+		} else if time.Now().After(end) {
+			t.Fatal(err)
+		}
+	}
+}
+
+func (c *cluster) start(i int) {
+	arguments := c.arguments[i]
+	c.commands[i] = exec.Command(arguments[0], arguments[1:]...)
+	if os.Getenv("PEERS_TEST_LOG") != "" {
+		c.commands[i].Stderr = os.Stderr
+	}
+	if err := c.commands[i].Start(); err != nil {
+		c.t.Fatal(err)
+	}
+}
+
+func (c *cluster) kill(i int) {
+	if c.commands[i] != nil {
+		c.commands[i].Process.Kill()
+		c.commands[i].Wait()
+		c.commands[i] = nil
+	}
+}
+
+func (c *cluster) client() *clientv3.Client {
+	client, err := connect(c.endpoints)
+	if err != nil {
+		c.t.Fatal(err)
+	}
+	c.t.Cleanup(func() { client.Close() })
+	return client
+}
+
+func (c *cluster) coordinator() *Coordinator {
+	made, err := New(c.client(), "/test", WithTTL(ttl))
+	if err != nil {
+		c.t.Fatal(err)
+	}
+	c.t.Cleanup(func() { made.Close() })
+	return made
+}
+
+func soon(t *testing.T) context.Context {
+	ctx, cancel := context.WithTimeout(context.Background(), 30*time.Second)
+	t.Cleanup(cancel)
+	return ctx
+}
+
+func join(t *testing.T, c *Coordinator, name string) peers.Membership {
+	t.Helper()
+	m, err := c.Join(soon(t), name, 0)
+	if err != nil {
+		t.Fatal(err)
+	}
+	return m
+}
+
+func names(m peers.Membership) (all []string) {
+	for _, member := range m.Members() {
+		all = append(all, member.Name)
+	}
+	return all
+}
+
+func until(t *testing.T, is func() bool, what string) {
+	t.Helper()
+	for end := time.Now().Add(30 * time.Second); !is(); time.Sleep(5 * time.Millisecond) {
+		if time.Now().After(end) {
+			t.Fatal(what)
+		}
+	}
+}
+
+func TestOptions(t *testing.T) {
+	client := &clientv3.Client{}
+	for _, prefix := range []string{"", "/a/", strings.Repeat("a", 256)} {
+		if _, err := New(client, prefix); err == nil {
+			t.Errorf("a prefix may be %q", prefix)
+		}
+	}
+	for _, ttl := range []time.Duration{0, time.Second, 2500 * time.Millisecond, 61 * time.Second} {
+		if _, err := New(client, "/a", WithTTL(ttl)); err == nil {
+			t.Errorf("a TTL may be %v", ttl)
+		}
+	}
+	if _, err := New(nil, "/a"); err == nil {
+		t.Error("there may be no client")
+	}
+	if c, err := New(client, "/a"); err != nil || c.ttl != 5*time.Second {
+		t.Error(c, err)
+	}
+}
+
+// Members are those that have a lease, in the same list for all. Starts grow, and a name has one process.
+func TestMembers(t *testing.T) {
+	t.Parallel()
+	servers := newCluster(t, 1)
+	one, two := servers.coordinator(), servers.coordinator()
+	a := join(t, one, "http://a:1")
+	b := join(t, two, "http://b:1/x")
+	if got := names(b); !reflect.DeepEqual(got, []string{"http://a:1", "http://b:1/x"}) {
+		t.Errorf("b has %v", got)
+	}
+	if a.Start() >= b.Start() || a.Start() == 0 {
+		t.Errorf("a has the start %d, and b, which joined after it, %d", a.Start(), b.Start())
+	}
+	// a knows of b by then.
+	if err := a.Refresh(soon(t)); err != nil || !reflect.DeepEqual(a.Members(), b.Members()) {
+		t.Errorf("%v and %v, %v", a.Members(), b.Members(), err)
+	}
+	until(t, func() bool { return len(a.Changed()) > 0 }, "a does not hear of b")
+	// The name is taken while the lease runs, however often that is asked.
+	short, cancel := context.WithTimeout(context.Background(), ttl/2)
+	defer cancel()
+	if _, err := two.Join(short, "http://a:1", 0); err == nil {
+		t.Fatal("two processes have one name")
+	}
+	left := time.Until(a.Until())
+	if left <= 0 || left > ttl-ttl/10 {
+		t.Errorf("a has its lease for %v, of %v", left, ttl)
+	}
+	time.Sleep(2 * ttl)
+	if !time.Now().Before(a.Until()) || len(names(b)) != 2 {
+		t.Errorf("a has not renewed its lease: %v", names(b))
+	}
+	// A process that leaves is off the list at once, and the next has a later start.
+	if err := a.Leave(soon(t)); err != nil {
+		t.Fatal(err)
+	}
+	if time.Now().Before(a.Until()) {
+		t.Error("it has a lease after it left")
+	}
+	select {
+	case <-a.Done():
+	default:
+		t.Error("its membership has not ended")
+	}
+	until(t, func() bool { return len(names(b)) == 1 }, "b does not hear that a left")
+	again := join(t, one, "http://a:1")
+	if again.Start() <= b.Start() {
+		t.Errorf("the next a has the start %d, after %d", again.Start(), b.Start())
+	}
+	until(t, func() bool { return len(names(b)) == 2 }, "b does not hear of the next a")
+	// One that ends without a word is off the list once its lease has run out, and not before it knows that itself.
+	one.Close()
+	until(t, func() bool { return len(names(b)) == 1 }, "b does not hear that a ended")
+	if time.Now().Before(again.Until()) {
+		t.Errorf("etcd has no lease of a's any more, and a has one for %v", time.Until(again.Until()))
+	}
+	if _, err := two.Join(soon(t), "http://a:1", b.Start()+1<<40); err == nil {
+		t.Error("a start is before one that is known")
+	}
+}
+
+// A member whose lease is gone at etcd joins no more than it answers.
+func TestALeaseThatIsGone(t *testing.T) {
+	t.Parallel()
+	servers := newCluster(t, 1)
+	c, client := servers.coordinator(), servers.client()
+	for name, end := range map[string]func(m *member){
+		"revoked": func(m *member) { client.Revoke(soon(t), m.lease) },
+		"deleted": func(m *member) { client.Delete(soon(t), m.key()) },
+	} {
+		m := join(t, c, "http://"+name+":1")
+		end(m.(*member))
+		select {
+		case <-m.Done():
+		case <-time.After(30 * time.Second):
+			t.Fatalf("%s: its membership does not end", name)
+		}
+		if time.Now().Before(m.Until()) {
+			t.Errorf("%s: it has a lease", name)
+		}
+	}
+}
+
+func TestKeptForgets(t *testing.T) {
+	t.Parallel()
+	servers := newCluster(t, 1)
+	a := join(t, servers.coordinator(), "http://a:1")
+	if err := a.Keep(soon(t), "1-2-3", []byte("a forget")); err != nil {
+		t.Fatal(err)
+	}
+	b := join(t, servers.coordinator(), "http://b:1")
+	if got := b.Kept(); len(got) != 1 || string(got["1-2-3"]) != "a forget" {
+		t.Errorf("one that joins has %q", got)
+	}
+	if err := b.Keep(soon(t), "4-5-6", []byte("another")); err != nil {
+		t.Fatal(err)
+	}
+	until(t, func() bool { return len(a.Kept()) == 2 }, "a does not hear of a Forget that is kept")
+	if err := b.Drop(soon(t), "1-2-3"); err != nil {
+		t.Fatal(err)
+	}
+	until(t, func() bool { return len(a.Kept()) == 1 }, "a does not hear that it is dropped")
+	if got := names(a); len(got) != 2 {
+		t.Errorf("the members are %v", got)
+	}
+}
+
+// What a watch missed while it was cut off, and etcd has compacted, is read anew.
+func TestAWatchThatFails(t *testing.T) {
+	t.Parallel()
+	servers := newCluster(t, 1)
+	long := servers.coordinator()
+	long.ttl = 20 * time.Second
+	a := join(t, long, "http://a:1").(*member)
+	for i := 0; i < 3; i++ {
+		if err := a.Keep(soon(t), fmt.Sprint(i), nil); err != nil {
+			t.Fatal(err)
+		}
+	}
+	until(t, func() bool { return len(a.Kept()) == 3 }, "it does not follow")
+	servers.kill(0)
+	time.Sleep(time.Second)
+	servers.start(0)
+	client := servers.client()
+	until(t, func() bool {
+		ctx, cancel := context.WithTimeout(context.Background(), time.Second)
+		defer cancel()
+		got, err := client.Delete(ctx, a.forgets()+"0")
+		if err != nil {
+			return false
+		}
+		_, err = client.Compact(ctx, got.Header.Revision)
+		return err == nil
+	}, "the server does not come back")
+	until(t, func() bool { return len(a.Kept()) == 2 }, "it does not follow after the server was away")
+}
+
+// Processes over three servers of etcd, of which one is killed: nobody gets an answer that is too old, and a dead peer stops no
+// Forget for longer than its lease.
+func testProcesses(t *testing.T, count int) {
+	t.Parallel()
+	servers := newCluster(t, 3)
+	p := pooltest.New(t, count, func(s *pooltest.Setting) { s.Coordinators = servers.endpoints })
+	p.Run("etcd, at rest", nil)
+	p.Losses.Store(15)
+	p.Run("etcd, 15 % of the messages lost or late", nil)
+	p.Losses.Store(0)
+	p.Run("etcd, one paused for 2 s", func() {
+		c := p.Children[rand.Intn(count)]
+		p.Pause(c)
+		time.Sleep(2 * time.Second)
+		p.GoOn(c)
+	})
+	p.Run("etcd, one server of three killed", func() { servers.kill(rand.Intn(3)) })
+	p.Run("etcd, one killed and started again", func() {
+		c := p.Children[rand.Intn(count)]
+		p.Kill(c)
+		p.Restart(c)
+	})
+	p.Run("etcd, one paused for longer than its lease", func() {
+		c := p.Children[rand.Intn(count)]
+		p.Pause(c)
+		time.Sleep(2 * ttl)
+		p.GoOn(c)
+		p.Await(c)
+	})
+	p.CheckStale()
+	for key := 0; key < pooltest.Keys; key++ {
+		if err := p.Forget(p.Children[key%count], key); err != nil {
+			t.Errorf("at rest: %v", err)
+		}
+		for _, c := range p.Children {
+			if _, err := p.Get(c, key); err != nil {
+				t.Errorf("at rest: %v", err)
+			}
+		}
+	}
+	p.CheckStale()
+}
+
+func TestThreeProcesses(t *testing.T) { testProcesses(t, 3) }
+func TestFiveProcesses(t *testing.T)  { testProcesses(t, 5) }
+
+// A dead peer makes a Forget wait for its lease, once, and the next take no longer than with that peer. One that does not wait for
+// so long is finished by the pool, also where its own peer dies.
+func TestADeadPeer(t *testing.T) {
+	t.Parallel()
+	servers := newCluster(t, 1)
+	p := pooltest.New(t, 3, func(s *pooltest.Setting) { s.Coordinators = servers.endpoints })
+	dead := p.Children[2]
+	for key := 0; key < pooltest.Keys; key++ {
+		p.Get(p.Children[1], key)
+	}
+	p.Kill(dead)
+	begun := time.Now()
+	tries := 0
+	for ; p.Forget(p.Children[0], 1) != nil; tries++ {
+		if time.Since(begun) > 10*ttl {
+			t.Fatal("a Forget waits for a dead peer for more than its lease")
+		}
+	}
+	took, again := time.Since(begun), time.Now()
+	if err := p.Forget(p.Children[0], 2); err != nil {
+		t.Error(err)
+	}
+	t.Logf("with a dead peer: nil after %v, %d tries before it; the next in %v", took, tries, time.Since(again))
+	if number, err := p.Get(p.Children[1], 1); err != nil || number != tries+1 {
+		t.Errorf("%d, %v", number, err)
+	}
+	p.Restart(dead)
+	if number, err := p.Get(dead, 1); err != nil || number != tries+1 {
+		t.Errorf("the peer that is back: %d, %v", number, err)
+	}
+	// A Forget that is not answered, by a peer that dies with it; the one that did not answer was paused.
+	paused, dies := p.Children[1], p.Children[0]
+	p.Pause(paused)
+	if err := p.Forget(dies, 3); err == nil {
+		t.Error("a Forget while a peer is paused returns nil at once")
+	}
+	p.Kill(dies)
+	p.GoOn(paused)
+	until(t, func() bool {
+		number, err := p.Get(paused, 3)
+		other, bad := p.Get(p.Children[2], 3)
+		return err == nil && bad == nil && number == 1 && other == 1
+	}, "a Forget that was not answered is lost")
+	p.CheckStale()
+}
+
+func init() { log.SetFlags(log.Lmicroseconds) }
