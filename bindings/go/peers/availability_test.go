@@ -14,7 +14,7 @@ func TestAPausedPeerDoesNotStallGets(t *testing.T) {
 	a, _, _ := beginAll(t, m, time.Minute)
 	calls := m.calls
 	// The last round that has ended took a timeout, the next began a tick later, and is about to end after another one.
-	a.session.Load().asked.Store(&asked{at: time.Now().Add(-2*a.timeout - a.every)})
+	a.session.Load().asked.Store(askedAt(time.Now().Add(-2*a.timeout - a.every)))
 	if err := a.wait(context.Background()); err != nil || m.calls != calls {
 		t.Errorf("a Get asks first: %v", err)
 	}

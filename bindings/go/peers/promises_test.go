@@ -157,7 +157,7 @@ func TestListsThatDiffer(t *testing.T) {
 	if err := joins.wait(context.Background()); err == nil {
 		t.Error("c serves, which b does not have on its list")
 	}
-	joins.session.Load().asked.Store(&asked{at: time.Now()}) // as if it had not reached b
+	joins.session.Load().asked.Store(askedAt(time.Now())) // as if it had not reached b
 	if err := forget(b, user); err != nil || !has(joins, b, user) {
 		t.Errorf("c does not hear of a Forget of b, whose list lacks it, but not a's: %v", err)
 	}
