@@ -15,6 +15,7 @@ type Stats struct {
 	Forgets    uint64        // Forgets that were asked for here
 	Unanswered uint64        // of these, that returned an error
 	Keys       int           // forgotten keys that are kept now
+	Names      uint64        // how often the names of keys have changed, by Forgets of any peer
 	Buckets    uint64        // how often a 256th of a cache's keys was forgotten, as more than Forgotten keys were
 	Alls       uint64        // how often this peer forgot all
 	Strangers  uint64        // requests that no peer of the pool had signed
@@ -68,7 +69,7 @@ func (f *figures) acknowledged(peer string, took time.Duration) {
 func (p *Pool) Stats() Stats {
 	n := p.node
 	s := Stats{Forgets: n.figures.forgets.Load(), Unanswered: n.figures.unanswered.Load(), Strangers: n.figures.strangers.Load(),
-		Start: n.versions.startOf(n.self)}
+		Names: n.versions.renamed.Load(), Start: n.versions.startOf(n.self)}
 	s.Keys, s.Buckets, s.Alls = n.versions.counts()
 	if session := n.session.Load(); session.asked.Load() != nil {
 		s.Serving = !n.away(session) && !p.gate.isClosed()

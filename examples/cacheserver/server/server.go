@@ -67,9 +67,10 @@ func load(origin string) groupcache.GetterFunc {
 }
 
 type server struct {
-	pool   *peers.Pool
-	pages  *peers.Cache
-	purger []*net.IPNet // from where a PURGE is taken
+	pool     *peers.Pool
+	pages    *peers.Cache
+	purger   []*net.IPNet // from where a PURGE is taken
+	purgeFor time.Duration
 }
 
 // ServeHTTP takes a page's path, with its query, as its key.
@@ -91,7 +92,9 @@ func (s *server) ServeHTTP(w http.ResponseWriter, r *http.Request) {
 			http.Error(w, "no PURGE from this address", http.StatusForbidden)
 			return
 		}
-		if err := s.pages.Forget(r.Context(), key); err != nil {
+		ctx, cancel := context.WithTimeout(r.Context(), s.purgeFor)
+		defer cancel()
+		if err := s.pages.Forget(ctx, key); err != nil {
 			refuse(w, err)
 			return
 		}
@@ -156,7 +159,7 @@ func (s *server) metrics(w http.ResponseWriter, r *http.Request) {
 type Flags struct {
 	Listen, PeersListen, Self, KeyFile, Origin, PurgeFrom string
 	Bytes                                                 int64
-	TTL                                                   time.Duration
+	TTL, PurgeFor                                         time.Duration
 }
 
 // Define defines them.
@@ -168,6 +171,7 @@ func (f *Flags) Define() {
 	flag.StringVar(&f.Origin, "origin", "http://127.0.0.1:9000", "the origin's base URL")
 	flag.StringVar(&f.PurgeFrom, "purge-from", "127.0.0.0/8,::1/128", "the networks from which a PURGE is taken")
 	flag.Int64Var(&f.Bytes, "bytes", 64<<20, "the bytes of pages and keys to cache")
+	flag.DurationVar(&f.PurgeFor, "purge-for", 10*time.Second, "how long a PURGE waits for the other peers")
 	flag.DurationVar(&f.TTL, "ttl", 0, "how old a page may get without a PURGE; 0 is for ever")
 }
 
@@ -199,7 +203,7 @@ func (f *Flags) Run(o peers.Options) error {
 	if at, err := url.Parse(f.Origin); err != nil || at.Host == "" || strings.HasSuffix(f.Origin, "/") {
 		return fmt.Errorf("-origin is no base URL like http://host:9000: %q", f.Origin)
 	}
-	s := &server{}
+	s := &server{purgeFor: f.PurgeFor}
 	if s.purger, err = f.networks(); err != nil {
 		return err
 	}

@@ -1,0 +1,18 @@
+module cacheserver.example/withetcd
+
+go 1.19
+
+require (
+	cacheserver.example v0.0.0
+	go.etcd.io/etcd v0.5.0-alpha.5.0.20200910180754-dd1b699fc489
+	sf.example/singleflight/peers v0.0.0
+	sf.example/singleflight/peers/etcd v0.0.0
+)
+
+replace (
+	cacheserver.example => ../
+	google.golang.org/grpc => google.golang.org/grpc v1.26.0
+	sf.example/singleflight => ../../../bindings/go
+	sf.example/singleflight/peers => ../../../bindings/go/peers
+	sf.example/singleflight/peers/etcd => ../../../bindings/go/peers/etcd
+)
