@@ -206,6 +206,47 @@ func TestLeave(t *testing.T) {
 	}
 }
 
+// With leases, its own ends at once, and it does not join again while it waits for the requests of others.
+func TestLeaveWithALease(t *testing.T) {
+	m, by := newMesh(), newAgreed()
+	a, b, c := joinAll(t, m, by, time.Minute)
+	members := func() int {
+		by.mu.Lock()
+		defer by.mu.Unlock()
+		return len(by.members)
+	}
+	pool := &Pool{node: c}
+	if !pool.values.enter() {
+		t.Fatal("the gate is closed")
+	}
+	left := make(chan error)
+	go func() {
+		ctx, cancel := context.WithTimeout(context.Background(), 20*time.Second)
+		defer cancel()
+		left <- pool.Leave(ctx)
+	}()
+	until(t, func() bool { return members() == 2 }, "it is a member yet")
+	m.setCut("c", true)
+	if err := forget(a, user); err != nil || !has(b, a, user) {
+		t.Errorf("a Forget after it has left: %v", err)
+	}
+	time.Sleep(3 * retry)
+	if members() != 2 {
+		t.Error("it has joined again")
+	}
+	pool.values.leave()
+	if err := <-left; err != nil {
+		t.Error(err)
+	}
+	// One that has to join again ends its lease, so that it need not wait for that.
+	old := b.session.Load()
+	b.contest(old, number{})
+	await(t, b.session.Load().ready, "it does not join again")
+	if start := b.versions.startOf("b"); start <= old.m.Start() {
+		t.Errorf("its start is %d, after %d", start, old.m.Start())
+	}
+}
+
 func TestGate(t *testing.T) {
 	var g gate
 	if !g.enter() || g.isClosed() {
