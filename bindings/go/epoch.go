@@ -12,7 +12,7 @@ const (
 )
 
 // A seat is a caller of the library, and what became of the call that it led, until everyone who joined by a caller of
-// their own has read that. It fills whole cache lines where the library runs.
+// their own has read that.
 type seat struct {
 	slot
 	taken    uint32 // whether somebody has it, where it is hot
@@ -34,7 +34,12 @@ type seat struct {
 	lone     atomic.Uint32 // the generation of its last call that was forgotten as one that nobody has joined
 	closes   atomic.Uint64 // Forgets by it that closed a call
 	idles    atomic.Uint64 // and those that closed none
-	_        [8]byte
+}
+
+// A seat that fills whole cache lines, so that two goroutines do not wait for one another's stores.
+type roomySeat struct {
+	_ [(64 - unsafe.Sizeof(seat{})%64) % 64]byte
+	seat
 }
 
 // Counts a Forget. A counter that all share would be what many Forgets wait for.
@@ -132,7 +137,8 @@ func (e *epoch) grow() *seat {
 	if e.made.Load() == e.size.callers || !e.root.live {
 		return nil
 	}
-	s := &seat{epoch: e}
+	s := &new(roomySeat).seat
+	s.epoch = e
 	number := e.root.split(&s.slot)
 	if number == 0 {
 		return nil

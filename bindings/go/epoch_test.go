@@ -9,11 +9,16 @@ import (
 	"unsafe"
 )
 
-// Seats fill whole cache lines, so that two goroutines do not wait for one another's stores.
+// Seats fill whole cache lines: the sizes of Go's allocator that are multiples of 64 begin there.
 func TestSeatsAreApart(t *testing.T) {
-	if size := unsafe.Sizeof(seat{}); isProved && size%64 != 0 {
-		t.Error("the size of a seat", size)
-	}
+	g := open(t, 4)
+	g.Do("key", value(1))
+	g.pool().now.Load().each(func(number uint32, s *seat) {
+		end := uintptr(unsafe.Pointer(s)) + unsafe.Sizeof(*s)
+		if size := unsafe.Sizeof(roomySeat{}); size%64 != 0 || end%64 != 0 {
+			t.Error("a seat's size, and where it ends", size, end%64)
+		}
+	})
 }
 
 // A seat that became free as its epoch was drained, and was missed by that, is drained later.
@@ -63,13 +68,13 @@ func TestForgetsAreCounted(t *testing.T) {
 			}
 		}(i)
 	}
-	within(t, 5*time.Minute, "Forgets", all.Wait)
+	within(t, time.Minute, "Forgets", all.Wait)
 	if st := g.Stats(); st.Idle != goroutines*rounds || st.Closed != 0 {
 		t.Error("each once", st)
 	}
 	started, release := chans()
 	open := g.DoChan("key", heldAny(1, started, release))
-	<-started
+	begun(t, started)
 	g.Forget("key")
 	close(release)
 	receive(t, open)
@@ -86,14 +91,14 @@ func TestStampOfFollowers(t *testing.T) {
 	started, release := chans()
 	led := make(chan any, 1)
 	go func() { v, _, _ := g.Do("key", heldAny(1, started, release)); led <- v }()
-	<-started
+	begun(t, started)
 	ctx, cancel := context.WithCancel(always)
 	defer cancel()
 	joined := g.Of.DoChan(ctx, "key", loadOf(2))
 	until(t, "it joins", func() bool { return g.Stats().Joins == 1 })
 	close(release)
 	r := receive(t, joined)
-	if r.Val != 1 || !g.IsStill(r.Stamp) || r.Call == (Call{}) || <-led != 1 {
+	if r.Val != 1 || !g.IsStill(r.Stamp) || r.Call == (Call{}) || came(t, led) != 1 {
 		t.Error("its result", r)
 	}
 	if hit := g.ForgetCall("key", r.Call); hit != Cleared {

@@ -1,6 +1,10 @@
 package singleflight
 
-import "context"
+import (
+	"context"
+	"testing"
+	"time"
+)
 
 // What Of's Do returns, for a Group whose function takes no context.
 func doCall(
@@ -31,4 +35,25 @@ func held[V any](v V, started, release chan struct{}) func(context.Context) (V, 
 
 func heldAny(v any, started, release chan struct{}) func() (any, error) {
 	return func() (any, error) { close(started); <-release; return v, nil }
+}
+
+// Waits until a function that is held has begun.
+func begun(t *testing.T, started <-chan struct{}) {
+	t.Helper()
+	select {
+	case <-started:
+	case <-time.After(20 * time.Second):
+		t.Fatal("its function does not begin")
+	}
+}
+
+// Waits for what a goroutine sends.
+func came[V any](t *testing.T, ch <-chan V) (v V) {
+	t.Helper()
+	select {
+	case v = <-ch:
+	case <-time.After(20 * time.Second):
+		t.Fatal("it does not come")
+	}
+	return v
 }

@@ -62,7 +62,7 @@ func TestOf(t *testing.T) {
 	for _, key := range [][]byte{key[:3], key} {
 		started, release := chans()
 		first := pages.DoChan(always, key, held("page", started, release))
-		<-started
+		begun(t, started)
 		same := append([]byte{}, key...)
 		key[0]++
 		second := pages.DoChan(always, same, typed("other"))
@@ -110,7 +110,7 @@ func comesBack[V any](t *testing.T, what string, v V, is func(V) bool) {
 	defer o.Close()
 	started, release := chans()
 	leader := o.DoChan(always, "key", held(v, started, release))
-	<-started
+	begun(t, started)
 	joiner := o.DoChan(always, "key", typed(v))
 	close(release)
 	for _, ch := range []<-chan ResultOf[V]{leader, joiner} {
@@ -176,7 +176,7 @@ func TestOfDeadlines(t *testing.T) {
 	// One that joins, and has a deadline.
 	started, release := chans()
 	leader := o.DoChan(always, "other", held(2, started, release))
-	<-started
+	begun(t, started)
 	ctx, cancel := context.WithTimeout(always, time.Millisecond)
 	defer cancel()
 	if got, err := o.Do(ctx, "other", none); err != context.DeadlineExceeded || got.Val != 0 {
@@ -243,12 +243,12 @@ func TestOfPanics(t *testing.T) {
 			o.Do(ctx, "key", fn)
 		}
 		go ask(func(context.Context) (int, error) { close(started); <-release; panic(failed) })
-		<-started
+		begun(t, started)
 		go ask(typed(1))
 		until(t, "another waits", func() bool { return waiting(o) >= 1 && o.Stats().Joins == 1 })
 		close(release)
 		for i := 0; i < 2; i++ {
-			if err, ok := (<-recovered).(error); !ok || !errors.Is(err, failed) {
+			if err, ok := came(t, recovered).(error); !ok || !errors.Is(err, failed) {
 				t.Error("the panic", ends, err)
 			}
 		}
@@ -272,7 +272,7 @@ func TestJoiners(t *testing.T) {
 		}
 		started, release := chans()
 		all := []<-chan Result{g.DoChan("key", heldAny(1, started, release))}
-		<-started
+		begun(t, started)
 		for i := 0; i < 5; i++ {
 			all = append(all, g.DoChan("key", value(2)))
 		}
@@ -284,7 +284,7 @@ func TestJoiners(t *testing.T) {
 		}()
 		until(t, "one more joins", func() bool { return g.Stats().Joins == 6 })
 		cancel()
-		<-gone
+		came(t, gone)
 		close(release)
 		for i, ch := range all {
 			if r := receive(t, ch); r.Val != 1 || !r.Shared || r.Joiners != 6 {
@@ -303,7 +303,7 @@ func TestStrangersAreNoJoiners(t *testing.T) {
 	g := onePlace(t, 8)
 	started, release := chans()
 	leader := g.DoChan("key", heldAny(1, started, release))
-	<-started
+	begun(t, started)
 	for i := 0; i < 3; i++ {
 		r := receive(t, g.DoChan(fmt.Sprint("other-", i), value(2)))
 		if r.Shared || r.Joiners != 0 {
@@ -352,7 +352,7 @@ func TestJoinersOfManyCalls(t *testing.T) {
 			}
 		}()
 	}
-	all.Wait()
+	within(t, time.Minute, "Do", all.Wait)
 	joined := 0
 	for _, it := range runs {
 		if it.got.Load() != it.told.Load()+1 {
@@ -393,7 +393,7 @@ func TestForgetUnshared(t *testing.T) {
 		begin := func(v any) (<-chan Result, chan struct{}) {
 			started, release := chans()
 			ch := g.DoChan(at.key, heldAny(v, started, release))
-			<-started
+			begun(t, started)
 			if at.drains {
 				p := g.pool()
 				p.lock()
@@ -416,7 +416,7 @@ func TestForgetUnshared(t *testing.T) {
 				}
 			}()
 			until(t, what+": it joins and waits", func() bool { return joinedBy(g) > 0 })
-			return func() any { return <-ch }
+			return func() any { t.Helper(); return came(t, ch) }
 		}
 		// Alone.
 		first, release := begin("first")
@@ -495,7 +495,7 @@ func TestForgetUnsharedOfAnotherKey(t *testing.T) {
 	g := onePlace(t, 4)
 	started, release := chans()
 	first := g.DoChan("ada", heldAny(1, started, release))
-	<-started
+	begun(t, started)
 	if !g.ForgetUnshared("grace") {
 		t.Error("it has no call")
 	}
@@ -562,7 +562,7 @@ func TestForgetUnsharedAmongMany(t *testing.T) {
 				}
 			}(i)
 		}
-		within(t, 5*time.Minute, "ForgetUnshared", all.Wait)
+		within(t, time.Minute, "ForgetUnshared", all.Wait)
 		t.Log("yes, no, joined, about to:", yes.Load(), no.Load(), both.Load(), early.Load())
 		// A caller in a new epoch that is about to join an older call.
 		if most := 8 * int64(g.Stats().Epochs-1); early.Load() > most {

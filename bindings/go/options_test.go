@@ -110,12 +110,12 @@ func TestRecorderOfAbandonedCalls(t *testing.T) {
 		left <- err
 	}
 	go ask()
-	<-started
+	begun(t, started)
 	go ask()
 	until(t, "one joins", func() bool { return g.Stats().Joins == 1 })
 	cancel()
 	for i := 0; i < 2; i++ {
-		if err := <-left; err != context.Canceled {
+		if err := came(t, left); err != context.Canceled {
 			t.Error("they leave", err)
 		}
 	}
@@ -134,7 +134,7 @@ func TestRecorderOfAdoptedResults(t *testing.T) {
 	p := g.pool()
 	started, release := chans()
 	old := g.DoChan("key", func() (any, error) { close(started); <-release; return "old", nil })
-	<-started
+	begun(t, started)
 	p.lock()
 	p.replace(p.size, true)
 	p.mu.Unlock()
@@ -142,7 +142,7 @@ func TestRecorderOfAdoptedResults(t *testing.T) {
 	go func() { v, _, _ := g.Do("key", value("new")); taken <- v }()
 	until(t, "it waits for the old one", func() bool { return joinedBy(g) == 1 })
 	close(release)
-	if r := receive(t, old); r.Val != "old" || <-taken != "old" {
+	if r := receive(t, old); r.Val != "old" || came(t, taken) != "old" {
 		t.Error("one run for two calls", r)
 	}
 	if told := all.take(); len(told) != 1 || told[0].Joiners != 1 {
@@ -190,7 +190,7 @@ func TestRecorderBlocksNobodyElse(t *testing.T) {
 			})
 			leader <- v
 		}()
-		<-started
+		begun(t, started)
 		go func() { v, _, _ := g.Do("key", value(3)); joined <- v }()
 		until(t, "one joins", func() bool { return joinedBy(g) == 1 })
 		close(release)
@@ -255,7 +255,7 @@ func TestInFlight(t *testing.T) {
 	begin := func(key string) {
 		started, release := chans()
 		ch := g.DoChan(key, func() (any, error) { close(started); <-release; return key, nil })
-		<-started
+		begun(t, started)
 		ends = append(ends, func() { close(release); receive(t, ch) })
 	}
 	told := func(what string, want int) {

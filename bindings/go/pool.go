@@ -670,7 +670,7 @@ func (p *pool) forgetUnsharedBeside(k keyed, name string) (alone, closed bool) {
 type sole struct {
 	by, leader *seat
 	call       Call
-	isLast     bool // whether it is what the leader's seat leads, or is about to settle
+	isOpen     bool // whether it is not ended, or about to be settled
 }
 
 // Finds it, unless somebody has joined it.
@@ -687,16 +687,15 @@ func (p *pool) sole(e *epoch, by *seat, name string, k keyed) (it sole, shared b
 	acquire(&s.mu)
 	generation, print := s.asking()
 	isOpen := uint32(generation) == call.generation
-	it = sole{by, s, call, isOpen || generation == 0 && print == k.print}
-	if w := s.waits; it.isLast && print == k.print && w != nil && w.joined+w.followers > 0 {
-		s.mu.Unlock()
-		return sole{}, true
-	}
 	if isOpen && print != k.print {
 		s.mu.Unlock()
 		return sole{}, false
 	}
-	return it, false
+	if w := s.waits; isOpen && w != nil && w.joined+w.followers > 0 {
+		s.mu.Unlock()
+		return sole{}, true
+	}
+	return sole{by, s, call, isOpen}, false
 }
 
 func (it sole) unlock() {
@@ -719,7 +718,7 @@ func (it sole) forget() (closed bool) {
 	}
 	defer s.mu.Unlock()
 	before := s.lone.Load()
-	if it.isLast && before < it.call.generation {
+	if it.isOpen && before < it.call.generation {
 		s.lone.Store(it.call.generation)
 		yield()
 	}
