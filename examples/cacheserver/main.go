@@ -1,5 +1,6 @@
-// Command cacheserver caches an origin's pages on several machines: GET and HEAD answer a page, and PURGE makes all peers forget it.
-// Peers, metrics and health checks have an address of their own. See README.md.
+// Command cacheserver caches an origin's pages on several machines: GET and HEAD answer a page, and
+// PURGE makes all peers forget it. Peers, metrics and health checks have an address of their own.
+// See README.md.
 package main
 
 import (

@@ -18,8 +18,8 @@ type keys [][]byte
 // LeastKeyBytes is how long a key of Options.Keys is at least.
 const LeastKeyBytes = 16
 
-// MostSkew is how far two peers' clocks may differ: an older or later request is refused, so that a recorded one is of no use after
-// that.
+// MostSkew is how far two peers' clocks may differ: an older or later request is refused, so that a
+// recorded one is of no use after that.
 const MostSkew = 5 * time.Minute
 
 var (
@@ -39,7 +39,8 @@ func mac(key []byte, parts ...[]byte) []byte {
 	return m.Sum(nil)
 }
 
-// sign signs the parts, with the time and a random number where they are a request; text is what goes along.
+// sign signs the parts, with the time and a random number where they are a request; text is what
+// goes along.
 func (k keys) sign(now time.Time, parts ...[]byte) (text string) {
 	var nonce [8]byte
 	binary.BigEndian.PutUint64(nonce[:], randomNumber())
@@ -76,7 +77,8 @@ func (k keys) verify(now time.Time, text string, parts ...[]byte) error {
 	return nil
 }
 
-// seal puts the signature before the body, as a line. What it answers, or whom it is for, is signed as well.
+// seal puts the signature before the body, as a line. What it answers, or whom it is for, is signed
+// as well.
 func (k keys) seal(kind string, to []byte, body []byte) []byte {
 	if len(k) == 0 {
 		return body

@@ -8,12 +8,14 @@ import (
 	"time"
 )
 
-// A round of askings that waits for a paused peer takes a timeout, and the next begins after that. Gets go on meanwhile.
+// A round of askings that waits for a paused peer takes a timeout, and the next begins after that.
+// Gets go on meanwhile.
 func TestAPausedPeerDoesNotStallGets(t *testing.T) {
 	m := newMesh()
 	a, _, _ := beginAll(t, m, time.Minute)
 	calls := m.calls
-	// The last round that has ended took a timeout, the next began a tick later, and is about to end after another one.
+	// The last round that has ended took a timeout, the next began a tick later, and is about to
+	// end after another one.
 	a.session.Load().asked.Store(askedAt(time.Now().Add(-2*a.timeout - a.every)))
 	if err := a.wait(context.Background()); err != nil || m.calls != calls {
 		t.Errorf("a Get asks first: %v", err)
@@ -94,7 +96,8 @@ func TestForgetAll(t *testing.T) {
 	}
 }
 
-// A value gets no older than the TTL: its name is another one then. Keys change theirs at different times.
+// A value gets no older than the TTL: its name is another one then. Keys change theirs at different
+// times.
 func TestTTL(t *testing.T) {
 	n := start(t, newMesh(), "a", time.Minute, "a")
 	await(t, n.session.Load().ready, "it does not begin")
@@ -122,7 +125,8 @@ func TestTTL(t *testing.T) {
 	}
 }
 
-// A peer that leaves has the others learn what it alone knows, and they do not wait for it any more; its next process comes back.
+// A peer that leaves has the others learn what it alone knows, and they do not wait for it any
+// more; its next process comes back.
 func TestLeave(t *testing.T) {
 	m := newMesh()
 	a, b, c := beginAll(t, m, time.Minute)
@@ -206,7 +210,8 @@ func TestLeave(t *testing.T) {
 	}
 }
 
-// With leases, its own ends at once, and it does not join again while it waits for the requests of others.
+// With leases, its own ends at once, and it does not join again while it waits for the requests of
+// others.
 func TestLeaveWithALease(t *testing.T) {
 	m, by := newMesh(), newAgreed()
 	a, b, c := joinAll(t, m, by, time.Minute)

@@ -12,11 +12,13 @@ import (
 	"time"
 )
 
-// Coordinator says which processes are the pool. Static is a fixed list; package etcd has one that is agreed by all and has leases.
+// Coordinator says which processes are the pool. Static is a fixed list; package etcd has one that
+// is agreed by all and has leases.
 type Coordinator interface {
-	// Join makes the process that calls it a member under the name self, with a start that is greater than after and than that of
-	// each earlier process of the name. It blocks until no earlier process of that name can be a member, and returns an error where
-	// the context ends before that.
+	// Join makes the process that calls it a member under the name self, with a start that is
+	// greater than after and than that of each earlier process of the name. It blocks until no
+	// earlier process of that name can be a member, and returns an error where the context ends
+	// before that.
 	Join(ctx context.Context, self string, after uint64) (Membership, error)
 	// Close ends what the Coordinator has begun. No membership is used after it.
 	Close() error
@@ -32,12 +34,13 @@ type Membership interface {
 	Refresh(ctx context.Context) error
 	// Changed returns a channel that receives after Members or Kept have changed.
 	Changed() <-chan struct{}
-	// Until returns when the membership ends unless it is renewed, by this machine's clock; the zero time where it has no lease.
+	// Until returns when the membership ends unless it is renewed, by this machine's clock; the
+	// zero time where it has no lease.
 	Until() time.Time
 	// Done returns a channel that is closed when the membership has ended.
 	Done() <-chan struct{}
-	// Keep stores a Forget for the members that have not acknowledged it, under a name of its own. It returns ErrNotKept where the
-	// Coordinator stores nothing.
+	// Keep stores a Forget for the members that have not acknowledged it, under a name of its own.
+	// It returns ErrNotKept where the Coordinator stores nothing.
 	Keep(ctx context.Context, id string, forget []byte) error
 	// Kept returns what is stored.
 	Kept() map[string][]byte
@@ -56,11 +59,11 @@ type Member struct {
 // ErrNotKept is that of a Coordinator that stores no Forgets.
 var ErrNotKept = errors.New("peers: this Coordinator keeps no Forgets")
 
-// Static is the Coordinator of a list that is written into each peer's configuration. It has no leases: while a peer is dead, each
-// Forget returns an *Unanswered that names it.
+// Static is the Coordinator of a list that is written into each peer's configuration. It has no
+// leases: while a peer is dead, each Forget returns an *Unanswered that names it.
 type Static struct {
-	// File keeps the start of the last process between two of them, so that starts grow where the clock goes back. Without it the
-	// others' memory alone is there for that.
+	// File keeps the start of the last process between two of them, so that starts grow where the
+	// clock goes back. Without it the others' memory alone is there for that.
 	File string
 
 	mu   sync.Mutex

@@ -9,8 +9,8 @@ import (
 	"time"
 )
 
-// agreed is a Coordinator with leases within this process, as etcd's is: one list, starts that grow, and Forgets that are kept. A
-// member can be made to hear nothing of it.
+// agreed is a Coordinator with leases within this process, as etcd's is: one list, starts that
+// grow, and Forgets that are kept. A member can be made to hear nothing of it.
 type agreed struct {
 	mu      sync.Mutex
 	last    uint64
@@ -61,7 +61,8 @@ func (a *agreed) changed() {
 
 func (a *agreed) Close() error { return nil }
 
-// expire is what happens once the lease of a name has run out. The process hears of it where it is told so.
+// expire is what happens once the lease of a name has run out. The process hears of it where it is
+// told so.
 func (a *agreed) expire(name string, hears bool) {
 	a.mu.Lock()
 	defer a.mu.Unlock()
@@ -198,7 +199,8 @@ func TestAForgetWaitsForALease(t *testing.T) {
 	}
 }
 
-// Without a lease a peer serves nothing, and its Forgets return no nil, since others may have joined without its word.
+// Without a lease a peer serves nothing, and its Forgets return no nil, since others may have
+// joined without its word.
 func TestWithoutALease(t *testing.T) {
 	m, by := newMesh(), newAgreed()
 	a, b, _ := joinAll(t, m, by, time.Minute)
@@ -227,8 +229,8 @@ func TestWithoutALease(t *testing.T) {
 	}
 }
 
-// A peer that joins serves once each member has answered, or has no lease any more: one that knows nothing of it could forget
-// without its word.
+// A peer that joins serves once each member has answered, or has no lease any more: one that knows
+// nothing of it could forget without its word.
 func TestAPeerThatJoinsWaitsForAllMembers(t *testing.T) {
 	m, by := newMesh(), newAgreed()
 	a, b, _ := joinAll(t, m, by, time.Minute)
@@ -259,7 +261,8 @@ func TestAPeerThatJoinsWaitsForAllMembers(t *testing.T) {
 	}
 }
 
-// A member that has not heard of one that joined asks the Coordinator where that one sends it something.
+// A member that has not heard of one that joined asks the Coordinator where that one sends it
+// something.
 func TestAMemberThatHearsNothing(t *testing.T) {
 	m, by := newMesh(), newAgreed()
 	a, b, _ := joinAll(t, m, by, time.Minute)
@@ -278,8 +281,29 @@ func TestAMemberThatHearsNothing(t *testing.T) {
 	}
 }
 
-// A peer whose lease has run out joins again. It keeps what it has where a member that served meanwhile tells it what it missed, and
-// forgets all where there is none.
+// The same, where it has heard from another member of the one that joined.
+func TestAMemberThatHearsOfOneThatJoins(t *testing.T) {
+	m, by := newMesh(), newAgreed()
+	a, b, _ := joinAll(t, m, by, time.Minute)
+	memberOf(b).setDeaf(true)
+	m.mu.Lock()
+	m.routes["d>b"] = func([]byte) []byte { return nil }
+	m.mu.Unlock()
+	d := joins(t, m, by, "d", time.Minute)
+	until(t, func() bool { return a.knows("d") }, "a does not hear of it")
+	round(b)
+	m.mu.Lock()
+	delete(m.routes, "d>b")
+	m.mu.Unlock()
+	await(t, d.session.Load().ready, "it does not serve")
+	round(b)
+	if err := forget(b, user); err != nil || !has(d, b, user) {
+		t.Errorf("b does not tell it of a Forget: %v", err)
+	}
+}
+
+// A peer whose lease has run out joins again. It keeps what it has where a member that served
+// meanwhile tells it what it missed, and forgets all where there is none.
 func TestJoiningAgain(t *testing.T) {
 	m, by := newMesh(), newAgreed()
 	a, b, c := joinAll(t, m, by, time.Minute)
@@ -321,7 +345,8 @@ func TestJoiningAgain(t *testing.T) {
 	}
 }
 
-// A Forget that was not answered is kept, and finished by the peer that made it, or by another where that one is dead.
+// A Forget that was not answered is kept, and finished by the peer that made it, or by another
+// where that one is dead.
 func TestForgetsThatAreKept(t *testing.T) {
 	m, by := newMesh(), newAgreed()
 	a, b, c := joinAll(t, m, by, 20*time.Millisecond)

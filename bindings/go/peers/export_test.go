@@ -5,7 +5,8 @@ import (
 	"time"
 )
 
-// Lie is the fault that the tests with processes have to see: a peer acknowledges each Forget, and takes it a while later.
+// Lie is the fault that the tests with processes have to see: a peer acknowledges each Forget, and
+// takes it a while later.
 func Lie(key []byte, self string, answer func([]byte) []byte) func([]byte) []byte {
 	k := keys{key}
 	return func(sealed []byte) []byte {

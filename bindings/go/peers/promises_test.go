@@ -2,6 +2,7 @@ package peers
 
 import (
 	"context"
+	"encoding/json"
 	"errors"
 	"path/filepath"
 	"testing"
@@ -18,8 +19,8 @@ func isFresh(t *testing.T, of item, before map[string]bool, nodes ...*node) {
 	}
 }
 
-// A process is restored from a snapshot, and makes numbers that it has made before, which the others know. Many at one time, so that
-// its count passes theirs before the first is acknowledged.
+// A process is restored from a snapshot, and makes numbers that it has made before, which the
+// others know. Many at one time, so that its count passes theirs before the first is acknowledged.
 func TestAForgetOfAProcessThatWasRestored(t *testing.T) {
 	for _, many := range []int{1, 40} {
 		m := newMesh()
@@ -32,7 +33,8 @@ func TestAForgetOfAProcessThatWasRestored(t *testing.T) {
 			}
 			before[versionOf(b.versions, user)] = true
 		}
-		// The process as it was: its numbers begin again. Its versions are left, as it would learn them when it next asks.
+		// The process as it was: its numbers begin again. Its versions are left, as it would learn
+		// them when it next asks.
 		a.versions.mu.Lock()
 		a.versions.last = restored
 		for count := restored.Count + 1; count < restored.Count+keptMade/2; count++ {
@@ -60,7 +62,8 @@ func TestAForgetOfAProcessThatWasRestored(t *testing.T) {
 	}
 }
 
-// The same, where nothing was forgotten after it was restored: the others notice that it has fewer changes than they know of.
+// The same, where nothing was forgotten after it was restored: the others notice that it has fewer
+// changes than they know of.
 func TestAProcessThatWasRestoredBeginsAgain(t *testing.T) {
 	m := newMesh()
 	a, b, c := beginAll(t, m, time.Minute)
@@ -82,7 +85,8 @@ func TestAProcessThatWasRestoredBeginsAgain(t *testing.T) {
 	}
 }
 
-// An address may lead to another peer: an entry of DNS that is out of date, an address that is used again.
+// An address may lead to another peer: an entry of DNS that is out of date, an address that is used
+// again.
 func TestAnotherPeerDoesNotAcknowledge(t *testing.T) {
 	m := newMesh()
 	a, b, _ := beginAll(t, m, time.Minute)
@@ -136,8 +140,60 @@ func TestAnEarlierProcessDoesNotAcknowledge(t *testing.T) {
 	}
 }
 
-// A peer that began with an old list learns of those that are missing there from the others, and so does one that others joined
-// through a peer that it can reach.
+// An acknowledgement is of the peer that was asked, of its last process, and holds a number that
+// this process made.
+func TestAcknowledgementsThatAreNone(t *testing.T) {
+	m := newMesh()
+	a, b, _ := beginAll(t, m, time.Minute)
+	var acknowledge func(got *reply)
+	m.mu.Lock()
+	m.routes["a>b"] = func(sealed []byte) []byte {
+		var what request
+		text, err := a.keys.open(sealRequest, []byte("b"), sealed)
+		if err != nil || json.Unmarshal(text, &what) != nil || what.Number == nil {
+			return b.answer(sealed)
+		}
+		got := reply{From: "b", Start: b.versions.startOf("b"), Held: []number{*what.Number}}
+		acknowledge(&got)
+		text, _ = json.Marshal(got)
+		return a.keys.seal(sealReply, sealed, text)
+	}
+	m.mu.Unlock()
+	for name, change := range map[string]func(got *reply){
+		"of another peer":       func(got *reply) { got.From = "c" },
+		"of an earlier process": func(got *reply) { got.Start-- },
+		"of nothing":            func(got *reply) { got.Held = nil },
+		"of an older number":    func(got *reply) { got.Held[0].Start-- },
+		"with an absurd start":  func(got *reply) { got.Start = 1 << 63 },
+	} {
+		acknowledge = change
+		if err := forget(a, user); !errors.Is(err, ErrUnanswered) {
+			t.Errorf("%s: %v", name, err)
+		}
+	}
+	acknowledge = func(*reply) {}
+	if err := forget(a, user); err != nil {
+		t.Errorf("one that is: %v", err)
+	}
+	// Of a number that only a copy of this process can have made: it takes a later start, and
+	// another number.
+	start := a.versions.startOf("a")
+	again := false
+	acknowledge = func(got *reply) {
+		if got.Held[0].Start == start {
+			got.Held[0].Secret++
+			again = true
+		}
+	}
+	ctx, cancel := context.WithTimeout(context.Background(), 20*time.Second)
+	defer cancel()
+	if err := a.forget(ctx, "Forget", user); err != nil || !again || a.versions.startOf("a") == start {
+		t.Errorf("one of a copy: %v", err)
+	}
+}
+
+// A peer that began with an old list learns of those that are missing there from the others, and so
+// does one that others joined through a peer that it can reach.
 func TestListsThatDiffer(t *testing.T) {
 	m := newMesh()
 	a, b, _ := beginAll(t, m, time.Minute)
@@ -173,7 +229,8 @@ func TestListsThatDiffer(t *testing.T) {
 	}
 }
 
-// A Forget that returned an error may be lost with its peer. Repeated until it returns nil, it is not.
+// A Forget that returned an error may be lost with its peer. Repeated until it returns nil, it is
+// not.
 func TestAForgetIsRepeatedUntilNil(t *testing.T) {
 	m := newMesh()
 	a, b, c := beginAll(t, m, time.Minute)
@@ -191,8 +248,8 @@ func TestAForgetIsRepeatedUntilNil(t *testing.T) {
 	isFresh(t, user, before, a, b, c)
 }
 
-// A number of a dead process comes late, after the clock went back and the next process has forgotten the key. The number is the
-// only one of that process that anybody hears of.
+// A number of a dead process comes late, after the clock went back and the next process has
+// forgotten the key. The number is the only one of that process that anybody hears of.
 func TestALateMessageOfADeadProcess(t *testing.T) {
 	m := newMesh()
 	a, b, c := beginAll(t, m, time.Minute)

@@ -54,7 +54,8 @@ func TestSignatures(t *testing.T) {
 			t.Errorf("%s: %v", c.name, err)
 		}
 	}
-	// By Python's hmac: HMAC-SHA256 of the part's length in 8 bytes and the part, with the first key of RFC 4231.
+	// By Python's hmac: HMAC-SHA256 of the part's length in 8 bytes and the part, with the first
+	// key of RFC 4231.
 	if got := fmt.Sprintf("%x", mac([]byte(strings.Repeat("\x0b", 20)), []byte("Hi There"))); got !=
 		"70454c00e162637b41588d34d6e73e7ab2fb58fdde827b1e084ecaeb378dca60" {
 		t.Errorf("the HMAC of one part is %s", got)
@@ -162,7 +163,8 @@ func TestBadRequestsChangeNothing(t *testing.T) {
 	}
 }
 
-// Processes with the same start and count have different names after a Forget, so that nobody can ask for a name before there is one.
+// Processes with the same start and count have different names after a Forget, so that nobody can
+// ask for a name before there is one.
 func TestNamesCannotBeForetold(t *testing.T) {
 	seen := map[string]bool{}
 	for i := 0; i < 100; i++ {
@@ -278,7 +280,8 @@ func TestRequestsForValues(t *testing.T) {
 	}
 }
 
-// The owner's reply is signed together with the request; it has to come in time, and not to be too long.
+// The owner's reply is signed together with the request; it has to come in time, and not to be too
+// long.
 func TestRepliesOfAnOwner(t *testing.T) {
 	m := newMesh()
 	a, _, _ := beginAll(t, m, time.Minute)
@@ -319,7 +322,9 @@ func TestRepliesOfAnOwner(t *testing.T) {
 	}))
 	defer server.Close()
 	defer close(stall)
-	for path, ok := range map[string]bool{"/ok": true, "/late": false, "/stalls": false, "/key": false, "/body": false, "/unsigned": false,
+	// A key may be any bytes: its path is signed as it is sent.
+	odd := "/" + url.QueryEscape(nameOf("a b+c/../%2F//@\xff?#", versionOf(a.versions, user), 7))
+	for path, ok := range map[string]bool{"/ok": true, odd: true, "/late": false, "/stalls": false, "/key": false, "/body": false, "/unsigned": false,
 		"/old": false, "/status": false} {
 		within := 20 * time.Second
 		if path == "/late" || path == "/stalls" {

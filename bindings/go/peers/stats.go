@@ -7,7 +7,8 @@ import (
 	"time"
 )
 
-// Stats are numbers of this peer since it was made. Those of a cache are groupcache's: see Cache.Group.
+// Stats are numbers of this peer since it was made. Those of a cache are groupcache's: see
+// Cache.Group.
 type Stats struct {
 	Serving    bool          // whether Gets are served now
 	Start      uint64        // the number of this process; it grows whenever the peer joins again
@@ -16,7 +17,7 @@ type Stats struct {
 	Unanswered uint64        // of these, that returned an error
 	Keys       int           // forgotten keys that are kept now
 	Names      uint64        // how often the names of keys have changed, by Forgets of any peer
-	Buckets    uint64        // how often a 256th of a cache's keys was forgotten, as more than Forgotten keys were
+	Buckets    uint64        // how often a 256th of a cache's keys was forgotten for want of room
 	Alls       uint64        // how often this peer forgot all
 	Strangers  uint64        // requests that no peer of the pool had signed
 	Peers      []PeerStats   // the others, in the order of their names

@@ -11,8 +11,8 @@ import (
 	"time"
 )
 
-// groupcache's own requests go from peer to peer with these headers. They say who asks and whom, and are signed; a reply is signed
-// together with the request that it answers.
+// groupcache's own requests go from peer to peer with these headers. They say who asks and whom,
+// and are signed; a reply is signed together with the request that it answers.
 const (
 	fromHeader  = "Peers-From"
 	startHeader = "Peers-Start"

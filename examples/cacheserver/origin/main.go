@@ -1,5 +1,5 @@
-// Command origin has pages for cacheserver: GET answers a page with its version, POST writes it, and GET /loads
-// answers how often pages were asked for. GET /slow takes a second.
+// Command origin has pages for cacheserver: GET answers a page with its version, POST writes it,
+// and GET /loads answers how often pages were asked for. GET /slow takes a second.
 package main
 
 import (

@@ -1,5 +1,5 @@
-// Package server is a cache of an origin's pages on several machines: cacheserver with a fixed list of peers, and withetcd with
-// etcd's.
+// Package server is a cache of an origin's pages on several machines: cacheserver with a fixed list
+// of peers, and withetcd with etcd's.
 package server
 
 import (
@@ -194,7 +194,8 @@ func (f *Flags) networks() (all []*net.IPNet, err error) {
 	return all, nil
 }
 
-// Run serves until the process gets an interrupt or SIGTERM. Then it leaves the pool, and returns once what was asked is answered.
+// Run serves until the process gets an interrupt or SIGTERM. Then it leaves the pool, and returns
+// once what was asked is answered.
 func (f *Flags) Run(o peers.Options) error {
 	key, err := f.key()
 	if err != nil {

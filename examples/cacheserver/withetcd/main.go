@@ -1,5 +1,5 @@
-// Command withetcd is cacheserver with etcd's list of peers and leases: a peer that is dead delays a PURGE until its lease has run
-// out, and no longer. See ../README.md.
+// Command withetcd is cacheserver with etcd's list of peers and leases: a peer that is dead delays
+// a PURGE until its lease has run out, and no longer. See ../README.md.
 package main
 
 import (

@@ -1,7 +1,9 @@
-// Package etcd is a Coordinator of package peers over etcd: a list of peers that all agree on, a lease for each peer, so that a dead
-// one does not stop Forgets, and a place for Forgets that some peer did not acknowledge.
+// Package etcd is a Coordinator of package peers over etcd: a list of peers that all agree on, a
+// lease for each peer, so that a dead one does not stop Forgets, and a place for Forgets that some
+// peer did not acknowledge.
 //
-// Below a prefix, etcd has a key for each member, which ends with its lease, and one for each such Forget:
+// Below a prefix, etcd has a key for each member, which ends with its lease, and one for each such
+// Forget:
 //
 //	PREFIX/members/NAME   a random text of the process; the key's create revision is the member's start
 //	PREFIX/forgets/ID     a Forget, until all members have it
@@ -39,9 +41,9 @@ type Coordinator struct {
 // Option is an option of New, the same at each peer.
 type Option func(*Coordinator) error
 
-// WithTTL sets how long a lease runs after it was renewed last: whole seconds, 2 s to 60 s, by default 5 s. A Forget waits for a
-// dead peer for so long, and a peer goes on without etcd for nine tenths of it. etcd rounds a TTL up to a little more than its own
-// election timeout.
+// WithTTL sets how long a lease runs after it was renewed last: whole seconds, 2 s to 60 s, by
+// default 5 s. A Forget waits for a dead peer for so long, and a peer goes on without etcd for nine
+// tenths of it. etcd rounds a TTL up to a little more than its own election timeout.
 func WithTTL(ttl time.Duration) Option {
 	return func(c *Coordinator) error {
 		if ttl < 2*time.Second || ttl > time.Minute || ttl%time.Second != 0 {
@@ -52,8 +54,9 @@ func WithTTL(ttl time.Duration) Option {
 	}
 }
 
-// New returns the Coordinator of the pool that has this prefix: 1 to 255 bytes, of which the last is no slash. The client is the
-// caller's, to be closed after the pool. New returns an error where an option or the prefix is not allowed.
+// New returns the Coordinator of the pool that has this prefix: 1 to 255 bytes, of which the last
+// is no slash. The client is the caller's, to be closed after the pool. New returns an error where
+// an option or the prefix is not allowed.
 func New(client *clientv3.Client, prefix string, options ...Option) (*Coordinator, error) {
 	if client == nil {
 		return nil, errors.New("etcd: no client")
@@ -101,8 +104,8 @@ type member struct {
 	isDone   bool
 }
 
-// Join takes a lease, and the key of the name once no other process has it: an earlier one that ended without Leave has it until its
-// lease runs out.
+// Join takes a lease, and the key of the name once no other process has it: an earlier one that
+// ended without Leave has it until its lease runs out.
 func (c *Coordinator) Join(ctx context.Context, self string, after uint64) (peers.Membership, error) {
 	random := make([]byte, 16)
 	if _, err := rand.Read(random); err != nil {
@@ -183,7 +186,8 @@ func (m *member) take(ctx context.Context) (bool, error) {
 	return true, nil
 }
 
-// extend takes the lease as renewed at a time before etcd renewed it. A tenth of it is for clocks that do not run alike.
+// extend takes the lease as renewed at a time before etcd renewed it. A tenth of it is for clocks
+// that do not run alike.
 func (m *member) extend(at time.Time) {
 	until := at.Add(m.ttl - m.ttl/10)
 	m.until.Store(&until)

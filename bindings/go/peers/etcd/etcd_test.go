@@ -174,7 +174,8 @@ func TestOptions(t *testing.T) {
 	}
 }
 
-// Members are those that have a lease, in the same list for all. Starts grow, and a name has one process.
+// Members are those that have a lease, in the same list for all. Starts grow, and a name has one
+// process.
 func TestMembers(t *testing.T) {
 	t.Parallel()
 	servers := newCluster(t, 1)
@@ -224,7 +225,8 @@ func TestMembers(t *testing.T) {
 		t.Errorf("the next a has the start %d, after %d", again.Start(), b.Start())
 	}
 	until(t, func() bool { return len(names(b)) == 2 }, "b does not hear of the next a")
-	// One that ends without a word is off the list once its lease has run out, and not before it knows that itself.
+	// One that ends without a word is off the list once its lease has run out, and not before it
+	// knows that itself.
 	one.Close()
 	until(t, func() bool { return len(names(b)) == 1 }, "b does not hear that a ended")
 	if time.Now().Before(again.Until()) {
@@ -311,8 +313,8 @@ func TestAWatchThatFails(t *testing.T) {
 	until(t, func() bool { return len(a.Kept()) == 2 }, "it does not follow after the server was away")
 }
 
-// Processes over three servers of etcd, of which one is killed: nobody gets an answer that is too old, and a dead peer stops no
-// Forget for longer than its lease.
+// Processes over three servers of etcd, of which one is killed: nobody gets an answer that is too
+// old, and a dead peer stops no Forget for longer than its lease.
 func testProcesses(t *testing.T, count int) {
 	t.Parallel()
 	servers := newCluster(t, 3)
@@ -357,8 +359,8 @@ func testProcesses(t *testing.T, count int) {
 func TestThreeProcesses(t *testing.T) { testProcesses(t, 3) }
 func TestFiveProcesses(t *testing.T)  { testProcesses(t, 5) }
 
-// A dead peer makes a Forget wait for its lease, once, and the next take no longer than with that peer. One that does not wait for
-// so long is finished by the pool, also where its own peer dies.
+// A dead peer makes a Forget wait for its lease, once, and the next take no longer than with that
+// peer. One that does not wait for so long is finished by the pool, also where its own peer dies.
 func TestADeadPeer(t *testing.T) {
 	t.Parallel()
 	servers := newCluster(t, 1)
@@ -387,7 +389,8 @@ func TestADeadPeer(t *testing.T) {
 	if number, err := p.Get(dead, 1); err != nil || number != tries+1 {
 		t.Errorf("the peer that is back: %d, %v", number, err)
 	}
-	// A Forget that is not answered, by a peer that dies with it; the one that did not answer was paused.
+	// A Forget that is not answered, by a peer that dies with it; the one that did not answer was
+	// paused.
 	paused, dies := p.Children[1], p.Children[0]
 	p.Pause(paused)
 	if err := p.Forget(dies, 3); err == nil {
@@ -401,6 +404,13 @@ func TestADeadPeer(t *testing.T) {
 		return err == nil && bad == nil && number == 1 && other == 1
 	}, "a Forget that was not answered is lost")
 	p.CheckStale()
+}
+
+func TestForgetsPerSecond(t *testing.T) {
+	servers := newCluster(t, 3)
+	for _, count := range []int{3, 5} {
+		pooltest.New(t, count, func(s *pooltest.Setting) { s.Coordinators = servers.endpoints }).Throughput("etcd")
+	}
 }
 
 func init() { log.SetFlags(log.Lmicroseconds) }
