@@ -297,6 +297,15 @@ func TestAMemberThatHearsOfOneThatJoins(t *testing.T) {
 	m.mu.Unlock()
 	await(t, d.session.Load().ready, "it does not serve")
 	round(b)
+	m.mu.Lock()
+	m.routes["b>d"] = func([]byte) []byte { return nil }
+	m.mu.Unlock()
+	if err := forget(b, user); !errors.Is(err, ErrUnanswered) {
+		t.Errorf("a Forget of which it has not heard: %v", err)
+	}
+	m.mu.Lock()
+	delete(m.routes, "b>d")
+	m.mu.Unlock()
 	if err := forget(b, user); err != nil || !has(d, b, user) {
 		t.Errorf("b does not tell it of a Forget: %v", err)
 	}
