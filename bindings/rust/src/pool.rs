@@ -726,3 +726,55 @@ impl<T> Epoch<T> {
         })
     }
 }
+
+#[cfg(test)]
+mod tests {
+    use super::*;
+
+    fn pool() -> Pool<u32> {
+        let plan = Plan {
+            places: 1,
+            callers: 2,
+            grows: false,
+            calls: 1000,
+        };
+        Pool::open(plan).unwrap()
+    }
+
+    fn renew(pool: &Pool<u32>) {
+        let old = pool.current();
+        pool.renew(&old, old.places, old.callers);
+        assert!(pool.now() == old.number + 1, "it is another epoch");
+    }
+
+    #[test]
+    fn a_seat_is_left_in_the_stash_and_found_there() {
+        let pool = pool();
+        let taken = pool.take().unwrap();
+        let number = taken.seat.number;
+        assert!(pool.stash.count() == 0 && pool.stats().in_use == 1, "it is taken");
+        pool.put(taken);
+        assert!(pool.stash.count() == 1 && pool.stats().in_use == 0, "it is in the stash");
+        assert!(pool.take().is_some_and(|taken| taken.seat.number == number), "and found");
+    }
+
+    // By such a seat one could join a call whose load is over, and go back behind an answer of the current epoch.
+    #[test]
+    fn no_seat_of_an_epoch_that_was_replaced_is_taken() {
+        let pool = pool();
+        let (first, second) = (pool.take().unwrap(), pool.take().unwrap());
+        pool.put(first);
+        renew(&pool);
+        assert!(pool.stash.count() == 0, "the stash keeps none");
+        pool.put(second);
+        assert!(pool.stash.count() == 0 && pool.stats().in_use == 0, "and gets none");
+        let old = pool.take().unwrap();
+        renew(&pool);
+        // As one finds it that looks between the change of `now` and the end of the renewal.
+        assert!(pool.stash.put(old, |_| true).is_ok());
+        let taken = pool.take().unwrap();
+        assert!(taken.epoch.number == pool.now() && pool.stash.count() == 0, "it was put away");
+        pool.put(taken);
+        assert!(pool.stats().in_use == 0 && lock(&pool.epochs).all.len() == 1, "old epochs are gone");
+    }
+}

@@ -7,6 +7,7 @@
 //!
 //! `SFLIGHT_SCHEDULES` says how many are drawn, and `SFLIGHT_SEED` with which one it begins.
 
+use crate::asker::Asker;
 use crate::{Caller, Group, Loaded, Plan, Stamp};
 use std::arch::global_asm;
 use std::cell::Cell;
@@ -16,7 +17,9 @@ use std::panic::{AssertUnwindSafe, catch_unwind};
 use std::pin::{Pin, pin};
 use std::ptr::null_mut;
 use std::rc::Rc;
-use std::task::{Context, Poll, Waker};
+use std::sync::Arc;
+use std::sync::atomic::{AtomicBool, Ordering::SeqCst};
+use std::task::{Context, Poll, Wake, Waker};
 use std::time::Duration;
 
 // Keeps the registers that a call has to keep on the old stack, and takes those of the new one.
@@ -333,12 +336,41 @@ impl World {
     }
 }
 
+struct Woken(AtomicBool);
+
+impl Wake for Woken {
+    fn wake(self: Arc<Self>) {
+        self.0.store(true, SeqCst);
+    }
+}
+
+// Polls the future to its end, each time by a waker of its own, once that is woken: who waits is never forgotten. Or some times more,
+// for no reason, and drops it then.
+fn polled<F: Future + ?Sized>(random: &mut Random, mut future: Pin<&mut F>, polls: u64) -> Option<F::Output> {
+    let has_end = random.below(2) == 0;
+    for _ in 0..if has_end { polls } else { u64::MAX } {
+        let woken = Arc::new(Woken(AtomicBool::new(false)));
+        if let Poll::Ready(ready) = future.as_mut().poll(&mut Context::from_waker(&Waker::from(woken.clone()))) {
+            return Some(ready);
+        }
+        while !woken.0.load(SeqCst) {
+            is_blocked();
+            if has_end && random.below(4) == 0 {
+                break;
+            }
+        }
+    }
+    None
+}
+
 /// One who asks, by the group and by two callers.
 struct Actor {
     world: Rc<World>,
     group: Group<Value>,
     caller: Caller<Value>,
     second: Option<Caller<Value>>,
+    // Whether it asks by the group alone. Its callers have no seats then, so that those of the group come and go.
+    is_grouped: bool,
     random: Random,
     // Of how many keys it asks for one.
     keys: u64,
@@ -349,6 +381,10 @@ struct Actor {
 }
 
 impl Actor {
+    fn by_group(&mut self) -> bool {
+        self.is_grouped || self.random.below(2) == 0
+    }
+
     fn got(&mut self, key: usize, least: u64, got: Loaded<Value>, has_joined: bool) {
         self.world.returned(key, least, &got, has_joined);
         self.last.insert(key, (got.value.moment, got.stamp(), got.call()));
@@ -377,11 +413,12 @@ impl Actor {
             world.ends(key, moment);
             world.value(moment)
         };
+        let by_group = self.by_group();
         let (caller, group, name) = (&mut self.caller, &self.group, NAMES[key]);
-        let got = match (timeout, self.random.below(2)) {
-            (true, 0) => caller.get_or_load_timeout(name, Duration::ZERO, load),
+        let got = match (timeout, by_group) {
+            (true, false) => caller.get_or_load_timeout(name, Duration::ZERO, load),
             (true, _) => group.get_or_load_timeout(name, Duration::ZERO, load),
-            (false, 0) => Ok(caller.get_or_load(name, load)),
+            (false, false) => Ok(caller.get_or_load(name, load)),
             (false, _) => Ok(group.get_or_load(name, load)),
         };
         self.second = second;
@@ -390,7 +427,6 @@ impl Actor {
         }
     }
 
-    // Polls a future some times, and drops it where it is not ready then.
     fn task(&mut self, key: usize) {
         struct Load<'a>(&'a World, usize, (u64, bool));
         impl Drop for Load<'_> {
@@ -403,26 +439,24 @@ impl Actor {
         let load = async {
             let running = Load(&world, key, world.begins(key, asked));
             let mut left = steps;
-            std::future::poll_fn(|_| {
+            std::future::poll_fn(|context| {
                 left = left.saturating_sub(1);
-                if left == 0 { Poll::Ready(()) } else { Poll::Pending }
+                if left == 0 {
+                    return Poll::Ready(());
+                }
+                context.waker().wake_by_ref();
+                Poll::Pending
             })
             .await;
             world.value(running.2)
         };
-        let mut got = None;
+        let got;
         {
-            let mut task: Pin<Box<dyn Future<Output = Loaded<Value>> + '_>> = match self.random.below(2) {
-                0 => Box::pin(self.caller.get_or_load_async(NAMES[key], load)),
-                _ => Box::pin(self.group.get_or_load_async(NAMES[key], load)),
+            let mut task: Pin<Box<dyn Future<Output = Loaded<Value>> + '_>> = match self.by_group() {
+                false => Box::pin(self.caller.get_or_load_async(NAMES[key], load)),
+                true => Box::pin(self.group.get_or_load_async(NAMES[key], load)),
             };
-            for _ in 0..polls {
-                if let Poll::Ready(ready) = task.as_mut().poll(&mut Context::from_waker(Waker::noop())) {
-                    got = Some(ready);
-                    break;
-                }
-                is_blocked();
-            }
+            got = polled(&mut self.random, task.as_mut(), polls);
         }
         if let Some(got) = got {
             self.got(key, least, got, true);
@@ -431,7 +465,7 @@ impl Actor {
 
     fn channel(&mut self, key: usize) {
         let (world, asked, least) = (self.world.clone(), self.world.tick(), self.world.least(key));
-        let (is_run, by_group) = (self.random.below(4) > 0, self.random.below(2) == 0);
+        let (is_run, by_group) = (self.random.below(4) > 0, self.by_group());
         let (receiver, job) = match by_group {
             true => self.group.subscribe(NAMES[key]),
             false => self.caller.subscribe(NAMES[key]),
@@ -458,22 +492,19 @@ impl Actor {
         };
         job.map(run);
         let mut receives = pin!(receiver);
-        let mut context = Context::from_waker(Waker::noop());
         for _ in 0..self.random.below(30) {
-            let got = match self.random.below(2) {
-                0 => receives.try_recv().ok(),
-                _ => match receives.as_mut().poll(&mut context) {
-                    Poll::Ready(got) => got.ok(),
-                    Poll::Pending => None,
-                },
-            };
-            if let Some(got) = got {
+            if let Ok(got) = receives.try_recv() {
                 self.got(key, least, got, has_joined);
                 break;
             }
             is_blocked();
         }
-        self.caller.current_call(NAMES[key]);
+        if !by_group {
+            self.caller.current_call(NAMES[key]);
+        }
+        if let Some(Ok(got)) = polled(&mut self.random, receives.as_mut(), 10) {
+            self.got(key, least, got, has_joined);
+        }
     }
 
     fn forget(&mut self, key: usize) {
@@ -481,9 +512,9 @@ impl Actor {
         let (began, of) = (world.tick(), &world.keys[key]);
         of.forgetting.set(of.forgetting.get() + 1);
         of.running.set(Vec::new());
-        match self.random.below(2) {
-            0 => self.caller.forget(NAMES[key]),
-            _ => self.group.forget(NAMES[key]),
+        match self.by_group() {
+            false => self.caller.forget(NAMES[key]),
+            true => self.group.forget(NAMES[key]),
         };
         of.forgetting.set(of.forgetting.get() - 1);
         of.forgot.set(world.tick());
@@ -494,18 +525,18 @@ impl Actor {
     fn last(&mut self, key: usize) {
         let Some((moment, stamp, call)) = self.last.get(&key).copied() else { return };
         let floor = self.world.keys[key].forgotten.get();
-        let is_current = match self.random.below(2) {
-            0 => self.caller.is_current(stamp),
-            _ => self.group.is_current(stamp),
+        let is_current = match self.by_group() {
+            false => self.caller.is_current(stamp),
+            true => self.group.is_current(stamp),
         };
         if is_current {
             check(moment >= floor, || format!("a stamp of {key} from {moment} is current after a Forget from {floor}"));
             self.world.current.set(self.world.current.get() + 1);
         }
         if let Some(call) = call.filter(|_| self.random.below(3) == 0) {
-            match self.random.below(2) {
-                0 => self.caller.forget_call(NAMES[key], call),
-                _ => self.group.forget_call(NAMES[key], call),
+            match self.by_group() {
+                false => self.caller.forget_call(NAMES[key], call),
+                true => self.group.forget_call(NAMES[key], call),
             };
             check(!self.caller.is_current(stamp), || format!("a call of {key} that was forgotten is current"));
         }
@@ -555,12 +586,14 @@ fn schedule(seed: u64, stacks: &mut Vec<Box<[u128]>>, all: &mut Played) -> Resul
     let actors = if is_scene { 4 } else { 2 + random.below(3) as usize };
     let turn = [1, 2, 4, 16][random.below(4) as usize];
     let (acts, keys) = (1 + random.below(5), 1 + random.below(KEYS as u64));
+    let is_grouped = random.below(3) == 0;
     let tasks = (0..actors).map(|number| {
         let (world, group, random) = (world.clone(), group.clone(), Random::new(random.next()));
         let script = if is_scene { SCENE[number] } else { &[] };
         Box::new(move || {
-            let (caller, second, last) = (group.caller(), Some(group.caller()), HashMap::new());
-            let mut actor = Actor { world, group, caller, second, random, keys, script, last };
+            let caller = || if is_grouped { Caller(Asker::new(group.pool.clone())) } else { group.caller() };
+            let (caller, second, last) = (caller(), Some(caller()), HashMap::new());
+            let mut actor = Actor { world, group, caller, second, is_grouped, random, keys, script, last };
             for _ in 0..acts {
                 actor.act();
             }

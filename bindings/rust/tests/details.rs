@@ -1,0 +1,368 @@
+//! What the documents of the crate say, item by item.
+use singleflight::{Error, ForgetOutcome, Group, Loaded, Stamp};
+use std::future::Future;
+use std::panic::{AssertUnwindSafe, catch_unwind};
+use std::pin::{Pin, pin};
+use std::sync::atomic::{AtomicU64, Ordering::SeqCst};
+use std::sync::{Arc, Barrier};
+use std::task::{Context, Poll, Wake, Waker};
+use std::time::{Duration, Instant};
+
+// Counts how often it wakes.
+#[derive(Default)]
+struct Wakes(AtomicU64);
+
+impl Wake for Wakes {
+    fn wake(self: Arc<Self>) {
+        self.0.fetch_add(1, SeqCst);
+    }
+}
+
+fn once<F: Future>(future: Pin<&mut F>, wakes: &Arc<Wakes>) -> Poll<F::Output> {
+    future.poll(&mut Context::from_waker(&Waker::from(wakes.clone())))
+}
+
+fn until(what: &str, holds: impl Fn() -> bool) {
+    let from = Instant::now();
+    while !holds() {
+        assert!(from.elapsed() < Duration::from_secs(30), "{what}");
+        std::thread::sleep(Duration::from_millis(1));
+    }
+}
+
+// Each slot is of one key.
+fn open<T: Send + Sync>(callers: u32) -> Group<T> {
+    Group::open(1 << 20, callers).unwrap()
+}
+
+#[test]
+fn a_handle_is_all_that_a_program_needs() {
+    let group = Group::<String>::new();
+    let other = group.clone();
+    let got = group.get_or_load("k", || "ada".to_string());
+    assert!(other.is_current(got.stamp()) && other.current_call("k") == got.call(), "a clone is the same group");
+    assert!(!other.forget("k") && !group.is_current(got.stamp()), "nothing was open, and the value is not current");
+    let kept = got.clone();
+    assert!(Arc::ptr_eq(&kept.value, &got.value) && kept.led && kept.call() == got.call() && kept.stamp() == got.stamp(), "a clone of it");
+    drop(kept);
+    assert_eq!(Arc::try_unwrap(got.value), Ok("ada".to_string()), "nobody else has the value");
+    for key in [&b"k"[..], b"", &[0], &[0, 0]] {
+        assert!(*group.get_or_load(key, || format!("{key:?}")).value == format!("{key:?}"), "any bytes are a key");
+    }
+    let owned = group.get_or_load(String::from("a String"), || "b".into());
+    assert!(owned.led && group.get_or_load(vec![7; 3], || "c".into()).led, "of any type");
+    drop(group);
+    assert!(other.stats().leads == 7 && other.stats().in_use == 0, "{:?}", other.stats());
+}
+
+#[test]
+fn threads_that_ask_by_the_group_share_a_load() {
+    const THREADS: usize = 100;
+    for group in [Group::<u32>::new(), open(200), Group::open(1, 1).unwrap()] {
+        let (loads, asked) = (AtomicU64::new(0), AtomicU64::new(0));
+        std::thread::scope(|scope| {
+            for _ in 0..THREADS {
+                scope.spawn(|| {
+                    asked.fetch_add(1, SeqCst);
+                    let got = group.get_or_load("k", || {
+                        until("all ask", || asked.load(SeqCst) == THREADS as u64 && group.stats().joins >= THREADS as u64 - 1);
+                        loads.fetch_add(1, SeqCst);
+                        7
+                    });
+                    assert!(*got.value == 7 && got.shared(), "its value");
+                });
+            }
+        });
+        let stats = group.stats();
+        assert!(loads.load(SeqCst) == 1 && stats.in_use == 0, "one load, and all callers are free: {stats:?}");
+    }
+}
+
+// Threads that come and go one after the other use one caller of the library, wherever the one before has left it.
+#[test]
+fn no_caller_is_made_while_one_is_free() {
+    for group in [Group::<u32>::open(16, 1).unwrap(), Group::new()] {
+        for number in 0..50 {
+            let got = std::thread::scope(|scope| scope.spawn(|| group.get_or_load("k", || number)).join().unwrap());
+            assert!(*got.value == number && got.call().is_some(), "by the library");
+        }
+        // Nor does a caller of one's own find none.
+        std::thread::scope(|scope| scope.spawn(|| assert!(group.caller().get_or_load("k", || 1).call().is_some())).join().unwrap());
+        let stats = group.stats();
+        assert!(stats.made == 1 && stats.alone == 0 && stats.in_use == 0 && stats.leads == 51, "{stats:?}");
+    }
+}
+
+// A load asks for other keys by the same group, however deep.
+#[test]
+fn nested_calls_by_the_group() {
+    fn deep(group: &Group<u32>, depth: u32) -> u32 {
+        let load = || if depth == 0 { 0 } else { deep(group, depth - 1) + 1 };
+        *group.get_or_load(depth.to_le_bytes(), load).value
+    }
+    for group in [Group::<u32>::new(), Group::open(1, 2).unwrap()] {
+        assert_eq!(deep(&group, 100), 100);
+        assert!(group.stats().in_use == 0, "{:?}", group.stats());
+    }
+}
+
+#[test]
+fn whoever_joined_has_the_stamp_of_the_call() {
+    let group = open::<u32>(8);
+    let wakes = Arc::<Wakes>::default();
+    let (mut first, mut second) = (group.caller(), group.caller());
+    let mut task = pin!(group.get_or_load_async("k", async { 2 }));
+    let (got, joined) = std::thread::scope(|scope| {
+        let mut thread = None;
+        let got = first.get_or_load("k", || {
+            thread = Some(scope.spawn(|| second.get_or_load("k", || 3)));
+            assert!(once(task.as_mut(), &wakes).is_pending(), "it joins");
+            until("both join", || group.stats().joins == 2);
+            1
+        });
+        (got, thread.unwrap().join().unwrap())
+    });
+    let Poll::Ready(polled) = once(task.as_mut(), &wakes) else { panic!("it was woken") };
+    for other in [joined, polled] {
+        assert!(*other.value == 1 && !other.led && other.shared(), "its value");
+        assert!(other.stamp() == got.stamp() && other.call() == got.call() && got.call().is_some(), "its call");
+    }
+    assert!(group.is_current(got.stamp()) && second.last_is_current() == Some(true), "current");
+    group.forget("k");
+    assert!(!group.is_current(got.stamp()) && second.last_is_current() == Some(false), "and forgotten");
+}
+
+// It is right for all, also where all callers of the library are taken, and where the group has grown.
+#[test]
+fn is_current_says_yes_and_no() {
+    let group = Group::<u32>::open(16, 1).unwrap();
+    let (mut first, mut none) = (group.caller(), group.caller());
+    let stamp = first.get_or_load("k", || 1).stamp();
+    assert!(first.is_current(stamp) && none.is_current(stamp) && group.is_current(stamp), "yes");
+    assert!(!first.is_current(Stamp::default()) && !none.is_current(Stamp::default()) && !group.is_current(Stamp::default()), "of no call");
+    first.get_or_load("k", || {
+        assert!(!none.is_current(stamp) && !group.is_current(stamp), "a newer call is led");
+        2
+    });
+    let stamp = first.get_or_load("k", || 3).stamp();
+    assert!(!none.forget("k"), "a Forget needs no caller");
+    assert!(!first.is_current(stamp) && !none.is_current(stamp) && !group.is_current(stamp), "no");
+    let spent = Group::<u32>::open_spent_after(16, 1, 1).unwrap();
+    let stamp = spent.get_or_load("k", || 1).stamp();
+    assert!(spent.is_current(stamp), "yes");
+    spent.get_or_load("m", || 1);
+    assert!(!spent.is_current(stamp) && !spent.caller().is_current(stamp), "the epoch is another one");
+}
+
+#[test]
+fn the_last_waker_is_woken_once() {
+    let group = open::<u32>(4);
+    let mut second = group.caller();
+    let (early, late, left) = (Arc::<Wakes>::default(), Arc::<Wakes>::default(), Arc::<Wakes>::default());
+    let mut own = pin!(second.get_or_load_async("k", async { 2 }));
+    let mut groups = pin!(group.get_or_load_async("k", async { 2 }));
+    group.get_or_load("k", || {
+        for wakes in [&early, &late] {
+            assert!(once(own.as_mut(), wakes).is_pending() && once(groups.as_mut(), wakes).is_pending(), "they wait");
+        }
+        assert!(Arc::strong_count(&early) == 1, "a waker that was replaced is dropped");
+        let mut leaves = Box::pin(group.get_or_load_async("k", async { 2 }));
+        assert!(once(leaves.as_mut(), &left).is_pending(), "it waits");
+        drop(leaves);
+        assert!(Arc::strong_count(&left) == 1, "the waker of one who left is dropped");
+        1
+    });
+    assert!(early.0.load(SeqCst) == 0 && late.0.load(SeqCst) == 2 && left.0.load(SeqCst) == 0, "each was woken once");
+    assert!(Arc::strong_count(&late) == 1, "no waker is kept");
+    assert!(once(own, &late).is_ready() && once(groups, &late).is_ready());
+}
+
+#[test]
+fn whoever_left_holds_nothing() {
+    let group = open::<Arc<u32>>(4);
+    let mut second = group.caller();
+    let value = Arc::new(7);
+    let weak = Arc::downgrade(&value);
+    let wakes = Arc::<Wakes>::default();
+    group.get_or_load("k", || {
+        assert_eq!(second.get_or_load_timeout("k", Duration::ZERO, || unreachable!()).err(), Some(Error::TimedOut));
+        assert_eq!(group.get_or_load_timeout("k", Duration::ZERO, || unreachable!()).err(), Some(Error::TimedOut));
+        let mut task = Box::pin(group.get_or_load_async("k", async { unreachable!() }));
+        assert!(once(task.as_mut(), &wakes).is_pending(), "it waits");
+        drop(task);
+        drop(group.subscribe("k"));
+        value
+    });
+    assert!(weak.upgrade().is_none(), "the value is not kept");
+    assert!(group.stats().in_use == 0 && group.stats().joins == 4, "{:?}", group.stats());
+}
+
+#[test]
+fn a_wait_that_it_left_is_its_last() {
+    let group = open::<u32>(4);
+    let (mut first, mut second) = (group.caller(), group.caller());
+    second.get_or_load("y", || 1);
+    first.get_or_load("k", || {
+        assert!(second.get_or_load_timeout("k", Duration::ZERO, || 2).is_err());
+        second.forget("z");
+        assert_eq!(second.last_is_current(), None);
+        1
+    });
+}
+
+#[test]
+fn a_timeout_without_end() {
+    let group = open::<u32>(4);
+    std::thread::scope(|scope| {
+        let mut others = Vec::new();
+        group.get_or_load("k", || {
+            let mut caller = group.caller();
+            others.push(scope.spawn(move || caller.get_or_load_timeout("k", Duration::MAX, || 2)));
+            others.push(scope.spawn(|| group.get_or_load_timeout("k", Duration::MAX, || 2)));
+            until("both join", || group.stats().joins == 2);
+            std::thread::sleep(Duration::from_millis(20));
+            1
+        });
+        for other in others {
+            assert_eq!(*other.join().unwrap().unwrap().value, 1);
+        }
+    });
+}
+
+#[test]
+fn forgets_are_counted_by_what_they_found() {
+    let group = open::<u32>(4);
+    let numbers = || (group.stats().closed, group.stats().idle);
+    assert!(!group.forget("k") && numbers() == (0, 1), "nothing");
+    let call = group.get_or_load("k", || 1).call().unwrap();
+    assert!(group.forget_call("k", call) == ForgetOutcome::Cleared && numbers() == (0, 2), "a settled call");
+    assert!(group.forget_call("k", call) == ForgetOutcome::Missed && numbers() == (0, 3), "nothing");
+    group.get_or_load("k", || {
+        assert!(group.forget("k") && numbers() == (1, 3), "an open call");
+        1
+    });
+    group.get_or_load("k", || {
+        let call = group.current_call("k").unwrap();
+        assert!(group.forget_call("k", call) == ForgetOutcome::Closed && numbers() == (2, 3), "an open call");
+        1
+    });
+}
+
+// Each caller of the library has a place for those who wait for it, also the last.
+#[test]
+fn as_many_callers_as_there_are() {
+    for callers in [1, 31, 32, 33, 254, 255, 256, 511] {
+        let group = open::<u32>(callers);
+        let mut all: Vec<_> = (0..callers).map(|_| group.caller()).collect();
+        for caller in &mut all {
+            assert!(caller.get_or_load("k", || 1).call().is_some(), "by the library");
+        }
+        let stats = group.stats();
+        assert!(stats.leads == u64::from(callers) && stats.made == callers && stats.in_use == callers, "{stats:?}");
+    }
+}
+
+#[test]
+fn an_error_is_a_value_that_is_shared() {
+    let group = open::<Result<u32, String>>(4);
+    let wakes = Arc::<Wakes>::default();
+    let mut task = pin!(group.get_or_load_async("k", async { Ok(1) }));
+    let got = group.get_or_load("k", || {
+        assert!(once(task.as_mut(), &wakes).is_pending(), "it joins");
+        Err("no such page".to_string())
+    });
+    let Poll::Ready(other) = once(task, &wakes) else { panic!("it was woken") };
+    assert!(Arc::ptr_eq(&got.value, &other.value) && got.value.is_err() && group.stats().leads == 1, "one load, one error");
+    assert!(group.get_or_load("k", || Ok(2)).value.is_ok(), "whoever asks later loads anew");
+}
+
+// Of those who joined a load that panics one loads, and the others join that: as many loads as panics, and one more.
+#[test]
+fn loads_that_panic_are_made_anew_once_each() {
+    const THREADS: usize = 24;
+    const PANICS: u64 = 5;
+    for group in [Group::<u64>::new(), Group::open(1, 1).unwrap()] {
+        let (loads, together) = (AtomicU64::new(0), Barrier::new(THREADS));
+        let ends: Vec<Option<Loaded<u64>>> = std::thread::scope(|scope| {
+            let threads: Vec<_> = (0..THREADS)
+                .map(|_| {
+                    scope.spawn(|| {
+                        together.wait();
+                        catch_unwind(AssertUnwindSafe(|| {
+                            group.get_or_load("k", || {
+                                let number = loads.fetch_add(1, SeqCst);
+                                let waits = THREADS as u64 - 1 - number.min(PANICS);
+                                let before = group.stats().joins;
+                                until("the others join", || number > 0 || group.stats().joins >= before.max(waits));
+                                assert!(number >= PANICS, "the load");
+                                // The others join this one, whether they had joined before or not.
+                                std::thread::sleep(Duration::from_millis(100));
+                                number
+                            })
+                        }))
+                        .ok()
+                    })
+                })
+                .collect();
+            threads.into_iter().map(|thread| thread.join().unwrap()).collect()
+        });
+        let got = ends.iter().flatten().count();
+        assert!(got == THREADS - PANICS as usize, "{got} have a value");
+        assert!(ends.iter().flatten().all(|got| *got.value >= PANICS), "of a load that ended");
+        assert!(group.stats().in_use == 0, "{:?}", group.stats());
+    }
+}
+
+fn can_be_spawned<F: Future + Send + 'static>(future: F) -> F {
+    future
+}
+
+#[test]
+fn the_future_of_a_group_is_one_of_its_own() {
+    let group = open::<u32>(4);
+    let wakes = Arc::<Wakes>::default();
+    let unused = can_be_spawned(group.get_or_load_async(String::from("k"), async { 1 }));
+    assert!(group.stats().leads == 0 && group.stats().in_use == 0, "nothing is done before the first poll");
+    drop(unused);
+    let mut leads = Box::pin(can_be_spawned(group.get_or_load_async("k", std::future::pending())));
+    let mut joins = Box::pin(can_be_spawned(group.get_or_load_async("k", async { 2 })));
+    assert!(once(leads.as_mut(), &wakes).is_pending() && once(joins.as_mut(), &wakes).is_pending(), "one loads, one waits");
+    assert!(group.stats().in_use == 1, "whoever waits has no caller of the library: {:?}", group.stats());
+    let stats = group.stats();
+    drop(group);
+    assert!(stats.leads == 1 && stats.joins == 1, "{stats:?}");
+    drop(leads);
+    assert!(wakes.0.load(SeqCst) == 1, "whoever joined is woken");
+    assert!(matches!(once(joins.as_mut(), &wakes), Poll::Ready(got) if *got.value == 2 && got.led), "and loads itself");
+}
+
+// A Forget of one key of a slot is not lost beside calls of another one.
+#[test]
+fn a_forget_is_not_lost() {
+    let group = Group::<u64>::open(1, 16).unwrap();
+    let lost = AtomicU64::new(0);
+    std::thread::scope(|scope| {
+        for _ in 0..3 {
+            scope.spawn(|| (0..30_000).for_each(|_| drop(group.get_or_load("a", || 1))));
+        }
+        scope.spawn(|| {
+            for _ in 0..30_000 {
+                let stamp = group.get_or_load("b", || 1).stamp();
+                group.forget("b");
+                lost.fetch_add(u64::from(group.is_current(stamp)), SeqCst);
+            }
+        });
+    });
+    assert!(lost.load(SeqCst) == 0, "{} lost", lost.load(SeqCst));
+}
+
+#[test]
+fn a_caller_that_is_dropped_ends_what_it_led() {
+    let group = open::<u32>(4);
+    let mut first = group.caller();
+    let (mut receiver, job) = first.subscribe("k");
+    std::mem::forget(job);
+    assert!(group.stats().in_use == 1 && receiver.try_recv().is_err(), "the call is open");
+    drop(first);
+    assert!(group.stats().in_use == 0 && receiver.recv().is_err(), "and has ended");
+}
