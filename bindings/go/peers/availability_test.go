@@ -8,17 +8,20 @@ import (
 	"time"
 )
 
-// A round of askings that waits for a paused peer takes a timeout, and the next begins after that.
-// Gets go on meanwhile.
+// A round of askings that waits for a paused peer takes a timeout. The next one begins a tick later,
+// and takes as long; until it ends, the last one is that old. Gets go on meanwhile.
 func TestAPausedPeerDoesNotStallGets(t *testing.T) {
 	m := newMesh()
 	a, _, _ := beginAll(t, m, time.Minute)
 	calls := m.calls
-	// The last round that has ended took a timeout, the next began a tick later, and is about to
-	// end after another one.
 	a.session.Load().asked.Store(askedAt(time.Now().Add(-2*a.timeout - a.every)))
 	if err := a.wait(context.Background()); err != nil || m.calls != calls {
 		t.Errorf("a Get asks first: %v", err)
+	}
+	for _, c := range []config{{timeout: longest, every: shortest}, {timeout: shortest, every: longest}, {timeout: time.Second, every: time.Second}} {
+		if most := (&node{config: c}).awayAfter(); most <= 2*c.timeout+c.every {
+			t.Errorf("with %v and %v it is away after %v", c.timeout, c.every, most)
+		}
 	}
 }
 

@@ -368,7 +368,7 @@ func TestForgetsThatAreKept(t *testing.T) {
 	if err := forget(a, user); !errors.Is(err, ErrUnanswered) || keptNow() != 1 {
 		t.Fatalf("%v, %d are kept", err, keptNow())
 	}
-	time.Sleep(100 * time.Millisecond)
+	time.Sleep(2*a.timeout + 100*time.Millisecond) // in which a tries to finish it
 	if keptNow() != 1 {
 		t.Error("it is dropped while c has not heard of it")
 	}

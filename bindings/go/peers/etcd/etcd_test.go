@@ -237,6 +237,36 @@ func TestMembers(t *testing.T) {
 	}
 }
 
+// Of processes of one name that join at one time, one has it.
+func TestOneNameAtOneTime(t *testing.T) {
+	t.Parallel()
+	servers := newCluster(t, 1)
+	for round := 0; round < 5; round++ {
+		ctx, cancel := context.WithTimeout(context.Background(), ttl/2)
+		joined := make(chan peers.Membership)
+		const many = 8
+		for i := 0; i < many; i++ {
+			go func(c *Coordinator) {
+				m, err := c.Join(ctx, fmt.Sprint("http://a:", round), 0)
+				if err != nil {
+					m = nil
+				}
+				joined <- m
+			}(servers.coordinator())
+		}
+		count := 0
+		for i := 0; i < many; i++ {
+			if m := <-joined; m != nil {
+				count++
+			}
+		}
+		cancel()
+		if count != 1 {
+			t.Errorf("%d processes have one name", count)
+		}
+	}
+}
+
 // A member whose lease is gone at etcd joins no more than it answers.
 func TestALeaseThatIsGone(t *testing.T) {
 	t.Parallel()
