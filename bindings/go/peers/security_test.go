@@ -2,12 +2,19 @@ package peers
 
 import (
 	"context"
+	"crypto/ecdsa"
+	"crypto/elliptic"
+	"crypto/rand"
 	"crypto/tls"
 	"crypto/x509"
 	"encoding/base64"
+	"encoding/json"
 	"errors"
 	"fmt"
 	"io"
+	"log"
+	"math/big"
+	"net"
 	"net/http"
 	"net/http/httptest"
 	"net/url"
@@ -339,6 +346,68 @@ func TestRepliesOfAnOwner(t *testing.T) {
 		}
 		if (err == nil) != ok {
 			t.Errorf("%s: %v", path, err)
+		}
+	}
+}
+
+// authority makes certificates for one name, of an authority of its own.
+func authority(t *testing.T) (*x509.CertPool, tls.Certificate) {
+	key, err := ecdsa.GenerateKey(elliptic.P256(), rand.Reader)
+	if err != nil {
+		t.Fatal(err)
+	}
+	template := &x509.Certificate{SerialNumber: big.NewInt(1), NotBefore: time.Now().Add(-time.Hour), NotAfter: time.Now().Add(time.Hour),
+		IPAddresses: []net.IP{net.IPv4(127, 0, 0, 1)}, IsCA: true, BasicConstraintsValid: true,
+		KeyUsage:    x509.KeyUsageDigitalSignature | x509.KeyUsageCertSign,
+		ExtKeyUsage: []x509.ExtKeyUsage{x509.ExtKeyUsageClientAuth, x509.ExtKeyUsageServerAuth}}
+	der, err := x509.CreateCertificate(rand.Reader, template, template, &key.PublicKey, key)
+	if err != nil {
+		t.Fatal(err)
+	}
+	parsed, err := x509.ParseCertificate(der)
+	if err != nil {
+		t.Fatal(err)
+	}
+	pool := x509.NewCertPool()
+	pool.AddCert(parsed)
+	return pool, tls.Certificate{Certificate: [][]byte{der}, PrivateKey: key}
+}
+
+// A pool with TLS alone, of which a peer and a stranger ask something: with a certificate of the pool, of another authority, and
+// with none.
+func TestMutualTLS(t *testing.T) {
+	ours, certificate := authority(t)
+	_, other := authority(t)
+	m := newMesh()
+	a, b, _ := beginAll(t, m, time.Minute)
+	a.keys = nil
+	h := &HTTP{}
+	h.Serve("a", a.answer)
+	p := &Pool{node: a, byTLS: true, direct: h}
+	server := httptest.NewUnstartedServer(p)
+	server.Config.ErrorLog = log.New(io.Discard, "", 0)
+	server.TLS = &tls.Config{ClientCAs: ours, ClientAuth: tls.VerifyClientCertIfGiven, Certificates: []tls.Certificate{certificate}}
+	server.StartTLS()
+	defer server.Close()
+	number := number{b.versions.startOf("b"), 99, 1}
+	text, _ := json.Marshal(request{From: "b", Start: number.Start, To: "a", Number: &number, Items: []wireItem{wireOf(user)}})
+	for name, c := range map[string]struct {
+		config *tls.Config
+		ok     bool
+	}{
+		"a peer":                       {&tls.Config{RootCAs: ours, Certificates: []tls.Certificate{certificate}}, true},
+		"another authority's":          {&tls.Config{RootCAs: ours, Certificates: []tls.Certificate{other}}, false},
+		"none":                         {&tls.Config{RootCAs: ours}, false},
+		"a server that it cannot know": {&tls.Config{Certificates: []tls.Certificate{certificate}}, false},
+	} {
+		before := a.versions.changedTo()
+		by := &HTTP{Client: &http.Client{Transport: connections(c.config)}}
+		got, err := by.Call(context.Background(), server.URL, text)
+		if (err == nil) != c.ok || c.ok && !strings.Contains(string(got), `"held"`) {
+			t.Errorf("%s: %s, %v", name, got, err)
+		}
+		if !c.ok && a.versions.changedTo() != before {
+			t.Errorf("%s: it changes something", name)
 		}
 	}
 }
