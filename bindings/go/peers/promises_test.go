@@ -192,6 +192,24 @@ func TestAcknowledgementsThatAreNone(t *testing.T) {
 	}
 }
 
+// A peer may acknowledge a Forget after more others than this process keeps numbers of.
+func TestAForgetIsAcknowledgedLate(t *testing.T) {
+	m := newMesh()
+	a, b, _ := beginAll(t, m, time.Minute)
+	m.mu.Lock()
+	m.routes["a>b"] = func(sealed []byte) []byte {
+		got := b.answer(sealed)
+		for i := 0; i <= keptMade; i++ {
+			a.versions.forget(keyItem("users", "8"))
+		}
+		return got
+	}
+	m.mu.Unlock()
+	if err := forget(a, user); err != nil {
+		t.Error(err)
+	}
+}
+
 // A peer that began with an old list learns of those that are missing there from the others, and so
 // does one that others joined through a peer that it can reach.
 func TestListsThatDiffer(t *testing.T) {
