@@ -43,8 +43,11 @@ func TestDrainedLater(t *testing.T) {
 		defer p.mu.Unlock()
 		return len(p.draining) == 0
 	})
-	if st := g.Stats(); st.Leads != 1 || st.InUse != 0 {
+	if st := g.Stats(); st.Leads != 1 || st.InUse != 0 || st.Epochs != 2 {
 		t.Error("its numbers", st)
+	}
+	if book := p.book.Load(); len(book.epochs) != 1 || book.epochs[0] == old {
+		t.Error("Stats keeps the memory of the old epoch")
 	}
 }
 
@@ -90,7 +93,14 @@ func TestStampOfFollowers(t *testing.T) {
 	g := open(t, 8)
 	started, release := chans()
 	led := make(chan any, 1)
-	go func() { v, _, _ := g.Do("key", heldAny(1, started, release)); led <- v }()
+	go func() {
+		// Its stack has grown then, and has a hot seat: the next Do takes the quick path.
+		for n := 0; n < 10; n++ {
+			g.Do("another key", value(0))
+		}
+		v, _, _ := g.Do("key", heldAny(1, started, release))
+		led <- v
+	}()
 	begun(t, started)
 	ctx, cancel := context.WithCancel(always)
 	defer cancel()

@@ -165,7 +165,7 @@ func TestOfDeadlines(t *testing.T) {
 			got = receiveGot(t, o.DoChan(ctx, "key", load))
 			err = got.Err
 		} else {
-			got, err = o.Do(ctx, "key", load)
+			within(t, 20*time.Second, "a deadline", func() { got, err = o.Do(ctx, "key", load) })
 		}
 		late := ResultOf[int]{Err: context.DeadlineExceeded}
 		if got != late || err != context.DeadlineExceeded {
@@ -179,9 +179,11 @@ func TestOfDeadlines(t *testing.T) {
 	begun(t, started)
 	ctx, cancel := context.WithTimeout(always, time.Millisecond)
 	defer cancel()
-	if got, err := o.Do(ctx, "other", none); err != context.DeadlineExceeded || got.Val != 0 {
-		t.Error("who joins leaves", got, err)
-	}
+	within(t, 20*time.Second, "one who joins", func() {
+		if got, err := o.Do(ctx, "other", none); err != context.DeadlineExceeded || got.Val != 0 {
+			t.Error("who joins leaves", got, err)
+		}
+	})
 	close(release)
 	if got := receiveGot(t, leader); got.Val != 2 || !got.Shared || got.Joiners != 1 {
 		t.Error("who has left is counted", got)

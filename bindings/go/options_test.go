@@ -327,3 +327,32 @@ func TestErrors(t *testing.T) {
 		t.Error("nothing is made")
 	}
 }
+
+// The callers grow with the calls that are open; the slots too, unless WithSlots has said how many.
+func TestGrowth(t *testing.T) {
+	for _, options := range [][]Option{{WithCallers(2)}, {WithCallers(2), WithSlots(4096)}} {
+		g, err := NewGroup(options...)
+		if err != nil {
+			t.Fatal(err)
+		}
+		defer g.Close()
+		places := g.pool().size.places
+		end := make(chan struct{})
+		var all []<-chan Result
+		for i := 0; i < 12; i++ {
+			held := func() (any, error) { <-end; return nil, nil }
+			all = append(all, g.DoChan(fmt.Sprint("key-", i), held))
+		}
+		size, st := g.pool().size, g.Stats()
+		if st.Epochs < 2 || size.callers <= 2 {
+			t.Error("the callers grow", size, st)
+		}
+		if grows := size.places > places; grows != (len(options) == 1) {
+			t.Error("the slots", len(options), places, size.places)
+		}
+		close(end)
+		for _, ch := range all {
+			receive(t, ch)
+		}
+	}
+}

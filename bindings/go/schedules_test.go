@@ -33,6 +33,7 @@ type world struct {
 	keys     [4]keyState
 	stamps   []stampOf
 	cancels  []context.CancelFunc
+	forgets  uint64 // how many there were, by ForgetUnshared too
 	problems []string
 }
 
@@ -210,6 +211,7 @@ func (w *world) forgetUnshared(key int) bool {
 	state.forgets = append(state.forgets, interval{from: w.now})
 	mine := len(state.forgets) - 1
 	alone := w.group.ForgetUnshared(w.name(key))
+	w.forgets++
 	w.now++
 	state.forgets[mine].to = w.now
 	if !alone {
@@ -327,6 +329,7 @@ func (w *world) act(depth, least int) {
 		mine := len(w.keys[key].forgets) - 1
 		w.log("forgets key %d", key)
 		w.group.Forget(name)
+		w.forgets++
 		w.now++
 		w.keys[key].forgets[mine].to = w.now
 		w.log("has forgotten key %d", key)
@@ -395,6 +398,8 @@ func playWorld(t *testing.T, seed int64) {
 		}
 		if st := p.stats(); st.InUse != 0 || len(p.runs) != 0 || len(p.draining) != 0 {
 			w.problem("something is left: %v, %d runs, %d epochs", st, len(p.runs), len(p.draining))
+		} else if st.Closed+st.Idle != w.forgets || p.inFlight() != 0 {
+			w.problem("numbers: %v, %d Forgets, %d in flight", st, w.forgets, p.inFlight())
 		}
 		p.close()
 	}
