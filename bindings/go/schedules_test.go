@@ -241,6 +241,9 @@ func (w *world) got(key, asked int, v any, shared bool) {
 	}
 	if it.by == w.running && it.asked == asked {
 		it.unshared = !shared
+		if it.alone && shared {
+			w.problem("key %d: the run begun at %d was forgotten as nobody's else, and is shared", key, it.from)
+		}
 	} else {
 		it.others++
 	}
