@@ -575,3 +575,53 @@ func TestForgetUnsharedAmongMany(t *testing.T) {
 		})
 	}
 }
+
+// The key has an open call in an epoch that was replaced, which nobody has joined, and one in the new
+// epoch whose leader has not looked for the older yet, and which somebody has joined. A
+// ForgetUnshared closes neither: else the new leader would run its function beside the older one.
+func TestForgetUnsharedOfTwoOpenCalls(t *testing.T) {
+	g := open(t, 8)
+	p := g.pool()
+	started, release := chans()
+	old := g.DoChan("key", heldAny("old", started, release))
+	begun(t, started)
+	p.lock()
+	p.replace(p.size, true)
+	p.mu.Unlock()
+	k := p.keyed("key")
+	leader := p.take(p.now.Load())
+	if code, _ := p.askBy(leader, k); code == codeJoined {
+		t.Fatal("it leads in the new epoch", code)
+	}
+	s := p.take(p.now.Load())
+	var joins, leads asking
+	code, call := p.askBy(s, k)
+	if code != codeJoined || !p.asked(&joins, s, code, call, k) {
+		t.Fatal("it joins there", code)
+	}
+	joined := make(chan any, 1)
+	go func() {
+		var r Result
+		p.join(&r, &joins, k, nil, true)
+		joined <- r.Val
+	}()
+	until(t, "it waits", func() bool { return joinedBy(g) == 1 })
+	if g.ForgetUnshared("key") {
+		t.Error("somebody has joined")
+	}
+	if !p.confirm(&leads, leader, k, false) || leads.wait == nil {
+		t.Fatal("the new leader takes the older call's result", leads)
+	}
+	led := make(chan any, 1)
+	go func() {
+		var r Result
+		p.lead(&r, &leads, k, value("new"), nil, nil)
+		led <- r.Val
+	}()
+	close(release)
+	r := receive(t, old)
+	if r.Val != "old" || came(t, led) != "old" || came(t, joined) != "old" {
+		t.Error("one function for all", r)
+	}
+	until(t, "nothing is left", func() bool { return g.InFlight() == 0 && g.Stats().InUse == 0 })
+}
