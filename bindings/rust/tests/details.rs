@@ -147,10 +147,13 @@ fn is_current_says_yes_and_no() {
     let stamp = first.get_or_load("k", || 3).stamp();
     assert!(!none.forget("k"), "a Forget needs no caller");
     assert!(!first.is_current(stamp) && !none.is_current(stamp) && !group.is_current(stamp), "no");
-    let spent = Group::<u32>::open_spent_after(16, 1, 1).unwrap();
-    let stamp = spent.get_or_load("k", || 1).stamp();
+    // The first call of the next epoch has the slot, the caller and the generation of this one.
+    let spent = Group::<u32>::open_spent_after(1, 1, 1).unwrap();
+    let got = spent.get_or_load("k", || 1);
+    let stamp = got.stamp();
     assert!(spent.is_current(stamp), "yes");
-    spent.get_or_load("m", || 1);
+    let (old, new) = (got.call().unwrap(), spent.get_or_load("m", || 1).call().unwrap());
+    assert!(new.epoch > old.epoch && (new.caller, new.generation) == (old.caller, old.generation), "{old:?}, {new:?}");
     assert!(!spent.is_current(stamp) && !spent.caller().is_current(stamp), "the epoch is another one");
 }
 
