@@ -151,7 +151,7 @@ func TestLeave(t *testing.T) {
 	}
 	left := make(chan error)
 	go func() {
-		ctx, cancel := context.WithTimeout(context.Background(), 20*time.Second)
+		ctx, cancel := context.WithTimeout(context.Background(), 2*time.Minute)
 		defer cancel()
 		left <- pool.Leave(ctx)
 	}()
@@ -180,7 +180,7 @@ func TestLeave(t *testing.T) {
 		if err != nil {
 			t.Error(err)
 		}
-	case <-time.After(20 * time.Second):
+	case <-time.After(2 * time.Minute):
 		t.Fatal("it does not leave")
 	}
 	if !has(a, c, user) || !has(b, c, user) {
@@ -229,7 +229,7 @@ func TestLeaveWithALease(t *testing.T) {
 	}
 	left := make(chan error)
 	go func() {
-		ctx, cancel := context.WithTimeout(context.Background(), 20*time.Second)
+		ctx, cancel := context.WithTimeout(context.Background(), 2*time.Minute)
 		defer cancel()
 		left <- pool.Leave(ctx)
 	}()

@@ -181,7 +181,7 @@ func TestAForgetWaitsForALease(t *testing.T) {
 	if err := forget(a, user); !errors.Is(err, ErrUnanswered) {
 		t.Fatalf("while c has a lease: %v", err)
 	}
-	ctx, cancel := context.WithTimeout(context.Background(), 20*time.Second)
+	ctx, cancel := context.WithTimeout(context.Background(), 2*time.Minute)
 	defer cancel()
 	done := make(chan error, 1)
 	go func() { done <- a.forget(ctx, "Forget", user) }()

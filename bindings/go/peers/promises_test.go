@@ -45,7 +45,7 @@ func TestAForgetOfAProcessThatWasRestored(t *testing.T) {
 		all := make(chan error)
 		for i := 0; i < many; i++ {
 			go func() {
-				ctx, cancel := context.WithTimeout(context.Background(), 20*time.Second)
+				ctx, cancel := context.WithTimeout(context.Background(), 2*time.Minute)
 				defer cancel()
 				all <- a.forget(ctx, "Forget", user)
 			}()
@@ -185,7 +185,7 @@ func TestAcknowledgementsThatAreNone(t *testing.T) {
 			again = true
 		}
 	}
-	ctx, cancel := context.WithTimeout(context.Background(), 20*time.Second)
+	ctx, cancel := context.WithTimeout(context.Background(), 2*time.Minute)
 	defer cancel()
 	if err := a.forget(ctx, "Forget", user); err != nil || !again || a.versions.startOf("a") == start {
 		t.Errorf("one of a copy: %v", err)

@@ -333,7 +333,7 @@ func TestRepliesOfAnOwner(t *testing.T) {
 	odd := "/" + url.QueryEscape(nameOf("a b+c/../%2F//@\xff?#", versionOf(a.versions, user), 7))
 	for path, ok := range map[string]bool{"/ok": true, odd: true, "/late": false, "/stalls": false, "/key": false, "/body": false, "/unsigned": false,
 		"/old": false, "/status": false} {
-		within := 20 * time.Second
+		within := 2 * time.Minute
 		if path == "/late" || path == "/stalls" {
 			within = 100 * time.Millisecond
 		}

@@ -74,7 +74,7 @@ func newCluster(t *testing.T, count int) *cluster {
 		c.start(i)
 	}
 	client := c.client()
-	for end := time.Now().Add(30 * time.Second); ; time.Sleep(50 * time.Millisecond) {
+	for end := time.Now().Add(2 * time.Minute); ; time.Sleep(50 * time.Millisecond) {
 		ctx, cancel := context.WithTimeout(context.Background(), time.Second)
 		_, err := client.Get(ctx, "none")
 		cancel()
@@ -124,7 +124,7 @@ func (c *cluster) coordinator() *Coordinator {
 }
 
 func soon(t *testing.T) context.Context {
-	ctx, cancel := context.WithTimeout(context.Background(), 30*time.Second)
+	ctx, cancel := context.WithTimeout(context.Background(), 2*time.Minute)
 	t.Cleanup(cancel)
 	return ctx
 }
@@ -147,7 +147,7 @@ func names(m peers.Membership) (all []string) {
 
 func until(t *testing.T, is func() bool, what string) {
 	t.Helper()
-	for end := time.Now().Add(30 * time.Second); !is(); time.Sleep(5 * time.Millisecond) {
+	for end := time.Now().Add(2 * time.Minute); !is(); time.Sleep(5 * time.Millisecond) {
 		if time.Now().After(end) {
 			t.Fatal(what)
 		}
@@ -280,7 +280,7 @@ func TestALeaseThatIsGone(t *testing.T) {
 		end(m.(*member))
 		select {
 		case <-m.Done():
-		case <-time.After(30 * time.Second):
+		case <-time.After(2 * time.Minute):
 			t.Fatalf("%s: its membership does not end", name)
 		}
 		if time.Now().Before(m.Until()) {
@@ -403,7 +403,7 @@ func TestADeadPeer(t *testing.T) {
 	begun := time.Now()
 	tries := 0
 	for ; p.Forget(p.Children[0], 1) != nil; tries++ {
-		if time.Since(begun) > 10*ttl {
+		if time.Since(begun) > 2*time.Minute {
 			t.Fatal("a Forget waits for a dead peer for more than its lease")
 		}
 	}
