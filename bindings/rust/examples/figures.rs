@@ -1,5 +1,5 @@
-//! Times of a get by this crate, and by a map behind a mutex with a condition variable a call. By hand:
-//! `cargo run --release --example figures`, once `bindings/library` has been run.
+//! Times of a get by this crate, and by a map behind a mutex with a condition variable a call. By
+//! hand: `cargo run --release --example figures`, once `bindings/library` has been run.
 use singleflight::Group;
 use std::collections::HashMap;
 use std::sync::atomic::{AtomicBool, AtomicU64, Ordering::Relaxed};
@@ -64,7 +64,11 @@ impl Asker for &Plain {
 static USED: AtomicU64 = AtomicU64::new(0);
 
 // How long so many threads take, each with an asker of its own, which is made before.
-fn time<A: Asker>(threads: usize, asker: impl Fn() -> A + Sync, run: impl Fn(usize, &mut A) + Sync) -> Duration {
+fn time<A: Asker>(
+    threads: usize,
+    asker: impl Fn() -> A + Sync,
+    run: impl Fn(usize, &mut A) + Sync,
+) -> Duration {
     let (ready, start) = (Barrier::new(threads + 1), Barrier::new(threads + 1));
     std::thread::scope(|scope| {
         for thread in 0..threads {
@@ -109,19 +113,25 @@ fn by_length<A: Asker>(len: usize, mut asker: A) -> f64 {
     from.elapsed().as_nanos() as f64 / GETS as f64
 }
 
-// Nanoseconds each thread takes to ask whether an answer is current still, by a caller of its own or by the group.
+// Nanoseconds each thread takes to ask whether an answer is current still, by a caller of its own
+// or by the group.
 fn still(threads: usize, by_group: bool) -> f64 {
     let group = Group::<u64>::new();
     let stamp = group.caller().get_or_load(b"key", || 1).stamp();
-    let took = time(threads, || group.caller(), |_, caller| {
-        for _ in 0..GETS {
-            assert!(if by_group { group.is_current(stamp) } else { caller.is_current(stamp) });
-        }
-    });
+    let took = time(
+        threads,
+        || group.caller(),
+        |_, caller| {
+            for _ in 0..GETS {
+                assert!(if by_group { group.is_current(stamp) } else { caller.is_current(stamp) });
+            }
+        },
+    );
     took.as_nanos() as f64 / GETS as f64
 }
 
-// Keys of eight bytes, which for a directory of 65,536 places without a seed begin their walk at one of a few places.
+// Keys of eight bytes, which for a directory of 65,536 places without a seed begin their walk at
+// one of a few places.
 fn chosen(count: usize) -> Vec<[u8; 8]> {
     let mix = |number: u64| {
         let first = (number ^ (number >> 33)).wrapping_mul(0xff51_afd7_ed55_8ccd);
@@ -154,8 +164,8 @@ fn spin(until: Instant) {
     }
 }
 
-// Of askers who want one key over and over, whose load takes so long: the half and 99 of 100 of the gets take no longer, in
-// microseconds.
+// Of askers who want one key over and over, whose load takes so long: the half and 99 of 100 of the
+// gets take no longer, in microseconds.
 fn latency<A: Asker>(askers: usize, load: Duration, asker: impl Fn() -> A + Sync) -> [f64; 2] {
     let all = Mutex::new(Vec::new());
     time(askers, asker, |_, asker| {
@@ -175,8 +185,8 @@ fn latency<A: Asker>(askers: usize, load: Duration, asker: impl Fn() -> A + Sync
     [2, 100].map(|part| all[all.len() - all.len().div_ceil(part)].as_nanos() as f64 / 1000.0)
 }
 
-// With so many waiters for one slow key: the gets of 16 other keys in a second, each by two threads with a load that sleeps for
-// a millisecond; those of all, and of the key that had fewest.
+// With so many waiters for one slow key: the gets of 16 other keys in a second, each by two threads
+// with a load that sleeps for a millisecond; those of all, and of the key that had fewest.
 fn beside_waiters<A: Asker>(waiters: usize, asker: impl Fn() -> A + Sync) -> [u64; 2] {
     const KEYS: usize = 16;
     let gets: [AtomicU64; KEYS] = Default::default();
@@ -221,11 +231,16 @@ fn main() {
     }
     for threads in [1, 4] {
         let (own, group) = (best(|| still(threads, false)), best(|| still(threads, true)));
-        println!("is_still, {threads} threads: {own:.0} ns by a caller; {group:.0} ns by the group");
+        println!(
+            "is_still, {threads} threads: {own:.0} ns by a caller; {group:.0} ns by the group"
+        );
     }
-    let (chosen, others) = (chosen(30_000), (0..30_000u64).map(u64::to_le_bytes).collect::<Vec<_>>());
+    let (chosen, others) =
+        (chosen(30_000), (0..30_000u64).map(u64::to_le_bytes).collect::<Vec<_>>());
     let (chosen, others) = (best(|| in_turn(&chosen)), best(|| in_turn(&others)));
-    println!("30,000 keys chosen for a directory's hash: {chosen:.0} ns a get; others {others:.0} ns");
+    println!(
+        "30,000 keys chosen for a directory's hash: {chosen:.0} ns a get; others {others:.0} ns"
+    );
     for (what, hot) in [("own keys", false), ("one hot key", true)] {
         for threads in [1, 4] {
             let (group, plain) = (open(4), Plain::default());
@@ -239,12 +254,18 @@ fn main() {
         let (group, plain) = (open(64), Plain::default());
         let ours = latency(64, Duration::from_micros(load), || group.caller());
         let plains = latency(64, Duration::from_micros(load), || &plain);
-        println!("64 threads, one key, a load of {load} us: p50 {:.0} us, p99 {:.0}; mutex {:.0}, {:.0}", ours[0], ours[1], plains[0], plains[1]);
+        println!(
+            "64 threads, one key, a load of {load} us: p50 {:.0} us, p99 {:.0}; mutex {:.0}, {:.0}",
+            ours[0], ours[1], plains[0], plains[1]
+        );
     }
     for waiters in [0, 3000] {
         let (group, plain) = (open(4000), Plain::default());
         let ours = beside_waiters(waiters, || group.caller());
         let plains = beside_waiters(waiters, || &plain);
-        println!("{waiters} waiters for one key: {} gets of 16 others, least of one {}; mutex {}, {}", ours[0], ours[1], plains[0], plains[1]);
+        println!(
+            "{waiters} waiters for one key: {} gets of 16 others, least of one {}; mutex {}, {}",
+            ours[0], ours[1], plains[0], plains[1]
+        );
     }
 }

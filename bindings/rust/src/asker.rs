@@ -2,11 +2,11 @@
 
 use crate::epoch::Taken;
 use crate::lent::{self, Lending};
-use crate::pool::{Beside, FIRST, Letter, Pool};
+use crate::pool::{Beside, Letter, Pool, FIRST};
 use crate::post::{Counter, Counters, Whose};
 use crate::sync::point;
 use crate::wait::{Wait, Waiting};
-use crate::{Call, ForgetOutcome, Loaded, Stamp, raw};
+use crate::{raw, Call, ForgetOutcome, Loaded, Stamp};
 use std::future::Future;
 use std::ops::Deref;
 use std::pin::pin;
@@ -16,7 +16,8 @@ use std::time::{Duration, Instant};
 /// One who asks, in one thread or task at a time: a caller of the user, or for one call of a group.
 pub(crate) struct Asker<T, P: Deref<Target = Pool<T>>> {
     pub(crate) pool: P,
-    // None where no caller of the library was free, while it waits without one, and after a call that it left.
+    // None where no caller of the library was free, while it waits without one, and after a call
+    // that it left.
     taken: Option<Taken<T>>,
     loading: Loading<T>,
     // Of the answer that it got last.
@@ -49,12 +50,13 @@ pub(crate) enum Asked<T> {
 pub(crate) enum By {
     /// By its own seat.
     Seat,
-    /// Without one: a seat that waits for a load that hangs is gone, and each caller with a deadline would leave one there.
+    /// Without one: a seat that waits for a load that hangs is gone, and each caller with a
+    /// deadline would leave one there.
     Following,
 }
 
-/// Ends the load that its asker runs. Where that ends without an answer, as by a panic, it is settled with nothing, so that who joined
-/// asks again.
+/// Ends the load that its asker runs. Where that ends without an answer, as by a panic, it is
+/// settled with nothing, so that who joined asks again.
 pub(crate) struct Load<'a, T, P: Deref<Target = Pool<T>>>(&'a mut Asker<T, P>);
 
 impl<T, P: Deref<Target = Pool<T>>> Load<'_, T, P> {
@@ -86,12 +88,7 @@ impl<T, P: Deref<Target = Pool<T>>> Drop for Asker<T, P> {
 impl<T, P: Deref<Target = Pool<T>>> Asker<T, P> {
     /// One without a seat, which it takes where it asks.
     pub(crate) fn new(pool: P) -> Self {
-        Asker {
-            pool,
-            taken: None,
-            loading: Loading::Nothing,
-            last: None,
-        }
+        Asker { pool, taken: None, loading: Loading::Nothing, last: None }
     }
 
     /// Its seat, which is free and of the current epoch. None where all are taken.
@@ -123,7 +120,8 @@ impl<T, P: Deref<Target = Pool<T>>> Asker<T, P> {
         Load(self)
     }
 
-    /// Settles what it loads with nothing. Where its job or future was leaked nobody can load for it any more.
+    /// Settles what it loads with nothing. Where its job or future was leaked nobody can load for
+    /// it any more.
     pub(crate) fn abandon(&mut self) {
         match std::mem::replace(&mut self.loading, Loading::Nothing) {
             Loading::Call(_) => drop(self.settle(0, |wait, _| wait.void())),
@@ -135,7 +133,8 @@ impl<T, P: Deref<Target = Pool<T>>> Asker<T, P> {
         }
     }
 
-    /// Settles the call that it leads with the number: how many joined by seats. `end` settles the wait of those who follow it.
+    /// Settles the call that it leads with the number: how many joined by seats. `end` settles the
+    /// wait of those who follow it.
     fn settle(&mut self, number: u64, end: impl FnOnce(&Wait<T>, (u32, Stamp))) -> (u32, Stamp) {
         let taken = self.taken.as_mut().expect("who leads has a seat");
         taken.post().is_over(taken.seat.next - 1);
@@ -168,26 +167,14 @@ impl<T, P: Deref<Target = Pool<T>>> Asker<T, P> {
             taken.spare = spare;
         }
         self.last = Some(stamp);
-        Loaded {
-            value,
-            joiners: joiners + followers,
-            led: true,
-            call: Some(call),
-            stamp,
-        }
+        Loaded { value, joiners: joiners + followers, led: true, call: Some(call), stamp }
     }
 
     fn end_run(&mut self, run: &Arc<Wait<T>>, key: &[u8], value: Arc<T>) -> Loaded<T> {
         self.pool.end_run(run);
         let joiners = run.end(key, &value, 0, Stamp::default());
         self.last = None;
-        Loaded {
-            value,
-            joiners,
-            led: true,
-            call: None,
-            stamp: Stamp::default(),
-        }
+        Loaded { value, joiners, led: true, call: None, stamp: Stamp::default() }
     }
 
     /// Adds one to a number of its own.
@@ -207,15 +194,21 @@ impl<T, P: Deref<Target = Pool<T>>> Asker<T, P> {
                 if let Some(asked) = self.beside(key, fingerprint) {
                     return asked;
                 }
-            } else if let Some(taken) = self.taken.as_mut().filter(|taken| by == By::Following || taken.epoch.has_strangers()) {
+            } else if let Some(taken) = self
+                .taken
+                .as_mut()
+                .filter(|taken| by == By::Following || taken.epoch.has_strangers())
+            {
                 match taken.epoch.look(Some(&mut taken.seat), key, fingerprint) {
-                    (Some(call), Whose::Same) => match taken.epoch.post(call.caller).follow(call, fingerprint) {
-                        Some(wait) => {
-                            self.count(|counters| &counters.joins);
-                            return Asked::Follows(wait);
+                    (Some(call), Whose::Same) => {
+                        match taken.epoch.post(call.caller).follow(call, fingerprint) {
+                            Some(wait) => {
+                                self.count(|counters| &counters.joins);
+                                return Asked::Follows(wait);
+                            }
+                            None => continue,
                         }
-                        None => continue,
-                    },
+                    }
                     (_, Whose::Other) => {
                         self.pool.clash(&taken.epoch);
                         if let Some(asked) = self.beside(key, fingerprint) {
@@ -271,7 +264,10 @@ impl<T, P: Deref<Target = Pool<T>>> Asker<T, P> {
         match code {
             raw::LED => {
                 let call = Call::of(epoch.number, asked);
-                assert!(!cfg!(test) || (call.caller, call.generation) == (seat.number, seat.next), "the generation is known beforehand");
+                assert!(
+                    !cfg!(test) || (call.caller, call.generation) == (seat.number, seat.next),
+                    "the generation is known beforehand"
+                );
                 seat.next += 1;
                 self.loading = Loading::Call(call);
                 if self.pool.may_load(epoch.number, key, fingerprint) {
@@ -365,7 +361,9 @@ impl<T, P: Deref<Target = Pool<T>>> Asker<T, P> {
     /// What it loads, for one who waits elsewhere and is not counted as one who joined.
     pub(crate) fn own_wait(&self, key: &[u8]) -> Option<Arc<Wait<T>>> {
         match &self.loading {
-            Loading::Call(call) => self.taken.as_ref()?.post().watch(*call, self.pool.fingerprint(key)),
+            Loading::Call(call) => {
+                self.taken.as_ref()?.post().watch(*call, self.pool.fingerprint(key))
+            }
             Loading::Run(run) => Some(run.clone()),
             Loading::Nothing => None,
         }
@@ -377,17 +375,12 @@ impl<T, P: Deref<Target = Pool<T>>> Asker<T, P> {
             self.pool.give_back(letter);
             return None;
         };
-        // SAFETY: the number is of a call of this group, which counts each who joined by a seat, and each reads its letter once.
+        // SAFETY: the number is of a call of this group, which counts each caller that joined by a
+        // seat, and each of these reads its letter once.
         let value = unsafe { lent::take(answer.value) }?;
         let stamp = Stamp::of(self.taken.as_ref()?.epoch.number, answer.stamp);
         self.last = Some(stamp);
-        Some(Loaded {
-            value,
-            joiners: answer.joiners,
-            led: false,
-            call: Some(call),
-            stamp,
-        })
+        Some(Loaded { value, joiners: answer.joiners, led: false, call: Some(call), stamp })
     }
 
     /// What the call came to that it followed. None where one has to ask again.
@@ -403,11 +396,22 @@ impl<T, P: Deref<Target = Pool<T>>> Asker<T, P> {
     }
 
     /// The same, and waits no longer than the timeout for a call of another. None then.
-    pub(crate) fn get_timeout(&mut self, key: &[u8], timeout: Duration, load: impl FnOnce() -> T) -> Option<Loaded<T>> {
+    pub(crate) fn get_timeout(
+        &mut self,
+        key: &[u8],
+        timeout: Duration,
+        load: impl FnOnce() -> T,
+    ) -> Option<Loaded<T>> {
         self.get_until(key, Instant::now().checked_add(timeout), By::Following, load)
     }
 
-    fn get_until(&mut self, key: &[u8], deadline: Option<Instant>, by: By, load: impl FnOnce() -> T) -> Option<Loaded<T>> {
+    fn get_until(
+        &mut self,
+        key: &[u8],
+        deadline: Option<Instant>,
+        by: By,
+        load: impl FnOnce() -> T,
+    ) -> Option<Loaded<T>> {
         loop {
             let got = match self.ask(key, by) {
                 Asked::Loads => {
@@ -436,7 +440,11 @@ impl<T, P: Deref<Target = Pool<T>>> Asker<T, P> {
     }
 
     /// The same in a task.
-    pub(crate) async fn get_async(&mut self, key: &[u8], load: impl Future<Output = T>) -> Loaded<T> {
+    pub(crate) async fn get_async(
+        &mut self,
+        key: &[u8],
+        load: impl Future<Output = T>,
+    ) -> Loaded<T> {
         loop {
             let wait = match self.ask(key, By::Following) {
                 Asked::Loads => return self.load_async(key, load).await,
@@ -456,7 +464,11 @@ impl<T, P: Deref<Target = Pool<T>>> Asker<T, P> {
     }
 
     /// Runs the load that it has to run.
-    pub(crate) async fn load_async(&mut self, key: &[u8], load: impl Future<Output = T>) -> Loaded<T> {
+    pub(crate) async fn load_async(
+        &mut self,
+        key: &[u8],
+        load: impl Future<Output = T>,
+    ) -> Loaded<T> {
         let guard = self.load();
         // The load is dropped before its call is settled: so it has ended when another begins.
         let value = {
@@ -480,7 +492,13 @@ impl<T, P: Deref<Target = Pool<T>>> Asker<T, P> {
         self.refresh();
         let fingerprint = self.pool.fingerprint(key);
         let outcome = self.pool.forget_call(&mut self.taken, key, fingerprint, call);
-        self.count(|counters| if outcome == ForgetOutcome::Closed { &counters.closed } else { &counters.idle });
+        self.count(|counters| {
+            if outcome == ForgetOutcome::Closed {
+                &counters.closed
+            } else {
+                &counters.idle
+            }
+        });
         outcome
     }
 

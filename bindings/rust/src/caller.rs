@@ -10,10 +10,12 @@ use std::future::Future;
 use std::sync::Arc;
 use std::time::Duration;
 
-/// A caller of a group, for one thread or task at a time. [`Group::caller`](crate::Group::caller) returns one.
+/// A caller of a group, for one thread or task at a time. [`Group::caller`](crate::Group::caller)
+/// returns one.
 ///
-/// A [`Group`](crate::Group) has the same methods. A caller saves a call the search for a free place in the library, and remembers
-/// the value that it got last ([`Caller::last_is_current`]). When it is dropped, its place goes back to the group.
+/// A [`Group`](crate::Group) has the same methods. A caller saves a call the search for a free
+/// place in the library, and remembers the value that it got last ([`Caller::last_is_current`]).
+/// When it is dropped, its place goes back to the group.
 ///
 /// ```
 /// let group = singleflight::Group::<u32>::new();
@@ -57,7 +59,8 @@ impl<T: Send + Sync> Caller<T> {
         self.0.get(key.as_ref(), load)
     }
 
-    /// Returns the value of the key, as [`Group::get_or_load_timeout`](crate::Group::get_or_load_timeout) does.
+    /// Returns the value of the key, as
+    /// [`Group::get_or_load_timeout`](crate::Group::get_or_load_timeout) does.
     ///
     /// # Errors
     /// [`Error::TimedOut`] where the load of another caller takes longer than the timeout.
@@ -73,12 +76,19 @@ impl<T: Send + Sync> Caller<T> {
     ///     7
     /// });
     /// ```
-    pub fn get_or_load_timeout(&mut self, key: impl AsRef<[u8]>, timeout: Duration, load: impl FnOnce() -> T) -> Result<Loaded<T>, Error> {
+    pub fn get_or_load_timeout(
+        &mut self,
+        key: impl AsRef<[u8]>,
+        timeout: Duration,
+        load: impl FnOnce() -> T,
+    ) -> Result<Loaded<T>, Error> {
         self.0.get_timeout(key.as_ref(), timeout, load).ok_or(Error::TimedOut)
     }
 
-    /// Returns the value of the key in a task, as [`Group::get_or_load_async`](crate::Group::get_or_load_async) does. The future
-    /// borrows the caller. One that is leaked (`mem::forget`) while it loads settles its call when the caller is used again or dropped.
+    /// Returns the value of the key in a task, as
+    /// [`Group::get_or_load_async`](crate::Group::get_or_load_async) does. The future
+    /// borrows the caller. One that is leaked (`mem::forget`) while it loads settles its call when
+    /// the caller is used again or dropped.
     ///
     /// ```
     /// # use std::{future::Future, pin::pin, task::{Context, Poll, Waker}};
@@ -95,12 +105,17 @@ impl<T: Send + Sync> Caller<T> {
     ///     assert!(*got.value == 7 && got.led);
     /// });
     /// ```
-    pub async fn get_or_load_async(&mut self, key: impl AsRef<[u8]>, load: impl Future<Output = T>) -> Loaded<T> {
+    pub async fn get_or_load_async(
+        &mut self,
+        key: impl AsRef<[u8]>,
+        load: impl Future<Output = T>,
+    ) -> Loaded<T> {
         self.0.get_async(key.as_ref(), load).await
     }
 
-    /// Joins the key's open call or leads a new one, as [`Group::subscribe`](crate::Group::subscribe) does. The job borrows the caller.
-    /// One that is leaked (`mem::forget`) settles its call when the caller is used again or dropped.
+    /// Joins the key's open call or leads a new one, as
+    /// [`Group::subscribe`](crate::Group::subscribe) does. The job borrows the caller. One that
+    /// is leaked (`mem::forget`) settles its call when the caller is used again or dropped.
     ///
     /// ```
     /// let group = singleflight::Group::<u32>::new();
@@ -145,7 +160,8 @@ impl<T: Send + Sync> Caller<T> {
         self.0.forget_call(key.as_ref(), call)
     }
 
-    /// Returns the call that the key names now, as [`Group::current_call`](crate::Group::current_call) does.
+    /// Returns the call that the key names now, as
+    /// [`Group::current_call`](crate::Group::current_call) does.
     ///
     /// ```
     /// let group = singleflight::Group::<u32>::new();
@@ -158,8 +174,9 @@ impl<T: Send + Sync> Caller<T> {
         self.0.named(key.as_ref())
     }
 
-    /// Returns whether a value with this stamp may still be used, as [`Group::is_current`](crate::Group::is_current) does. It
-    /// takes no lock while the caller has a place in the library: three loads.
+    /// Returns whether a value with this stamp may still be used, as
+    /// [`Group::is_current`](crate::Group::is_current) does. It takes no lock while the caller
+    /// has a place in the library: three loads.
     ///
     /// ```
     /// let group = singleflight::Group::<u32>::new();
@@ -173,8 +190,9 @@ impl<T: Send + Sync> Caller<T> {
         self.0.is_current(stamp)
     }
 
-    /// Returns whether the value that this caller got last may still be used. `None` where it has none: before its first, after a wait
-    /// that it left, and after a load beside the library. A load that ended without a value changes nothing.
+    /// Returns whether the value that this caller got last may still be used. `None` where it has
+    /// none: before its first, after a wait that it left, and after a load beside the library.
+    /// A load that ended without a value changes nothing.
     ///
     /// ```
     /// let group = singleflight::Group::<u32>::new();
@@ -207,8 +225,8 @@ impl<T: Send + Sync> Caller<T> {
         Note::of(&mut self.0)
     }
 
-    /// Lets this caller see what the note's caller had seen: no value that it gets from now on was loaded before a Forget that the
-    /// note's caller had seen.
+    /// Lets this caller see what the note's caller had seen: no value that it gets from now on was
+    /// loaded before a Forget that the note's caller had seen.
     ///
     /// # Errors
     /// [`Error::OtherGroup`] where the note is of another group.

@@ -6,13 +6,13 @@ use crate::{Caller, Loaded};
 use std::fmt;
 use std::future::Future;
 use std::pin::Pin;
-use std::sync::Arc;
 use std::sync::mpsc::{RecvError, RecvTimeoutError, TryRecvError};
+use std::sync::Arc;
 use std::task::{Context, Poll};
 use std::time::{Duration, Instant};
 
-/// A load that has to be run, by any thread or task. Where it is dropped, its call ends without a value: its receivers get an error,
-/// and callers that joined load themselves.
+/// A load that has to be run, by any thread or task. Where it is dropped, its call ends without a
+/// value: its receivers get an error, and callers that joined load themselves.
 #[must_use = "a job that is dropped ends its call without a value"]
 pub struct Job<'a, T> {
     caller: Handle<'a, T>,
@@ -49,15 +49,8 @@ impl<'a, T> Job<'a, T> {
             Asked::Settled(got) => (Source::Value(got), false),
             Asked::Joined(_) => unreachable!("who follows joins by no seat"),
         };
-        let receiver = Receiver {
-            key: key.into(),
-            source,
-            waker: Waker::default(),
-        };
-        let job = loads.then(|| Job {
-            caller,
-            key: key.into(),
-        });
+        let receiver = Receiver { key: key.into(), source, waker: Waker::default() };
+        let job = loads.then(|| Job { caller, key: key.into() });
         (receiver, job)
     }
 
@@ -74,15 +67,16 @@ impl<'a, T> Job<'a, T> {
         guard.end(&self.key, load())
     }
 
-    /// Awaits the load, settles the call with its value, and returns that. Where the future is dropped before, its call ends without a
-    /// value, once the load is dropped.
+    /// Awaits the load, settles the call with its value, and returns that. Where the future is
+    /// dropped before, its call ends without a value, once the load is dropped.
     ///
     /// ```
     /// # use std::{future::Future, pin::pin, task::{Context, Poll, Waker}};
     /// let group = singleflight::Group::<u32>::new();
     /// let (mut receiver, job) = group.subscribe("key");
     /// let mut task = pin!(job.unwrap().run_async(async { 7 }));
-    /// # let Poll::Ready(got) = task.as_mut().poll(&mut Context::from_waker(Waker::noop())) else { unreachable!() };
+    /// # let mut context = Context::from_waker(Waker::noop());
+    /// # let Poll::Ready(got) = task.as_mut().poll(&mut context) else { unreachable!() };
     /// # assert_eq!(*got.value, 7);
     /// assert_eq!(*receiver.recv().unwrap().value, 7);
     /// ```
@@ -111,8 +105,9 @@ enum Source<T> {
     Nothing,
 }
 
-/// Receives the value of a call, once: in a thread by [`Receiver::recv`], in a task by `.await`. It has no load of its own: where its call
-/// ends without a value it gets an error, and may subscribe again. One that is dropped leaves its call.
+/// Receives the value of a call, once: in a thread by [`Receiver::recv`], in a task by `.await`. It
+/// has no load of its own: where its call ends without a value it gets an error, and may subscribe
+/// again. One that is dropped leaves its call.
 ///
 /// ```
 /// # use std::{future::Future, pin::pin, task::{Context, Poll, Waker}};
@@ -120,7 +115,8 @@ enum Source<T> {
 /// let (receiver, job) = group.subscribe("key");
 /// job.unwrap().run(|| 7);
 /// let mut task = pin!(async { *receiver.await.unwrap().value });
-/// # let Poll::Ready(value) = task.as_mut().poll(&mut Context::from_waker(Waker::noop())) else { unreachable!() };
+/// # let mut context = Context::from_waker(Waker::noop());
+/// # let Poll::Ready(value) = task.as_mut().poll(&mut context) else { unreachable!() };
 /// # assert_eq!(value, 7);
 /// ```
 #[must_use = "a receiver that is dropped leaves its call"]
@@ -134,7 +130,8 @@ impl<T> Receiver<T> {
     /// Returns the value if it is there.
     ///
     /// # Errors
-    /// `Empty` while the call is open. `Disconnected` where it ended without a value, or the value was taken before.
+    /// `Empty` while the call is open. `Disconnected` where it ended without a value, or the value
+    /// was taken before.
     ///
     /// ```
     /// let group = singleflight::Group::<u32>::new();
@@ -171,14 +168,15 @@ impl<T> Receiver<T> {
     /// Blocks until the call has ended, no longer than the timeout, and returns its value.
     ///
     /// # Errors
-    /// `Timeout` where the call is open still; the receiver may be asked again. `Disconnected` where it ended without a
-    /// value, or the value was taken before.
+    /// `Timeout` where the call is open still; the receiver may be asked again. `Disconnected`
+    /// where it ended without a value, or the value was taken before.
     ///
     /// ```
     /// # use std::{sync::mpsc::RecvTimeoutError, time::Duration};
     /// let group = singleflight::Group::<u32>::new();
     /// let (mut receiver, job) = group.subscribe("key");
-    /// assert_eq!(receiver.recv_timeout(Duration::from_millis(1)).err(), Some(RecvTimeoutError::Timeout));
+    /// let late = receiver.recv_timeout(Duration::from_millis(1));
+    /// assert_eq!(late.err(), Some(RecvTimeoutError::Timeout));
     /// # drop(job);
     /// ```
     pub fn recv_timeout(&mut self, timeout: Duration) -> Result<Loaded<T>, RecvTimeoutError> {

@@ -1,19 +1,17 @@
-//! One group of the library, with the callers that are split off from it. A pool replaces its epoch where that is too small, or worn.
+//! One group of the library, with the callers that are split off from it. A pool replaces its epoch
+//! where that is too small, or worn.
 
 use crate::hash::Names;
+use crate::lent::Lent;
 use crate::pool::Seat;
 use crate::post::{Post, Whose};
 use crate::raw::{self, Slot};
 use crate::sync::{lock, point};
-use crate::lent::Lent;
 use crate::{Call, Error};
 use std::collections::hash_map::RandomState;
 use std::hash::BuildHasher;
-use std::sync::atomic::{
-    AtomicU32, AtomicU64,
-    Ordering::Relaxed,
-};
 use std::ptr::NonNull;
+use std::sync::atomic::{AtomicU32, AtomicU64, Ordering::Relaxed};
 use std::sync::{Arc, Mutex, OnceLock};
 
 const CHUNK: usize = 32;
@@ -22,7 +20,8 @@ const CHUNK: usize = 32;
 type Chunk<T> = OnceLock<Box<[Post<T>]>>;
 
 struct Seats {
-    // Each seat is split off from it, and it looks and forgets for those who have none. It is closed where the epoch is replaced.
+    // Each seat is split off from it, and it looks and forgets for those who have none. It is
+    // closed where the epoch is replaced.
     root: Slot,
     free: Vec<Seat>,
     made: u32,
@@ -36,7 +35,8 @@ pub(crate) struct Epoch<T> {
     pub(crate) names: Names,
     posts: Box<[Chunk<T>]>,
     seats: Mutex<Seats>,
-    // How many seats wait for calls of keys that they did not ask for: while there are some, one looks before one asks.
+    // How many seats wait for calls of keys that they did not ask for: while there are some, one
+    // looks before one asks.
     strangers: AtomicU32,
     /// How often another key's call was found at a key's place.
     pub(crate) clashes: AtomicU64,
@@ -62,12 +62,7 @@ unsafe impl<T> Sync for Taken<T> where Arc<Epoch<T>>: Sync {}
 impl<T> Taken<T> {
     pub(crate) fn new(seat: Seat, epoch: Arc<Epoch<T>>) -> Self {
         let post = NonNull::from(epoch.post(seat.number));
-        Taken {
-            seat,
-            epoch,
-            spare: None,
-            post,
-        }
+        Taken { seat, epoch, spare: None, post }
     }
 
     #[inline]
@@ -100,12 +95,7 @@ impl<T> Epoch<T> {
                 callers,
                 names: Names::new(),
                 posts: (0..=all as usize / CHUNK).map(|_| OnceLock::new()).collect(),
-                seats: Mutex::new(Seats {
-                    root,
-                    free: Vec::new(),
-                    made: 0,
-                    is_replaced: false,
-                }),
+                seats: Mutex::new(Seats { root, free: Vec::new(), made: 0, is_replaced: false }),
                 strangers: AtomicU32::new(0),
                 clashes: AtomicU64::new(0),
                 spent: AtomicU32::new(0),
@@ -118,13 +108,17 @@ impl<T> Epoch<T> {
     #[inline]
     pub(crate) fn post(&self, number: u32) -> &Post<T> {
         let posts = &self.posts[number as usize / CHUNK];
-        &posts.get_or_init(|| (0..CHUNK).map(|_| Post::default()).collect())[number as usize % CHUNK]
+        &posts.get_or_init(|| (0..CHUNK).map(|_| Post::default()).collect())
+            [number as usize % CHUNK]
     }
 
     /// The posts that there are, by their numbers.
     pub(crate) fn posts(&self) -> impl Iterator<Item = (u32, &Post<T>)> {
-        let chunks = self.posts.iter().enumerate().filter_map(|(at, posts)| Some((at, posts.get()?)));
-        chunks.flat_map(|(at, posts)| posts.iter().enumerate().map(move |(i, post)| ((at * CHUNK + i) as u32, post)))
+        let chunks =
+            self.posts.iter().enumerate().filter_map(|(at, posts)| Some((at, posts.get()?)));
+        chunks.flat_map(|(at, posts)| {
+            posts.iter().enumerate().map(move |(i, post)| ((at * CHUNK + i) as u32, post))
+        })
     }
 
     /// Whether a call of this number can be one of its callers'.
@@ -137,7 +131,8 @@ impl<T> Epoch<T> {
         lock(&self.seats).free.pop()
     }
 
-    /// A free seat; and whether it is a new one. None where all are taken, or there is no memory, or the epoch is replaced.
+    /// A free seat; and whether it is a new one. None where all are taken, or there is no memory,
+    /// or the epoch is replaced.
     pub(crate) fn take(&self) -> Option<(Seat, bool)> {
         let mut seats = lock(&self.seats);
         if let Some(seat) = seats.free.pop() {
@@ -200,7 +195,12 @@ impl<T> Epoch<T> {
     }
 
     /// Which call is open at the key's place, and whose it is.
-    pub(crate) fn look(&self, seat: Option<&mut Seat>, key: &[u8], fingerprint: u64) -> (Option<Call>, Whose) {
+    pub(crate) fn look(
+        &self,
+        seat: Option<&mut Seat>,
+        key: &[u8],
+        fingerprint: u64,
+    ) -> (Option<Call>, Whose) {
         match self.named(seat, key) {
             None => (None, Whose::Ended),
             Some(call) => (Some(call), self.post(call.caller).whose(call.generation, fingerprint)),

@@ -4,11 +4,13 @@ use std::collections::hash_map::RandomState;
 use std::hash::BuildHasher;
 use std::ops::Deref;
 
-/// The library keeps keys of so many bytes in a caller's slot. It would keep a longer one on the heap until the caller's next call.
+/// The library keeps keys of so many bytes in a caller's slot. It would keep a longer one on the
+/// heap until the caller's next call.
 const LONGEST: usize = 40;
 
-/// The names of keys for the library: their own bytes, or of a longer key a digest of 128 bits, two hashes by SipHash-1-3 under secret
-/// seeds. Two long keys have one digest with a probability of one in 2^128.
+/// The names of keys for the library: their own bytes, or of a longer key a digest of 128 bits, two
+/// hashes by SipHash-1-3 under secret seeds. Two long keys have one digest with a probability of
+/// one in 2^128.
 pub(crate) struct Names([RandomState; 2]);
 
 /// What the library is told of a key.
@@ -47,8 +49,9 @@ impl Deref for Name<'_> {
     }
 }
 
-/// A hash of 64 bits under secret seeds. Two keys have one fingerprint with a probability of one in 2^64, and who chooses keys
-/// does not know which. Where it happens a call may wait for the other key's load; no answer is given to the wrong key.
+/// A hash of 64 bits under secret seeds. Two keys have one fingerprint with a probability of one in
+/// 2^64, and who chooses keys does not know which. Where it happens a call may wait for the other
+/// key's load; no answer is given to the wrong key.
 pub(crate) struct Fingerprints([u64; 3]);
 
 #[inline]
@@ -75,13 +78,17 @@ impl Fingerprints {
         for chunk in key.chunks_exact(16) {
             state = fold(word(chunk, 0) ^ state, word(chunk, 8) ^ second);
         }
-        // The last 16 bytes, which may have been read in part; or all, where there are fewer. The length tells them apart. It comes in last:
-        // beside a word of the key it would tell nothing apart from another length with another byte.
+        // The last 16 bytes, which may have been read in part; or all, where there are fewer. The
+        // length tells them apart. It comes in last: beside a word of the key it would tell
+        // nothing apart from another length with another byte.
         let (low, high) = match len {
             16.. => (word(key, len - 16), word(key, len - 8)),
             8.. => (word(key, 0), word(key, len - 8)),
             4.. => (four(key, 0), four(key, len - 4)),
-            1.. => (u64::from(key[0]) << 16 | u64::from(key[len / 2]) << 8 | u64::from(key[len - 1]), 0),
+            1.. => (
+                u64::from(key[0]) << 16 | u64::from(key[len / 2]) << 8 | u64::from(key[len - 1]),
+                0,
+            ),
             0 => (0, 0),
         };
         state = fold(low ^ state, high ^ third);

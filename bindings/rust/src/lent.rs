@@ -1,18 +1,21 @@
-//! An answer on its way through the library, which hands on a number of 64 bits: who joined takes its share of the answer by that.
+//! An answer on its way through the library, which hands on a number of 64 bits: who joined takes
+//! its share of the answer by that.
 
 use std::ptr::NonNull;
+use std::sync::atomic::{fence, AtomicU64, Ordering};
 use std::sync::Arc;
-use std::sync::atomic::{AtomicU64, Ordering, fence};
 
 /// More than all members of a call can be.
 const MANY: u64 = 1 << 40;
 
 /// An answer with which a call is settled before its leader knows how many joined.
 pub(crate) struct Lent<T> {
-    // How many shares were not taken yet; until the leader knows how many there are, MANY more. Each who joined takes one off, and the
-    // leader those that were too many. Whoever brings it to 0 frees the rest.
+    // How many shares were not taken yet; until the leader knows how many there are, MANY more.
+    // Each who joined takes one off, and the leader those that were too many. Whoever brings
+    // it to 0 frees the rest.
     shares: AtomicU64,
-    // Written by the leader before it settles the call, and only read then, until nobody has a share any more.
+    // Written by the leader before it settles the call, and only read then, until nobody has a
+    // share any more.
     answer: Option<Arc<T>>,
 }
 
@@ -22,10 +25,7 @@ pub(crate) struct Lending<T>(NonNull<Lent<T>>);
 impl<T> Lending<T> {
     /// Lends the answer. `spare` is one that came back before, or none.
     pub(crate) fn new(answer: Arc<T>, spare: Option<Box<Lent<T>>>) -> Self {
-        let lent = Lent {
-            shares: AtomicU64::new(MANY),
-            answer: Some(answer),
-        };
+        let lent = Lent { shares: AtomicU64::new(MANY), answer: Some(answer) };
         let at = match spare {
             Some(mut spare) => {
                 *spare = lent;
@@ -57,11 +57,12 @@ impl<T> Lending<T> {
     }
 }
 
-/// Takes the share of one who joined, by the number of the call. None where the call was settled with nothing.
+/// Takes the share of one who joined, by the number of the call. None where the call was settled
+/// with nothing.
 ///
 /// # Safety
-/// The number is that of [`Lending::number`] of this type, whose call has counted the taker as one who joined, or 0; and
-/// the taker takes its share once.
+/// The number is that of [`Lending::number`] of this type, whose call has counted the taker as one
+/// who joined, or 0; and the taker takes its share once.
 pub(crate) unsafe fn take<T>(number: u64) -> Option<Arc<T>> {
     let at = NonNull::new(std::ptr::with_exposed_provenance_mut::<Lent<T>>(number as usize))?;
     // SAFETY: it is freed where its count comes to 0, and one of that is the taker's.
@@ -69,7 +70,8 @@ pub(crate) unsafe fn take<T>(number: u64) -> Option<Arc<T>> {
     let answer = lent.answer.clone();
     if lent.shares.fetch_sub(1, Ordering::Release) == 1 {
         fence(Ordering::Acquire);
-        // SAFETY: it was a box, and nobody has a share any more. The leader has settled, or the count would be MANY more.
+        // SAFETY: it was a box, and nobody has a share any more. The leader has settled, or the
+        // count would be MANY more.
         drop(unsafe { Box::from_raw(at.as_ptr()) });
     }
     answer
@@ -102,7 +104,11 @@ mod tests {
             let mut all: Vec<_> = (0..before).map(|_| take()).collect();
             assert!(lending.settle(3).is_none() || before == 3, "who comes last frees it");
             all.extend((before..3).map(|_| take()));
-            assert!(all.iter().all(|share| Arc::ptr_eq(share, &answer)) && Arc::strong_count(&answer) == 4, "one answer");
+            assert!(
+                all.iter().all(|share| Arc::ptr_eq(share, &answer))
+                    && Arc::strong_count(&answer) == 4,
+                "one answer"
+            );
             drop(all);
             assert_eq!(Arc::strong_count(&answer), 1, "each share was one");
         }
@@ -118,12 +124,18 @@ mod tests {
             let number = lending.number();
             std::thread::scope(|scope| {
                 for _ in 0..3 {
-                    // SAFETY: three have a share.
-                    scope.spawn(move || unsafe { take::<AtomicU64>(number) }.unwrap().fetch_add(1, Ordering::Relaxed));
+                    scope.spawn(move || {
+                        // SAFETY: three have a share.
+                        let share = unsafe { take::<AtomicU64>(number) }.unwrap();
+                        share.fetch_add(1, Ordering::Relaxed)
+                    });
                 }
                 drop(lending.settle(3));
             });
-            assert!(answer.load(Ordering::Relaxed) == 3 && Arc::strong_count(&answer) == 1, "each had the answer");
+            assert!(
+                answer.load(Ordering::Relaxed) == 3 && Arc::strong_count(&answer) == 1,
+                "each had the answer"
+            );
         }
     }
 }

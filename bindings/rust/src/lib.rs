@@ -1,5 +1,6 @@
-//! Singleflight with Forget. Of the callers that want the value of one key at one time, one loads it, and the others share its value.
-//! After [`Group::forget`] no caller receives a value that was loaded before.
+//! Singleflight with Forget. Of the callers that want the value of one key at one time, one loads
+//! it, and the others share its value. After [`Group::forget`] no caller receives a value that was
+//! loaded before.
 //!
 //! ```
 //! use singleflight::Group;
@@ -15,28 +16,32 @@
 //! });
 //! ```
 //!
-//! A [`Group`] may be shared between threads by reference, or cloned. A thread or task that asks often may keep a [`Caller`].
-//! A leader that nobody joins takes no lock on the usual path. A joiner sleeps until its leader wakes it.
+//! A [`Group`] may be shared between threads by reference, or cloned. A thread or task that asks
+//! often may keep a [`Caller`]. A leader that nobody joins takes no lock on the usual path. A
+//! joiner sleeps until its leader wakes it.
 //!
 //! # Promises
 //!
-//! 1. No call waits for the load of another key. A load may ask for other keys. A load that asks for its own key would wait for itself.
-//! 2. At most one load of a key runs at a time, unless a Forget of the key ended the earlier one. So without a Forget values do not
-//!    go backwards.
+//! 1. No call waits for the load of another key. A load may ask for other keys. A load that asks
+//!    for its own key would wait for itself.
+//! 2. At most one load of a key runs at a time, unless a Forget of the key ended the earlier one.
+//!    So without a Forget values do not go backwards.
 //! 3. Nothing wears out.
 //! 4. A Forget always forgets.
 //! 5. A new group is small, and grows with its use.
 //!
-//! Keys are bytes of any length, and any number of them come and go. A group hashes them to slots, and two keys may share one. The
-//! library has one open call per slot. A call that finds another key's call there, or for which no place in the library is free, goes
-//! beside the library: it joins the key's open call, or loads, under a lock. [`Stats::alone`] counts these loads. They have no
-//! current stamp, so a cache cannot keep their values. A group of [`Group::new`] grows where they are frequent. Give [`Group::open`]
-//! 1,000 slots per call that is open at one time, or 16 per cached value.
+//! Keys are bytes of any length, and any number of them come and go. A group hashes them to slots,
+//! and two keys may share one. The library has one open call per slot. A call that finds another
+//! key's call there, or for which no place in the library is free, goes beside the library: it
+//! joins the key's open call, or loads, under a lock. [`Stats::alone`] counts these loads. They
+//! have no current stamp, so a cache cannot keep their values. A group of [`Group::new`] grows
+//! where they are frequent. Give [`Group::open`] 1,000 slots per call that is open at one time, or
+//! 16 per cached value.
 //!
 //! # Loads that fail
 //!
-//! The value may be a `Result`: callers then share the error too. A load that panics, or whose future is dropped, settles nothing: each
-//! joiner then asks again, and one of them loads.
+//! The value may be a `Result`: callers then share the error too. A load that panics, or whose
+//! future is dropped, settles nothing: each joiner then asks again, and one of them loads.
 //!
 //! ```
 //! let group = singleflight::Group::<Result<u16, std::num::ParseIntError>>::new();
@@ -46,9 +51,10 @@
 //!
 //! # Values in a cache
 //!
-//! A [`Stamp`] tells whether a value may still be used. Ask [`Group::is_current`] before you put a value into the cache: the key may have
-//! been forgotten while it was loaded. Ask again when you take it out: a caller that has learned of a Forget then gets `false` for
-//! all values loaded before it.
+//! A [`Stamp`] tells whether a value may still be used. Ask [`Group::is_current`] before you put a
+//! value into the cache: the key may have been forgotten while it was loaded. Ask again when you
+//! take it out: a caller that has learned of a Forget then gets `false` for all values loaded
+//! before it.
 //!
 //! ```
 //! use singleflight::{Group, Stamp};
@@ -82,14 +88,17 @@
 //!
 //! # Features and platforms
 //!
-//! The feature `notes` has [`Caller`]s hand on what they have seen. No program needs it. The library is machine code for Linux on x86-64 (v2).
+//! The feature `notes` has [`Caller`]s hand on what they have seen. No program needs it. The
+//! library is machine code for Linux on x86-64 (v2).
 
 #![deny(unsafe_op_in_unsafe_fn)]
 #![deny(clippy::undocumented_unsafe_blocks)]
 #![warn(missing_docs)]
 
 #[cfg(not(all(target_os = "linux", target_arch = "x86_64")))]
-compile_error!("singleflight is for Linux on x86-64 alone: the library that it links is machine code for that");
+compile_error!(
+    "singleflight is for Linux on x86-64 alone: the library that it links is machine code for that"
+);
 
 mod asker;
 mod caller;
@@ -161,19 +170,28 @@ pub enum Error {
 impl fmt::Display for Error {
     fn fmt(&self, f: &mut fmt::Formatter<'_>) -> fmt::Result {
         match self {
-            Error::Slots(count) => write!(f, "{count} hash slots: a group has from 1 to 134,217,728"),
+            Error::Slots(count) => {
+                write!(f, "{count} hash slots: a group has from 1 to 134,217,728")
+            }
             Error::Callers(count) => write!(f, "{count} callers: a group has from 1 to 65,534"),
-            Error::OutOfMemory => f.write_str("out of memory: free some, or open the group with fewer hash slots"),
-            Error::TimedOut => f.write_str("timed out: the key's load goes on; ask again, or forget the key to load it anew"),
-            Error::OtherGroup => f.write_str("the note is of another group: learn it with a caller of its own group"),
+            Error::OutOfMemory => {
+                f.write_str("out of memory: free some, or open the group with fewer hash slots")
+            }
+            Error::TimedOut => f.write_str(
+                "timed out: the key's load goes on; ask again, or forget the key to load it anew",
+            ),
+            Error::OtherGroup => {
+                f.write_str("the note is of another group: learn it with a caller of its own group")
+            }
         }
     }
 }
 
 impl std::error::Error for Error {}
 
-/// Runs one load per key at a time, for all who ask. It is shared between threads by reference or by a clone, which is a handle to the
-/// same group. A group is freed with the last of its handles, callers and jobs.
+/// Runs one load per key at a time, for all who ask. It is shared between threads by reference or
+/// by a clone, which is a handle to the same group. A group is freed with the last of its handles,
+/// callers and jobs.
 ///
 /// Values go to other threads, and are shared between them:
 ///
@@ -205,8 +223,9 @@ pub struct Group<T> {
 pub struct Loaded<T> {
     /// The value, which all members of the call share.
     pub value: Arc<T>,
-    /// How many others joined the call. A joiner may know of fewer than the leader does, but of one at least: itself. Those that the hash slot
-    /// brought there from another key are counted too.
+    /// How many others joined the call. A joiner may know of fewer than the leader does, but of
+    /// one at least: itself. Those that the hash slot brought there from another key are
+    /// counted too.
     pub joiners: u32,
     /// Whether this caller loaded it.
     pub led: bool,
@@ -223,7 +242,8 @@ pub struct Loaded<T> {
 /// ```
 #[derive(Clone, Copy, Debug, PartialEq, Eq, Hash)]
 pub struct Call {
-    /// The table of the group in which it was led, from 1 on. A group that grows, or whose callers are spent, opens a new one.
+    /// The table of the group in which it was led, from 1 on. A group that grows, or whose callers
+    /// are spent, opens a new one.
     pub epoch: u32,
     /// The number of its leader, from 1 to 65,535.
     pub caller: u32,
@@ -231,8 +251,8 @@ pub struct Call {
     pub generation: u32,
 }
 
-/// The hash slot and the call of a value, for [`Group::is_current`]: 16 plain bytes, to be kept with the value. The default is the
-/// stamp of no call, which is never current.
+/// The hash slot and the call of a value, for [`Group::is_current`]: 16 plain bytes, to be kept
+/// with the value. The default is the stamp of no call, which is never current.
 ///
 /// ```
 /// use singleflight::{Group, Stamp};
@@ -263,10 +283,7 @@ pub enum ForgetOutcome {
 
 impl<T> Clone for Loaded<T> {
     fn clone(&self) -> Self {
-        Loaded {
-            value: self.value.clone(),
-            ..*self
-        }
+        Loaded { value: self.value.clone(), ..*self }
     }
 }
 
@@ -281,7 +298,8 @@ impl<T> Loaded<T> {
         self.joiners > 0
     }
 
-    /// Returns the call that the value came from, for [`Group::forget_call`]. `None` where it was loaded beside the library.
+    /// Returns the call that the value came from, for [`Group::forget_call`]. `None` where it was
+    /// loaded beside the library.
     ///
     /// ```
     /// let group = singleflight::Group::<u32>::new();
@@ -292,8 +310,8 @@ impl<T> Loaded<T> {
         self.call
     }
 
-    /// Returns the stamp of the value, by which one asks later whether it is current. The stamp of a value that was loaded beside
-    /// the library is the default.
+    /// Returns the stamp of the value, by which one asks later whether it is current. The stamp of
+    /// a value that was loaded beside the library is the default.
     ///
     /// ```
     /// let group = singleflight::Group::<u32>::new();
@@ -307,8 +325,8 @@ impl<T> Loaded<T> {
 }
 
 impl<T: Send + Sync> Group<T> {
-    /// Makes a group that begins with 1,024 hash slots and 32 callers of the library, in 40 kB, and grows with its use: to 1,048,576
-    /// slots and 65,534 callers.
+    /// Makes a group that begins with 1,024 hash slots and 32 callers of the library, in 40 kB, and
+    /// grows with its use: to 1,048,576 slots and 65,534 callers.
     ///
     /// # Panics
     /// Where there is no memory.
@@ -318,21 +336,18 @@ impl<T: Send + Sync> Group<T> {
     /// assert_eq!(*group.get_or_load("any key", || 7).value, 7);
     /// ```
     pub fn new() -> Self {
-        let plan = Plan {
-            places: PLACES,
-            callers: CALLERS,
-            grows: true,
-            calls: CALLS,
-        };
+        let plan = Plan { places: PLACES, callers: CALLERS, grows: true, calls: CALLS };
         Self::of(plan).expect("memory for a group")
     }
 
-    /// Makes a group that does not grow, with 1 to 134,217,728 hash slots and 1 to 65,534 callers of the library. A slot takes 8
-    /// bytes, and twice that while the group is opened. A caller takes 240 bytes, and 300 more once it was used. Calls for which no
-    /// caller is free run beside the library, under a lock.
+    /// Makes a group that does not grow, with 1 to 134,217,728 hash slots and 1 to 65,534 callers
+    /// of the library. A slot takes 8 bytes, and twice that while the group is opened. A caller
+    /// takes 240 bytes, and 300 more once it was used. Calls for which no caller is free run
+    /// beside the library, under a lock.
     ///
     /// # Errors
-    /// [`Error::Slots`] and [`Error::Callers`] where a number is out of range. [`Error::OutOfMemory`].
+    /// [`Error::Slots`] and [`Error::Callers`] where a number is out of range.
+    /// [`Error::OutOfMemory`].
     ///
     /// ```
     /// use singleflight::{Error, Group};
@@ -352,12 +367,7 @@ impl<T: Send + Sync> Group<T> {
         if !(1..=MOST_CALLERS).contains(&callers) {
             return Err(Error::Callers(callers));
         }
-        Self::of(Plan {
-            places: slots,
-            callers,
-            grows: false,
-            calls: calls.clamp(1, CALLS),
-        })
+        Self::of(Plan { places: slots, callers, grows: false, calls: calls.clamp(1, CALLS) })
     }
 
     fn of(plan: Plan) -> Result<Self, Error> {
@@ -370,10 +380,11 @@ impl<T: Send + Sync> Group<T> {
         Asker::new(&*self.pool)
     }
 
-    /// Returns the value of the key. Where a call of the key is open, it joins that, and blocks until its leader has the value. Else it
-    /// leads a new call, and runs `load`.
+    /// Returns the value of the key. Where a call of the key is open, it joins that, and blocks
+    /// until its leader has the value. Else it leads a new call, and runs `load`.
     ///
-    /// It never fails, however many callers there are. Where `load` panics the panic goes on, and each joiner asks again.
+    /// It never fails, however many callers there are. Where `load` panics the panic goes on, and
+    /// each joiner asks again.
     ///
     /// ```
     /// let group = singleflight::Group::<String>::new();
@@ -384,8 +395,8 @@ impl<T: Send + Sync> Group<T> {
         self.asker().get(key.as_ref(), load)
     }
 
-    /// Returns the value of the key, and waits no longer than the timeout for the load of another caller, which goes on. A load of
-    /// its own takes as long as it takes.
+    /// Returns the value of the key, and waits no longer than the timeout for the load of another
+    /// caller, which goes on. A load of its own takes as long as it takes.
     ///
     /// # Errors
     /// [`Error::TimedOut`] where the load of another caller takes longer.
@@ -401,16 +412,23 @@ impl<T: Send + Sync> Group<T> {
     ///     7
     /// });
     /// ```
-    pub fn get_or_load_timeout(&self, key: impl AsRef<[u8]>, timeout: Duration, load: impl FnOnce() -> T) -> Result<Loaded<T>, Error> {
+    pub fn get_or_load_timeout(
+        &self,
+        key: impl AsRef<[u8]>,
+        timeout: Duration,
+        load: impl FnOnce() -> T,
+    ) -> Result<Loaded<T>, Error> {
         self.asker().get_timeout(key.as_ref(), timeout, load).ok_or(Error::TimedOut)
     }
 
-    /// Returns the value of the key in a task: from the key's open call, or by awaiting `load`. The future runs under any executor,
-    /// keeps the group alive, and does nothing before its first poll.
+    /// Returns the value of the key in a task: from the key's open call, or by awaiting `load`. The
+    /// future runs under any executor, keeps the group alive, and does nothing before its first
+    /// poll.
     ///
-    /// It is cancellation safe. One that is dropped while it waits leaves the call. One that is dropped while it loads drops the load
-    /// first, and then each joiner asks again. So a timeout is one of the executor's, around it. Do not leak one (`mem::forget`) that
-    /// loads: its call would stay open until the key is forgotten.
+    /// It is cancellation safe. One that is dropped while it waits leaves the call. One that is
+    /// dropped while it loads drops the load first, and then each joiner asks again. So a
+    /// timeout is one of the executor's, around it. Do not leak one (`mem::forget`) that loads:
+    /// its call would stay open until the key is forgotten.
     ///
     /// ```
     /// # use std::{future::Future, pin::pin, task::{Context, Poll, Waker}};
@@ -433,11 +451,11 @@ impl<T: Send + Sync> Group<T> {
         async move { Asker::new(pool).get_async(key.as_ref(), load).await }
     }
 
-    /// Joins the key's open call, or leads a new one: returns a receiver of its value; and where a new call was led, the job that loads
-    /// it, which any thread or task may run.
+    /// Joins the key's open call, or leads a new one: returns a receiver of its value; and where a
+    /// new call was led, the job that loads it, which any thread or task may run.
     ///
-    /// A receiver that came with a job does not count as a joiner of that. Do not leak a job (`mem::forget`): its call
-    /// would stay open until the key is forgotten.
+    /// A receiver that came with a job does not count as a joiner of that. Do not leak a job
+    /// (`mem::forget`): its call would stay open until the key is forgotten.
     ///
     /// ```
     /// let group = singleflight::Group::<u32>::new();
@@ -454,8 +472,9 @@ impl<T: Send + Sync> Group<T> {
         Job::subscribe(Handle::Own(Caller(Asker::new(self.pool.clone()))), key.as_ref())
     }
 
-    /// Forgets the key: a caller that asks from now on never receives a value whose load began before. Those who have joined
-    /// the open call still get its value. Returns whether a call was open.
+    /// Forgets the key: a caller that asks from now on never receives a value whose load began
+    /// before. Those who have joined the open call still get its value. Returns whether a call
+    /// was open.
     ///
     /// ```
     /// let group = singleflight::Group::<u32>::new();
@@ -469,8 +488,9 @@ impl<T: Send + Sync> Group<T> {
         self.asker().forget(key.as_ref())
     }
 
-    /// Forgets this call of the key alone, and leaves a newer one as it is: of two callers that reload one stale value, the later does not
-    /// end the call that the first made. Returns what it found.
+    /// Forgets this call of the key alone, and leaves a newer one as it is: of two callers that
+    /// reload one stale value, the later does not end the call that the first made. Returns
+    /// what it found.
     ///
     /// ```
     /// use singleflight::{ForgetOutcome, Group};
@@ -483,7 +503,8 @@ impl<T: Send + Sync> Group<T> {
         self.asker().forget_call(key.as_ref(), call)
     }
 
-    /// Returns the call that was led last at the key's hash slot, unless a Forget has ended it. It may be of another key that shares the slot.
+    /// Returns the call that was led last at the key's hash slot, unless a Forget has ended it. It
+    /// may be of another key that shares the slot.
     ///
     /// ```
     /// let group = singleflight::Group::<u32>::new();
@@ -495,9 +516,10 @@ impl<T: Send + Sync> Group<T> {
         self.asker().named(key.as_ref())
     }
 
-    /// Returns whether the call of the stamp is the current one of its hash slot: no Forget of a key of that slot has ended it, and no newer
-    /// call was led there. `true` is right for any stamp of the group, whichever caller got it. `false` may come too early, when another key uses
-    /// the same slot or the group has grown.
+    /// Returns whether the call of the stamp is the current one of its hash slot: no Forget of a
+    /// key of that slot has ended it, and no newer call was led there. `true` is right for any
+    /// stamp of the group, whichever caller got it. `false` may come too early, when another key
+    /// uses the same slot or the group has grown.
     ///
     /// ```
     /// let group = singleflight::Group::<u32>::new();
@@ -510,8 +532,8 @@ impl<T: Send + Sync> Group<T> {
         self.pool.is_current_by_any(stamp)
     }
 
-    /// Returns a caller, for one thread or task at a time. There is always one: those for which the library has no place ask
-    /// beside it.
+    /// Returns a caller, for one thread or task at a time. There is always one: those for which the
+    /// library has no place ask beside it.
     ///
     /// ```
     /// let group = singleflight::Group::<u32>::new();
@@ -537,9 +559,7 @@ impl<T: Send + Sync> Group<T> {
 
 impl<T> Clone for Group<T> {
     fn clone(&self) -> Self {
-        Group {
-            pool: self.pool.clone(),
-        }
+        Group { pool: self.pool.clone() }
     }
 }
 

@@ -2,15 +2,17 @@
 
 use crate::asker::Asker;
 use crate::pool::Pool;
-use crate::{Error, raw};
+use crate::{raw, Error};
 use std::fmt;
 use std::ops::Deref;
 use std::sync::Arc;
 
-/// What a caller has seen, for a caller in another thread to learn. [`Caller::note`](crate::Caller::note) returns one.
+/// What a caller has seen, for a caller in another thread to learn.
+/// [`Caller::note`](crate::Caller::note) returns one.
 ///
-/// A program whose threads hand on keys or values by channels, locks or atomics needs none: what orders the threads orders what they
-/// have seen. A note says it in the words of the library's proof.
+/// A program whose threads hand on keys or values by channels, locks or atomics needs none: what
+/// orders the threads orders what they have seen. A note says it in the words of the library's
+/// proof.
 pub struct Note<T> {
     note: raw::Note,
     epoch: u32,
@@ -26,18 +28,18 @@ impl<T> Note<T> {
                 return Err(Error::OutOfMemory);
             }
         }
-        Ok(Note {
-            note,
-            epoch,
-            pool: asker.pool.clone(),
-        })
+        Ok(Note { note, epoch, pool: asker.pool.clone() })
     }
 
-    pub(crate) fn learned_by<P: Deref<Target = Pool<T>>>(&mut self, asker: &mut Asker<T, P>) -> Result<(), Error> {
+    pub(crate) fn learned_by<P: Deref<Target = Pool<T>>>(
+        &mut self,
+        asker: &mut Asker<T, P>,
+    ) -> Result<(), Error> {
         if !std::ptr::eq(&*asker.pool, &*self.pool) {
             return Err(Error::OtherGroup);
         }
-        // A note of another epoch, or of a caller without a seat, has nothing for the library: who has it comes after who made it.
+        // A note of another epoch, or of a caller without a seat, has nothing for the library: who
+        // has it comes after who made it.
         if let Some((slot, _)) = asker.slot().filter(|(_, number)| *number == self.epoch) {
             let code = raw::sflight_learn(slot, &mut self.note);
             assert_eq!(code, raw::DONE, "a note of the slot's group, and a slot that is free");

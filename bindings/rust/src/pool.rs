@@ -1,45 +1,56 @@
-//! What the callers of a group share: the epoch that they use now, and the calls that no place of it has.
+//! What the callers of a group share: the epoch that they use now, and the calls that no place of
+//! it has.
 //!
 //! The library has at most one open call at each hash slot. Around it the pool keeps four promises:
 //! 1. No call waits for the load of another key.
 //! 2. At most one load of a key runs at a time, unless a Forget of the key ended the earlier one.
-//! 3. Nothing wears out: an epoch that is too small, or whose callers have had all their calls, is replaced.
+//! 3. Nothing wears out: an epoch that is too small, or whose callers have had all their calls, is
+//!    replaced.
 //! 4. A Forget always forgets.
 //!
-//! A caller that finds no free seat, or another key's call at its slot, goes to the side table, under its lock: there it joins the
-//! key's run beside the library (`runs`), or the key's call of an epoch that was replaced (`moved`), or the key's call of the
-//! library; or it enters a run of its own, and loads.
+//! A caller that finds no free seat, or another key's call at its slot, goes to the side table,
+//! under its lock: there it joins the key's run beside the library (`runs`), or the key's call of
+//! an epoch that was replaced (`moved`), or the key's call of the library; or it enters a run of
+//! its own, and loads.
 //!
 //! # Why at most one load of a key runs
 //!
 //! `alert` counts, by the fingerprint, the entries of the side table.
-//! - A leader L of the library: its word is set; the exchange on the slot; it reads `now` and `alert`; it loads.
-//! - A run R: `alert` is counted up; it looks at the slot, and at the word of the leader that the slot names; it is entered; it loads.
+//! - A leader L of the library: its word is set; the exchange on the slot; it reads `now` and
+//!   `alert`; it loads.
+//! - A run R: `alert` is counted up; it looks at the slot, and at the word of the leader that the
+//!   slot names; it is entered; it loads.
 //!
-//! So L sees that `alert` is not 0, or R sees that L leads. Where L sees it, L takes the lock, by which R's look and entry are one
-//! step: if R is entered L settles its call with nothing and follows R, and else R has found L, or will.
-//! - The renewal: `now` is changed; the words of all seats of the old epoch are read, and each that is set is entered in `moved`.
+//! So L sees that `alert` is not 0, or R sees that L leads. Where L sees it, L takes the lock, by
+//! which R's look and entry are one step: if R is entered L settles its call with nothing and
+//! follows R, and else R has found L, or will.
+//! - The renewal: `now` is changed; the words of all seats of the old epoch are read, and each that
+//!   is set is entered in `moved`.
 //!
-//! So L sees that `now` has changed, and settles with nothing; or the renewal sees L's word. Whoever asks in the new epoch sees
-//! `alert` before, waits for the lock, and follows the moved call.
+//! So L sees that `now` has changed, and settles with nothing; or the renewal sees L's word.
+//! Whoever asks in the new epoch sees `alert` before, waits for the lock, and follows the moved
+//! call.
 //!
-//! Nobody whom others follow waits for anything but its own load: a leader decides before its load begins, and what it decides to
-//! follow it follows after its own call was settled with nothing. So there is no circle.
+//! Nobody whom others follow waits for anything but its own load: a leader decides before its load
+//! begins, and what it decides to follow it follows after its own call was settled with nothing. So
+//! there is no circle.
 //!
 //! # Why a Forget forgets
 //!
-//! It takes the key's entries out of the side table, marks the word of the leader that the key's slot names, ends that call in the
-//! library, and reads `now`: where that has changed, it begins anew. A call that the renewal entered before it saw the mark is taken out
-//! by the second round. The mark comes first, so that a second Forget, which finds that the call has ended and returns, leaves none that
-//! a renewal would enter. Only a call of the key is ended: another key's open call at the slot stays, or its next asker would load a
-//! second time.
+//! It takes the key's entries out of the side table, marks the word of the leader that the key's
+//! slot names, ends that call in the library, and reads `now`: where that has changed, it begins
+//! anew. A call that the renewal entered before it saw the mark is taken out by the second round.
+//! The mark comes first, so that a second Forget, which finds that the call has ended and returns,
+//! leaves none that a renewal would enter. Only a call of the key is ended: another key's open call
+//! at the slot stays, or its next asker would load a second time.
 //!
 //! # Why answers do not go backwards
 //!
-//! A leader's word stays until the library has settled the call. So whoever looks follows it, or comes after all who can still join.
-//! A call whose load is over is not moved: L has settled in the library, and stalls before its word is 0; another key's call is led at
-//! the slot; a run R of L's key finds that one, loads, and returns a newer answer; now the renewal would enter L, and the next asker
-//! would follow it.
+//! A leader's word stays until the library has settled the call. So whoever looks follows it, or
+//! comes after all who can still join. A call whose load is over is not moved: L has settled in the
+//! library, and stalls before its word is 0; another key's call is led at the slot; a run R of L's
+//! key finds that one, loads, and returns a newer answer; now the renewal would enter L, and the
+//! next asker would follow it.
 
 use crate::epoch::{Epoch, Taken};
 use crate::hash::Fingerprints;
@@ -48,7 +59,7 @@ use crate::raw::{self, Slot};
 use crate::stash::Stash;
 use crate::sync::{lock, point};
 use crate::wait::Wait;
-use crate::{Call, Error, ForgetOutcome, Stamp, lent};
+use crate::{lent, Call, Error, ForgetOutcome, Stamp};
 use std::collections::HashMap;
 use std::sync::atomic::{
     AtomicBool, AtomicU32,
@@ -56,7 +67,8 @@ use std::sync::atomic::{
 };
 use std::sync::{Arc, Mutex};
 
-/// What a settled call brings to a caller that joined it; or that it was another key's, and its number.
+/// What a settled call brings to a caller that joined it; or that it was another key's, and its
+/// number.
 #[derive(Clone, Copy)]
 pub(crate) enum Letter {
     Own(raw::Answer),
@@ -73,11 +85,7 @@ pub(crate) struct Seat {
 
 impl Seat {
     pub(crate) fn new(slot: Slot, number: u32) -> Self {
-        Seat {
-            slot,
-            number,
-            next: FIRST,
-        }
+        Seat { slot, number, next: FIRST }
     }
 
     /// The letter of the call that it joined, once.
@@ -103,12 +111,8 @@ impl Stamp {
     // Its epoch, and the library's stamp.
     fn parts(self) -> (u32, raw::Stamp) {
         let [place, call] = self.0.map(|word| [word as u32, (word >> 32) as u32]);
-        let stamp = raw::Stamp {
-            place: place[0],
-            reserved: 0,
-            caller: call[0],
-            generation: call[1],
-        };
+        let stamp =
+            raw::Stamp { place: place[0], reserved: 0, caller: call[0], generation: call[1] };
         (place[1], stamp)
     }
 }
@@ -116,11 +120,7 @@ impl Stamp {
 impl Call {
     /// The call of a stamp of this epoch.
     pub(crate) fn of(epoch: u32, stamp: raw::Stamp) -> Self {
-        Call {
-            epoch,
-            caller: stamp.caller,
-            generation: stamp.generation,
-        }
+        Call { epoch, caller: stamp.caller, generation: stamp.generation }
     }
 }
 
@@ -149,7 +149,8 @@ pub struct Stats {
     pub leads: u64,
     /// Calls that were joined, including those that the joiner left.
     pub joins: u64,
-    /// Loads beside the library: no place in it was free, or another key's call was open at the key's hash slot.
+    /// Loads beside the library: no place in it was free, or another key's call was open at the
+    /// key's hash slot.
     pub alone: u64,
     /// Forgets that ended an open call.
     pub closed: u64,
@@ -157,7 +158,8 @@ pub struct Stats {
     pub idle: u64,
     /// Callers of the library that were made.
     pub made: u32,
-    /// Those of them that are in use: by a caller, by a call under way, or waiting for the value of a call that was left.
+    /// Those of them that are in use: by a caller, by a call under way, or waiting for the value
+    /// of a call that was left.
     pub in_use: u32,
 }
 
@@ -181,7 +183,8 @@ pub(crate) struct Plan {
     pub(crate) calls: u32,
 }
 
-/// A group that grows has at most so many places and callers, and each step is so many times the one before.
+/// A group that grows has at most so many places and callers, and each step is so many times the
+/// one before.
 const MOST_PLACES: u32 = 1 << 20;
 const MOST_CALLERS: u32 = 65_534;
 const STEP: u32 = 8;
@@ -191,8 +194,9 @@ const ALERTS: usize = 64;
 struct Side<T> {
     /// Loads that run beside the library.
     runs: HashMap<Box<[u8]>, Arc<Wait<T>>>,
-    /// Calls of epochs that were replaced, by the fingerprints of their keys. Two may have one: a call that a Forget ended after it was
-    /// moved is not here, but an asking that has not led yet may be.
+    /// Calls of epochs that were replaced, by the fingerprints of their keys. Two may have one: a
+    /// call that a Forget ended after it was moved is not here, but an asking that has not led
+    /// yet may be.
     moved: HashMap<u64, Vec<Arc<Wait<T>>>>,
 }
 
@@ -241,14 +245,8 @@ impl<T> Pool<T> {
             fingerprints: Fingerprints::new(),
             plan,
             current: Mutex::new(first.clone()),
-            side: Mutex::new(Side {
-                runs: HashMap::new(),
-                moved: HashMap::new(),
-            }),
-            epochs: Mutex::new(Epochs {
-                all: vec![first],
-                gone: Stats::default(),
-            }),
+            side: Mutex::new(Side { runs: HashMap::new(), moved: HashMap::new() }),
+            epochs: Mutex::new(Epochs { all: vec![first], gone: Stats::default() }),
             is_renewing: AtomicBool::new(false),
             counters: Counters::default(),
             made: AtomicU32::new(0),
@@ -291,8 +289,9 @@ impl<T> Pool<T> {
         self.current_one(self.stash.take_own()).or_else(|| self.take_elsewhere())
     }
 
-    // A seat that the stash had, unless that is of an epoch that was replaced before: one who asked by it could join a call there whose
-    // load is over, and go back behind an answer of the current epoch.
+    // A seat that the stash had, unless that is of an epoch that was replaced before: one who asked
+    // by it could join a call there whose load is over, and go back behind an answer of the
+    // current epoch.
     #[inline]
     fn current_one(&self, taken: Option<Taken<T>>) -> Option<Taken<T>> {
         let taken = taken?;
@@ -340,7 +339,8 @@ impl<T> Pool<T> {
         self.in_use.fetch_sub(1, Relaxed);
     }
 
-    /// Lets a seat go whose caller has had all its calls. Where half of an epoch's have, another one is opened.
+    /// Lets a seat go whose caller has had all its calls. Where half of an epoch's have, another
+    /// one is opened.
     pub(crate) fn retire(&self, taken: Taken<T>) {
         let (seat, epoch) = taken.into_parts();
         drop(seat);
@@ -357,11 +357,16 @@ impl<T> Pool<T> {
         self.plan.calls
     }
 
-    /// Another key's call was found at a key's place. Where that is frequent, there are too few places.
+    /// Another key's call was found at a key's place. Where that is frequent, there are too few
+    /// places.
     pub(crate) fn clash(&self, epoch: &Arc<Epoch<T>>) {
         let clashes = epoch.clashes.fetch_add(1, Relaxed) + 1;
         let is_time = clashes >= 16 && clashes.is_power_of_two();
-        if self.plan.grows && is_time && epoch.places < MOST_PLACES && epoch.askings() / 256 < clashes {
+        if self.plan.grows
+            && is_time
+            && epoch.places < MOST_PLACES
+            && epoch.askings() / 256 < clashes
+        {
             self.renew(epoch, (epoch.places * STEP).min(MOST_PLACES), epoch.callers);
         }
     }
@@ -378,8 +383,8 @@ impl<T> Pool<T> {
         }
     }
 
-    /// Opens an epoch of these sizes in the place of the old one, unless that is replaced already, another thread does it, or there
-    /// is no memory.
+    /// Opens an epoch of these sizes in the place of the old one, unless that is replaced already,
+    /// another thread does it, or there is no memory.
     fn renew(&self, old: &Arc<Epoch<T>>, places: u32, callers: u32) {
         point();
         if self.is_renewing.swap(true, SeqCst) {
@@ -397,7 +402,8 @@ impl<T> Pool<T> {
 
     fn install(&self, old: &Arc<Epoch<T>>, new: Arc<Epoch<T>>) {
         let mut side = lock(&self.side);
-        // Who leads in the new epoch before all calls of the old one are entered waits for the lock.
+        // Who leads in the new epoch before all calls of the old one are entered waits for the
+        // lock.
         for alert in &self.alert {
             alert.fetch_add(1, SeqCst);
         }
@@ -439,8 +445,9 @@ impl<T> Pool<T> {
         });
     }
 
-    /// Looks for the key in the side table, and then in the library, and follows what it finds. Where it finds nothing, it enters a
-    /// run; or does not, where the caller has a seat and the key's place is free.
+    /// Looks for the key in the side table, and then in the library, and follows what it finds.
+    /// Where it finds nothing, it enters a run; or does not, where the caller has a seat and
+    /// the key's place is free.
     pub(crate) fn beside(&self, key: &[u8], fingerprint: u64, has_seat: bool) -> Beside<T> {
         let mut side = lock(&self.side);
         loop {
@@ -478,7 +485,8 @@ impl<T> Pool<T> {
         }
     }
 
-    /// Whether a leader of this epoch may load, that has led its call before. Else it settles that with nothing, and asks again.
+    /// Whether a leader of this epoch may load, that has led its call before. Else it settles that
+    /// with nothing, and asks again.
     #[inline]
     pub(crate) fn may_load(&self, epoch: u32, key: &[u8], fingerprint: u64) -> bool {
         if self.now() == epoch && !self.is_alert(fingerprint) {
@@ -493,7 +501,8 @@ impl<T> Pool<T> {
         self.now() == epoch && !side.runs.contains_key(key)
     }
 
-    /// A run ends: it is taken out before its followers learn of it, so that who asks later loads anew.
+    /// A run ends: it is taken out before its followers learn of it, so that who asks later loads
+    /// anew.
     pub(crate) fn end_run(&self, run: &Arc<Wait<T>>) {
         let mut side = lock(&self.side);
         if side.runs.get(&run.key).is_some_and(|entered| Arc::ptr_eq(entered, run)) {
@@ -535,17 +544,24 @@ impl<T> Pool<T> {
     }
 
     /// Forgets the key: whether that ended a call.
-    pub(crate) fn forget(&self, taken: &mut Option<Taken<T>>, key: &[u8], fingerprint: u64) -> bool {
+    pub(crate) fn forget(
+        &self,
+        taken: &mut Option<Taken<T>>,
+        key: &[u8],
+        fingerprint: u64,
+    ) -> bool {
         let mut closed = false;
         loop {
             let epoch = self.epoch_of(taken);
             closed |= self.forget_beside(key, fingerprint);
-            if let Some(stamp) = epoch.named_stamp(taken.as_mut().map(|taken| &mut taken.seat), key) {
+            if let Some(stamp) = epoch.named_stamp(taken.as_mut().map(|taken| &mut taken.seat), key)
+            {
                 let post = epoch.post(stamp.caller);
                 // Another key's open call stays: of this key nothing is open then, nor current.
                 if post.whose(stamp.generation, fingerprint) != Whose::Other {
                     post.forget(stamp.generation);
-                    let hit = epoch.forget_stamp(taken.as_mut().map(|taken| &mut taken.seat), stamp);
+                    let hit =
+                        epoch.forget_stamp(taken.as_mut().map(|taken| &mut taken.seat), stamp);
                     closed |= hit == ForgetOutcome::Closed;
                 }
             }
@@ -560,7 +576,13 @@ impl<T> Pool<T> {
     }
 
     /// Forgets one call of the key.
-    pub(crate) fn forget_call(&self, taken: &mut Option<Taken<T>>, key: &[u8], fingerprint: u64, call: Call) -> ForgetOutcome {
+    pub(crate) fn forget_call(
+        &self,
+        taken: &mut Option<Taken<T>>,
+        key: &[u8],
+        fingerprint: u64,
+        call: Call,
+    ) -> ForgetOutcome {
         let epoch = self.epoch_of(taken);
         if call.epoch == epoch.number && epoch.has(call.caller) {
             let post = epoch.post(call.caller);
@@ -577,7 +599,11 @@ impl<T> Pool<T> {
                 return hit;
             }
         }
-        if self.forget_moved(fingerprint, call) { ForgetOutcome::Closed } else { ForgetOutcome::Missed }
+        if self.forget_moved(fingerprint, call) {
+            ForgetOutcome::Closed
+        } else {
+            ForgetOutcome::Missed
+        }
     }
 
     fn forget_moved(&self, fingerprint: u64, call: Call) -> bool {
@@ -586,7 +612,9 @@ impl<T> Pool<T> {
         }
         let side = lock(&self.side);
         let moved = side.moved.get(&fingerprint);
-        let found = moved.and_then(|moved| moved.iter().find(|wait| wait.call == Some(call) && !wait.is_settled()).cloned());
+        let found = moved.and_then(|moved| {
+            moved.iter().find(|wait| wait.call == Some(call) && !wait.is_settled()).cloned()
+        });
         drop(side);
         found.is_some_and(|wait| self.unmove(&wait))
     }
@@ -629,8 +657,8 @@ impl<T> Pool<T> {
     /// Gives the count of the answer back that the letter brought, which nobody uses.
     pub(crate) fn give_back(&self, letter: Letter) {
         let (Letter::Own(raw::Answer { value: number, .. }) | Letter::Other(number)) = letter;
-        // SAFETY: the number is of a call of this group, which counts each who joined by a seat, also one who asked for another key,
-        // and each reads its letter once.
+        // SAFETY: the number is of a call of this group, which counts each caller that joined by a
+        // seat, also one that asked for another key, and each of these reads its letter once.
         drop(unsafe { lent::take::<T>(number) });
     }
 
@@ -652,7 +680,9 @@ impl<T> Pool<T> {
         if is_stranger {
             epoch.strange(true);
         }
-        if let Some((Left { seat, .. }, letter)) = epoch.post(leader).leave(Left { seat, is_stranger }) {
+        if let Some((Left { seat, .. }, letter)) =
+            epoch.post(leader).leave(Left { seat, is_stranger })
+        {
             self.give_back(letter);
             self.came_back(&epoch, seat, is_stranger);
         }
@@ -674,7 +704,11 @@ impl<T> Pool<T> {
         let mut epochs = lock(&self.epochs);
         self.sweep(&mut epochs);
         let mut stats = epochs.gone;
-        epochs.all.iter().flat_map(|epoch| epoch.posts()).for_each(|(_, post)| stats.add(&post.counters));
+        epochs
+            .all
+            .iter()
+            .flat_map(|epoch| epoch.posts())
+            .for_each(|(_, post)| stats.add(&post.counters));
         drop(epochs);
         stats.add(&self.counters);
         stats.made = self.made.load(Relaxed);
@@ -686,7 +720,8 @@ impl<T> Pool<T> {
 }
 
 impl<T> Side<T> {
-    // Joins a moved call of a key with this fingerprint. One that is settled is about to be taken out.
+    // Joins a moved call of a key with this fingerprint. One that is settled is about to be taken
+    // out.
     fn join_moved(&self, fingerprint: u64) -> Option<Arc<Wait<T>>> {
         self.moved.get(&fingerprint)?.iter().find(|wait| wait.join()).cloned()
     }
@@ -706,7 +741,8 @@ impl<T> Side<T> {
 }
 
 impl<T> Epoch<T> {
-    // Forgets the call, if it is the one that the key's place names. One that is not has nothing to forget: it is not current.
+    // Forgets the call, if it is the one that the key's place names. One that is not has nothing to
+    // forget: it is not current.
     fn forget_call(&self, mut seat: Option<&mut Seat>, key: &[u8], call: Call) -> ForgetOutcome {
         match self.named_stamp(seat.as_deref_mut(), key) {
             Some(stamp) if Call::of(self.number, stamp) == call => self.forget_stamp(seat, stamp),
@@ -732,12 +768,7 @@ mod tests {
     use super::*;
 
     fn pool() -> Pool<u32> {
-        let plan = Plan {
-            places: 1,
-            callers: 2,
-            grows: false,
-            calls: 1000,
-        };
+        let plan = Plan { places: 1, callers: 2, grows: false, calls: 1000 };
         Pool::open(plan).unwrap()
     }
 
@@ -758,7 +789,8 @@ mod tests {
         assert!(pool.take().is_some_and(|taken| taken.seat.number == number), "and found");
     }
 
-    // By such a seat one could join a call whose load is over, and go back behind an answer of the current epoch.
+    // By such a seat one could join a call whose load is over, and go back behind an answer of the
+    // current epoch.
     #[test]
     fn no_seat_of_an_epoch_that_was_replaced_is_taken() {
         let pool = pool();
@@ -775,6 +807,9 @@ mod tests {
         let taken = pool.take().unwrap();
         assert!(taken.epoch.number == pool.now() && pool.stash.count() == 0, "it was put away");
         pool.put(taken);
-        assert!(pool.stats().in_use == 0 && lock(&pool.epochs).all.len() == 1, "old epochs are gone");
+        assert!(
+            pool.stats().in_use == 0 && lock(&pool.epochs).all.len() == 1,
+            "old epochs are gone"
+        );
     }
 }

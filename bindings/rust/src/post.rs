@@ -12,13 +12,15 @@ use std::sync::atomic::{
 use std::sync::{Arc, Condvar, Mutex};
 use std::time::{Duration, Instant};
 
-/// So long one looks for a letter before one sleeps, about as long as it takes to sleep and be woken.
+/// So long one looks for a letter before one sleeps, about as long as it takes to sleep and be
+/// woken.
 const LOOKING_TIME: Duration = Duration::from_micros(10);
 
 /// How many threads look for a letter now.
 static LOOKING: AtomicUsize = AtomicUsize::new(0);
 
-/// Looks for the letter for some time, unless as many look as may: each with a processor of its own, and one left for who loads.
+/// Looks for the letter for some time, unless as many look as may: each with a processor of its
+/// own, and one left for who loads.
 fn look(seat: &mut Seat) -> Option<Letter> {
     let before = LOOKING.fetch_add(1, Relaxed);
     let mut found = seat.poll();
@@ -109,17 +111,20 @@ pub(crate) enum Whose {
     Other,
 }
 
-/// What stands at a caller's number. Its seat's owner alone begins and ends a word; anyone may set a mark while the word is of the
-/// call that is meant.
+/// What stands at a caller's number. Its seat's owner alone begins and ends a word; anyone may set
+/// a mark while the word is of the call that is meant.
 #[repr(align(128))]
 pub(crate) struct Post<T> {
-    // 0, or the generation of an asking and the marks. It is written before the library is asked, so a call that the library names has
-    // its generation here until its leader has settled it: then the letters are there, and it is 0 again.
+    // 0, or the generation of an asking and the marks. It is written before the library is asked,
+    // so a call that the library names has its generation here until its leader has settled
+    // it: then the letters are there, and it is 0 again.
     word: AtomicU64,
-    // Of the key that is asked for. It is written before the word, and the word is 0 then: so where the word is of one generation
-    // before and after, the fingerprint that was read between is that of this asking.
+    // Of the key that is asked for. It is written before the word, and the word is 0 then: so
+    // where the word is of one generation before and after, the fingerprint that was read
+    // between is that of this asking.
     fingerprint: AtomicU64,
-    // The word of the call whose load is over. It is written before the call is settled in the library.
+    // The word of the call whose load is over. It is written before the call is settled in the
+    // library.
     over: AtomicU64,
     pub(crate) counters: Counters,
     waits: Mutex<Waits<T>>,
@@ -133,19 +138,15 @@ impl<T> Default for Post<T> {
             fingerprint: AtomicU64::new(0),
             over: AtomicU64::new(0),
             counters: Counters::default(),
-            waits: Mutex::new(Waits {
-                left: Vec::new(),
-                asleep: 0,
-                wait: None,
-            }),
+            waits: Mutex::new(Waits { left: Vec::new(), asleep: 0, wait: None }),
             settled: Condvar::new(),
         }
     }
 }
 
 impl<T> Post<T> {
-    /// Its caller is about to ask. The library's exchange, a locked instruction, comes after these writes and before whatever the
-    /// asker looks at next.
+    /// Its caller is about to ask. The library's exchange, a locked instruction, comes after these
+    /// writes and before whatever the asker looks at next.
     pub(crate) fn begin(&self, fingerprint: u64, generation: u32) {
         self.fingerprint.store(fingerprint, Release);
         point();
@@ -159,7 +160,8 @@ impl<T> Post<T> {
         self.over.store(word_of(generation), Release);
     }
 
-    /// Its caller leads no call any more: whether anybody follows the one that it led. Where it led one, that is settled in the library.
+    /// Its caller leads no call any more: whether anybody follows the one that it led. Where it led
+    /// one, that is settled in the library.
     pub(crate) fn end(&self) -> bool {
         point();
         self.word.swap(0, AcqRel) & FOLLOWED != 0
@@ -177,7 +179,11 @@ impl<T> Post<T> {
         if !is_of(self.word.load(Acquire), generation) {
             return Whose::Ended;
         }
-        if found == fingerprint { Whose::Same } else { Whose::Other }
+        if found == fingerprint {
+            Whose::Same
+        } else {
+            Whose::Other
+        }
     }
 
     /// A Forget has ended the call of this generation.
@@ -192,8 +198,9 @@ impl<T> Post<T> {
         self.word.fetch_update(AcqRel, Acquire, set).is_ok()
     }
 
-    /// Joins the call without a seat, unless it has ended. The leader's exchange with 0 comes after the mark, or the mark is not set. And it
-    /// takes the lock before it counts who followed, so that it counts this one.
+    /// Joins the call without a seat, unless it has ended. The leader's exchange with 0 comes after
+    /// the mark, or the mark is not set. And it takes the lock before it counts who followed,
+    /// so that it counts this one.
     pub(crate) fn follow(&self, call: Call, fingerprint: u64) -> Option<Arc<Wait<T>>> {
         self.waits_for(call, fingerprint, true)
     }
@@ -212,9 +219,10 @@ impl<T> Post<T> {
         (!joins || wait.join()).then_some(wait)
     }
 
-    /// Enters the call that the caller asks for, or leads, among those that are moved to the next epoch; unless there is none, or a
-    /// Forget has ended it, or its load is over: then it may be settled in the library, and a newer answer may have been returned by a run,
-    /// which has found another key's call at the place since.
+    /// Enters the call that the caller asks for, or leads, among those that are moved to the next
+    /// epoch; unless there is none, or a Forget has ended it, or its load is over: then it may
+    /// be settled in the library, and a newer answer may have been returned by a run, which has
+    /// found another key's call at the place since.
     pub(crate) fn moves(&self, epoch: u32, caller: u32) -> Option<Arc<Wait<T>>> {
         let mut waits = lock(&self.waits);
         loop {
@@ -234,11 +242,7 @@ impl<T> Post<T> {
                 continue;
             }
             let generation = ((word >> 2) - 1) as u32;
-            let call = Call {
-                epoch,
-                caller,
-                generation,
-            };
+            let call = Call { epoch, caller, generation };
             let wait = waits.wait.get_or_insert_with(|| Wait::new(fingerprint, call)).clone();
             wait.moved.store(true, Relaxed);
             return Some(wait);
@@ -249,10 +253,7 @@ impl<T> Post<T> {
     pub(crate) fn wake(&self) -> Woken<T> {
         // Who looked before the letters were there holds the lock until it sleeps, or has left.
         let mut waits = lock(&self.waits);
-        let woken = Woken {
-            left: std::mem::take(&mut waits.left),
-            wait: waits.wait.take(),
-        };
+        let woken = Woken { left: std::mem::take(&mut waits.left), wait: waits.wait.take() };
         let asleep = waits.asleep > 0;
         drop(waits);
         if asleep {
@@ -277,7 +278,8 @@ impl<T> Post<T> {
         }
     }
 
-    /// The seat, which waits, goes back when its letter has come: with the letter, where that is there.
+    /// The seat, which waits, goes back when its letter has come: with the letter, where that is
+    /// there.
     pub(crate) fn leave(&self, mut left: Left) -> Option<(Left, Letter)> {
         let mut waits = lock(&self.waits);
         let Some(letter) = left.seat.poll() else {

@@ -8,10 +8,7 @@ pub struct Slot {
 }
 
 impl Slot {
-    pub const NONE: Slot = Slot {
-        at: std::ptr::null_mut(),
-        live: false,
-    };
+    pub const NONE: Slot = Slot { at: std::ptr::null_mut(), live: false };
 }
 
 /// What a caller of the library has seen, or nothing.
@@ -24,10 +21,7 @@ pub struct Note {
 
 #[cfg(feature = "notes")]
 impl Note {
-    pub const NONE: Note = Note {
-        at: std::ptr::null_mut(),
-        live: false,
-    };
+    pub const NONE: Note = Note { at: std::ptr::null_mut(), live: false };
 }
 
 /// Which call. All zeros is that of no call.
@@ -65,13 +59,26 @@ pub const SPENT: u32 = 8;
 pub const BUSY: u32 = 9;
 pub const MOST_TRIES: u32 = 65_536;
 
-// SAFETY: the signatures are those of `sflight.h`. Those that are safe have all duties of that header met by their types: a slot
-// or a note begins as `NONE`, and nobody can copy one; two that are given to one call are two, since both are borrowed; what is written
-// is borrowed too. The groups have seeds of their own, drawn at random.
+// SAFETY: the signatures are those of `sflight.h`. Those that are safe have all duties of that
+// header met by their types: a slot or a note begins as `NONE`, and nobody can copy one; two that
+// are given to one call are two, since both are borrowed; what is written is borrowed too. The
+// groups have seeds of their own, drawn at random.
 unsafe extern "C" {
-    pub safe fn sflight_open(slot: &mut Slot, places: u32, callers: u32, seed0: u64, seed1: u64) -> u32;
+    pub safe fn sflight_open(
+        slot: &mut Slot,
+        places: u32,
+        callers: u32,
+        seed0: u64,
+        seed1: u64,
+    ) -> u32;
     pub safe fn sflight_split(slot: &mut Slot, other: &mut Slot) -> u32;
-    unsafe fn sflight_ask(slot: &mut Slot, key: *const u8, len: usize, tries: u32, stamp: &mut Stamp) -> u32;
+    unsafe fn sflight_ask(
+        slot: &mut Slot,
+        key: *const u8,
+        len: usize,
+        tries: u32,
+        stamp: &mut Stamp,
+    ) -> u32;
     pub safe fn sflight_finish(slot: &mut Slot, value: u64, answer: &mut Answer) -> u32;
     pub safe fn sflight_go_on(slot: &mut Slot, answer: &mut Answer) -> u32;
     pub safe fn sflight_poll(slot: &mut Slot, answer: &mut Answer) -> u32;

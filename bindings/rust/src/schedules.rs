@@ -1,9 +1,11 @@
-//! The crate's own code under schedules that are drawn at random: callers run as coroutines of one thread, and take turns at each
-//! step that others can see (`sync::point`). The library's calls are steps of their own, which its proof allows.
+//! The crate's own code under schedules that are drawn at random: callers run as coroutines of one
+//! thread, and take turns at each step that others can see (`sync::point`). The library's calls are
+//! steps of their own, which its proof allows.
 //!
-//! Of each schedule it is checked that it ends, that no load of a key begins while another one runs that no Forget ended, that no
-//! answer is older than one that was returned before its asking began, or than a Forget that had returned, that a stamp that is current
-//! is no older either, and that all callers of the library are back.
+//! Of each schedule it is checked that it ends, that no load of a key begins while another one runs
+//! that no Forget ended, that no answer is older than one that was returned before its asking
+//! began, or than a Forget that had returned, that a stamp that is current is no older either, and
+//! that all callers of the library are back.
 //!
 //! `SFLIGHT_SCHEDULES` says how many are drawn, and `SFLIGHT_SEED` with which one it begins.
 
@@ -13,12 +15,12 @@ use std::arch::global_asm;
 use std::cell::Cell;
 use std::collections::HashMap;
 use std::future::Future;
-use std::panic::{AssertUnwindSafe, catch_unwind};
-use std::pin::{Pin, pin};
+use std::panic::{catch_unwind, AssertUnwindSafe};
+use std::pin::{pin, Pin};
 use std::ptr::null_mut;
 use std::rc::Rc;
-use std::sync::Arc;
 use std::sync::atomic::{AtomicBool, Ordering::SeqCst};
+use std::sync::Arc;
 use std::task::{Context, Poll, Wake, Waker};
 use std::time::Duration;
 
@@ -45,7 +47,8 @@ global_asm!(
 
 // SAFETY: it is the code above.
 unsafe extern "C" {
-    /// Goes on where `to` was left, and leaves the caller's stack pointer at `from`, to be gone on with later.
+    /// Goes on where `to` was left, and leaves the caller's stack pointer at `from`, to be gone on
+    /// with later.
     ///
     /// # Safety
     /// `to` was left so, or is a stack that `play` made, and nobody has gone on there since.
@@ -99,8 +102,8 @@ pub(crate) fn is_blocked() {
 
 // What `run` makes of the play. None where nothing is played.
 fn with<R>(run: impl FnOnce(&mut Play) -> R) -> Option<R> {
-    // SAFETY: the play stands in `play`, which waits until all coroutines are over. One thread plays, `run` switches no coroutine, and
-    // does not come here.
+    // SAFETY: the play stands in `play`, which waits until all coroutines are over. One thread
+    // plays, `run` switches no coroutine, and does not come here.
     unsafe { PLAY.get().as_mut() }.map(run)
 }
 
@@ -128,12 +131,15 @@ fn step(is_blocked: bool) {
 }
 
 impl Play {
-    // Where this coroutine is left, and where the next one goes on, or all end. None where this one goes on.
+    // Where this coroutine is left, and where the next one goes on, or all end. None where this one
+    // goes on.
     fn next_turn(&mut self, is_blocked: bool) -> Option<(*mut usize, usize)> {
         let (from, count) = (self.current, self.coroutines.len());
         let first = self.random.below(count as u64) as usize;
         let live = |at: &usize| !self.coroutines[*at].is_over;
-        let goes_on = |at: &usize| live(at) && self.coroutines[*at].stalls <= self.steps && !(is_blocked && *at == from);
+        let goes_on = |at: &usize| {
+            live(at) && self.coroutines[*at].stalls <= self.steps && !(is_blocked && *at == from)
+        };
         let all = || (0..count).map(|i| (first + i) % count);
         let Some(to) = all().find(goes_on).or_else(|| all().find(live)) else {
             return Some(self.back_to_main());
@@ -151,7 +157,9 @@ extern "C" fn enter() {
     let task = with(|play| play.coroutines[play.current].task.take()).flatten().unwrap();
     if let Err(panic) = catch_unwind(AssertUnwindSafe(task)) {
         let text = panic.downcast_ref::<String>().cloned();
-        fail(text.or(panic.downcast_ref::<&str>().map(|text| text.to_string())).unwrap_or_default());
+        fail(
+            text.or(panic.downcast_ref::<&str>().map(|text| text.to_string())).unwrap_or_default(),
+        );
     }
     let ends = with(|play| {
         play.coroutines[play.current].is_over = true;
@@ -175,7 +183,12 @@ fn check(holds: bool, why: impl FnOnce() -> String) {
     }
 }
 
-fn play(random: Random, turn: u64, stacks: &mut Vec<Box<[u128]>>, tasks: Vec<Task>) -> Result<u64, String> {
+fn play(
+    random: Random,
+    turn: u64,
+    stacks: &mut Vec<Box<[u128]>>,
+    tasks: Vec<Task>,
+) -> Result<u64, String> {
     let coroutines = tasks.into_iter().map(|task| {
         let mut stack = stacks.pop().unwrap_or_else(|| vec![0; STACK / 16].into());
         let top = stack.as_mut_ptr_range().end as usize;
@@ -231,7 +244,8 @@ struct Value {
     moment: u64,
     is_counted: bool,
     live: Rc<Cell<i64>>,
-    // Whether its leader has returned and said that nobody joined, and whether somebody has returned it who joined.
+    // Whether its leader has returned and said that nobody joined, and whether somebody has
+    // returned it who joined.
     is_alone: Cell<bool>,
     is_joined: Cell<bool>,
 }
@@ -248,14 +262,15 @@ impl Drop for Value {
 }
 
 const KEYS: usize = 3;
-const NAMES: [&[u8]; KEYS] = [b"a", b"b", b"a key of more than forty bytes, which the library keeps on the heap"];
+const NAMES: [&[u8]; KEYS] =
+    [b"a", b"b", b"a key of more than forty bytes, which the library keeps on the heap"];
 
 #[derive(Default)]
 struct Key {
     // When the loads began that run and that no Forget has ended.
     running: Cell<Vec<u64>>,
-    // How many Forgets have begun and have not returned, and when the last one returned. Each may end any call that was asked for
-    // before it returned, also one whose load had not begun.
+    // How many Forgets have begun and have not returned, and when the last one returned. Each may
+    // end any call that was asked for before it returned, also one whose load had not begun.
     forgetting: Cell<u32>,
     forgot: Cell<u64>,
     // The newest answer that was returned.
@@ -326,8 +341,15 @@ impl World {
             answer.is_joined.set(true);
             check(got.shared(), || format!("an answer of {key} that was joined is not shared"));
         }
-        check(!answer.is_alone.get() || !answer.is_joined.get(), || format!("the leader of {key} has not seen who joined"));
-        check(answer.moment >= least, || format!("an answer of {key} from {}, after one from {least} or a Forget then", answer.moment));
+        check(!answer.is_alone.get() || !answer.is_joined.get(), || {
+            format!("the leader of {key} has not seen who joined")
+        });
+        check(answer.moment >= least, || {
+            format!(
+                "an answer of {key} from {}, after one from {least} or a Forget then",
+                answer.moment
+            )
+        });
         // A load that began after its call was forgotten may begin after the one that is current.
         if answer.is_counted {
             let of = &self.keys[key];
@@ -344,13 +366,19 @@ impl Wake for Woken {
     }
 }
 
-// Polls the future to its end, each time by a waker of its own, once that is woken: who waits is never forgotten. Or some times more,
-// for no reason, and drops it then.
-fn polled<F: Future + ?Sized>(random: &mut Random, mut future: Pin<&mut F>, polls: u64) -> Option<F::Output> {
+// Polls the future to its end, each time by a waker of its own, once that is woken: who waits is
+// never forgotten. Or some times more, for no reason, and drops it then.
+fn polled<F: Future + ?Sized>(
+    random: &mut Random,
+    mut future: Pin<&mut F>,
+    polls: u64,
+) -> Option<F::Output> {
     let has_end = random.below(2) == 0;
     for _ in 0..if has_end { polls } else { u64::MAX } {
         let woken = Arc::new(Woken(AtomicBool::new(false)));
-        if let Poll::Ready(ready) = future.as_mut().poll(&mut Context::from_waker(&Waker::from(woken.clone()))) {
+        if let Poll::Ready(ready) =
+            future.as_mut().poll(&mut Context::from_waker(&Waker::from(woken.clone())))
+        {
             return Some(ready);
         }
         while !woken.0.load(SeqCst) {
@@ -369,7 +397,8 @@ struct Actor {
     group: Group<Value>,
     caller: Caller<Value>,
     second: Option<Caller<Value>>,
-    // Whether it asks by the group alone. Its callers have no seats then, so that those of the group come and go.
+    // Whether it asks by the group alone. Its callers have no seats then, so that those of the
+    // group come and go.
     is_grouped: bool,
     random: Random,
     // Of how many keys it asks for one.
@@ -452,7 +481,8 @@ impl Actor {
         };
         let got;
         {
-            let mut task: Pin<Box<dyn Future<Output = Loaded<Value>> + '_>> = match self.by_group() {
+            let mut task: Pin<Box<dyn Future<Output = Loaded<Value>> + '_>> = match self.by_group()
+            {
                 false => Box::pin(self.caller.get_or_load_async(NAMES[key], load)),
                 true => Box::pin(self.group.get_or_load_async(NAMES[key], load)),
             };
@@ -530,7 +560,9 @@ impl Actor {
             true => self.group.is_current(stamp),
         };
         if is_current {
-            check(moment >= floor, || format!("a stamp of {key} from {moment} is current after a Forget from {floor}"));
+            check(moment >= floor, || {
+                format!("a stamp of {key} from {moment} is current after a Forget from {floor}")
+            });
             self.world.current.set(self.world.current.get() + 1);
         }
         if let Some(call) = call.filter(|_| self.random.below(3) == 0) {
@@ -538,7 +570,9 @@ impl Actor {
                 false => self.caller.forget_call(NAMES[key], call),
                 true => self.group.forget_call(NAMES[key], call),
             };
-            check(!self.caller.is_current(stamp), || format!("a call of {key} that was forgotten is current"));
+            check(!self.caller.is_current(stamp), || {
+                format!("a call of {key} that was forgotten is current")
+            });
         }
     }
 
@@ -559,8 +593,10 @@ impl Actor {
     }
 }
 
-/// Forgets of a key that is loaded, while the table is replaced for want of a caller for another key.
-const SCENE: [&[(u64, usize)]; 4] = [&[(0, 0)], &[(12, 0), (0, 0)], &[(12, 0), (0, 0)], &[(0, 1), (0, 1)]];
+/// Forgets of a key that is loaded, while the table is replaced for want of a caller for another
+/// key.
+const SCENE: [&[(u64, usize)]; 4] =
+    [&[(0, 0)], &[(12, 0), (0, 0)], &[(12, 0), (0, 0)], &[(0, 1), (0, 1)]];
 
 #[derive(Default)]
 struct Played {
@@ -591,9 +627,11 @@ fn schedule(seed: u64, stacks: &mut Vec<Box<[u128]>>, all: &mut Played) -> Resul
         let (world, group, random) = (world.clone(), group.clone(), Random::new(random.next()));
         let script = if is_scene { SCENE[number] } else { &[] };
         Box::new(move || {
-            let caller = || if is_grouped { Caller(Asker::new(group.pool.clone())) } else { group.caller() };
+            let caller =
+                || if is_grouped { Caller(Asker::new(group.pool.clone())) } else { group.caller() };
             let (caller, second, last) = (caller(), Some(caller()), HashMap::new());
-            let mut actor = Actor { world, group, caller, second, is_grouped, random, keys, script, last };
+            let mut actor =
+                Actor { world, group, caller, second, is_grouped, random, keys, script, last };
             for _ in 0..acts {
                 actor.act();
             }
@@ -606,7 +644,10 @@ fn schedule(seed: u64, stacks: &mut Vec<Box<[u128]>>, all: &mut Played) -> Resul
     all.current += world.current.get();
     all.epochs += u64::from(group.pool.now());
     if stats.in_use != 0 || stats.leads + stats.alone < world.loads.get() {
-        return Err(format!("{} loads, and not all callers are back: {stats:?}", world.loads.get()));
+        return Err(format!(
+            "{} loads, and not all callers are back: {stats:?}",
+            world.loads.get()
+        ));
     }
     if group.pool.is_alert_anywhere() {
         return Err("the side table is not empty".into());
@@ -643,8 +684,9 @@ fn schedules_drawn_at_random() {
         threads.into_iter().map(|thread| thread.join().expect("a schedule that is right")).collect()
     });
     let sum = |part: fn(&Played) -> u64| played.iter().map(part).sum::<u64>();
-    let (steps, loads, current, epochs) = (sum(|all| all.steps), sum(|all| all.loads), sum(|all| all.current), sum(|all| all.epochs));
-    println!("{count} schedules: {steps} steps, {loads} loads, {current} current stamps, {epochs} epochs");
+    let (steps, loads, current, epochs) =
+        (sum(|all| all.steps), sum(|all| all.loads), sum(|all| all.current), sum(|all| all.epochs));
+    println!("{count} schedules: {steps} steps, {loads} loads, {current} stamps, {epochs} epochs");
     assert!(count < 1000 || loads > count && current > 0 && epochs > count, "they do something");
 }
 
@@ -664,7 +706,11 @@ fn the_coroutines_take_turns() {
     });
     play(Random::new(7), 1, &mut Vec::new(), tasks.collect()).unwrap();
     let mut turns = log.take();
-    assert!(turns.len() == 9 && turns[..3] != turns[3..6] || turns.windows(2).any(|two| two[0] != two[1]), "{turns:?}");
+    assert!(
+        turns.len() == 9 && turns[..3] != turns[3..6]
+            || turns.windows(2).any(|two| two[0] != two[1]),
+        "{turns:?}"
+    );
     turns.sort();
     assert_eq!(turns, [0, 0, 0, 1, 1, 1, 2, 2, 2]);
 }

@@ -1,5 +1,5 @@
-//! Seats that calls of a group have used, for its next calls, near each thread: so that threads that ask without a caller of their
-//! own share no lock.
+//! Seats that calls of a group have used, for its next calls, near each thread: so that threads
+//! that ask without a caller of their own share no lock.
 
 use crate::epoch::Taken;
 use crate::sync::{lock, try_lock};
@@ -50,10 +50,15 @@ impl<T> Stash<T> {
 
     /// Leaves a seat in a place near the thread, where it may still be left; else it comes back.
     #[inline]
-    pub(crate) fn put(&self, taken: Taken<T>, may_stay: impl Fn(&Taken<T>) -> bool) -> Result<(), Taken<T>> {
+    pub(crate) fn put(
+        &self,
+        taken: Taken<T>,
+        may_stay: impl Fn(&Taken<T>) -> bool,
+    ) -> Result<(), Taken<T>> {
         for place in self.places().take(1 + NEAR) {
             let Some(mut place) = try_lock(place).filter(|place| place.is_none()) else { continue };
-            // With the lock of the place held: whoever empties the stash comes before, and then this looks after that, or finds it.
+            // With the lock of the place held: whoever empties the stash comes before, and then
+            // this looks after that, or finds it.
             if !may_stay(&taken) {
                 break;
             }

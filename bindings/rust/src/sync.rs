@@ -3,14 +3,16 @@
 use std::sync::{Condvar, Mutex, MutexGuard, PoisonError, TryLockError};
 use std::time::Duration;
 
-/// Here another caller may take its turn: before each step that others can see. It does nothing but in the schedule test.
+/// Here another caller may take its turn: before each step that others can see. It does nothing but
+/// in the schedule test.
 #[inline(always)]
 pub(crate) fn point() {
     #[cfg(test)]
     crate::schedules::point();
 }
 
-/// Takes the lock. A lock whose holder panicked is as good as before: no holder panics between two writes.
+/// Takes the lock. A lock whose holder panicked is as good as before: no holder panics between two
+/// writes.
 #[inline]
 pub(crate) fn lock<T>(mutex: &Mutex<T>) -> MutexGuard<'_, T> {
     #[cfg(test)]
@@ -36,7 +38,12 @@ pub(crate) fn try_lock<T>(mutex: &Mutex<T>) -> Option<MutexGuard<'_, T>> {
 }
 
 /// Sleeps until it is woken, or the time is over, or for no reason.
-pub(crate) fn sleep<'a, T>(condition: &Condvar, mutex: &'a Mutex<T>, guard: MutexGuard<'a, T>, time: Option<Duration>) -> MutexGuard<'a, T> {
+pub(crate) fn sleep<'a, T>(
+    condition: &Condvar,
+    mutex: &'a Mutex<T>,
+    guard: MutexGuard<'a, T>,
+    time: Option<Duration>,
+) -> MutexGuard<'a, T> {
     #[cfg(test)]
     if crate::schedules::is_played() {
         drop(guard);

@@ -1,10 +1,11 @@
-//! Those who follow a call without a caller of the library: threads that sleep, and tasks that are woken.
+//! Those who follow a call without a caller of the library: threads that sleep, and tasks that are
+//! woken.
 
 use crate::sync::{lock, point, sleep};
 use crate::{Call, Loaded, Stamp};
 use std::collections::BTreeMap;
 use std::future::Future;
-use std::panic::{AssertUnwindSafe, catch_unwind};
+use std::panic::{catch_unwind, AssertUnwindSafe};
 use std::pin::Pin;
 use std::sync::atomic::{
     AtomicBool,
@@ -45,7 +46,8 @@ pub(crate) struct Wait<T> {
     pub(crate) call: Option<Call>,
     /// That of a run beside the library.
     pub(crate) key: Box<[u8]>,
-    /// Whether it was entered into the table of calls that were moved. Written with the lock of its post held.
+    /// Whether it was entered into the table of calls that were moved. Written with the lock of
+    /// its post held.
     pub(crate) moved: AtomicBool,
     is_settled: AtomicBool,
     state: Mutex<State<T>>,
@@ -86,8 +88,8 @@ impl<T> Wait<T> {
         self.is_settled.load(Acquire)
     }
 
-    /// Counts one more follower; or does not, where the call is settled: its members were counted then. So each member's answer is
-    /// shared or none is.
+    /// Counts one more follower; or does not, where the call is settled: its members were counted
+    /// then. So each member's answer is shared or none is.
     pub(crate) fn join(&self) -> bool {
         let mut state = lock(&self.state);
         let is_open = state.outcome.is_none();
@@ -142,19 +144,15 @@ impl<T> Wait<T> {
         }
     }
 
-    /// Settles it with an answer, and wakes who follows: how many do, and `joiners` more joined by callers.
+    /// Settles it with an answer, and wakes who follows: how many do, and `joiners` more joined by
+    /// callers.
     pub(crate) fn end(&self, key: &[u8], value: &Arc<T>, joiners: u32, stamp: Stamp) -> u32 {
         let key = key.into();
         let value = value.clone();
         let mut followers = 0;
         self.settle(|count| {
             followers = count;
-            Outcome::Answer {
-                key,
-                value,
-                joiners: joiners + count,
-                stamp,
-            }
+            Outcome::Answer { key, value, joiners: joiners + count, stamp }
         });
         followers
     }
@@ -187,18 +185,15 @@ impl<T> Wait<T> {
     pub(crate) fn read(&self, key: &[u8]) -> Option<Loaded<T>> {
         let state = lock(&self.state);
         match &state.outcome {
-            Some(Outcome::Answer {
-                key: of,
-                value,
-                joiners,
-                stamp,
-            }) if **of == *key => Some(Loaded {
-                value: value.clone(),
-                joiners: *joiners,
-                led: false,
-                call: self.call,
-                stamp: *stamp,
-            }),
+            Some(Outcome::Answer { key: of, value, joiners, stamp }) if **of == *key => {
+                Some(Loaded {
+                    value: value.clone(),
+                    joiners: *joiners,
+                    led: false,
+                    call: self.call,
+                    stamp: *stamp,
+                })
+            }
             _ => None,
         }
     }
@@ -213,11 +208,7 @@ pub(crate) struct Waiting<'a, T> {
 
 impl<'a, T> Waiting<'a, T> {
     pub(crate) fn new(wait: &'a Wait<T>) -> Self {
-        Waiting {
-            wait,
-            waker: Waker::default(),
-            is_over: false,
-        }
+        Waiting { wait, waker: Waker::default(), is_over: false }
     }
 }
 

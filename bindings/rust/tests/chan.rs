@@ -1,7 +1,7 @@
 //! Values that come to a receiver.
 use singleflight::{Caller, Group, Job, Receiver};
 use std::future::Future;
-use std::panic::{AssertUnwindSafe, catch_unwind};
+use std::panic::{catch_unwind, AssertUnwindSafe};
 use std::pin::Pin;
 use std::sync::atomic::{AtomicU64, Ordering::SeqCst};
 use std::sync::mpsc::{RecvError, RecvTimeoutError, TryRecvError};
@@ -24,7 +24,10 @@ fn once<F: Future + Unpin>(future: &mut F, wakes: &Arc<Wakes>) -> Poll<F::Output
 }
 
 // By a caller, or by the group.
-fn subscribe<'a, T: Send + Sync>(group: &Group<T>, caller: Option<&'a mut Caller<T>>) -> (Receiver<T>, Option<Job<'a, T>>) {
+fn subscribe<'a, T: Send + Sync>(
+    group: &Group<T>,
+    caller: Option<&'a mut Caller<T>>,
+) -> (Receiver<T>, Option<Job<'a, T>>) {
     match caller {
         Some(caller) => caller.subscribe("k"),
         None => group.subscribe("k"),
@@ -45,8 +48,14 @@ fn a_receiver_of_a_new_call() {
         let led = job.unwrap().run(|| Arc::new(7));
         assert!(**led.value == 7 && led.led && !led.shared(), "the leader's value");
         let got = thread.join().unwrap();
-        assert!(Arc::ptr_eq(&got.value, &led.value) && !got.led && got.joiners == 0, "the receiver's value");
-        assert!(got.call() == led.call() && got.call().is_some() && group.is_current(got.stamp()), "of one call");
+        assert!(
+            Arc::ptr_eq(&got.value, &led.value) && !got.led && got.joiners == 0,
+            "the receiver's value"
+        );
+        assert!(
+            got.call() == led.call() && got.call().is_some() && group.is_current(got.stamp()),
+            "of one call"
+        );
         assert!(by_group || first.last_is_current() == Some(true), "the caller has it too");
     }
 }
@@ -65,7 +74,10 @@ fn a_receiver_that_joins() {
             8
         });
         let seen = joined.unwrap().recv_timeout(Duration::MAX).unwrap();
-        assert!(*seen.value == 8 && !seen.led && seen.joiners == 2 && got.joiners == 2, "one that was dropped had joined");
+        assert!(
+            *seen.value == 8 && !seen.led && seen.joiners == 2 && got.joiners == 2,
+            "one that was dropped had joined"
+        );
         let after = group.stats();
         assert!(after.leads == before.leads + 1 && after.joins == before.joins + 2, "{after:?}");
     }
@@ -77,15 +89,31 @@ fn a_receiver_in_a_task() {
     let (mut receiver, job) = group.subscribe("k");
     let (mut second, _) = group.subscribe("k");
     let (mut third, _) = group.subscribe("k");
-    let (early, wakes, left) = (Arc::<Wakes>::default(), Arc::<Wakes>::default(), Arc::<Wakes>::default());
-    assert!(once(&mut receiver, &early).is_pending() && once(&mut receiver, &wakes).is_pending(), "it waits");
-    assert!(once(&mut second, &left).is_pending() && once(&mut third, &wakes).is_pending(), "others too");
+    let (early, wakes, left) =
+        (Arc::<Wakes>::default(), Arc::<Wakes>::default(), Arc::<Wakes>::default());
+    assert!(
+        once(&mut receiver, &early).is_pending() && once(&mut receiver, &wakes).is_pending(),
+        "it waits"
+    );
+    assert!(
+        once(&mut second, &left).is_pending() && once(&mut third, &wakes).is_pending(),
+        "others too"
+    );
     drop(second);
-    assert!(Arc::strong_count(&left) == 1 && Arc::strong_count(&early) == 1, "no waker is kept that is not needed");
+    assert!(
+        Arc::strong_count(&left) == 1 && Arc::strong_count(&early) == 1,
+        "no waker is kept that is not needed"
+    );
     assert!(*job.unwrap().run(|| 7).value == 7);
-    assert!(wakes.0.load(SeqCst) == 2 && early.0.load(SeqCst) == 0 && left.0.load(SeqCst) == 0, "each is woken once, by its last waker");
+    assert!(
+        wakes.0.load(SeqCst) == 2 && early.0.load(SeqCst) == 0 && left.0.load(SeqCst) == 0,
+        "each is woken once, by its last waker"
+    );
     for receiver in [&mut receiver, &mut third] {
-        assert!(matches!(once(receiver, &wakes), Poll::Ready(Ok(got)) if *got.value == 7), "its value");
+        assert!(
+            matches!(once(receiver, &wakes), Poll::Ready(Ok(got)) if *got.value == 7),
+            "its value"
+        );
         assert!(matches!(once(receiver, &wakes), Poll::Ready(Err(RecvError))), "once");
     }
 }
@@ -96,11 +124,20 @@ fn a_receiver_whose_leader_panics() {
     let mut first = group.caller();
     for by_group in [false, true] {
         let (mut receiver, job) = subscribe(&group, (!by_group).then_some(&mut first));
-        assert!(catch_unwind(AssertUnwindSafe(|| job.unwrap().run(|| panic!("the load")))).is_err(), "the panic goes on");
-        assert!(receiver.recv().err() == Some(RecvError) && receiver.recv().err() == Some(RecvError), "no value");
+        assert!(
+            catch_unwind(AssertUnwindSafe(|| job.unwrap().run(|| panic!("the load")))).is_err(),
+            "the panic goes on"
+        );
+        assert!(
+            receiver.recv().err() == Some(RecvError) && receiver.recv().err() == Some(RecvError),
+            "no value"
+        );
         let (mut receiver, job) = subscribe(&group, (!by_group).then_some(&mut first));
         drop(job);
-        assert!(receiver.try_recv().err() == Some(TryRecvError::Disconnected), "a job that nobody runs");
+        assert!(
+            receiver.try_recv().err() == Some(TryRecvError::Disconnected),
+            "a job that nobody runs"
+        );
         let late = receiver.recv_timeout(Duration::ZERO).err();
         assert!(late == Some(RecvTimeoutError::Disconnected), "nor later");
     }
@@ -116,9 +153,16 @@ fn a_job_of_a_group_goes_to_another_thread() {
     let (mut receiver, job) = group.subscribe("k");
     drop(group);
     let mut task = Box::pin(job.unwrap().run_async(std::future::pending()));
-    assert!(once(&mut task, &Arc::default()).is_pending() && receiver.try_recv().err() == Some(TryRecvError::Empty), "it loads");
+    assert!(
+        once(&mut task, &Arc::default()).is_pending()
+            && receiver.try_recv().err() == Some(TryRecvError::Empty),
+        "it loads"
+    );
     drop(task);
-    assert!(receiver.try_recv().err() == Some(TryRecvError::Disconnected), "a task that is dropped");
+    assert!(
+        receiver.try_recv().err() == Some(TryRecvError::Disconnected),
+        "a task that is dropped"
+    );
 }
 
 #[test]
@@ -141,7 +185,8 @@ fn receivers_that_are_dropped_leak_nothing() {
     assert!(group.stats().in_use == 0, "all are back");
 }
 
-// A job that is leaked ends its call when its caller is used again, also where it would have run beside the library.
+// A job that is leaked ends its call when its caller is used again, also where it would have run
+// beside the library.
 #[test]
 fn a_job_that_is_leaked() {
     let group = Group::<u32>::open(1, 2).unwrap();
@@ -151,7 +196,11 @@ fn a_job_that_is_leaked() {
             let (mut receiver, job) = second.subscribe("k");
             std::mem::forget(job.unwrap());
             assert!(receiver.try_recv().err() == Some(TryRecvError::Empty), "its call is open");
-            assert!(second.get_or_load("m", || 1).led && receiver.try_recv().err() == Some(TryRecvError::Disconnected), "and has ended");
+            assert!(
+                second.get_or_load("m", || 1).led
+                    && receiver.try_recv().err() == Some(TryRecvError::Disconnected),
+                "and has ended"
+            );
             assert!(group.get_or_load("k", || 2).led, "it can be loaded");
         };
         if beside {

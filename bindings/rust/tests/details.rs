@@ -1,8 +1,8 @@
 //! What the documents of the crate say, item by item.
 use singleflight::{Error, ForgetOutcome, Group, Loaded, Stamp};
 use std::future::Future;
-use std::panic::{AssertUnwindSafe, catch_unwind};
-use std::pin::{Pin, pin};
+use std::panic::{catch_unwind, AssertUnwindSafe};
+use std::pin::{pin, Pin};
 use std::sync::atomic::{AtomicU64, Ordering::SeqCst};
 use std::sync::{Arc, Barrier};
 use std::task::{Context, Poll, Wake, Waker};
@@ -40,14 +40,29 @@ fn a_handle_is_all_that_a_program_needs() {
     let group = Group::<String>::new();
     let other = group.clone();
     let got = group.get_or_load("k", || "ada".to_string());
-    assert!(other.is_current(got.stamp()) && other.current_call("k") == got.call(), "a clone is the same group");
-    assert!(!other.forget("k") && !group.is_current(got.stamp()), "nothing was open, and the value is not current");
+    assert!(
+        other.is_current(got.stamp()) && other.current_call("k") == got.call(),
+        "a clone is the same group"
+    );
+    assert!(
+        !other.forget("k") && !group.is_current(got.stamp()),
+        "nothing was open, and the value is not current"
+    );
     let kept = got.clone();
-    assert!(Arc::ptr_eq(&kept.value, &got.value) && kept.led && kept.call() == got.call() && kept.stamp() == got.stamp(), "a clone of it");
+    assert!(
+        Arc::ptr_eq(&kept.value, &got.value)
+            && kept.led
+            && kept.call() == got.call()
+            && kept.stamp() == got.stamp(),
+        "a clone of it"
+    );
     drop(kept);
     assert_eq!(Arc::try_unwrap(got.value), Ok("ada".to_string()), "nobody else has the value");
     for key in [&b"k"[..], b"", &[0], &[0, 0]] {
-        assert!(*group.get_or_load(key, || format!("{key:?}")).value == format!("{key:?}"), "any bytes are a key");
+        assert!(
+            *group.get_or_load(key, || format!("{key:?}")).value == format!("{key:?}"),
+            "any bytes are a key"
+        );
     }
     let owned = group.get_or_load(String::from("a String"), || "b".into());
     assert!(owned.led && group.get_or_load(vec![7; 3], || "c".into()).led, "of any type");
@@ -65,7 +80,10 @@ fn threads_that_ask_by_the_group_share_a_load() {
                 scope.spawn(|| {
                     asked.fetch_add(1, SeqCst);
                     let got = group.get_or_load("k", || {
-                        until("all ask", || asked.load(SeqCst) == THREADS as u64 && group.stats().joins >= THREADS as u64 - 1);
+                        until("all ask", || {
+                            asked.load(SeqCst) == THREADS as u64
+                                && group.stats().joins >= THREADS as u64 - 1
+                        });
                         loads.fetch_add(1, SeqCst);
                         7
                     });
@@ -74,22 +92,36 @@ fn threads_that_ask_by_the_group_share_a_load() {
             }
         });
         let stats = group.stats();
-        assert!(loads.load(SeqCst) == 1 && stats.in_use == 0, "one load, and all callers are free: {stats:?}");
+        assert!(
+            loads.load(SeqCst) == 1 && stats.in_use == 0,
+            "one load, and all callers are free: {stats:?}"
+        );
     }
 }
 
-// Threads that come and go one after the other use one caller of the library, wherever the one before has left it.
+// Threads that come and go one after the other use one caller of the library, wherever the one
+// before has left it.
 #[test]
 fn no_caller_is_made_while_one_is_free() {
     for group in [Group::<u32>::open(16, 1).unwrap(), Group::new()] {
         for number in 0..50 {
-            let got = std::thread::scope(|scope| scope.spawn(|| group.get_or_load("k", || number)).join().unwrap());
+            let got = std::thread::scope(|scope| {
+                scope.spawn(|| group.get_or_load("k", || number)).join().unwrap()
+            });
             assert!(*got.value == number && got.call().is_some(), "by the library");
         }
         // Nor does a caller of one's own find none.
-        std::thread::scope(|scope| scope.spawn(|| assert!(group.caller().get_or_load("k", || 1).call().is_some())).join().unwrap());
+        std::thread::scope(|scope| {
+            scope
+                .spawn(|| assert!(group.caller().get_or_load("k", || 1).call().is_some()))
+                .join()
+                .unwrap()
+        });
         let stats = group.stats();
-        assert!(stats.made == 1 && stats.alone == 0 && stats.in_use == 0 && stats.leads == 51, "{stats:?}");
+        assert!(
+            stats.made == 1 && stats.alone == 0 && stats.in_use == 0 && stats.leads == 51,
+            "{stats:?}"
+        );
     }
 }
 
@@ -125,21 +157,33 @@ fn whoever_joined_has_the_stamp_of_the_call() {
     let Poll::Ready(polled) = once(task.as_mut(), &wakes) else { panic!("it was woken") };
     for other in [joined, polled] {
         assert!(*other.value == 1 && !other.led && other.shared(), "its value");
-        assert!(other.stamp() == got.stamp() && other.call() == got.call() && got.call().is_some(), "its call");
+        assert!(
+            other.stamp() == got.stamp() && other.call() == got.call() && got.call().is_some(),
+            "its call"
+        );
     }
     assert!(group.is_current(got.stamp()) && second.last_is_current() == Some(true), "current");
     group.forget("k");
-    assert!(!group.is_current(got.stamp()) && second.last_is_current() == Some(false), "and forgotten");
+    assert!(
+        !group.is_current(got.stamp()) && second.last_is_current() == Some(false),
+        "and forgotten"
+    );
 }
 
-// It is right for all, also where all callers of the library are taken, and where the group has grown.
+// It is right for all, also where all callers of the library are taken, and where the group has
+// grown.
 #[test]
 fn is_current_says_yes_and_no() {
     let group = Group::<u32>::open(16, 1).unwrap();
     let (mut first, mut none) = (group.caller(), group.caller());
     let stamp = first.get_or_load("k", || 1).stamp();
     assert!(first.is_current(stamp) && none.is_current(stamp) && group.is_current(stamp), "yes");
-    assert!(!first.is_current(Stamp::default()) && !none.is_current(Stamp::default()) && !group.is_current(Stamp::default()), "of no call");
+    assert!(
+        !first.is_current(Stamp::default())
+            && !none.is_current(Stamp::default())
+            && !group.is_current(Stamp::default()),
+        "of no call"
+    );
     first.get_or_load("k", || {
         assert!(!none.is_current(stamp) && !group.is_current(stamp), "a newer call is led");
         2
@@ -153,20 +197,30 @@ fn is_current_says_yes_and_no() {
     let stamp = got.stamp();
     assert!(spent.is_current(stamp), "yes");
     let (old, new) = (got.call().unwrap(), spent.get_or_load("m", || 1).call().unwrap());
-    assert!(new.epoch > old.epoch && (new.caller, new.generation) == (old.caller, old.generation), "{old:?}, {new:?}");
-    assert!(!spent.is_current(stamp) && !spent.caller().is_current(stamp), "the epoch is another one");
+    assert!(
+        new.epoch > old.epoch && (new.caller, new.generation) == (old.caller, old.generation),
+        "{old:?}, {new:?}"
+    );
+    assert!(
+        !spent.is_current(stamp) && !spent.caller().is_current(stamp),
+        "the epoch is another one"
+    );
 }
 
 #[test]
 fn the_last_waker_is_woken_once() {
     let group = open::<u32>(4);
     let mut second = group.caller();
-    let (early, late, left) = (Arc::<Wakes>::default(), Arc::<Wakes>::default(), Arc::<Wakes>::default());
+    let (early, late, left) =
+        (Arc::<Wakes>::default(), Arc::<Wakes>::default(), Arc::<Wakes>::default());
     let mut own = pin!(second.get_or_load_async("k", async { 2 }));
     let mut groups = pin!(group.get_or_load_async("k", async { 2 }));
     group.get_or_load("k", || {
         for wakes in [&early, &late] {
-            assert!(once(own.as_mut(), wakes).is_pending() && once(groups.as_mut(), wakes).is_pending(), "they wait");
+            assert!(
+                once(own.as_mut(), wakes).is_pending() && once(groups.as_mut(), wakes).is_pending(),
+                "they wait"
+            );
         }
         assert!(Arc::strong_count(&early) == 1, "a waker that was replaced is dropped");
         let mut leaves = Box::pin(group.get_or_load_async("k", async { 2 }));
@@ -175,7 +229,10 @@ fn the_last_waker_is_woken_once() {
         assert!(Arc::strong_count(&left) == 1, "the waker of one who left is dropped");
         1
     });
-    assert!(early.0.load(SeqCst) == 0 && late.0.load(SeqCst) == 2 && left.0.load(SeqCst) == 0, "each was woken once");
+    assert!(
+        early.0.load(SeqCst) == 0 && late.0.load(SeqCst) == 2 && left.0.load(SeqCst) == 0,
+        "each was woken once"
+    );
     assert!(Arc::strong_count(&late) == 1, "no waker is kept");
     assert!(once(own, &late).is_ready() && once(groups, &late).is_ready());
 }
@@ -188,8 +245,14 @@ fn whoever_left_holds_nothing() {
     let weak = Arc::downgrade(&value);
     let wakes = Arc::<Wakes>::default();
     group.get_or_load("k", || {
-        assert_eq!(second.get_or_load_timeout("k", Duration::ZERO, || unreachable!()).err(), Some(Error::TimedOut));
-        assert_eq!(group.get_or_load_timeout("k", Duration::ZERO, || unreachable!()).err(), Some(Error::TimedOut));
+        assert_eq!(
+            second.get_or_load_timeout("k", Duration::ZERO, || unreachable!()).err(),
+            Some(Error::TimedOut)
+        );
+        assert_eq!(
+            group.get_or_load_timeout("k", Duration::ZERO, || unreachable!()).err(),
+            Some(Error::TimedOut)
+        );
         let mut task = Box::pin(group.get_or_load_async("k", async { unreachable!() }));
         assert!(once(task.as_mut(), &wakes).is_pending(), "it waits");
         drop(task);
@@ -238,15 +301,24 @@ fn forgets_are_counted_by_what_they_found() {
     let numbers = || (group.stats().closed, group.stats().idle);
     assert!(!group.forget("k") && numbers() == (0, 1), "nothing");
     let call = group.get_or_load("k", || 1).call().unwrap();
-    assert!(group.forget_call("k", call) == ForgetOutcome::Cleared && numbers() == (0, 2), "a settled call");
-    assert!(group.forget_call("k", call) == ForgetOutcome::Missed && numbers() == (0, 3), "nothing");
+    assert!(
+        group.forget_call("k", call) == ForgetOutcome::Cleared && numbers() == (0, 2),
+        "a settled call"
+    );
+    assert!(
+        group.forget_call("k", call) == ForgetOutcome::Missed && numbers() == (0, 3),
+        "nothing"
+    );
     group.get_or_load("k", || {
         assert!(group.forget("k") && numbers() == (1, 3), "an open call");
         1
     });
     group.get_or_load("k", || {
         let call = group.current_call("k").unwrap();
-        assert!(group.forget_call("k", call) == ForgetOutcome::Closed && numbers() == (2, 3), "an open call");
+        assert!(
+            group.forget_call("k", call) == ForgetOutcome::Closed && numbers() == (2, 3),
+            "an open call"
+        );
         1
     });
 }
@@ -261,7 +333,10 @@ fn as_many_callers_as_there_are() {
             assert!(caller.get_or_load("k", || 1).call().is_some(), "by the library");
         }
         let stats = group.stats();
-        assert!(stats.leads == u64::from(callers) && stats.made == callers && stats.in_use == callers, "{stats:?}");
+        assert!(
+            stats.leads == u64::from(callers) && stats.made == callers && stats.in_use == callers,
+            "{stats:?}"
+        );
     }
 }
 
@@ -275,11 +350,15 @@ fn an_error_is_a_value_that_is_shared() {
         Err("no such page".to_string())
     });
     let Poll::Ready(other) = once(task, &wakes) else { panic!("it was woken") };
-    assert!(Arc::ptr_eq(&got.value, &other.value) && got.value.is_err() && group.stats().leads == 1, "one load, one error");
+    assert!(
+        Arc::ptr_eq(&got.value, &other.value) && got.value.is_err() && group.stats().leads == 1,
+        "one load, one error"
+    );
     assert!(group.get_or_load("k", || Ok(2)).value.is_ok(), "whoever asks later loads anew");
 }
 
-// Of those who joined a load that panics one loads, and the others join that: as many loads as panics, and one more.
+// Of those who joined a load that panics one loads, and the others join that: as many loads as
+// panics, and one more.
 #[test]
 fn loads_that_panic_are_made_anew_once_each() {
     const THREADS: usize = 24;
@@ -296,7 +375,9 @@ fn loads_that_panic_are_made_anew_once_each() {
                                 let number = loads.fetch_add(1, SeqCst);
                                 let waits = THREADS as u64 - 1 - number.min(PANICS);
                                 let before = group.stats().joins;
-                                until("the others join", || number > 0 || group.stats().joins >= before.max(waits));
+                                until("the others join", || {
+                                    number > 0 || group.stats().joins >= before.max(waits)
+                                });
                                 assert!(number >= PANICS, "the load");
                                 // The others join this one, whether they had joined before or not.
                                 std::thread::sleep(Duration::from_millis(100));
@@ -325,18 +406,31 @@ fn the_future_of_a_group_is_one_of_its_own() {
     let group = open::<u32>(4);
     let wakes = Arc::<Wakes>::default();
     let unused = can_be_spawned(group.get_or_load_async(String::from("k"), async { 1 }));
-    assert!(group.stats().leads == 0 && group.stats().in_use == 0, "nothing is done before the first poll");
+    assert!(
+        group.stats().leads == 0 && group.stats().in_use == 0,
+        "nothing is done before the first poll"
+    );
     drop(unused);
     let mut leads = Box::pin(can_be_spawned(group.get_or_load_async("k", std::future::pending())));
     let mut joins = Box::pin(can_be_spawned(group.get_or_load_async("k", async { 2 })));
-    assert!(once(leads.as_mut(), &wakes).is_pending() && once(joins.as_mut(), &wakes).is_pending(), "one loads, one waits");
-    assert!(group.stats().in_use == 1, "whoever waits has no caller of the library: {:?}", group.stats());
+    assert!(
+        once(leads.as_mut(), &wakes).is_pending() && once(joins.as_mut(), &wakes).is_pending(),
+        "one loads, one waits"
+    );
+    assert!(
+        group.stats().in_use == 1,
+        "whoever waits has no caller of the library: {:?}",
+        group.stats()
+    );
     let stats = group.stats();
     drop(group);
     assert!(stats.leads == 1 && stats.joins == 1, "{stats:?}");
     drop(leads);
     assert!(wakes.0.load(SeqCst) == 1, "whoever joined is woken");
-    assert!(matches!(once(joins.as_mut(), &wakes), Poll::Ready(got) if *got.value == 2 && got.led), "and loads itself");
+    assert!(
+        matches!(once(joins.as_mut(), &wakes), Poll::Ready(got) if *got.value == 2 && got.led),
+        "and loads itself"
+    );
 }
 
 // A Forget of one key of a slot is not lost beside calls of another one.

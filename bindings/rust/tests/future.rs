@@ -1,9 +1,10 @@
-//! Asking in tasks, by executors made by hand: who waits is woken by its leader alone, and who is dropped leaves nothing behind.
+//! Asking in tasks, by executors made by hand: who waits is woken by its leader alone, and who is
+//! dropped leaves nothing behind.
 use singleflight::{Caller, Error, Group};
 use std::cell::Cell;
 use std::collections::VecDeque;
-use std::future::{Future, poll_fn};
-use std::pin::{Pin, pin};
+use std::future::{poll_fn, Future};
+use std::pin::{pin, Pin};
 use std::sync::atomic::{AtomicU64, Ordering::SeqCst};
 use std::sync::{Arc, Mutex};
 use std::task::{Context, Poll, Wake, Waker};
@@ -68,14 +69,19 @@ fn a_task_joins_a_thread_and_a_thread_joins_a_task() {
     std::thread::scope(|scope| {
         let mut task = None;
         let got = first.get_or_load(b"k", || {
-            task = Some(scope.spawn(|| block_on(second.get_or_load_async(b"k", async { panic!("a second load") }))));
+            task = Some(scope.spawn(|| {
+                block_on(second.get_or_load_async(b"k", async { panic!("a second load") }))
+            }));
             while group.stats().joins == 0 {
                 std::thread::yield_now();
             }
             Arc::new(7)
         });
         let (got, seen) = (got, task.unwrap().join().unwrap());
-        assert!(**got.value == 7 && got.led && **seen.value == 7 && !seen.led && seen.joiners == 1, "the task joined");
+        assert!(
+            **got.value == 7 && got.led && **seen.value == 7 && !seen.led && seen.joiners == 1,
+            "the task joined"
+        );
         assert!(got.call() == seen.call(), "of one call");
     });
     std::thread::scope(|scope| {
@@ -101,7 +107,10 @@ fn three_thousand_tasks_are_woken_once_each() {
     let mut slow = group.caller();
     let mut tasks = Vec::new();
     let got = slow.get_or_load(b"slow", || {
-        tasks = callers.iter_mut().map(|caller| Box::pin(caller.get_or_load_async(b"slow", async { unreachable!() }))).collect();
+        tasks = callers
+            .iter_mut()
+            .map(|caller| Box::pin(caller.get_or_load_async(b"slow", async { unreachable!() })))
+            .collect();
         for (task, wakes) in tasks.iter_mut().zip(&wakes) {
             assert!(once(task.as_mut(), wakes).is_pending(), "it waits");
             assert!(once(task.as_mut(), wakes).is_pending(), "also if it is polled again");
@@ -110,22 +119,31 @@ fn three_thousand_tasks_are_woken_once_each() {
         let (mut first, mut second) = (group.caller(), group.caller());
         for round in 0..1000u32 {
             let (key, woken) = (format!("k{}", round % 15), Arc::<Wakes>::default());
-            let mut joined = pin!(second.get_or_load_async(key.as_bytes(), async { unreachable!() }));
-            first
-                .get_or_load(key.as_bytes(), || {
-                    assert!(once(joined.as_mut(), &woken).is_pending(), "it joins");
-                    round
-                });
+            let mut joined =
+                pin!(second.get_or_load_async(key.as_bytes(), async { unreachable!() }));
+            first.get_or_load(key.as_bytes(), || {
+                assert!(once(joined.as_mut(), &woken).is_pending(), "it joins");
+                round
+            });
             assert!(woken.0.load(SeqCst) == 1, "it is woken");
-            assert!(matches!(once(joined.as_mut(), &woken), Poll::Ready(got) if *got.value == round), "its answer");
+            assert!(
+                matches!(once(joined.as_mut(), &woken), Poll::Ready(got) if *got.value == round),
+                "its answer"
+            );
         }
-        assert!(wakes.iter().all(|wakes| wakes.0.load(SeqCst) == 0), "who waits for the slow key was not woken");
+        assert!(
+            wakes.iter().all(|wakes| wakes.0.load(SeqCst) == 0),
+            "who waits for the slow key was not woken"
+        );
         7
     });
     assert!(got.joiners == 3000, "all joined");
     assert!(wakes.iter().all(|wakes| wakes.0.load(SeqCst) == 1), "each was woken once");
     for (task, wakes) in tasks.iter_mut().zip(&wakes) {
-        assert!(matches!(once(task.as_mut(), wakes), Poll::Ready(got) if *got.value == 7), "its answer");
+        assert!(
+            matches!(once(task.as_mut(), wakes), Poll::Ready(got) if *got.value == 7),
+            "its answer"
+        );
     }
 }
 
@@ -141,14 +159,23 @@ fn a_task_that_is_dropped_leaves() {
             let mut task = pin!(second.get_or_load_async(b"k", async { unreachable!() }));
             assert!(once(task.as_mut(), &wakes).is_pending(), "it waits");
         }
-        assert!(second.last_is_current().is_none() && group.stats().in_use == 1, "it has left, and holds nothing");
+        assert!(
+            second.last_is_current().is_none() && group.stats().in_use == 1,
+            "it has left, and holds nothing"
+        );
         let got = block_on(second.get_or_load_async(b"m", async { Arc::new(6) }));
-        assert!(**got.value == 6 && group.stats().in_use == 2, "another key, by the same caller of the library");
+        assert!(
+            **got.value == 6 && group.stats().in_use == 2,
+            "another key, by the same caller of the library"
+        );
         value
     });
     assert!(got.joiners == 1, "it had joined");
     drop(got);
-    assert!(wakes.0.load(SeqCst) == 0 && weak.upgrade().is_none(), "nobody is woken, and its count is given back");
+    assert!(
+        wakes.0.load(SeqCst) == 0 && weak.upgrade().is_none(),
+        "nobody is woken, and its count is given back"
+    );
     assert!(group.stats().in_use == 2 && group.stats().made == 3, "no further caller was made");
 }
 
@@ -166,12 +193,16 @@ fn a_load_that_is_dropped() {
     assert!(wakes.0.load(SeqCst) == 1, "who joined is woken");
     let got = block_on(joined);
     assert!(**got.value == 2 && got.led, "and loads itself");
-    assert!(**block_on(first.get_or_load_async(b"k", async { Arc::new(3) })).value == 3, "the first goes on");
+    assert!(
+        **block_on(first.get_or_load_async(b"k", async { Arc::new(3) })).value == 3,
+        "the first goes on"
+    );
     drop((first, second));
     assert!(group.stats().in_use == 0, "all are back");
 }
 
-// The call of a future that is neither run to its end nor dropped ends when its caller is used again.
+// The call of a future that is neither run to its end nor dropped ends when its caller is used
+// again.
 #[test]
 fn a_task_that_is_forgotten() {
     let (group, mut all) = open(4);
@@ -188,7 +219,10 @@ fn a_task_that_is_forgotten() {
     assert!(**first.get_or_load(b"m", || Arc::new(1)).value == 1, "who led goes on");
     assert!(wakes.0.load(SeqCst) == 1, "and who waited was woken");
     assert!(**third.get_or_load(b"k", || Arc::new(2)).value == 2, "the key can be loaded");
-    assert!(**second.get_or_load(b"k", || Arc::new(3)).value == 3 && group.stats().made == 4, "who waited goes on");
+    assert!(
+        **second.get_or_load(b"k", || Arc::new(3)).value == 3 && group.stats().made == 4,
+        "who waited goes on"
+    );
 }
 
 type Task = Mutex<Option<Pin<Box<dyn Future<Output = ()> + Send>>>>;
@@ -214,10 +248,7 @@ impl Wake for Ready {
 fn run(tasks: Vec<Pin<Box<dyn Future<Output = ()> + Send>>>) {
     let (executor, count) = (Arc::<Executor>::default(), tasks.len() as u64);
     for task in tasks {
-        Wake::wake(Arc::new(Ready {
-            task: Mutex::new(Some(task)),
-            executor: executor.clone(),
-        }));
+        Wake::wake(Arc::new(Ready { task: Mutex::new(Some(task)), executor: executor.clone() }));
     }
     std::thread::scope(|scope| {
         for _ in 0..4 {
@@ -229,7 +260,11 @@ fn run(tasks: Vec<Pin<Box<dyn Future<Output = ()> + Send>>>) {
                     };
                     let mut task = ready.task.lock().unwrap();
                     let Some(future) = task.as_mut() else { continue };
-                    if future.as_mut().poll(&mut Context::from_waker(&Waker::from(ready.clone()))).is_ready() {
+                    if future
+                        .as_mut()
+                        .poll(&mut Context::from_waker(&Waker::from(ready.clone())))
+                        .is_ready()
+                    {
                         *task = None;
                         executor.ended.fetch_add(1, SeqCst);
                     }
@@ -305,7 +340,10 @@ fn random_tasks() {
                 let polls = if draw() % 3 == 0 { draw() % 2 } else { u64::MAX };
                 match at_most(polls, caller.get_or_load_async(&key, load)).await {
                     Some(got) => {
-                        assert!(got.value.0 == number && got.value.1 >= before, "an answer of its key, and no older than a forget");
+                        assert!(
+                            got.value.0 == number && got.value.1 >= before,
+                            "an answer of its key, and no older than a forget"
+                        );
                     }
                     None => drop(world.dropped.fetch_add(1, SeqCst)),
                 }
@@ -315,6 +353,9 @@ fn random_tasks() {
     });
     run(tasks.collect());
     let stats = group.stats();
-    assert!(stats.in_use == 0 && stats.joins > 0 && world.dropped.load(SeqCst) > 0, "all callers are back: {stats:?}");
+    assert!(
+        stats.in_use == 0 && stats.joins > 0 && world.dropped.load(SeqCst) > 0,
+        "all callers are back: {stats:?}"
+    );
     assert!(Arc::strong_count(&live) == 1, "no answer is kept");
 }

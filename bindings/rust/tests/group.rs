@@ -1,6 +1,7 @@
-//! Threads over one group: loads are counted, answers are of their key and none is lost or dropped twice.
+//! Threads over one group: loads are counted, answers are of their key and none is lost or dropped
+//! twice.
 use singleflight::{Error, Group};
-use std::panic::{AssertUnwindSafe, catch_unwind};
+use std::panic::{catch_unwind, AssertUnwindSafe};
 use std::sync::atomic::{AtomicI64, AtomicU64, Ordering::SeqCst};
 use std::sync::{Arc, Barrier};
 use std::time::Duration;
@@ -27,13 +28,15 @@ fn draw(seed: &mut u64) -> u64 {
 #[test]
 fn random_gets_and_forgets() {
     const KEYS: usize = 16;
-    let (live, clock, loads, shares) = (AtomicI64::new(0), AtomicU64::new(1), AtomicU64::new(0), AtomicU64::new(0));
+    let (live, clock, loads, shares) =
+        (AtomicI64::new(0), AtomicU64::new(1), AtomicU64::new(0), AtomicU64::new(0));
     let forgotten: Vec<AtomicU64> = (0..KEYS).map(|_| AtomicU64::new(0)).collect();
     let group = Group::<Counted>::open(1 << 20, 16).unwrap();
     std::thread::scope(|scope| {
         for thread in 0..8u64 {
             let mut caller = group.caller();
-            let (live, clock, loads, shares, forgotten) = (&live, &clock, &loads, &shares, &forgotten);
+            let (live, clock, loads, shares, forgotten) =
+                (&live, &clock, &loads, &shares, &forgotten);
             scope.spawn(move || {
                 let mut seed = 88_172_645_463_325_252 + thread;
                 let mut kept = Vec::new();
@@ -107,7 +110,10 @@ fn one_load_for_all_who_ask_at_once() {
         threads.into_iter().map(|thread| thread.join().unwrap()).collect()
     });
     assert!(loads.load(SeqCst) == 1, "one load");
-    assert!(all.iter().filter(|got| got.0).count() == 1 && all.iter().all(|got| got.1 == 3), "one leader, and all know of three who joined");
+    assert!(
+        all.iter().filter(|got| got.0).count() == 1 && all.iter().all(|got| got.1 == 3),
+        "one leader, and all know of three who joined"
+    );
 }
 
 #[test]

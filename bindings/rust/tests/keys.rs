@@ -1,4 +1,5 @@
-//! Keys without end: 200,000 different ones over 65,536 places, or as many as SFLIGHT_KEYS says; it shows what each tenth of them costs.
+//! Keys without end: 200,000 different ones over 65,536 places, or as many as SFLIGHT_KEYS says; it
+//! shows what each tenth of them costs.
 use singleflight::Group;
 use std::sync::{Barrier, Mutex};
 use std::time::Instant;
@@ -15,7 +16,8 @@ fn memory() -> u64 {
 
 #[test]
 fn keys_come_and_go_in_bounded_memory() {
-    let keys: u64 = std::env::var("SFLIGHT_KEYS").map_or(200_000, |keys| keys.parse().expect("SFLIGHT_KEYS: a number of keys"));
+    let keys: u64 = std::env::var("SFLIGHT_KEYS")
+        .map_or(200_000, |keys| keys.parse().expect("SFLIGHT_KEYS: a number of keys"));
     let tenth = keys / 10 / THREADS / BATCH * BATCH;
     let group = Group::<u64>::open(65_536, THREADS as u32).unwrap();
     let (all, kilobytes) = (Mutex::new(vec![Vec::new(); 10]), Mutex::new(vec![0; 10]));
@@ -30,7 +32,9 @@ fn keys_come_and_go_in_bounded_memory() {
                     for batch in 0..tenth / BATCH {
                         let from = Instant::now();
                         for number in 0..BATCH {
-                            let number = ((part * tenth + batch * BATCH + number) * THREADS + thread).to_le_bytes();
+                            let number = ((part * tenth + batch * BATCH + number) * THREADS
+                                + thread)
+                                .to_le_bytes();
                             let got = caller.get_or_load(&number, || u64::from_le_bytes(number));
                             assert!(*got.value == u64::from_le_bytes(number), "its own answer");
                         }
@@ -46,12 +50,19 @@ fn keys_come_and_go_in_bounded_memory() {
         }
     });
     let stats = group.stats();
-    assert!(stats.leads + stats.alone == 10 * tenth * THREADS && stats.made == THREADS as u32, "no key is refused: {stats:?}");
+    assert!(
+        stats.leads + stats.alone == 10 * tenth * THREADS && stats.made == THREADS as u32,
+        "no key is refused: {stats:?}"
+    );
     let kilobytes = kilobytes.into_inner().unwrap();
     assert!(kilobytes[9] < kilobytes[0] + 1024, "memory is flat: {kilobytes:?}");
     for (times, kilobytes) in all.into_inner().unwrap().iter_mut().zip(kilobytes) {
         times.sort();
-        println!("a tenth: {} ns a key at least, {} in the middle; {kilobytes} kB", times[0], times[times.len() / 2]);
+        println!(
+            "a tenth: {} ns a key at least, {} in the middle; {kilobytes} kB",
+            times[0],
+            times[times.len() / 2]
+        );
     }
     println!("{stats:?}");
 }

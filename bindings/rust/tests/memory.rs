@@ -30,7 +30,11 @@ fn groups_by_their_number() {
                     caller.get_or_load(&[number], || 1);
                 }
                 drop(callers);
-                assert!(group.stats().made == 32 && group.stats().alone == 0, "{:?}", group.stats());
+                assert!(
+                    group.stats().made == 32 && group.stats().alone == 0,
+                    "{:?}",
+                    group.stats()
+                );
                 group
             })
             .collect();

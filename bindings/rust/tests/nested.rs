@@ -1,9 +1,10 @@
-//! No call waits for the load of another key, whatever the two share: nested and crossed calls of different keys end.
+//! No call waits for the load of another key, whatever the two share: nested and crossed calls of
+//! different keys end.
 use singleflight::Group;
 use std::future::Future;
 use std::pin::pin;
-use std::sync::Barrier;
 use std::sync::mpsc::channel;
+use std::sync::Barrier;
 use std::task::{Context, Poll, Waker};
 use std::time::Duration;
 
@@ -29,7 +30,9 @@ fn nested_calls_in_one_thread() {
     ends("nested", || {
         let group = open(2);
         let (mut outer, mut inner) = (group.caller(), group.caller());
-        let got = outer.get_or_load(b"page", || inner.get_or_load(b"user", || "ada".into()).value.to_uppercase());
+        let got = outer.get_or_load(b"page", || {
+            inner.get_or_load(b"user", || "ada".into()).value.to_uppercase()
+        });
         assert!(*got.value == "ADA");
     });
 }
@@ -40,7 +43,8 @@ fn nested_calls_with_a_deadline() {
         let group = open(2);
         let (mut outer, mut inner) = (group.caller(), group.caller());
         let got = outer.get_or_load(b"page", || {
-            let got = inner.get_or_load_timeout(b"user", Duration::from_secs(3600), || "ada".into());
+            let got =
+                inner.get_or_load_timeout(b"user", Duration::from_secs(3600), || "ada".into());
             got.unwrap().value.to_uppercase()
         });
         assert!(*got.value == "ADA");
@@ -72,7 +76,9 @@ fn nested_futures() {
     ends("a future", || {
         let group = open(2);
         let (mut outer, mut inner) = (group.caller(), group.caller());
-        let load = async { inner.get_or_load_async(b"user", async { "ada".into() }).await.value.to_uppercase() };
+        let load = async {
+            inner.get_or_load_async(b"user", async { "ada".into() }).await.value.to_uppercase()
+        };
         let mut task = pin!(outer.get_or_load_async(b"page", load));
         let Poll::Ready(got) = task.as_mut().poll(&mut Context::from_waker(Waker::noop())) else {
             panic!("it waits for itself");

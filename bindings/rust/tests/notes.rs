@@ -11,7 +11,10 @@ fn a_note_is_learned_in_another_thread() {
     let mut note = first.note().unwrap();
     assert!(format!("{note:?}").contains("Note"));
     let second = std::thread::spawn(move || {
-        assert!(second.learn(&mut note) == Ok(()) && second.learn(&mut note) == Ok(()), "it may be learned twice");
+        assert!(
+            second.learn(&mut note) == Ok(()) && second.learn(&mut note) == Ok(()),
+            "it may be learned twice"
+        );
         assert!(!second.is_current(stamp), "what the first has forgotten is not current");
         second
     });
@@ -26,7 +29,8 @@ fn notes_that_are_refused() {
     assert_eq!(group.clone().caller().learn(&mut note), Ok(()), "a clone is of the same group");
 }
 
-// A note of an epoch that was replaced, or of a caller for which the library had no place, is learned all the same.
+// A note of an epoch that was replaced, or of a caller for which the library had no place, is
+// learned all the same.
 #[test]
 fn notes_of_callers_without_a_place() {
     let group = Group::<u32>::open_spent_after(1, 1, 1).unwrap();
@@ -37,5 +41,8 @@ fn notes_of_callers_without_a_place() {
     }
     let mut second = group.caller();
     let mut none = second.note().unwrap();
-    assert_eq!([first.learn(&mut old), first.learn(&mut none), second.learn(&mut old)], [Ok(()); 3]);
+    assert_eq!(
+        [first.learn(&mut old), first.learn(&mut none), second.learn(&mut old)],
+        [Ok(()); 3]
+    );
 }

@@ -1,5 +1,5 @@
 //! Forgets of one call, and which call a key names.
-use singleflight::{Call, Group, ForgetOutcome};
+use singleflight::{Call, ForgetOutcome, Group};
 use std::sync::atomic::{AtomicU32, Ordering::SeqCst};
 use std::time::Duration;
 
@@ -28,10 +28,16 @@ fn two_that_reload_one_stale_answer_load_once() {
         (late.unwrap().join().unwrap(), got)
     });
     assert!(loads.load(SeqCst) == 2 && *got.value == 1 && *seen.value == 1, "one further load");
-    assert!(got.led && !seen.led && got.call() == seen.call() && got.call() != Some(stale), "of one newer call");
+    assert!(
+        got.led && !seen.led && got.call() == seen.call() && got.call() != Some(stale),
+        "of one newer call"
+    );
     // It comes when the first has loaded, misses, and leaves that answer current.
     assert_eq!(second.forget_call(b"k", stale), ForgetOutcome::Missed);
-    assert!(first.last_is_current() == Some(true) && second.last_is_current() == Some(true), "the newer call stays");
+    assert!(
+        first.last_is_current() == Some(true) && second.last_is_current() == Some(true),
+        "the newer call stays"
+    );
 }
 
 #[test]
@@ -47,7 +53,10 @@ fn a_call_that_is_open_is_closed() {
         1
     });
     assert_eq!(*got.value, 1);
-    assert!(first.last_is_current() == Some(false) && second.last_is_current() == Some(true), "the newer call is current");
+    assert!(
+        first.last_is_current() == Some(false) && second.last_is_current() == Some(true),
+        "the newer call is current"
+    );
     assert!(group.stats().closed == 1 && group.stats().idle == 1, "numbers");
 }
 
@@ -61,7 +70,10 @@ fn named_and_refused() {
     let got = caller.get_or_load(b"k", || 1);
     assert_eq!(other.current_call(b"k"), got.call());
     assert_eq!(other.forget_call(b"k", nobody), ForgetOutcome::Missed);
-    assert_eq!(other.forget_call(b"k", Call { epoch: 1, caller: u32::MAX, generation: u32::MAX }), ForgetOutcome::Missed);
+    assert_eq!(
+        other.forget_call(b"k", Call { epoch: 1, caller: u32::MAX, generation: u32::MAX }),
+        ForgetOutcome::Missed
+    );
     assert_eq!(caller.last_is_current(), Some(true));
     assert!(!other.forget(b"k"));
     assert_eq!(other.forget_call(b"k", got.call().unwrap()), ForgetOutcome::Missed);

@@ -1,7 +1,7 @@
 //! Keys that share a place: each answer is of its own key, and none is from before a Forget.
 use singleflight::{Error, Group, Stamp, Stats};
 use std::future::Future;
-use std::pin::{Pin, pin};
+use std::pin::{pin, Pin};
 use std::sync::atomic::{AtomicI64, AtomicU64, Ordering::SeqCst};
 use std::sync::mpsc::TryRecvError;
 use std::sync::{Arc, Mutex};
@@ -18,7 +18,11 @@ fn a_caller_that_finds_another_keys_call_loads_alone() {
     let (mut first, mut second) = (group.caller(), group.caller());
     let (value, other) = (Arc::new("ada"), Arc::new("grace"));
     let weak = Arc::downgrade(&value);
-    assert!(second.get_or_load(b"grace", || other.clone()).led && second.last_is_current() == Some(true), "a letter before");
+    assert!(
+        second.get_or_load(b"grace", || other.clone()).led
+            && second.last_is_current() == Some(true),
+        "a letter before"
+    );
     let got = first.get_or_load(b"ada", || {
         let got = second.get_or_load(b"grace", || other.clone());
         assert!(**got.value == "grace" && got.led && !got.shared(), "its own load");
@@ -33,20 +37,22 @@ fn a_caller_that_finds_another_keys_call_loads_alone() {
     let mut stats = Stats::default();
     (stats.leads, stats.alone, stats.made, stats.in_use) = (2, 1, 2, 1);
     assert_eq!(group.stats(), stats);
-    assert!(*second.get_or_load(b"ada", || Arc::new("hopper")).value == Arc::new("hopper"), "its caller is back");
+    assert!(
+        *second.get_or_load(b"ada", || Arc::new("hopper")).value == Arc::new("hopper"),
+        "its caller is back"
+    );
 }
 
 #[test]
 fn a_task_that_finds_another_keys_call_loads_alone() {
     let group = Group::<u32>::open(1, 2).unwrap();
     let (mut first, mut second) = (group.caller(), group.caller());
-    first
-        .get_or_load(b"key", || {
-            let mut task = pin!(second.get_or_load_async(b"other", async { 1 }));
-            let Poll::Ready(got) = look(task.as_mut()) else { panic!("it waits") };
-            assert!(*got.value == 1 && got.led && got.call().is_none(), "its own load");
-            7
-        });
+    first.get_or_load(b"key", || {
+        let mut task = pin!(second.get_or_load_async(b"other", async { 1 }));
+        let Poll::Ready(got) = look(task.as_mut()) else { panic!("it waits") };
+        assert!(*got.value == 1 && got.led && got.call().is_none(), "its own load");
+        7
+    });
     assert!(group.stats().alone == 1, "{:?}", group.stats());
 }
 
@@ -114,21 +120,24 @@ impl Drop for Page<'_> {
     }
 }
 
-// Eight threads ask for 64 keys, some of which are long, and forget them. Each value names its key, and when it was loaded: so each
-// answer is of its own key, and none is from before a Forget of it that the asker had seen. Where there is a cache, whose answers are
-// asked for by their stamps, so is each of those.
+// Eight threads ask for 64 keys, some of which are long, and forget them. Each value names its key,
+// and when it was loaded: so each answer is of its own key, and none is from before a Forget of it
+// that the asker had seen. Where there is a cache, whose answers are asked for by their stamps, so
+// is each of those.
 fn stress(places: u32, answers: u64, cached: bool) -> Stats {
     const KEYS: usize = 64;
     let (live, clock) = (AtomicI64::new(0), AtomicU64::new(1));
     let forgotten: Vec<AtomicU64> = (0..KEYS).map(|_| AtomicU64::new(0)).collect();
     let cache: Vec<Mutex<Option<_>>> = (0..KEYS).map(|_| Mutex::new(None)).collect();
-    let names: Vec<String> = (0..KEYS).map(|number| format!("{}{number}", "key".repeat(number % 8 * 20))).collect();
+    let names: Vec<String> =
+        (0..KEYS).map(|number| format!("{}{number}", "key".repeat(number % 8 * 20))).collect();
     let hits = AtomicU64::new(0);
     let group = Group::<Page>::open(places, 8).unwrap();
     let callers: Vec<_> = (0..8u64).map(|thread| (thread, group.caller())).collect();
     std::thread::scope(|scope| {
         for (thread, mut caller) in callers {
-            let (live, clock, forgotten, names, cache, hits) = (&live, &clock, &forgotten, &names, &cache, &hits);
+            let (live, clock, forgotten, names, cache, hits) =
+                (&live, &clock, &forgotten, &names, &cache, &hits);
             scope.spawn(move || {
                 let mut seed = 88_172_645_463_325_252 + thread;
                 for _ in 0..answers / 8 {
@@ -141,10 +150,14 @@ fn stress(places: u32, answers: u64, cached: bool) -> Stats {
                     }
                     let before = forgotten[number].load(SeqCst);
                     if cached {
-                        let found: Option<(Arc<Page>, Stamp)> = cache[number].lock().unwrap().clone();
+                        let found: Option<(Arc<Page>, Stamp)> =
+                            cache[number].lock().unwrap().clone();
                         if let Some((page, stamp)) = found {
                             if caller.is_current(stamp) {
-                                assert!(page.key == names[number] && page.moment >= before, "a hit of its key, and no older than a forget");
+                                assert!(
+                                    page.key == names[number] && page.moment >= before,
+                                    "a hit of its key, and no older than a forget"
+                                );
                                 hits.fetch_add(1, SeqCst);
                                 continue;
                             }
@@ -169,7 +182,10 @@ fn stress(places: u32, answers: u64, cached: bool) -> Stats {
     });
     drop(cache);
     let stats = group.stats();
-    assert!(live.load(SeqCst) == 0 && stats.in_use == 0, "each value is dropped once, and each caller is back: {stats:?}");
+    assert!(
+        live.load(SeqCst) == 0 && stats.in_use == 0,
+        "each value is dropped once, and each caller is back: {stats:?}"
+    );
     assert!(!cached || hits.load(SeqCst) > 0, "there were hits");
     stats
 }
@@ -177,7 +193,10 @@ fn stress(places: u32, answers: u64, cached: bool) -> Stats {
 #[test]
 fn a_million_answers_over_sixteen_places() {
     let stats = stress(16, 1_000_000, false);
-    assert!(stats.leads + stats.alone < 1_000_000 && stats.joins > 0 && stats.alone > 0, "some joined, and some loaded alone: {stats:?}");
+    assert!(
+        stats.leads + stats.alone < 1_000_000 && stats.joins > 0 && stats.alone > 0,
+        "some joined, and some loaded alone: {stats:?}"
+    );
 }
 
 #[test]

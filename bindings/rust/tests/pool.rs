@@ -21,8 +21,15 @@ fn callers_that_are_dropped_are_dealt_again() {
     let group = Group::<u32>::open(1, 1).unwrap();
     for round in 0..100 {
         let mut caller = group.caller();
-        assert!(caller.last_is_current().is_none(), "the letter of one who had it before is not this one's");
-        assert!(*caller.get_or_load(b"k", || round).value == round && caller.last_is_current() == Some(true), "it asks");
+        assert!(
+            caller.last_is_current().is_none(),
+            "the letter of one who had it before is not this one's"
+        );
+        assert!(
+            *caller.get_or_load(b"k", || round).value == round
+                && caller.last_is_current() == Some(true),
+            "it asks"
+        );
     }
     let mut stats = Stats::default();
     (stats.leads, stats.made) = (100, 1);
@@ -40,9 +47,15 @@ fn a_call_whose_job_is_forgotten_ends_with_its_caller() {
     std::mem::forget(job);
     assert!(receiver.try_recv().err() == Some(TryRecvError::Empty), "the call is open");
     drop(first);
-    assert!(receiver.try_recv().err() == Some(TryRecvError::Disconnected), "nobody can load for it any more");
+    assert!(
+        receiver.try_recv().err() == Some(TryRecvError::Disconnected),
+        "nobody can load for it any more"
+    );
     drop(receiver);
-    assert!(group.stats().in_use == 0 && *group.caller().get_or_load(b"k", || 1).value == 1, "all are back");
+    assert!(
+        group.stats().in_use == 0 && *group.caller().get_or_load(b"k", || 1).value == 1,
+        "all are back"
+    );
 }
 
 #[test]
@@ -65,16 +78,25 @@ fn a_wait_that_takes_too_long() {
     };
     started.wait();
     let refused = waiter.get_or_load_timeout(b"k", Duration::from_millis(20), || unreachable!());
-    assert!(refused.err() == Some(Error::TimedOut) && waiter.last_is_current().is_none(), "it leaves");
+    assert!(
+        refused.err() == Some(Error::TimedOut) && waiter.last_is_current().is_none(),
+        "it leaves"
+    );
     assert!(**waiter.get_or_load(b"m", || Arc::new(8)).value == 8, "another key");
-    assert!(group.stats().in_use == 2 && group.stats().made == 2, "by the same caller of the library");
+    assert!(
+        group.stats().in_use == 2 && group.stats().made == 2,
+        "by the same caller of the library"
+    );
     release.wait();
     let (joiners, leader) = thread.join().unwrap();
     assert!(joiners == 1, "one joined");
     assert!(weak.upgrade().is_none(), "no answer is kept for the one who left");
     drop((leader, waiter));
     let got = group.caller().get_or_load_timeout(b"k", Duration::MAX, || Arc::new(9)).unwrap();
-    assert!(**got.value == 9 && got.led && group.stats().in_use == 0, "who leads waits for its own load");
+    assert!(
+        **got.value == 9 && got.led && group.stats().in_use == 0,
+        "who leads waits for its own load"
+    );
 }
 
 #[test]
@@ -87,7 +109,8 @@ fn many_on_some_keys() {
         let (loads, release) = (AtomicU64::new(0), AtomicU64::new(0));
         std::thread::scope(|scope| {
             for thread in 0..THREADS {
-                let (group, loads, release, key) = (&group, &loads, &release, &names[thread % keys]);
+                let (group, loads, release, key) =
+                    (&group, &loads, &release, &names[thread % keys]);
                 scope.spawn(move || {
                     let got = group.caller().get_or_load(key.as_bytes(), || {
                         loads.fetch_add(1, SeqCst);
@@ -99,7 +122,10 @@ fn many_on_some_keys() {
             }
             let asked = || group.stats().leads + group.stats().joins - before.leads - before.joins;
             until("all ask", || asked() == THREADS as u64);
-            assert!(group.stats().in_use == THREADS as u32 && group.stats().made == THREADS as u32, "each has a caller");
+            assert!(
+                group.stats().in_use == THREADS as u32 && group.stats().made == THREADS as u32,
+                "each has a caller"
+            );
             release.store(1, SeqCst);
         });
         assert!(loads.load(SeqCst) == keys as u64, "one load a key");
@@ -123,7 +149,11 @@ fn random_waits() {
                         std::thread::sleep(Duration::from_micros(200));
                         live.clone()
                     };
-                    match caller.get_or_load_timeout(&key, Duration::from_micros(100 + round % 200), load) {
+                    match caller.get_or_load_timeout(
+                        &key,
+                        Duration::from_micros(100 + round % 200),
+                        load,
+                    ) {
                         Ok(got) => assert!(**got.value == 0, "the answer"),
                         Err(why) => {
                             assert!(why == Error::TimedOut, "{why}");
@@ -139,7 +169,10 @@ fn random_waits() {
     });
     let stats = group.stats();
     assert!(stats.in_use == 0 && stats.leads + stats.joins == 4000, "all are back: {stats:?}");
-    assert!(stats.closed + stats.idle == 8 * 72 && timed_out.load(SeqCst) > 0, "forgets and waits: {stats:?}");
+    assert!(
+        stats.closed + stats.idle == 8 * 72 && timed_out.load(SeqCst) > 0,
+        "forgets and waits: {stats:?}"
+    );
     assert!(Arc::strong_count(&live) == 1, "no answer is kept");
 }
 

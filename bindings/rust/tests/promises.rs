@@ -1,9 +1,9 @@
-//! The promises: no call waits for another key's load, one load of a key at a time, nothing wears out, a Forget always forgets, and a
-//! group is small at first.
+//! The promises: no call waits for another key's load, one load of a key at a time, nothing wears
+//! out, a Forget always forgets, and a group is small at first.
 use singleflight::{Caller, Error, ForgetOutcome, Group, Stamp};
 use std::collections::HashSet;
 use std::future::Future;
-use std::panic::{AssertUnwindSafe, catch_unwind};
+use std::panic::{catch_unwind, AssertUnwindSafe};
 use std::pin::pin;
 use std::sync::atomic::{AtomicBool, AtomicU64, Ordering::SeqCst};
 use std::sync::{Arc, Barrier, Mutex};
@@ -59,7 +59,8 @@ impl Drop for Hung {
 #[test]
 fn loads_that_hang_hold_up_no_other_key() {
     let group = Arc::new(Group::<u64>::new());
-    let hung: Vec<_> = (0..200).map(|key| Hung::new(&group, format!("hung {key}").into_bytes())).collect();
+    let hung: Vec<_> =
+        (0..200).map(|key| Hung::new(&group, format!("hung {key}").into_bytes())).collect();
     let mut caller = group.caller();
     for number in 0..20_000u64 {
         let got = caller.get_or_load(format!("key {number}").as_bytes(), || number);
@@ -67,7 +68,8 @@ fn loads_that_hang_hold_up_no_other_key() {
     }
     // The keys that hang are asked for with a deadline, in their epoch or a later one.
     for key in 0..200 {
-        let late = caller.get_or_load_timeout(format!("hung {key}").as_bytes(), NOW, || panic!("a second load"));
+        let late = caller
+            .get_or_load_timeout(format!("hung {key}").as_bytes(), NOW, || panic!("a second load"));
         assert!(late.err() == Some(Error::TimedOut), "its load runs");
     }
     drop(hung);
@@ -87,7 +89,10 @@ fn one_load_for_more_than_there_are_callers() {
                     let mut caller = group.caller();
                     // Some of them hold a caller of the library for another key.
                     if thread % 3 == 0 {
-                        others.fetch_add(*caller.get_or_load(format!("own {thread}").as_bytes(), || 1).value, SeqCst);
+                        others.fetch_add(
+                            *caller.get_or_load(format!("own {thread}").as_bytes(), || 1).value,
+                            SeqCst,
+                        );
                     }
                     let got = caller.get_or_load(b"one key", || {
                         let number = loads.fetch_add(1, SeqCst);
@@ -101,7 +106,10 @@ fn one_load_for_more_than_there_are_callers() {
             }
         });
         let stats = group.stats();
-        assert!(loads.load(SeqCst) == 1 && others.load(SeqCst) == THREADS / 3, "one load: {stats:?}");
+        assert!(
+            loads.load(SeqCst) == 1 && others.load(SeqCst) == THREADS / 3,
+            "one load: {stats:?}"
+        );
         assert!(stats.in_use == 0, "all are back: {stats:?}");
     }
 }
@@ -113,7 +121,12 @@ fn one_load_for_a_hundred_thousand_tasks() {
     let mut callers: Vec<_> = (0..TASKS).map(|_| group.caller()).collect();
     let mut tasks = Vec::new();
     let got = group.caller().get_or_load(b"one key", || {
-        tasks = callers.iter_mut().map(|caller| Box::pin(caller.get_or_load_async(b"one key", async { panic!("a second load") }))).collect();
+        tasks = callers
+            .iter_mut()
+            .map(|caller| {
+                Box::pin(caller.get_or_load_async(b"one key", async { panic!("a second load") }))
+            })
+            .collect();
         assert!(tasks.iter_mut().all(|task| look(task.as_mut()).is_pending()), "all wait");
         7
     });
@@ -121,7 +134,11 @@ fn one_load_for_a_hundred_thousand_tasks() {
     for task in &mut tasks {
         assert!(matches!(look(task.as_mut()), Poll::Ready(got) if *got.value == 7), "the answer");
     }
-    assert!(group.stats().made <= 32 + 256 && group.stats().leads + group.stats().alone == 1, "{:?}", group.stats());
+    assert!(
+        group.stats().made <= 32 + 256 && group.stats().leads + group.stats().alone == 1,
+        "{:?}",
+        group.stats()
+    );
 }
 
 // x/sync returns 1, then 2, however many callers there are.
@@ -148,7 +165,10 @@ fn answers_do_not_go_backwards() {
         assert!(late.err() == Some(Error::TimedOut), "one load at a time");
         together.wait();
         assert!(first.join().unwrap() == 1, "the first's");
-        assert!(*other.get_or_load(b"k", || version.load(SeqCst)).value == 2, "and then a newer one");
+        assert!(
+            *other.get_or_load(b"k", || version.load(SeqCst)).value == 2,
+            "and then a newer one"
+        );
     });
 }
 
@@ -165,7 +185,11 @@ fn a_forget_without_a_caller() {
         assert!(*second.get_or_load(b"k", || 2).value == 2, "a newer load");
         1
     });
-    assert!(*got.value == 1 && group.stats().closed == 1 && group.stats().alone == 2, "{:?}", group.stats());
+    assert!(
+        *got.value == 1 && group.stats().closed == 1 && group.stats().alone == 2,
+        "{:?}",
+        group.stats()
+    );
     let late = second.get_or_load_timeout(b"hung", NOW, || 9);
     assert!(late.err() == Some(Error::TimedOut) && second.forget(b"hung"), "and what hangs");
     assert!(*second.get_or_load(b"hung", || 3).value == 3, "so that it can be loaded");
@@ -179,10 +203,16 @@ fn a_forget_beside_many_who_wait_with_deadlines() {
     let mut callers: Vec<_> = (0..64).map(|_| group.caller()).collect();
     for _ in 0..20 {
         for caller in &mut callers {
-            assert!(caller.get_or_load_timeout(b"origin", NOW, || 2).err() == Some(Error::TimedOut), "it hangs");
+            assert!(
+                caller.get_or_load_timeout(b"origin", NOW, || 2).err() == Some(Error::TimedOut),
+                "it hangs"
+            );
         }
     }
-    let mut tasks: Vec<_> = callers.iter_mut().map(|caller| Box::pin(caller.get_or_load_async(b"origin", async { 2 }))).collect();
+    let mut tasks: Vec<_> = callers
+        .iter_mut()
+        .map(|caller| Box::pin(caller.get_or_load_async(b"origin", async { 2 })))
+        .collect();
     assert!(tasks.iter_mut().all(|task| look(task.as_mut()).is_pending()), "tasks wait");
     drop(tasks);
     drop(callers);
@@ -191,14 +221,18 @@ fn a_forget_beside_many_who_wait_with_deadlines() {
     for key in 0..64 {
         let key = format!("key {key}");
         let stamp = caller.get_or_load(key.as_bytes(), || 1).stamp();
-        assert!(stamp == Stamp::default() || caller.is_current(stamp), "a result that can be cached");
+        assert!(
+            stamp == Stamp::default() || caller.is_current(stamp),
+            "a result that can be cached"
+        );
         caller.forget(key.as_bytes());
         assert!(!caller.is_current(stamp), "and is forgotten");
     }
     drop(hung);
 }
 
-// A Forget of one key leaves the open call of another at the same slot: that would be loaded a second time.
+// A Forget of one key leaves the open call of another at the same slot: that would be loaded a
+// second time.
 #[test]
 fn a_forget_ends_no_call_of_another_key() {
     let group = Group::<u64>::open(1, 4).unwrap();
@@ -231,10 +265,18 @@ fn callers_that_are_spent_are_renewed() {
         stamps += u64::from(caller.is_current(got.stamp()));
         if round % 5 == 0 {
             caller.forget(key);
-            assert!(!caller.is_current(got.stamp()) && caller.forget_call(key, call) == ForgetOutcome::Missed, "forgotten");
+            assert!(
+                !caller.is_current(got.stamp())
+                    && caller.forget_call(key, call) == ForgetOutcome::Missed,
+                "forgotten"
+            );
         }
     }
-    assert!(epochs.len() >= 3000 && stamps > 25_000, "{} epochs, {stamps} current stamps", epochs.len());
+    assert!(
+        epochs.len() >= 3000 && stamps > 25_000,
+        "{} epochs, {stamps} current stamps",
+        epochs.len()
+    );
     let stats = group.stats();
     assert!(stats.leads == 30_000 && stats.alone == 0 && stats.in_use == 1, "{stats:?}");
 }
@@ -245,7 +287,8 @@ fn calls_that_are_open_when_their_callers_are_renewed() {
     let group = Group::<u64>::open_spent_after(16, 8, 3).unwrap();
     // Some keys have the slot of the open call, and are loaded beside the library.
     let spend = |caller: &mut Caller<u64>| {
-        let mut epochs = (0..1000u64).filter_map(|key| Some(caller.get_or_load(&key.to_le_bytes(), || 0).call()?.epoch));
+        let mut epochs = (0..1000u64)
+            .filter_map(|key| Some(caller.get_or_load(&key.to_le_bytes(), || 0).call()?.epoch));
         let from = epochs.next().unwrap();
         assert!(epochs.any(|epoch| epoch >= from + 3), "its callers are spent");
     };
@@ -253,11 +296,18 @@ fn calls_that_are_open_when_their_callers_are_renewed() {
     let got = first.get_or_load(b"k", || {
         let call = second.current_call(b"k").unwrap();
         spend(&mut second);
-        assert!(second.get_or_load_timeout(b"k", NOW, || 2).err() == Some(Error::TimedOut), "its load runs");
+        assert!(
+            second.get_or_load_timeout(b"k", NOW, || 2).err() == Some(Error::TimedOut),
+            "its load runs"
+        );
         let mut task = pin!(second.get_or_load_async(b"k", async { 3 }));
         assert!(look(task.as_mut()).is_pending(), "a task joins it");
         let mut third = group.caller();
-        assert!(third.forget_call(b"k", call) == ForgetOutcome::Closed && third.forget_call(b"k", call) == ForgetOutcome::Missed, "by its name");
+        assert!(
+            third.forget_call(b"k", call) == ForgetOutcome::Closed
+                && third.forget_call(b"k", call) == ForgetOutcome::Missed,
+            "by its name"
+        );
         assert!(*third.get_or_load(b"k", || 4).value == 4, "a newer load");
         1
     });
@@ -276,7 +326,8 @@ fn calls_that_are_open_when_their_callers_are_renewed() {
 #[test]
 fn a_group_grows_with_its_use() {
     let group = Arc::new(Group::<u64>::new());
-    let hung: Vec<_> = (0..300).map(|key| Hung::new(&group, format!("hung {key}").into_bytes())).collect();
+    let hung: Vec<_> =
+        (0..300).map(|key| Hung::new(&group, format!("hung {key}").into_bytes())).collect();
     let mut callers: Vec<_> = (0..40).map(|_| group.caller()).collect();
     for caller in &mut callers {
         caller.get_or_load(b"k", || 1);
@@ -300,7 +351,10 @@ fn no_forgotten_answer_is_current_after_a_load_without_one() {
         assert!(caller.last_is_current() == Some(true));
         other.forget(b"k");
         match how {
-            0 => assert!(catch_unwind(AssertUnwindSafe(|| caller.get_or_load(b"m", || panic!("the load")).led)).is_err()),
+            0 => assert!(catch_unwind(AssertUnwindSafe(|| caller
+                .get_or_load(b"m", || panic!("the load"))
+                .led))
+            .is_err()),
             1 => {
                 let mut task = pin!(caller.get_or_load_async(b"m", std::future::pending()));
                 assert!(look(task.as_mut()).is_pending());
@@ -315,7 +369,10 @@ fn no_forgotten_answer_is_current_after_a_load_without_one() {
                 drop(receiver);
             }
         }
-        assert!(caller.last_is_current() == Some(false), "after {how}: the answer that it got last is forgotten");
+        assert!(
+            caller.last_is_current() == Some(false),
+            "after {how}: the answer that it got last is forgotten"
+        );
     }
 }
 
@@ -341,7 +398,8 @@ fn waker(run: fn(&str)) -> Waker {
 
 type Task = std::pin::Pin<Box<dyn Future<Output = singleflight::Loaded<u64>> + Send>>;
 
-// Another task of the same call, which the first one's waker polls in each of its parts, as an executor may.
+// Another task of the same call, which the first one's waker polls in each of its parts, as an
+// executor may.
 static OTHER: Mutex<Option<Task>> = Mutex::new(None);
 
 #[test]
@@ -375,12 +433,18 @@ fn wakers_run_without_a_lock_and_one_that_panics_hurts_nobody() {
         *OTHER.lock().unwrap() = Some(other);
         for (task, waker) in tasks.iter_mut().zip(&wakers) {
             for _ in 0..2 {
-                assert!(task.as_mut().poll(&mut Context::from_waker(waker)).is_pending(), "it waits");
+                assert!(
+                    task.as_mut().poll(&mut Context::from_waker(waker)).is_pending(),
+                    "it waits"
+                );
             }
         }
         7
     });
-    assert!(*got.value == 7 && told.0.load(SeqCst), "the leader has its answer, and the others were woken");
+    assert!(
+        *got.value == 7 && told.0.load(SeqCst),
+        "the leader has its answer, and the others were woken"
+    );
     assert!(GOT.load(SeqCst) == 7, "a waker has polled another task");
     for task in &mut tasks {
         assert!(matches!(look(task.as_mut()), Poll::Ready(got) if *got.value == 7), "its answer");

@@ -1,12 +1,13 @@
-//! 64 threads over 64 hash slots, with nested calls, Forgets, deadlines, tasks and loads that panic: all end, one load of a key runs at a
-//! time, nothing is older than a Forget, and answers of one thread do not go backwards. `SFLIGHT_CALLS` says how many calls are made in each
-//! of the four groups, 60,000 by default, and eight times as many in that whose callers are spent soon.
+//! 64 threads over 64 hash slots, with nested calls, Forgets, deadlines, tasks and loads that
+//! panic: all end, one load of a key runs at a time, nothing is older than a Forget, and answers of
+//! one thread do not go backwards. `SFLIGHT_CALLS` says how many calls are made in each of the four
+//! groups, 60,000 by default, and eight times as many in that whose callers are spent soon.
 use singleflight::{Caller, Group, Stamp, Stats};
 use std::future::Future;
-use std::panic::{AssertUnwindSafe, catch_unwind, resume_unwind};
+use std::panic::{catch_unwind, resume_unwind, AssertUnwindSafe};
 use std::pin::pin;
-use std::sync::Mutex;
 use std::sync::atomic::{AtomicBool, AtomicI64, AtomicU64, Ordering::SeqCst};
+use std::sync::Mutex;
 use std::task::{Context, Poll, Wake, Waker};
 use std::thread::Thread;
 use std::time::{Duration, Instant};
@@ -46,8 +47,8 @@ struct Key {
     ended: AtomicU64,
     // When the last Forget began of those that have returned.
     forgotten: AtomicU64,
-    // The loads that run: when each began, and how many Forgets had returned before its call was asked for. Where no more have begun
-    // by now, none can have ended it.
+    // The loads that run: when each began, and how many Forgets had returned before its call was
+    // asked for. Where no more have begun by now, none can have ended it.
     running: Mutex<Vec<(u64, u64)>>,
     cached: Mutex<Option<(u64, Stamp)>>,
 }
@@ -139,13 +140,18 @@ impl<'a> Actor<'a, '_> {
             let cached = *of.cached.lock().unwrap();
             if let Some((moment, stamp)) = cached {
                 if caller.is_current(stamp) {
-                    assert!(moment >= least, "a stamp from {moment} is current after a Forget from {least}");
+                    assert!(
+                        moment >= least,
+                        "a stamp from {moment} is current after a Forget from {least}"
+                    );
                     world.hits.fetch_add(1, SeqCst);
                 }
             }
         }
-        let (how, by_group, polls) = (self.random.below(16), self.random.below(2) == 0, self.random.below(3));
-        let (is_nested, panics, yields) = (self.random.below(3) == 0, self.random.below(50) == 0, self.random.below(3));
+        let (how, by_group, polls) =
+            (self.random.below(16), self.random.below(2) == 0, self.random.below(3));
+        let (is_nested, panics, yields) =
+            (self.random.below(3) == 0, self.random.below(50) == 0, self.random.below(3));
         let time = Duration::from_micros(self.random.below(100));
         let other = key + 1 + self.random.below(4) as usize;
         let mut load = || {
@@ -180,11 +186,15 @@ impl<'a> Actor<'a, '_> {
         assert!(got.value.key == key, "an answer of another key");
         assert!(moment >= least, "an answer from {moment} after a Forget from {least}");
         let (last, before) = self.last[key];
-        assert!(moment >= last || of.begun.load(SeqCst) != before, "an answer from {moment} after one from {last}");
+        assert!(
+            moment >= last || of.begun.load(SeqCst) != before,
+            "an answer from {moment} after one from {last}"
+        );
         self.last[key] = (moment, ended);
         if let Some(call) = got.call() {
             world.epoch.fetch_max(u64::from(call.epoch), SeqCst);
-            if if by_group { group.is_current(got.stamp()) } else { caller.is_current(got.stamp()) } {
+            if if by_group { group.is_current(got.stamp()) } else { caller.is_current(got.stamp()) }
+            {
                 *of.cached.lock().unwrap() = Some((moment, got.stamp()));
             }
         }
@@ -201,7 +211,8 @@ impl<'a> Actor<'a, '_> {
 }
 
 fn stress(what: &str, times: u64, open: impl FnOnce() -> Group<Value<'static>>) -> (Stats, u64) {
-    let calls = std::env::var("SFLIGHT_CALLS").map_or(60_000 * times, |calls| calls.parse().expect("SFLIGHT_CALLS: a number of calls"));
+    let calls = std::env::var("SFLIGHT_CALLS")
+        .map_or(60_000 * times, |calls| calls.parse().expect("SFLIGHT_CALLS: a number of calls"));
     let mut world = World::default();
     let name = |key: usize| format!("{}{key}", "key".repeat(key % 6 * 5)).into_bytes();
     world.keys.extend((0..KEYS).map(|key| Key { name: name(key), ..Key::default() }));
@@ -215,7 +226,12 @@ fn stress(what: &str, times: u64, open: impl FnOnce() -> Group<Value<'static>>) 
                 let (group, done) = (&group, &done);
                 scope.spawn(move || {
                     let mut callers: Vec<_> = (0..DEPTH).map(|_| group.caller()).collect();
-                    let mut actor = Actor { world, group, random: Random(88_172_645_463_325_252 + thread * 7), last: vec![(0, 0); KEYS] };
+                    let mut actor = Actor {
+                        world,
+                        group,
+                        random: Random(88_172_645_463_325_252 + thread * 7),
+                        last: vec![(0, 0); KEYS],
+                    };
                     for _ in 0..calls / THREADS {
                         // Half of all calls are for four keys.
                         let most = if actor.random.below(2) == 0 { 4 } else { KEYS as u64 };
@@ -250,11 +266,15 @@ fn stress(what: &str, times: u64, open: impl FnOnce() -> Group<Value<'static>>) 
         ends.into_iter().for_each(|end| end.unwrap_or_else(|panic| resume_unwind(panic)));
     });
     let stats = group.stats();
-    let (loads, hits, epoch) = (world.loads.load(SeqCst), world.hits.load(SeqCst), world.epoch.load(SeqCst));
+    let (loads, hits, epoch) =
+        (world.loads.load(SeqCst), world.hits.load(SeqCst), world.epoch.load(SeqCst));
     println!("{what}: {loads} loads, {hits} hits, {epoch} epochs; {stats:?}");
     assert!(stats.in_use == 0, "all callers are back: {stats:?}");
     assert!(world.live.load(SeqCst) == 0, "each value was dropped");
-    assert!(loads > 0 && hits > 0 && stats.closed > 0 && stats.joins > 0, "there was something of each");
+    assert!(
+        loads > 0 && hits > 0 && stats.closed > 0 && stats.joins > 0,
+        "there was something of each"
+    );
     (stats, epoch)
 }
 
@@ -272,7 +292,8 @@ fn too_few_callers() {
 
 #[test]
 fn callers_that_are_spent() {
-    let (_, epoch) = stress("callers that are spent", 8, || Group::open_spent_after(64, 8, 1).unwrap());
+    let (_, epoch) =
+        stress("callers that are spent", 8, || Group::open_spent_after(64, 8, 1).unwrap());
     assert!(epoch > 1000, "{epoch} renewals under load");
 }
 

@@ -1,7 +1,7 @@
 //! Threads that wait are woken by their leader alone.
 use singleflight::Group;
-use std::sync::Mutex;
 use std::sync::atomic::{AtomicU32, Ordering::SeqCst};
+use std::sync::Mutex;
 use std::time::{Duration, Instant};
 
 // How often the thread of this path below /proc has gone to sleep.
@@ -23,14 +23,19 @@ fn calls_of_other_keys_wake_nobody() {
                 scope.spawn(|| {
                     let path = std::fs::read_link("/proc/thread-self").unwrap();
                     threads.lock().unwrap().push(path.to_str().unwrap().to_string());
-                    assert!(*group.caller().get_or_load(b"slow", || panic!("a second load")).value == 7, "the answer");
+                    assert!(
+                        *group.caller().get_or_load(b"slow", || panic!("a second load")).value == 7,
+                        "the answer"
+                    );
                     woken.fetch_add(1, SeqCst);
                 });
             }
             // They sleep where none has gone to sleep for a while.
             let all = || threads.lock().unwrap().iter().map(|path| sleeps(path)).sum::<u64>();
             let (mut before, mut since) = (all(), Instant::now());
-            while group.stats().joins < WAITERS as u64 || since.elapsed() < Duration::from_millis(100) {
+            while group.stats().joins < WAITERS as u64
+                || since.elapsed() < Duration::from_millis(100)
+            {
                 std::thread::sleep(Duration::from_millis(5));
                 let now = all();
                 if now != before {
@@ -43,7 +48,13 @@ fn calls_of_other_keys_wake_nobody() {
                 let (mut first, mut second) = (group.caller(), group.caller());
                 let joins = group.stats().joins;
                 std::thread::scope(|scope| {
-                    let asks = || assert!(*second.get_or_load(key.as_bytes(), || panic!("a second load")).value == round, "the answer");
+                    let asks = || {
+                        assert!(
+                            *second.get_or_load(key.as_bytes(), || panic!("a second load")).value
+                                == round,
+                            "the answer"
+                        )
+                    };
                     let load = || {
                         scope.spawn(asks);
                         while group.stats().joins == joins {

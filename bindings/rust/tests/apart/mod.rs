@@ -1,6 +1,7 @@
 use singleflight::Group;
 
-/// So many keys with a place each: where another key of its place is led, a stamp is current no more.
+/// So many keys with a place each: where another key of its place is led, a stamp is current no
+/// more.
 pub fn keys<T: Default + Send + Sync>(group: &Group<T>, count: usize) -> Vec<String> {
     let mut caller = group.caller();
     let mut led = Vec::new();

@@ -1,10 +1,11 @@
-//! Asking in tasks of tokio: one load for all who ask at one time, deadlines, and tasks that are aborted.
+//! Asking in tasks of tokio: one load for all who ask at one time, deadlines, and tasks that are
+//! aborted.
 #[path = "../../tests/apart/mod.rs"]
 mod apart;
 
 use singleflight::Group;
-use std::sync::Arc;
 use std::sync::atomic::{AtomicU64, Ordering::SeqCst};
+use std::sync::Arc;
 use std::time::Duration;
 use tokio::runtime::{Builder, Runtime};
 use tokio::sync::Semaphore;
@@ -34,7 +35,8 @@ fn one_load_for_all_who_ask_at_once() {
             let (loads, release) = (Arc::new(AtomicU64::new(0)), Arc::new(Semaphore::new(0)));
             let tasks: Vec<_> = (0..4000)
                 .map(|task| {
-                    let (group, loads, release, key) = (group.clone(), loads.clone(), release.clone(), names[task % keys].clone());
+                    let (group, loads, release, key) =
+                        (group.clone(), loads.clone(), release.clone(), names[task % keys].clone());
                     tokio::spawn(async move {
                         let load = async {
                             loads.fetch_add(1, SeqCst);
@@ -42,18 +44,28 @@ fn one_load_for_all_who_ask_at_once() {
                             key.clone()
                         };
                         let got = group.get_or_load_async(&key, load).await;
-                        assert!(*got.value == key && got.shared() == (keys < 4000), "the value of its key");
+                        assert!(
+                            *got.value == key && got.shared() == (keys < 4000),
+                            "the value of its key"
+                        );
                     })
                 })
                 .collect();
             let asked = || group.stats().leads + group.stats().joins - before.leads - before.joins;
             until("all ask", || asked() == 4000).await;
-            assert!(group.stats().in_use == keys as u32, "only who loads has a caller of the library: {:?}", group.stats());
+            assert!(
+                group.stats().in_use == keys as u32,
+                "only who loads has a caller of the library: {:?}",
+                group.stats()
+            );
             release.add_permits(4000);
             for task in tasks {
                 task.await.unwrap();
             }
-            assert!(loads.load(SeqCst) == keys as u64 && group.stats().in_use == 0, "one load a key, and all callers are back");
+            assert!(
+                loads.load(SeqCst) == keys as u64 && group.stats().in_use == 0,
+                "one load a key, and all callers are back"
+            );
         }
     });
 }
@@ -76,18 +88,29 @@ fn deadlines_and_aborted_tasks() {
         });
         until("the leader asks", || group.stats().leads == 1).await;
         let mut caller = group.caller();
-        let late = timeout(Duration::from_millis(20), caller.get_or_load_async("k", async { unreachable!() })).await;
+        let late = timeout(
+            Duration::from_millis(20),
+            caller.get_or_load_async("k", async { unreachable!() }),
+        )
+        .await;
         assert!(late.is_err() && caller.last_is_current().is_none(), "it leaves");
         // The future of a group is one of its own, so that it may be spawned as it is.
-        let aborted = tokio::spawn(group.get_or_load_async(String::from("k"), async { unreachable!() }));
+        let aborted =
+            tokio::spawn(group.get_or_load_async(String::from("k"), async { unreachable!() }));
         until("another joins", || group.stats().joins == 2).await;
         aborted.abort();
         assert!(aborted.await.unwrap_err().is_cancelled(), "it is aborted");
-        assert!(group.stats().in_use == 1, "whoever waits in a task holds no caller of the library");
+        assert!(
+            group.stats().in_use == 1,
+            "whoever waits in a task holds no caller of the library"
+        );
         drop(caller);
         release.add_permits(1);
         assert!(leader.await.unwrap() == 2, "two had joined");
-        assert!(group.stats().in_use == 0 && weak.upgrade().is_none(), "all callers are back, and no value is kept");
+        assert!(
+            group.stats().in_use == 0 && weak.upgrade().is_none(),
+            "all callers are back, and no value is kept"
+        );
 
         // A leader that is aborted ends its call, and who joined loads.
         let leader = tokio::spawn(group.get_or_load_async("k", std::future::pending()));
@@ -95,11 +118,15 @@ fn deadlines_and_aborted_tasks() {
         let joined = tokio::spawn(group.get_or_load_async("k", async { Arc::new(8) }));
         until("another joins", || group.stats().joins == 3).await;
         leader.abort();
-        assert!(**joined.await.unwrap().value == 8 && group.stats().in_use == 0, "who joined loads itself");
+        assert!(
+            **joined.await.unwrap().value == 8 && group.stats().in_use == 0,
+            "who joined loads itself"
+        );
     });
 }
 
-// A leader whose own timeout is over, in a task or around it, drops its load before another one begins.
+// A leader whose own timeout is over, in a task or around it, drops its load before another one
+// begins.
 #[test]
 fn a_timeout_of_the_leader() {
     struct Running(Arc<AtomicU64>);
@@ -122,7 +149,10 @@ fn a_timeout_of_the_leader() {
                         number
                     };
                     let time = Duration::from_millis(if number < 99 { 10 } else { 60_000 });
-                    timeout(time, group.get_or_load_async("k", load)).await.ok().map(|got| *got.value)
+                    timeout(time, group.get_or_load_async("k", load))
+                        .await
+                        .ok()
+                        .map(|got| *got.value)
                 })
             })
             .collect();
@@ -130,7 +160,10 @@ fn a_timeout_of_the_leader() {
         for task in tasks {
             values.extend(task.await.unwrap());
         }
-        assert!(values.iter().all(|value| *value == 99) && values.last() == Some(&99), "the load that ends: {values:?}");
+        assert!(
+            values.iter().all(|value| *value == 99) && values.last() == Some(&99),
+            "the load that ends: {values:?}"
+        );
         assert!(group.stats().in_use == 0 && running.load(SeqCst) == 0, "{:?}", group.stats());
     });
 }
