@@ -1,14 +1,17 @@
-/* Wakes threads for no reason, as POSIX allows: every second wait ends at once. Link it into a program with
- * -Wl,--wrap=pthread_cond_wait,--wrap=pthread_cond_timedwait. So a wait that does not look again shows. */
+/* Wakes threads for no reason, as POSIX allows: every second wait ends at once, so that a wait
+ * which does not look again shows. Link it into a program with
+ * -Wl,--wrap=pthread_cond_wait,--wrap=pthread_cond_timedwait. */
 #include <pthread.h>
 #include <sched.h>
 #include <stdatomic.h>
 #include <time.h>
 
 int __real_pthread_cond_wait(pthread_cond_t *condition, pthread_mutex_t *lock);
-int __real_pthread_cond_timedwait(pthread_cond_t *condition, pthread_mutex_t *lock, const struct timespec *deadline);
+int __real_pthread_cond_timedwait(pthread_cond_t *condition, pthread_mutex_t *lock,
+                                  const struct timespec *deadline);
 int __wrap_pthread_cond_wait(pthread_cond_t *condition, pthread_mutex_t *lock);
-int __wrap_pthread_cond_timedwait(pthread_cond_t *condition, pthread_mutex_t *lock, const struct timespec *deadline);
+int __wrap_pthread_cond_timedwait(pthread_cond_t *condition, pthread_mutex_t *lock,
+                                  const struct timespec *deadline);
 
 static atomic_uint waits;
 
@@ -24,6 +27,7 @@ int __wrap_pthread_cond_wait(pthread_cond_t *condition, pthread_mutex_t *lock) {
     return is_spurious(lock) ? 0 : __real_pthread_cond_wait(condition, lock);
 }
 
-int __wrap_pthread_cond_timedwait(pthread_cond_t *condition, pthread_mutex_t *lock, const struct timespec *deadline) {
+int __wrap_pthread_cond_timedwait(pthread_cond_t *condition, pthread_mutex_t *lock,
+                                  const struct timespec *deadline) {
     return is_spurious(lock) ? 0 : __real_pthread_cond_timedwait(condition, lock, deadline);
 }
