@@ -1,0 +1,5 @@
+//go:build !asan
+
+package singleflight
+
+const isAddressSanitized = false
