@@ -311,6 +311,48 @@ func TestAMemberThatHearsOfOneThatJoins(t *testing.T) {
 	}
 }
 
+// The answers of one round count together. Between those of two members, a third one can forget
+// without a word to the peer that joins, and die; its next process answers, and knows of nothing.
+func TestAPeerThatJoinsAsksAllInOneRound(t *testing.T) {
+	m, by := newMesh(), newAgreed()
+	a, b, c := joinAll(t, m, by, time.Minute)
+	for _, n := range []*node{a, b, c} {
+		memberOf(n).setDeaf(true)
+	}
+	var answered sync.WaitGroup
+	var first sync.Once
+	answered.Add(2)
+	m.mu.Lock()
+	for _, n := range []*node{b, c} {
+		n := n
+		var one sync.Once
+		m.routes["d>"+n.self] = func(sealed []byte) []byte {
+			defer one.Do(answered.Done)
+			return n.answer(sealed)
+		}
+	}
+	var next *node
+	m.routes["d>a"] = func(sealed []byte) []byte {
+		first.Do(func() {
+			answered.Wait()
+			if err := forget(a, user); err != nil {
+				t.Error(err)
+			}
+			a.close()
+			by.expire("a", false)
+			next = joins(t, m, by, "a", time.Minute)
+			await(t, next.session.Load().joined, "the next a does not join")
+		})
+		return next.answer(sealed)
+	}
+	m.mu.Unlock()
+	d := joins(t, m, by, "d", time.Minute)
+	await(t, d.session.Load().ready, "it does not serve")
+	if !has(d, a, user) {
+		t.Error("it serves without a Forget that had returned nil")
+	}
+}
+
 // A peer whose lease has run out joins again. It keeps what it has where a member that served
 // meanwhile tells it what it missed, and forgets all where there is none.
 func TestJoiningAgain(t *testing.T) {
