@@ -281,6 +281,27 @@ func TestAMemberThatHearsNothing(t *testing.T) {
 	}
 }
 
+// And where it knows a process that joined by the name of the last one, which it may hear of first
+// that it has ended.
+func TestAMemberThatHearsOfALaterProcess(t *testing.T) {
+	m, by := newMesh(), newAgreed()
+	_, b, c := joinAll(t, m, by, time.Minute)
+	memberOf(b).setDeaf(true)
+	c.close()
+	by.expire("c", false)
+	next := joins(t, m, by, "c", time.Minute)
+	await(t, next.session.Load().ready, "it does not serve")
+	if !isListed(memberOf(b), "c", memberOf(next).start) {
+		t.Errorf("b has answered it, and has %v", memberOf(b).Members())
+	}
+	if isListed(memberOf(b), "c", memberOf(next).start+1) || isListed(memberOf(b), "d", 1) {
+		t.Error("one that has not joined is a member")
+	}
+	if got := ask(t, b, `{"from":"c","to":"b","start":99}`); got.Why != isUnknown {
+		t.Errorf("b answers one that has not joined: %+v", got)
+	}
+}
+
 // The same, where it has heard from another member of the one that joined.
 func TestAMemberThatHearsOfOneThatJoins(t *testing.T) {
 	m, by := newMesh(), newAgreed()
