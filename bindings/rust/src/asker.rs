@@ -157,7 +157,7 @@ impl<T, P: Deref<Target = Pool<T>>> Asker<T, P> {
 
     fn end_call(&mut self, call: Call, key: &[u8], value: Arc<T>) -> Loaded<T> {
         let spare = self.taken.as_mut().and_then(|taken| taken.spare.take());
-        let lending = Lending::new(value.clone(), spare);
+        let lending = Lending::new(&value, spare);
         let mut followers = 0;
         let (joiners, stamp) = self.settle(lending.number(), |wait, (joiners, stamp)| {
             followers = wait.end(key, &value, joiners, stamp);

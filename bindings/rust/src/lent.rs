@@ -1,6 +1,8 @@
 //! An answer on its way through the library, which hands on a number of 64 bits: who joined takes
 //! its share of the answer by that.
 
+use std::marker::PhantomData;
+use std::mem::{forget, ManuallyDrop};
 use std::ptr::NonNull;
 use std::sync::atomic::{fence, AtomicU64, Ordering};
 use std::sync::Arc;
@@ -15,17 +17,21 @@ pub(crate) struct Lent<T> {
     // it to 0 frees the rest.
     shares: AtomicU64,
     // Written by the leader before it settles the call, and only read then, until nobody has a
-    // share any more.
-    answer: Option<Arc<T>>,
+    // share any more. It stands on the leader's own count, and on one of its own from then on that
+    // the leader knows that somebody joined: a call that nobody joined counts nothing.
+    answer: Option<ManuallyDrop<Arc<T>>>,
 }
 
-/// The leader's part of one that is lent, which it settles.
-pub(crate) struct Lending<T>(NonNull<Lent<T>>);
+/// The leader's part of one that is lent, which it settles while it has the answer itself.
+pub(crate) struct Lending<'a, T>(NonNull<Lent<T>>, PhantomData<&'a Arc<T>>);
 
-impl<T> Lending<T> {
+impl<'a, T> Lending<'a, T> {
     /// Lends the answer. `spare` is one that came back before, or none.
-    pub(crate) fn new(answer: Arc<T>, spare: Option<Box<Lent<T>>>) -> Self {
-        let lent = Lent { shares: AtomicU64::new(MANY), answer: Some(answer) };
+    pub(crate) fn new(answer: &'a Arc<T>, spare: Option<Box<Lent<T>>>) -> Self {
+        // SAFETY: the copy is dropped only after `keep` has counted it, which comes before the
+        // leader's own is dropped.
+        let copy = ManuallyDrop::new(unsafe { std::ptr::read(answer) });
+        let lent = Lent { shares: AtomicU64::new(MANY), answer: Some(copy) };
         let at = match spare {
             Some(mut spare) => {
                 *spare = lent;
@@ -33,7 +39,7 @@ impl<T> Lending<T> {
             }
             None => Box::new(lent),
         };
-        Lending(NonNull::from(Box::leak(at)))
+        Lending(NonNull::from(Box::leak(at)), PhantomData)
     }
 
     /// The number that stands for it, which is not 0.
@@ -41,19 +47,40 @@ impl<T> Lending<T> {
         self.0.as_ptr().expose_provenance() as u64
     }
 
+    // The answer has a count of its own, for those who have a share longer than the leader.
+    fn keep(&self) {
+        // SAFETY: it is freed where its count comes to 0, and MANY less are the leader's.
+        if let Some(answer) = unsafe { &self.0.as_ref().answer } {
+            forget(Arc::clone(answer));
+        }
+    }
+
     /// So many have a share, or had one. Where that is nobody it comes back, for the next call.
     pub(crate) fn settle(self, shares: u32) -> Option<Box<Lent<T>>> {
+        let lending = ManuallyDrop::new(self);
         let many = MANY - u64::from(shares);
-        // SAFETY: it is freed where its count comes to 0, and `many` of that are the leader's.
-        let lent = unsafe { self.0.as_ref() };
-        if shares > 0 && lent.shares.fetch_sub(many, Ordering::Release) != many {
-            return None;
+        if shares > 0 {
+            lending.keep();
+            // SAFETY: it is freed where its count comes to 0, and `many` of that are the leader's.
+            if unsafe { lending.0.as_ref() }.shares.fetch_sub(many, Ordering::Release) != many {
+                return None;
+            }
         }
         fence(Ordering::Acquire);
         // SAFETY: it was a box, and nobody has a share, nor will.
-        let mut spare = unsafe { Box::from_raw(self.0.as_ptr()) };
-        spare.answer = None;
+        let mut spare = unsafe { Box::from_raw(lending.0.as_ptr()) };
+        let answer = spare.answer.take();
+        if shares > 0 {
+            answer.map(ManuallyDrop::into_inner);
+        }
         Some(spare)
+    }
+}
+
+impl<T> Drop for Lending<'_, T> {
+    /// The leader panicked before it knew who has a share: so the answer stays for good.
+    fn drop(&mut self) {
+        self.keep();
     }
 }
 
@@ -67,12 +94,13 @@ pub(crate) unsafe fn take<T>(number: u64) -> Option<Arc<T>> {
     let at = NonNull::new(std::ptr::with_exposed_provenance_mut::<Lent<T>>(number as usize))?;
     // SAFETY: it is freed where its count comes to 0, and one of that is the taker's.
     let lent = unsafe { at.as_ref() };
-    let answer = lent.answer.clone();
+    let answer = lent.answer.clone().map(ManuallyDrop::into_inner);
     if lent.shares.fetch_sub(1, Ordering::Release) == 1 {
         fence(Ordering::Acquire);
         // SAFETY: it was a box, and nobody has a share any more. The leader has settled, or the
-        // count would be MANY more.
-        drop(unsafe { Box::from_raw(at.as_ptr()) });
+        // count would be MANY more; so the answer has a count of its own.
+        let lent = unsafe { Box::from_raw(at.as_ptr()) };
+        lent.answer.map(ManuallyDrop::into_inner);
     }
     answer
 }
@@ -86,10 +114,10 @@ mod tests {
         let answer = Arc::new(7);
         let mut spare = None;
         for _ in 0..3 {
-            let lending = Lending::new(answer.clone(), spare);
-            assert!(lending.number() != 0 && Arc::strong_count(&answer) == 2, "it has the answer");
+            let lending = Lending::new(&answer, spare);
+            assert!(lending.number() != 0 && Arc::strong_count(&answer) == 1, "it counts nothing");
             spare = lending.settle(0);
-            assert!(spare.is_some() && Arc::strong_count(&answer) == 1, "and gives it back");
+            assert!(spare.is_some() && Arc::strong_count(&answer) == 1, "nor then");
         }
     }
 
@@ -97,7 +125,7 @@ mod tests {
     fn each_takes_a_share_before_the_leader_counts_or_after() {
         for before in 0..=3 {
             let answer = Arc::new(String::from("ada"));
-            let lending = Lending::new(answer.clone(), None);
+            let lending = Lending::new(&answer, None);
             let number = lending.number();
             // SAFETY: three have a share.
             let take = || unsafe { take::<String>(number) }.expect("an answer");
@@ -117,10 +145,28 @@ mod tests {
     }
 
     #[test]
+    fn shares_outlive_the_leaders_answer() {
+        // SAFETY: as many have a share as take it below.
+        let take = |number| unsafe { take::<String>(number) }.map(|answer| answer.to_string());
+        let mut answer = Arc::new(String::from("ada"));
+        let lending = Lending::new(&answer, None);
+        let number = lending.number();
+        assert!(lending.settle(2).is_none(), "two have a share");
+        answer = Arc::new(String::from("grace"));
+        for _ in 0..2 {
+            assert_eq!(take(number).as_deref(), Some("ada"));
+        }
+        // Of a leader that panicked nobody knows who has a share.
+        let number = Lending::new(&answer, None).number();
+        drop(answer);
+        assert_eq!(take(number).as_deref(), Some("grace"));
+    }
+
+    #[test]
     fn shares_taken_by_threads() {
         for _ in 0..if cfg!(miri) { 20 } else { 2000 } {
             let answer = Arc::new(AtomicU64::new(0));
-            let lending = Lending::new(answer.clone(), None);
+            let lending = Lending::new(&answer, None);
             let number = lending.number();
             std::thread::scope(|scope| {
                 for _ in 0..3 {
