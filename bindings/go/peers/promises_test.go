@@ -140,6 +140,45 @@ func TestAnEarlierProcessDoesNotAcknowledge(t *testing.T) {
 	}
 }
 
+// An earlier process whose start is the later one, since the clock went back, can acknowledge for the
+// process at the address while no other peer knows that start. That process begins again once it
+// asks a peer that has heard of the earlier one.
+func TestAnEarlierProcessWithALaterStart(t *testing.T) {
+	m := newMesh()
+	old := begin(t, m, "b", time.Minute)
+	b, err := newNode(config{self: "b", most: 5000, timeout: 300 * time.Millisecond, every: time.Minute, transport: meshed{m, "b"},
+		coordinator: wentBack{NewStatic(names...)}, keys: testKeys})
+	if err != nil {
+		t.Fatal(err)
+	}
+	go b.run()
+	t.Cleanup(b.close)
+	await(t, b.session.Load().ready, "the next process does not begin")
+	a, c := begin(t, m, "a", time.Minute), begin(t, m, "c", time.Minute)
+	for _, n := range []*node{a, b, c, a} {
+		round(n)
+	}
+	before := map[string]bool{versionOf(b.versions, user): true}
+	m.mu.Lock()
+	m.routes["a>b"] = old.answer
+	m.mu.Unlock()
+	if err := forget(a, user); err != nil || has(b, a, user) {
+		t.Fatalf("the earlier process did not acknowledge for the next one, so there is nothing to find out: %v", err)
+	}
+	first := b.session.Load()
+	if round(b); !is(first.over) {
+		t.Fatal("the process at the address does not find out as it asks")
+	}
+	await(t, b.session.Load().ready, "it does not serve again")
+	if b.versions.startOf("b") <= old.versions.startOf("b") {
+		t.Error("it has taken no later start")
+	}
+	isFresh(t, user, before, a, b, c)
+	if err := forget(a, user); !errors.Is(err, ErrUnanswered) {
+		t.Errorf("the earlier process has acknowledged again: %v", err)
+	}
+}
+
 // An acknowledgement is of the peer that was asked, of its last process, and holds a number that
 // this process made.
 func TestAcknowledgementsThatAreNone(t *testing.T) {
