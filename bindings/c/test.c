@@ -393,7 +393,7 @@ static void stamps(void) {
     check(first.place >= 1 && first.place <= 65536 && first.reserved == 0 && first.caller >= 1 && first.generation == 1, "its words");
     check(sflight_is_still(&a, &first) && sflight_is_still(&b, &first), "an open call is current");
     asked = (sflight_stamp){0};
-    check(ask(&b, "k", 1) == SFLIGHT_JOINED && same(&asked, &first), "and the same for who joins");
+    check(ask(&b, "k", 1) == SFLIGHT_JOINED && same(&asked, &first), "and the same for a joiner");
     check(ask(&b, "k", 1) == SFLIGHT_WRONG_STATE && ask(&b, "k", 0) == SFLIGHT_BAD_NUMBER && same(&asked, &first), "a refusal writes none");
     check(sflight_finish(&a, 1, &got) == SFLIGHT_DONE && same(&got.stamp, &first) && sflight_is_still(&a, &first), "current");
     got.stamp = (sflight_stamp){0};
@@ -415,7 +415,7 @@ static void stamps(void) {
     check(ask(&a, "m", 1) == SFLIGHT_LED && sflight_is_still(&a, &second) && !sflight_is_still(&a, &first), "a leader asks");
     check(ask(&b, "m", 1) == SFLIGHT_JOINED && sflight_is_still(&b, &second) && !sflight_is_still(&b, &first), "who waits asks");
     check(sflight_finish(&a, 4, &got) == SFLIGHT_DONE && sflight_poll(&b, &got) == SFLIGHT_DONE && got.value == 4, "and goes on");
-    check(ask(&b, "n", 1) == SFLIGHT_LED && sflight_give_up(&b) == SFLIGHT_DONE && !sflight_is_still(&b, &second), "not who gave up");
+    check(ask(&b, "n", 1) == SFLIGHT_LED && sflight_give_up(&b) == SFLIGHT_DONE && !sflight_is_still(&b, &second), "not a caller that gave up");
     sflight_close(&b);
     check(sflight_is_still(&a, &second), "the other goes on, also though its last letter is another");
     sflight_close(&a);
@@ -627,7 +627,7 @@ static void threads(uint32_t places) {
     check(places == 1 || atomic_load(&still) > 0, "some answers are current still");
 }
 
-/* Which call: of a leader, of who joined, and of an answer. */
+/* Which call: of a leader, of a joiner, and of an answer. */
 static void calls(void) {
     sflight_slot a = SFLIGHT_SLOT_NONE, b = SFLIGHT_SLOT_NONE;
     sflight_answer got = {7, 9, {0}};

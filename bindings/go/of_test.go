@@ -89,7 +89,7 @@ func TestOf(t *testing.T) {
 }
 
 // Nil interfaces, nil pointers and values of interface types come back as they are, to the leader
-// and to who joined.
+// and to each joiner.
 func TestOfNils(t *testing.T) {
 	comesBack(t, "a nil interface", error(nil), func(v error) bool { return v == nil })
 	comesBack(t, "a nil any", any(nil), func(v any) bool { return v == nil })
@@ -299,7 +299,7 @@ func TestJoiners(t *testing.T) {
 	}
 }
 
-// Who has joined another key's call at the slot is not among its joiners, when the call is settled
+// A caller that has joined another key's call at the slot is not among its joiners, when the call is settled
 // later.
 func TestStrangersAreNoJoiners(t *testing.T) {
 	g := onePlace(t, 8)
@@ -446,7 +446,7 @@ func TestForgetUnshared(t *testing.T) {
 		r, v := receive(t, second), joined()
 		want := 2
 		if at.drains {
-			// The second who asks joins the call of the first, which takes the result.
+			// The second caller joins the call of the first, which takes the result.
 			want = 1
 		}
 		if r.Val != "second" || v != "second" || r.Joiners != want {

@@ -45,7 +45,8 @@ static uint64_t get(unsigned key) {
         atomic_fetch_add(&hits, 1);
         return got.value;
     }
-    if (sflight_do(pool, (const uint8_t *)name, len, load, &key, SFLIGHT_DO_FOREVER, &got) != SFLIGHT_DO_DONE) abort();
+    int code = sflight_do(pool, (const uint8_t *)name, len, load, &key, SFLIGHT_DO_FOREVER, &got);
+    if (code != SFLIGHT_DO_DONE) abort();
     atomic_fetch_add(got.led ? &loads : &joined, 1);
     /* Where the key was forgotten meanwhile, the value may be older than that. */
     if (sflight_do_is_still(pool, &got.stamp)) {

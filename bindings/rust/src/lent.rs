@@ -1,5 +1,5 @@
-//! An answer on its way through the library, which hands on a number of 64 bits: who joined takes
-//! its share of the answer by that.
+//! An answer on its way through the library, which hands on a number of 64 bits. A caller that
+//! joined takes its share of the answer by that number.
 
 use std::marker::PhantomData;
 use std::mem::{forget, ManuallyDrop};
@@ -13,7 +13,7 @@ const MANY: u64 = 1 << 40;
 /// An answer with which a call is settled before its leader knows how many joined.
 pub(crate) struct Lent<T> {
     // How many shares were not taken yet; until the leader knows how many there are, MANY more.
-    // Each who joined takes one off, and the leader those that were too many. Whoever brings
+    // Each joiner takes one off, and the leader those that were too many. The one that brings
     // it to 0 frees the rest.
     shares: AtomicU64,
     // Written by the leader before it settles the call, and only read then, until nobody has a
@@ -78,18 +78,18 @@ impl<'a, T> Lending<'a, T> {
 }
 
 impl<T> Drop for Lending<'_, T> {
-    /// The leader panicked before it knew who has a share: so the answer stays for good.
+    /// The leader panicked before it knew how many have a share: so the answer stays for good.
     fn drop(&mut self) {
         self.keep();
     }
 }
 
-/// Takes the share of one who joined, by the number of the call. None where the call was settled
+/// Takes the share of a joiner, by the number of the call. None where the call was settled
 /// with nothing.
 ///
 /// # Safety
-/// The number is that of [`Lending::number`] of this type, whose call has counted the taker as one
-/// who joined, or 0; and the taker takes its share once.
+/// The number is that of [`Lending::number`] of this type, whose call has counted the taker as a
+/// joiner, or 0; and the taker takes its share once.
 pub(crate) unsafe fn take<T>(number: u64) -> Option<Arc<T>> {
     let at = NonNull::new(std::ptr::with_exposed_provenance_mut::<Lent<T>>(number as usize))?;
     // SAFETY: it is freed where its count comes to 0, and one of that is the taker's.
@@ -156,7 +156,7 @@ mod tests {
         for _ in 0..2 {
             assert_eq!(take(number).as_deref(), Some("ada"));
         }
-        // Of a leader that panicked nobody knows who has a share.
+        // A leader that panics does not learn how many have a share.
         let number = Lending::new(&answer, None).number();
         drop(answer);
         assert_eq!(take(number).as_deref(), Some("grace"));

@@ -366,8 +366,8 @@ impl Wake for Woken {
     }
 }
 
-// Polls the future to its end, each time by a waker of its own, once that is woken: who waits is
-// never forgotten. Or some times more, for no reason, and drops it then.
+// Polls the future to its end, each time by a waker of its own, once that is woken: a task that waits
+// is never forgotten. Or some times more, for no reason, and drops it then.
 fn polled<F: Future + ?Sized>(
     random: &mut Random,
     mut future: Pin<&mut F>,

@@ -1,5 +1,5 @@
-//! Asking in tasks, by executors made by hand: who waits is woken by its leader alone, and who is
-//! dropped leaves nothing behind.
+//! Asking in tasks, by executors made by hand: a task that waits is woken by its leader alone, and
+//! a future that is dropped leaves nothing behind.
 use singleflight::{Caller, Error, Group};
 use std::cell::Cell;
 use std::collections::VecDeque;

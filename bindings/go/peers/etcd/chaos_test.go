@@ -13,7 +13,7 @@ import (
 var chaos = flag.Duration("chaos", 5*time.Second, "how long TestChaos takes")
 
 // Peers die, are paused and lose messages, servers of etcd die, all at random and at one time, but
-// for the servers, of which two of three run. Who asks and forgets does so all the time.
+// for the servers, of which two of three run. Gets and Forgets go on all the time.
 func TestChaos(t *testing.T) {
 	t.Parallel()
 	servers := newCluster(t, 3)
