@@ -1,5 +1,5 @@
 -- counts of entries after a write, and what a line says by them
-use Rattle.std.proofs.Common.{rules, ◌≡◌, ℕ, ◌+◌, ◌==◌, Bool, true, false, cond, List, inl, inr, Some, None, refl, sym, ◌∙◌, ap, arith, codes, option_and_then}
+use Rattle.std.proofs.Common.{rules, ◌≡◌, ℕ, ◌+◌, ◌==◌, Bool, true, false, cond, List, inl, inr, Option, Some, None, refl, sym, ◌∙◌, ap, arith, codes, option_and_then}
 use Rattle.std.proofs.lemmas.Bool.{cases_Bool, cond-false, eqb-true}
 use Rattle.std.specs.Cmp.{both_tied}
 use Rattle.std.specs.Ordering.{nat_cmp, ordering_then, is_eq}
@@ -10,8 +10,9 @@ use Rattle.serde_json.specs.Find.{as_bool, as_str}
 use Rattle.sf_history.specs.declared.call.CallId.{CallId}
 use Rattle.sf_history.specs.Calls.{same_call}
 use Rattle.sf_history.proofs.LegalHistories.{same_call_is}
+use Rattle.sf_replay.specs.declared.record.Interval.{Interval}
 use Rattle.sf_replay.specs.Entered.{compare_call, count_or_none}
-use Rattle.sf_replay.specs.Record.{field, has_names, caller_in, call_in, count_in, result_in, count_of_mark, joiners_in, settle_from, settle_in, event_of_kind, event_in}
+use Rattle.sf_replay.specs.Record.{field, has_names, caller_in, call_in, count_in, result_in, count_of_mark, joiners_in, settle_from, settle_in, event_of_kind, names_of_time, time_in, timed_event_in, event_in}
 
 nat_ties : (a b : ℕ) → (a == b) ≡ is_eq (nat_cmp a b)
 nat_ties a b = search rules
@@ -45,16 +46,20 @@ module _ (format : ℕ) (f g : CallId → ℕ) (same : format ≡ 1 → (c : Cal
       number : (n : ℕ) → (format == 1) ≡ false → joiners_in format n d ≡ field (codes "joiners") count_in d
       number n isnt = cond-false (format == 1) (option_and_then (count_of_mark n) (field (codes "shared") as_bool d)) (field (codes "joiners") count_in d) isnt
 
-  settle_same : (d : Data) → settle_in format f d ≡ settle_in format g d
+  settle_same : (more : ℕ) (d : Data) → settle_in more format f d ≡ settle_in more format g d
   unfolding settle_in
-  settle_same d =
-      λ i. cond (has_names 5 d) (settle_from (field (codes "by") caller_in d) (field (codes "c") call_in d) (result_in d) (λ call. joiners_same d call i)) None
+  settle_same more d =
+      λ i. cond (has_names (5 + more) d) (settle_from (field (codes "by") caller_in d) (field (codes "c") call_in d) (result_in d) (λ call. joiners_same d call i)) None
 
-  kind_same : (kind : List ℕ) (d : Data) → event_of_kind format f kind d ≡ event_of_kind format g kind d
+  kind_same : (more : ℕ) (kind : List ℕ) (d : Data) → event_of_kind more format f kind d ≡ event_of_kind more format g kind d
   unfolding event_of_kind
-  kind_same kind d = rw (settle_same d) refl
+  kind_same more kind d = rw (settle_same more d) refl
+
+  timed_same : (d : Data) (time : Option Interval) → timed_event_in format f d time ≡ timed_event_in format g d time
+  unfolding timed_event_in
+  timed_same d time = λ i. option_and_then (λ kind. kind_same (names_of_time time) kind d i) (field (codes "e") as_str d)
 
   -- so counts that are right where they are asked for read the same event
   pub event_same : (d : Data) → event_in format f d ≡ event_in format g d
   unfolding event_in
-  event_same d = λ i. option_and_then (λ kind. kind_same kind d i) (field (codes "e") as_str d)
+  event_same d = λ i. option_and_then (λ time. timed_same d time i) (time_in format d)

@@ -1,10 +1,13 @@
 pub mod Records
 pub mod Counts
 pub mod Lines
+pub mod Logging
 pub mod RecordJson
 pub mod RecordData
 pub mod NoLineFeed
 pub mod RoundTrip
+pub mod WrittenTimes
 pub mod RecordLaws
 pub mod MergedOrder
+pub mod MergedTimes
 pub mod StandingOrder

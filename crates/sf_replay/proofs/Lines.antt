@@ -3,7 +3,7 @@ use Rattle.std.proofs.Common.{◌≡◌, cond, Option, option_and_then, ℕ, ◌
 use Rattle.std.proofs.lemmas.Bool.{cond-true, cond-false, cases_Bool}
 use Rattle.std.proofs.lemmas.Str.{is_utf8-from_IsUtf8, IsUtf8-from_is_utf8}
 use Rattle.std.proofs.lemmas.List.Sums.{sum_by_push, count_by-le-length}
-use Rattle.std.proofs.lemmas.List.{length-append, drop_more, drop_all, get_or-map, length-map, take-map}
+use Rattle.std.proofs.lemmas.List.{length-append, drop_more, drop_all, get_or-map, length-map, take-map, take_more, take_all, map_push}
 use Rattle.std.specs.Str.{is_utf8}
 use Rattle.serde_json.specs.Data.{Data}
 use Rattle.serde_json.specs.Read.{read}
@@ -12,7 +12,8 @@ use Rattle.sf_history.specs.History.{enters, joined}
 use Rattle.sf_replay.specs.declared.entered.Entered.{Entered}
 use Rattle.sf_replay.specs.Entered.{entered_in}
 use Rattle.sf_replay.specs.Record.{TextEvent, event_in}
-use Rattle.sf_replay.specs.RecordText.{json_of, record_of, without_empty_last, then_events, events_of}
+use Rattle.sf_replay.specs.declared.record.Interval.{Interval}
+use Rattle.sf_replay.specs.RecordText.{time_of, json_of, record_of, without_empty_last, then_events, events_of}
 use Rattle.sf_replay.proofs.Counts.{event_same}
 
 -- the JSON value of a line that is text, and of one that is none
@@ -85,6 +86,22 @@ read_bad format lines i events entered within is before = sym before.whole ∙ h
 -- all lines are read
 pub read_all : (format : ℕ) (lines : List (List ℕ)) (i : ℕ) (events : List TextEvent) (entered : Entered) → length lines ≤ i → IsRead format lines i events entered → events_of format [] lines ≡ Ok events
 read_all format lines i events entered past before = sym before.whole ∙ ap (events_of format events) (drop_all i lines past)
+
+-- what the loop keeps of the times
+pub record IsReading (format : ℕ) (lines : List (List ℕ)) (i : ℕ) (events : List TextEvent) (entered : Entered) (times : List (Option Interval)) : Type 0 where
+  pub read : IsRead format lines i events entered
+  pub timed : times ≡ map (time_of format) (take i lines)
+
+pub times_more : (format i : ℕ) (lines : List (List ℕ)) (times : List (Option Interval)) (time : Option Interval) → i < length lines → time ≡ time_of format (get_or lines i []) → times ≡ map (time_of format) (take i lines)
+    → times ++ time ∷ [] ≡ map (time_of format) (take (i + 1) lines)
+times_more format i lines times time within is before =
+    (λ j. before j ++ is j ∷ []) ∙ sym (map_push (time_of format) (take i lines) (get_or lines i [])) ∙ sym (ap (map (time_of format)) (take_more lines i [] within))
+
+pub no_times : (format : ℕ) (lines : List (List ℕ)) (times : List (Option Interval)) → times ≡ [] → times ≡ map (time_of format) (take 0 lines)
+no_times format lines times is = is
+
+pub times_all : (format i : ℕ) (lines : List (List ℕ)) (times : List (Option Interval)) → length lines ≤ i → times ≡ map (time_of format) (take i lines) → times ≡ map (time_of format) lines
+times_all format i lines times past is = is ∙ ap (map (time_of format)) (take_all i lines past)
 
 -- what is lent
 abbrev pub shown : List (Bor (List ℕ)) → List (List ℕ)

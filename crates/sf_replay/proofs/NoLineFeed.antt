@@ -16,7 +16,7 @@ use Rattle.sf_history.specs.declared.event.Hit.{Hit}
 use Rattle.sf_history.specs.declared.event.Hit.TheVariants.{Closed, Cleared, Missed}
 use Rattle.sf_history.specs.Hits.{hit_text}
 use Rattle.sf_replay.specs.Record.{TextEvent}
-use Rattle.sf_replay.specs.Written.{call_json, option_json, record_text, HasCount}
+use Rattle.sf_replay.specs.Written.{call_json, option_json, record_text, record_with, HasCount}
 
 abbrev pub is_lf : ℕ → Bool
 is_lf byte = byte == 10
@@ -83,7 +83,7 @@ hit_no_lf Cleared = refl
 hit_no_lf Missed = refl
 
 pub record_no_lf : (e : TextEvent) → IsWithinLimits e → HasCount e → list_any is_lf (record_text e) ≡ false
-unfolding record_text
+unfolding record_with
 record_no_lf (Lead by key call own) within count =
     skip (decimal by) _ (caller_no_lf by within.0) (skip (quoted key) _ (quoted_no_lf key) (skip (call_json call) _ (call_no_lf call within.1) (skip (option_json own) _ (option_no_lf own within.2) refl)))
 record_no_lf (Enter by key call member) within count =

@@ -12,7 +12,7 @@ use Rattle.sf_history.specs.declared.event.Event.TheVariants.{Lead, Enter, Forge
 use Rattle.sf_history.specs.declared.event.Hit.TheVariants.{Closed, Cleared, Missed}
 use Rattle.sf_history.specs.Hits.{hit_text}
 use Rattle.sf_history.specs.Limits.{IsCallerNumber, IsCallWithin, IsWithinLimits}
-use Rattle.sf_replay.specs.Record.{TextEvent, in_range, up_to, short, call_from, newest_format, lead_in, enter_in, forget_in, forget_call_in, settle_in, handed_in, event_of_kind, event_in}
+use Rattle.sf_replay.specs.Record.{TextEvent, in_range, up_to, short, call_from, plain_format, lead_in, enter_in, forget_in, forget_call_in, settle_in, handed_in, event_of_kind, timed_event_in, event_in}
 use Rattle.sf_replay.specs.Written.{HasCount, HasShortKey}
 use Rattle.sf_replay.proofs.RecordJson.{call_of, option_of, json_of_event}
 use Rattle.sf_words.specs.declared.limits.TheConstants.{LARGEST_CALLER, LARGEST_GENERATION}
@@ -86,8 +86,8 @@ event_is (Settle by call (Ok value) joiners) within count = rw (of_number by (sm
 event_is (Settle by call (Err error) joiners) within count = rw (of_number by (small by within.0), of_call call within.1, of_number joiners (omega (arith, count))) refl
 event_is (Handed by call) within count = rw (of_number by (small by within.0), of_call call within.1) refl
 
-data_reads : (entered : CallId → ℕ) (e : TextEvent) → IsWithinLimits e → HasCount e → HasShortKey e → event_in newest_format entered (event_data e) ≡ Some e
-unfolding event_in event_of_kind lead_in enter_in forget_in forget_call_in settle_in handed_in
+data_reads : (entered : CallId → ℕ) (e : TextEvent) → IsWithinLimits e → HasCount e → HasShortKey e → event_in plain_format entered (event_data e) ≡ Some e
+unfolding event_in timed_event_in event_of_kind lead_in enter_in forget_in forget_call_in settle_in handed_in
 data_reads entered (Lead by key call None) within count short = rw (range_is LARGEST_CALLER by within.0.0 within.0.1, short_is key short, call_is call within.1) refl
 data_reads entered (Lead by key call (Some own)) within count short = rw (range_is LARGEST_CALLER by within.0.0 within.0.1, short_is key short, call_is call within.1, call_is own within.2) refl
 data_reads entered (Enter by key call member) within count short = rw (range_is LARGEST_CALLER by within.0.0 within.0.1, short_is key short, call_is call within.1, call_is member within.2) refl
@@ -100,8 +100,8 @@ data_reads entered (Settle by call (Ok value) joiners) within count short = rw (
 data_reads entered (Settle by call (Err error) joiners) within count short = rw (range_is LARGEST_CALLER by within.0.0 within.0.1, call_is call within.1, up_is joiners count) refl
 data_reads entered (Handed by call) within count short = rw (range_is LARGEST_CALLER by within.0.0 within.0.1, call_is call within.1) refl
 
-pub event_reads : (entered : CallId → ℕ) (e : TextEvent) → IsWithinLimits e → HasCount e → HasShortKey e → option_and_then (event_in newest_format entered) (of_json (json_of_event e)) ≡ Some e
-event_reads entered e within count short = ap (option_and_then (event_in newest_format entered)) (event_is e within count) ∙ data_reads entered e within count short
+pub event_reads : (entered : CallId → ℕ) (e : TextEvent) → IsWithinLimits e → HasCount e → HasShortKey e → option_and_then (event_in plain_format entered) (of_json (json_of_event e)) ≡ Some e
+event_reads entered e within count short = ap (option_and_then (event_in plain_format entered)) (event_is e within count) ∙ data_reads entered e within count short
 
 -- ---- its numbers are numbers, and it nests no deeper than two
 

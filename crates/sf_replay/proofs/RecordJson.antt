@@ -11,7 +11,7 @@ use Rattle.sf_history.specs.declared.event.Event.TheVariants.{Lead, Enter, Forge
 use Rattle.sf_history.specs.declared.event.Hit.TheVariants.{Closed, Cleared, Missed}
 use Rattle.sf_history.specs.Hits.{hit_text}
 use Rattle.sf_replay.specs.Record.{TextEvent}
-use Rattle.sf_replay.specs.Written.{record_text}
+use Rattle.sf_replay.specs.Written.{record_text, record_with}
 
 -- ---- what is printed for a value is read as it
 
@@ -51,7 +51,7 @@ json_of_event (Settle by call result joiners) =
 json_of_event (Handed by call) = begun (codes "handed") by (json.member (codes "c") (call_of call) json.no_members)
 
 pub printed : (e : TextEvent) → print (json_tokens (json_of_event e)) ≡ record_text e
-unfolding print_from escape_byte record_text
+unfolding print_from escape_byte record_with
 printed (Lead by key call None) = simp append_assoc
 printed (Lead by key call (Some own)) = simp append_assoc
 printed (Enter by key call member) = simp append_assoc

@@ -7,7 +7,7 @@ use Rattle.serde_json.specs.View.{items_view, members_view}
 use Rattle.serde_json.specs.declared.value.Value.{Value}
 use Rattle.serde_json.proofs.Views.{members_len-members_view}
 use Rattle.std.specs.Option.{option_map_or}
-use Rattle.sf_replay.specs.Record.{call_in, call_of_items, has_names}
+use Rattle.sf_replay.specs.Record.{call_in, call_of_items, interval_in, interval_of_items, has_names}
 
 -- an array of fewer or more than two items is no call
 pub short_items : (vs : List Value) → length vs < 2 → call_of_items (items_view vs) ≡ None
@@ -23,6 +23,21 @@ long_items (v ∷ w ∷ u ∷ vs) many = refl
 
 pub no_call : (d : Data) (items : Items) → Some items ≡ as_array d → call_of_items items ≡ None → None ≡ call_in d
 no_call d items is none = sym none ∙ ap (option_and_then call_of_items) is
+
+-- nor is it a time
+pub short_times : (vs : List Value) → length vs < 2 → interval_of_items (items_view vs) ≡ None
+short_times [] few = refl
+short_times (v ∷ []) few = refl
+short_times (v ∷ w ∷ vs) few = absurd (omega arith)
+
+pub long_times : (vs : List Value) → 3 ≤ length vs → interval_of_items (items_view vs) ≡ None
+long_times [] many = refl
+long_times (v ∷ []) many = refl
+long_times (v ∷ w ∷ []) many = absurd (omega arith)
+long_times (v ∷ w ∷ u ∷ vs) many = refl
+
+pub no_time : (d : Data) (items : Items) → Some items ≡ as_array d → interval_of_items items ≡ None → None ≡ interval_in d
+no_time d items is none = sym none ∙ ap (option_and_then interval_of_items) is
 
 pub names_counted : (d : Data) (es : List (String Global × Value)) (n count : ℕ) → Some (members_view es) ≡ as_object d → count ≡ length es → (count == n) ≡ has_names n d
 names_counted d es n count is counted =

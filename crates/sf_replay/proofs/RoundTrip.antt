@@ -10,7 +10,7 @@ use Rattle.serde_json.specs.Read.{read}
 use Rattle.serde_json.proofs.OnLiterals.{serde_json_on_literals}
 use Rattle.sf_history.specs.History.{joined}
 use Rattle.sf_history.specs.Limits.{IsWithinLimits}
-use Rattle.sf_replay.specs.Record.{TextEvent, event_in, newest_format, format_in}
+use Rattle.sf_replay.specs.Record.{TextEvent, event_in, plain_format, format_in}
 use Rattle.sf_replay.specs.RecordText.{json_of, record_of, format_of, without_empty_last, record_lines, then_events, events_of, history_after, history_of_lines, history_of}
 use Rattle.sf_replay.specs.Written.{record_text, records_text, history_text, HasCount, HasShortKey}
 use Rattle.sf_replay.proofs.RecordJson.{json_of_event, printed, read_printed}
@@ -26,18 +26,18 @@ unfolding json_of
 json_of_text line text = cond-true (is_utf8 line) (read line) None (is_utf8-from_IsUtf8 line text)
 
 -- a record's text reads as its event, in the newest format
-pub record_reads : (before : List TextEvent) (e : TextEvent) → IsWithinLimits e → HasShortKey e → IsText e → record_of newest_format before (record_text e) ≡ Some e
+pub record_reads : (before : List TextEvent) (e : TextEvent) → IsWithinLimits e → HasShortKey e → IsText e → record_of plain_format before (record_text e) ≡ Some e
 record_reads before e within short text =
-    ap (option_and_then (event_in newest_format (joined before)))
+    ap (option_and_then (event_in plain_format (joined before)))
     (json_of_text (record_text e) text.0 ∙ ap read (sym (printed e)) ∙ read_printed (json_of_event e) (event_numbers e within text.1) (event_shallow e))
     ∙ event_reads (joined before) e within text.1 short
 
-events_read : (before h : List TextEvent) → All IsWithinLimits h → All HasShortKey h → All IsText h → events_of newest_format before (map record_text h) ≡ Ok (before ++ h)
+events_read : (before h : List TextEvent) → All IsWithinLimits h → All HasShortKey h → All IsText h → events_of plain_format before (map record_text h) ≡ Ok (before ++ h)
 events_read before [] within short texts = ap Ok (sym (append-nil before))
 events_read before (e ∷ h) within short texts =
     let first = record_reads before e (All-head IsWithinLimits e h within) (All-head HasShortKey e h short) (All-head IsText e h texts) in
     let rest = events_read (before ++ e ∷ []) h (All-tail IsWithinLimits e h within) (All-tail HasShortKey e h short) (All-tail IsText e h texts) in
-    ap (λ o. then_events (length before + 2) o (λ e. events_of newest_format (before ++ e ∷ []) (map record_text h))) first ∙ rest ∙ ap Ok (append_assoc before (e ∷ []) h)
+    ap (λ o. then_events (length before + 2) o (λ e. events_of plain_format (before ++ e ∷ []) (map record_text h))) first ∙ rest ∙ ap Ok (append_assoc before (e ∷ []) h)
 
 -- the lines of the text
 records_split : (h : List TextEvent) → All IsWithinLimits h → All IsText h → slice_split is_lf (records_text h) ≡ map record_text h ++ [] ∷ []
@@ -54,7 +54,7 @@ last_dropped (x ∷ y ∷ ls) = ap (λ z. x ∷ z) (last_dropped (y ∷ ls))
 abbrev format_line : List ℕ
 format_line = codes "{\"format\":3}"
 
-format_read : format_of format_line ≡ Some newest_format
+format_read : format_of format_line ≡ Some plain_format
 unfolding json_of format_in is_utf8 chars serde_json_on_literals
 format_read = refl
 

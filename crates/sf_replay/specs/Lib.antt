@@ -1,4 +1,5 @@
 pub mod Entered
+pub mod Logs
 pub mod Merged
 pub mod Record
 pub mod RecordText

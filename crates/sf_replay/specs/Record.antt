@@ -1,5 +1,5 @@
 -- one record: the event that a JSON object says, in its format
-use Rattle.std.specs.Prelude.{ℕ, ◌==◌, max, Bool, true, false, ◌&&◌, nat_lt, nat_le, List, length, if◌then◌else◌, Option, Some, None, is_some, option_map, option_and_then, Result, Ok, Err, codes}
+use Rattle.std.specs.Prelude.{ℕ, ◌+◌, ◌==◌, max, Bool, true, false, ◌&&◌, nat_lt, nat_le, List, length, if◌then◌else◌, Option, Some, None, is_some, option_map, option_and_then, Result, Ok, Err, codes}
 use Rattle.std.specs.Option.{option_map_or}
 use Rattle.serde_json.specs.Data.{Data, Items, no_items, item}
 use Rattle.serde_json.specs.Find.{get, as_null, as_bool, as_number, as_u64, as_str, as_array, as_object}
@@ -9,6 +9,7 @@ use Rattle.sf_history.specs.declared.event.Event.{Event}
 use Rattle.sf_history.specs.declared.event.Event.TheVariants.{Lead, Enter, Forget, ForgetCall, Settle, Handed}
 use Rattle.sf_history.specs.declared.event.Hit.{Hit}
 use Rattle.sf_history.specs.declared.event.Hit.TheVariants.{Closed, Cleared, Missed}
+use Rattle.sf_replay.specs.declared.record.Interval.{Interval}
 use Rattle.sf_text.specs.Texts.{same_text}
 use Rattle.sf_words.specs.declared.limits.TheConstants.{LARGEST_CALLER, LARGEST_GENERATION}
 
@@ -77,6 +78,39 @@ hit_in d = option_and_then hit_from (as_str d)
 abbrev pub field : {A : Type 0} → List ℕ → (Data → Option A) → Data → Option A
 field name value d = option_and_then value (get name d)
 
+-- a whole number in 64 bits
+abbrev pub whole_in : Data → Option ℕ
+whole_in d = option_and_then as_u64 (as_number d)
+
+-- a time is the array of two readings of a clock, of which the second is not before the first
+abbrev pub interval_from : Option ℕ → Option ℕ → Option Interval
+interval_from None to = None
+interval_from (Some from) None = None
+interval_from (Some from) (Some to) = if nat_le from to then Some (record { from = from; to = to }) else None
+
+abbrev pub interval_of_items : Items → Option Interval
+interval_of_items no_items = None
+interval_of_items (item a no_items) = None
+interval_of_items (item a (item b no_items)) = interval_from (whole_in a) (whole_in b)
+interval_of_items (item a (item b (item c more))) = None
+
+abbrev pub interval_in : Data → Option Interval
+interval_in d = option_and_then interval_of_items (as_array d)
+
+-- the time that may stand at a name: none, or what must be an interval
+abbrev pub time_from : Option Data → Option (Option Interval)
+time_from None = Some None
+time_from (Some d) = option_map Some (interval_in d)
+
+-- the formats before the fourth have no times
+abbrev pub time_in : ℕ → Data → Option (Option Interval)
+time_in format d = if nat_lt format 4 then Some None else time_from (get (codes "at") d)
+
+-- how many names the time of a record adds
+abbrev pub names_of_time : Option Interval → ℕ
+names_of_time None = 0
+names_of_time (Some time) = 1
+
 -- an object of so many names; an object has each name once
 abbrev pub has_names : ℕ → Data → Bool
 has_names n d = option_map_or (λ names. members_len names == n) (as_object d) false
@@ -142,48 +176,71 @@ joiners_in format entered d =
     if format == 1 then option_and_then (count_of_mark entered) (field (codes "shared") as_bool d)
     else field (codes "joiners") count_in d
 
--- beside `e` and `by` the names k, c, own; k, c, m; k, closed; k, c, hit; c, ok or err, shared or joiners; c
-unfoldable pub lead_in : Data → Option TextEvent
-lead_in d = if has_names 5 d then lead_from (field (codes "by") caller_in d) (field (codes "k") key_in d) (field (codes "c") call_in d) (field (codes "own") option_in d) else None
+-- beside `e` and `by` the names k, c, own; k, c, m; k, closed; k, c, hit; c, ok or err, shared or joiners; c; and so many more
+unfoldable pub lead_in : ℕ → Data → Option TextEvent
+lead_in more d = if has_names (5 + more) d then lead_from (field (codes "by") caller_in d) (field (codes "k") key_in d) (field (codes "c") call_in d) (field (codes "own") option_in d) else None
 
-unfoldable pub enter_in : Data → Option TextEvent
-enter_in d = if has_names 5 d then enter_from (field (codes "by") caller_in d) (field (codes "k") key_in d) (field (codes "c") call_in d) (field (codes "m") call_in d) else None
+unfoldable pub enter_in : ℕ → Data → Option TextEvent
+enter_in more d = if has_names (5 + more) d then enter_from (field (codes "by") caller_in d) (field (codes "k") key_in d) (field (codes "c") call_in d) (field (codes "m") call_in d) else None
 
-unfoldable pub forget_in : Data → Option TextEvent
-forget_in d = if has_names 4 d then forget_from (field (codes "by") caller_in d) (field (codes "k") key_in d) (field (codes "closed") option_in d) else None
+unfoldable pub forget_in : ℕ → Data → Option TextEvent
+forget_in more d = if has_names (4 + more) d then forget_from (field (codes "by") caller_in d) (field (codes "k") key_in d) (field (codes "closed") option_in d) else None
 
-unfoldable pub forget_call_in : Data → Option TextEvent
-forget_call_in d = if has_names 5 d then forget_call_from (field (codes "by") caller_in d) (field (codes "k") key_in d) (field (codes "c") call_in d) (field (codes "hit") hit_in d) else None
+unfoldable pub forget_call_in : ℕ → Data → Option TextEvent
+forget_call_in more d = if has_names (5 + more) d then forget_call_from (field (codes "by") caller_in d) (field (codes "k") key_in d) (field (codes "c") call_in d) (field (codes "hit") hit_in d) else None
 
-unfoldable pub settle_in : ℕ → (CallId → ℕ) → Data → Option TextEvent
-settle_in format entered d =
-    if has_names 5 d then settle_from (field (codes "by") caller_in d) (field (codes "c") call_in d) (result_in d) (λ call. joiners_in format (entered call) d) else None
+unfoldable pub settle_in : ℕ → ℕ → (CallId → ℕ) → Data → Option TextEvent
+settle_in more format entered d =
+    if has_names (5 + more) d then settle_from (field (codes "by") caller_in d) (field (codes "c") call_in d) (result_in d) (λ call. joiners_in format (entered call) d) else None
 
-unfoldable pub handed_in : Data → Option TextEvent
-handed_in d = if has_names 3 d then handed_from (field (codes "by") caller_in d) (field (codes "c") call_in d) else None
+unfoldable pub handed_in : ℕ → Data → Option TextEvent
+handed_in more d = if has_names (3 + more) d then handed_from (field (codes "by") caller_in d) (field (codes "c") call_in d) else None
 
 -- the formats before the third have no Forget of one call
-abbrev pub forget_call_of : ℕ → Data → Option TextEvent
-forget_call_of format d = if nat_lt format 3 then None else forget_call_in d
+abbrev pub forget_call_of : ℕ → ℕ → Data → Option TextEvent
+forget_call_of more format d = if nat_lt format 3 then None else forget_call_in more d
 
--- the event of this kind, where so many entered each call in the lines before
-unfoldable pub event_of_kind : ℕ → (CallId → ℕ) → List ℕ → Data → Option TextEvent
-event_of_kind format entered kind d =
-    if same_text kind (codes "lead") then lead_in d
-    else (if same_text kind (codes "enter") then enter_in d
-    else (if same_text kind (codes "forget") then forget_in d
-    else (if same_text kind (codes "forgetcall") then forget_call_of format d
-    else (if same_text kind (codes "settle") then settle_in format entered d
-    else (if same_text kind (codes "handed") then handed_in d
+-- the event of this kind with so many names more, where so many entered each call in the lines before
+unfoldable pub event_of_kind : ℕ → ℕ → (CallId → ℕ) → List ℕ → Data → Option TextEvent
+event_of_kind more format entered kind d =
+    if same_text kind (codes "lead") then lead_in more d
+    else (if same_text kind (codes "enter") then enter_in more d
+    else (if same_text kind (codes "forget") then forget_in more d
+    else (if same_text kind (codes "forgetcall") then forget_call_of more format d
+    else (if same_text kind (codes "settle") then settle_in more format entered d
+    else (if same_text kind (codes "handed") then handed_in more d
     else None)))))
 
+-- the event with its time, which may be none
+unfoldable pub timed_event_in : ℕ → (CallId → ℕ) → Data → Option Interval → Option TextEvent
+timed_event_in format entered d time =
+    option_and_then (λ kind. event_of_kind (names_of_time time) format entered kind d) (field (codes "e") as_str d)
+
 unfoldable pub event_in : ℕ → (CallId → ℕ) → Data → Option TextEvent
-event_in format entered d = option_and_then (λ kind. event_of_kind format entered kind d) (field (codes "e") as_str d)
+event_in format entered d = option_and_then (timed_event_in format entered d) (time_in format d)
 
--- the newest format: the one that is written
-abbrev pub newest_format : ℕ
-newest_format = 3
+-- the format without times that is written, and the one with times
+abbrev pub plain_format : ℕ
+plain_format = 3
 
--- the number of a format: an object with the one name `format`
+abbrev pub timed_format : ℕ
+timed_format = 4
+
+-- the number of a format without times: an object with the one name `format`
+abbrev pub plain_format_in : Data → Option ℕ
+plain_format_in d = field (codes "format") (number_in plain_format) d
+
+-- the number of the format with times
+abbrev pub timed_number : ℕ → Option ℕ
+timed_number n = if n == timed_format then Some n else None
+
+-- how many events were lost, beside the number of the format with times
+abbrev pub lost_in : Data → Option ℕ
+lost_in d = field (codes "lost") whole_in d
+
+abbrev pub timed_format_in : Data → Option ℕ
+timed_format_in d = option_and_then (λ lost. option_and_then timed_number (field (codes "format") whole_in d)) (lost_in d)
+
+-- the number of a format: an object with the name `format`, and in the format with times the name `lost` too
 unfoldable pub format_in : Data → Option ℕ
-format_in d = if has_names 1 d then field (codes "format") (number_in newest_format) d else None
+format_in d = if has_names 1 d then plain_format_in d else (if has_names 2 d then timed_format_in d else None)

@@ -1,5 +1,5 @@
 -- a text of records: the history that it holds, or the least line that is not what stands there
-use Rattle.std.specs.Prelude.{◌≡◌, ◌↔◌, ◌⊎◌, ℕ, ◌+◌, ◌==◌, List, [], ◌∷◌, ◌++◌, length, if◌then◌else◌, Option, Some, None, option_and_then, Result, Ok, Err, ⊤, codes, decimal}
+use Rattle.std.specs.Prelude.{◌≡◌, ◌↔◌, ◌⊎◌, ℕ, ◌+◌, ◌==◌, List, [], ◌∷◌, ◌++◌, length, if◌then◌else◌, Option, Some, None, option_and_then, Result, Ok, Err, ⊤, codes, decimal, map}
 use Rattle.std.specs.List.{slice_split}
 use Rattle.std.specs.Str.{is_utf8}
 use Rattle.serde_json.specs.Data.{Data}
@@ -7,7 +7,8 @@ use Rattle.serde_json.specs.Read.{read}
 use Rattle.sf_history.specs.History.{joined}
 use Rattle.sf_replay.specs.declared.reading.RecordRefusal.{RecordRefusal}
 use Rattle.sf_replay.specs.declared.reading.RecordRefusal.TheVariants.{BadRecord, Memory}
-use Rattle.sf_replay.specs.Record.{TextEvent, event_in, format_in}
+use Rattle.sf_replay.specs.declared.record.Interval.{Interval}
+use Rattle.sf_replay.specs.Record.{TextEvent, event_in, format_in, lost_in, time_in}
 
 -- the JSON value that a line is
 unfoldable pub json_of : List ℕ → Option Data
@@ -52,6 +53,43 @@ history_of_lines (first ∷ lines) = history_after (format_of first) lines
 
 unfoldable pub history_of : List ℕ → Result (List TextEvent) ℕ
 history_of text = history_of_lines (record_lines text)
+
+-- ---- the times of a text, and how many events it says were lost
+
+abbrev pub some_time : Option (Option Interval) → Option Interval
+some_time None = None
+some_time (Some time) = time
+
+-- when the event of a line took effect, where the line says it
+unfoldable pub time_of : ℕ → List ℕ → Option Interval
+time_of format line = option_and_then (λ d. some_time (time_in format d)) (json_of line)
+
+abbrev pub times_after : Option ℕ → List (List ℕ) → List (Option Interval)
+times_after None lines = []
+times_after (Some format) lines = map (time_of format) lines
+
+abbrev pub times_of_lines : List (List ℕ) → List (Option Interval)
+times_of_lines [] = []
+times_of_lines (first ∷ lines) = times_after (format_of first) lines
+
+-- for each record of a text its time, if it has one
+unfoldable pub times_of : List ℕ → List (Option Interval)
+times_of text = times_of_lines (record_lines text)
+
+abbrev pub lost_or_none : Option ℕ → ℕ
+lost_or_none None = 0
+lost_or_none (Some lost) = lost
+
+unfoldable pub lost_of_line : List ℕ → ℕ
+lost_of_line line = lost_or_none (option_and_then lost_in (json_of line))
+
+abbrev pub lost_of_lines : List (List ℕ) → ℕ
+lost_of_lines [] = 0
+lost_of_lines (first ∷ lines) = lost_of_line first
+
+-- how many events the first line of a text says were lost; none where it says nothing
+unfoldable pub lost_of : List ℕ → ℕ
+lost_of text = lost_of_lines (record_lines text)
 
 -- what a refusal to read says of the text: a bad record's line is the least bad one; want of memory says nothing
 abbrev pub IsRecordRefusal : RecordRefusal → Result (List TextEvent) ℕ → Type 0

@@ -20,7 +20,7 @@ use std::collections::BTreeMap;
 
 /// What an event is of its call, in the order in which they stand.
 #[derive(Clone, Copy, PartialEq, Eq, PartialOrd, Ord)]
-enum Part {
+pub(crate) enum Part {
     Lead,
     Enter,
     Forget,
@@ -31,7 +31,7 @@ enum Part {
 
 /// Where an event stands in a merged history: its fields, compared in their order.
 #[derive(Clone, Copy, PartialEq, Eq, PartialOrd, Ord)]
-struct Standing {
+pub(crate) struct Standing {
     /// Whether it is of a call that nobody led.
     unled: bool,
     /// How many keys come before its key; 0 where nobody led the call.
@@ -211,7 +211,10 @@ fn standing_of<K: Ord, V>(
 }
 
 /// Where each event stands.
-fn standings<K: Ord, V>(alloc: Global, events: &[Event<K, V>]) -> Result<Vec<Standing>, Memory>
+pub(crate) fn standings<K: Ord, V>(
+    alloc: Global,
+    events: &[Event<K, V>],
+) -> Result<Vec<Standing>, Memory>
     ensures { IfOk result (λ standings.
         standings.items ≡ map (standing_in K.cmp events.now) events.now) }
 {

@@ -1,11 +1,11 @@
 //! One record: the event that a JSON object says, in its format.
 
-ghost use Rattle.std.specs.Prelude.{◌≡◌, IfOk, option_map};
+ghost use Rattle.std.specs.Prelude.{◌≡◌, ◌≤◌, IfOk, option_map};
 ghost use Rattle.serde_json.specs.Find.{as_str, as_bool};
 ghost use Rattle.serde_json.specs.View.{view};
-ghost use Rattle.sf_replay.specs.Record.{number_in, count_in, caller_in, call_in, option_in, key_in, hit_in, field, has_names, count_of_mark, joiners_in};
+ghost use Rattle.sf_replay.specs.Record.{number_in, whole_in, interval_in, time_in, names_of_time, lost_in, timed_event_in, count_in, caller_in, call_in, option_in, key_in, hit_in, field, has_names, count_of_mark, joiners_in};
 ghost use Rattle.sf_replay.specs.Entered.{entered_in};
-ghost use Rattle.sf_replay.specs.Record.{lead_in, enter_in, forget_in, forget_call_in, forget_call_of, result_in, settle_in, handed_in, event_of_kind, event_in, format_in};
+ghost use Rattle.sf_replay.specs.Record.{lead_in, enter_in, forget_in, forget_call_in, forget_call_of, result_in, settle_in, handed_in, event_of_kind, plain_format_in, timed_format_in, format_in};
 
 use crate::entered::Entered;
 use serde_json::Value;
@@ -23,8 +23,20 @@ pub(crate) const FIRST_FORMAT: u32 = 1;
 /// The first format of records that has Forgets of one call.
 const FORGET_CALL_FORMAT: u32 = 3;
 
-/// The newest format of records.
-const NEWEST_FORMAT: u32 = 3;
+/// The newest format of records that has no times, which is written where there are none.
+const PLAIN_FORMAT: u32 = 3;
+
+/// The first format of records that has times, and says how many events were lost.
+pub(crate) const TIMED_FORMAT: u32 = 4;
+
+/// When an event took effect: at a moment between two readings of one clock, in nanoseconds, with `from` at most `to`.
+#[derive(Clone, Copy, Debug, PartialEq, Eq)]
+pub struct Interval {
+    /// The reading before the operation that made the event.
+    pub from: u64,
+    /// The reading after it.
+    pub to: u64,
+}
 
 fn number(value: &Value, max: u32) -> Option<u32>
     ensures { result ≡ number_in max (view value.now) }
@@ -44,6 +56,12 @@ fn count(value: &Value) -> Option<u32>
     }
 }
 
+fn whole(value: &Value) -> Option<u64>
+    ensures { result ≡ whole_in (view value.now) }
+{
+    value.as_u64()
+}
+
 fn call(value: &Value) -> Option<CallId>
     ensures { result ≡ call_in (view value.now) }
 {
@@ -55,6 +73,46 @@ fn call(value: &Value) -> Option<CallId>
             })
         }
         _ => None,
+    }
+}
+
+fn interval_of(value: &Value) -> Option<Interval>
+    ensures { result ≡ interval_in (view value.now) }
+{
+    match value.as_array()?.as_slice() {
+        [from, to] => {
+            let from = whole(from)?;
+            let to = whole(to)?;
+            if from <= to {
+                Some(Interval { from, to })
+            } else {
+                None
+            }
+        }
+        _ => None,
+    }
+}
+
+/// `None` where something else stands there, `Some(None)` where the format or the record has no time.
+pub(crate) fn time(value: &Value, format: u32) -> Option<Option<Interval>>
+    ensures { result ≡ time_in format (view value.now) }
+{
+    if format < TIMED_FORMAT {
+        return Some(None);
+    }
+    match value.get("at") {
+        Some(found) => Some(Some(interval_of(found)?)),
+        None => Some(None),
+    }
+}
+
+/// How many names the time of a record adds.
+fn names_of(time: Option<Interval>) -> usize
+    ensures { result ≡ names_of_time time }
+{
+    match time {
+        Some(_) => 1,
+        None => 0,
     }
 }
 
@@ -141,10 +199,11 @@ fn joiners_at(value: &Value, format: u32, entered: u64) -> Option<u32>
 }
 
 #[tactic(auto, unfolding(crate::specs::Record::lead_in))]
-fn lead(alloc: Global, value: &Value) -> Result<Option<TextEvent>, Memory>
-    ensures { IfOk result (λ found. found ≡ lead_in (view value.now)) }
+fn lead(alloc: Global, more: usize, value: &Value) -> Result<Option<TextEvent>, Memory>
+    requires room { more ≤ 1 }
+    ensures { IfOk result (λ found. found ≡ lead_in more (view value.now)) }
 {
-    if !has_names(value, 5) {
+    if !has_names(value, 5 + more) {
         return Ok(None);
     }
     match (
@@ -162,10 +221,11 @@ fn lead(alloc: Global, value: &Value) -> Result<Option<TextEvent>, Memory>
 }
 
 #[tactic(auto, unfolding(crate::specs::Record::enter_in))]
-fn enter(alloc: Global, value: &Value) -> Result<Option<TextEvent>, Memory>
-    ensures { IfOk result (λ found. found ≡ enter_in (view value.now)) }
+fn enter(alloc: Global, more: usize, value: &Value) -> Result<Option<TextEvent>, Memory>
+    requires room { more ≤ 1 }
+    ensures { IfOk result (λ found. found ≡ enter_in more (view value.now)) }
 {
-    if !has_names(value, 5) {
+    if !has_names(value, 5 + more) {
         return Ok(None);
     }
     match (
@@ -188,10 +248,11 @@ fn enter(alloc: Global, value: &Value) -> Result<Option<TextEvent>, Memory>
 }
 
 #[tactic(auto, unfolding(crate::specs::Record::forget_in))]
-fn forget(alloc: Global, value: &Value) -> Result<Option<TextEvent>, Memory>
-    ensures { IfOk result (λ found. found ≡ forget_in (view value.now)) }
+fn forget(alloc: Global, more: usize, value: &Value) -> Result<Option<TextEvent>, Memory>
+    requires room { more ≤ 1 }
+    ensures { IfOk result (λ found. found ≡ forget_in more (view value.now)) }
 {
-    if !has_names(value, 4) {
+    if !has_names(value, 4 + more) {
         return Ok(None);
     }
     match (
@@ -219,10 +280,11 @@ fn hit_at(value: &Value, name: &str) -> Option<Hit>
 }
 
 #[tactic(auto, unfolding(crate::specs::Record::forget_call_in))]
-fn forget_call(alloc: Global, value: &Value) -> Result<Option<TextEvent>, Memory>
-    ensures { IfOk result (λ found. found ≡ forget_call_in (view value.now)) }
+fn forget_call(alloc: Global, more: usize, value: &Value) -> Result<Option<TextEvent>, Memory>
+    requires room { more ≤ 1 }
+    ensures { IfOk result (λ found. found ≡ forget_call_in more (view value.now)) }
 {
-    if !has_names(value, 5) {
+    if !has_names(value, 5 + more) {
         return Ok(None);
     }
     match (
@@ -240,13 +302,19 @@ fn forget_call(alloc: Global, value: &Value) -> Result<Option<TextEvent>, Memory
 }
 
 /// The Forget of one call that a JSON value says, which formats before the third do not have.
-fn forget_call_of(alloc: Global, format: u32, value: &Value) -> Result<Option<TextEvent>, Memory>
-    ensures { IfOk result (λ found. found ≡ forget_call_of format (view value.now)) }
+fn forget_call_of(
+    alloc: Global,
+    more: usize,
+    format: u32,
+    value: &Value,
+) -> Result<Option<TextEvent>, Memory>
+    requires room { more ≤ 1 }
+    ensures { IfOk result (λ found. found ≡ forget_call_of more format (view value.now)) }
 {
     if format < FORGET_CALL_FORMAT {
         return Ok(None);
     }
-    forget_call(alloc, value)
+    forget_call(alloc, more, value)
 }
 
 /// The text at the name `ok`, or else the one at the name `err`.
@@ -263,14 +331,16 @@ fn result(alloc: Global, value: &Value) -> Result<Option<Result<Text, Text>>, Me
 #[tactic(auto, unfolding(crate::specs::Record::settle_in))]
 fn settle(
     alloc: Global,
+    more: usize,
     format: u32,
     entered: &Entered,
     value: &Value,
 ) -> Result<Option<TextEvent>, Memory>
+    requires room { more ≤ 1 }
     ensures { IfOk result (λ found.
-        found ≡ settle_in format (entered_in entered.now) (view value.now)) }
+        found ≡ settle_in more format (entered_in entered.now) (view value.now)) }
 {
-    if !has_names(value, 5) {
+    if !has_names(value, 5 + more) {
         return Ok(None);
     }
     let (Some(by), Some(call), Some(result)) = (
@@ -292,10 +362,11 @@ fn settle(
 }
 
 #[tactic(auto, unfolding(crate::specs::Record::handed_in))]
-fn handed(value: &Value) -> Option<TextEvent>
-    ensures { result ≡ handed_in (view value.now) }
+fn handed(more: usize, value: &Value) -> Option<TextEvent>
+    requires room { more ≤ 1 }
+    ensures { result ≡ handed_in more (view value.now) }
 {
-    if !has_names(value, 3) {
+    if !has_names(value, 3 + more) {
         return None;
     }
     let by = caller_at(value, "by")?;
@@ -306,39 +377,67 @@ fn handed(value: &Value) -> Option<TextEvent>
 #[tactic(auto, unfolding(crate::specs::Record::event_of_kind))]
 fn event_of_kind(
     alloc: Global,
+    more: usize,
     format: u32,
     entered: &Entered,
     kind: &str,
     value: &Value,
 ) -> Result<Option<TextEvent>, Memory>
+    requires room { more ≤ 1 }
     ensures { IfOk result (λ found.
-        found ≡ event_of_kind format (entered_in entered.now) kind.now (view value.now)) }
+        found ≡ event_of_kind more format (entered_in entered.now) kind.now (view value.now)) }
 {
     match kind {
-        "lead" => lead(alloc, value),
-        "enter" => enter(alloc, value),
-        "forget" => forget(alloc, value),
-        "forgetcall" => forget_call_of(alloc, format, value),
-        "settle" => settle(alloc, format, entered, value),
-        "handed" => Ok(handed(value)),
+        "lead" => lead(alloc, more, value),
+        "enter" => enter(alloc, more, value),
+        "forget" => forget(alloc, more, value),
+        "forgetcall" => forget_call_of(alloc, more, format, value),
+        "settle" => settle(alloc, more, format, entered, value),
+        "handed" => Ok(handed(more, value)),
         _ => Ok(None),
     }
 }
 
-/// The event that a JSON value says in the format, if it says one, where so many entered each call in the lines before.
-#[tactic(auto, unfolding(crate::specs::Record::event_in))]
+/// The event that a JSON value with this time says in the format, if it says one, where so many entered each call in the
+/// lines before.
+#[tactic(auto, unfolding(crate::specs::Record::timed_event_in))]
 pub(crate) fn event(
     alloc: Global,
     format: u32,
     entered: &Entered,
     value: &Value,
+    time: Option<Interval>,
 ) -> Result<Option<TextEvent>, Memory>
     ensures { IfOk result (λ found.
-        found ≡ event_in format (entered_in entered.now) (view value.now)) }
+        found ≡ timed_event_in format (entered_in entered.now) (view value.now) time) }
 {
     match text_at(value, "e") {
-        Some(kind) => event_of_kind(alloc, format, entered, kind, value),
+        Some(kind) => event_of_kind(alloc, names_of(time), format, entered, kind, value),
         None => Ok(None),
+    }
+}
+
+/// How many events a first line says were lost.
+pub(crate) fn lost(value: &Value) -> Option<u64>
+    ensures { result ≡ lost_in (view value.now) }
+{
+    whole(value.get("lost")?)
+}
+
+fn plain_format(value: &Value) -> Option<u32>
+    ensures { result ≡ plain_format_in (view value.now) }
+{
+    number(value.get("format")?, PLAIN_FORMAT)
+}
+
+fn timed_format(value: &Value) -> Option<u32>
+    ensures { result ≡ timed_format_in (view value.now) }
+{
+    let _lost = lost(value)?;
+    if whole(value.get("format")?)? == u64::from(TIMED_FORMAT) {
+        Some(TIMED_FORMAT)
+    } else {
+        None
     }
 }
 
@@ -348,7 +447,9 @@ pub(crate) fn format(value: &Value) -> Option<u32>
     ensures { result ≡ format_in (view value.now) }
 {
     if has_names(value, 1) {
-        number(value.get("format")?, NEWEST_FORMAT)
+        plain_format(value)
+    } else if has_names(value, 2) {
+        timed_format(value)
     } else {
         None
     }

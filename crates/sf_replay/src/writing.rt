@@ -1,12 +1,13 @@
 //! Writing records.
 
-ghost use Rattle.std.specs.Prelude.{◌≡◌, ◌++◌, Ok, IfOk, All, codes, string_bytes};
+ghost use Rattle.std.specs.Prelude.{◌≡◌, ◌++◌, Ok, IfOk, All, None, codes, string_bytes, get_or};
 ghost use Rattle.json.specs.Print.{quoted};
 ghost use Rattle.sf_history.specs.Limits.{IsWithinLimits};
 ghost use Rattle.sf_replay.specs.RecordText.{history_of};
-ghost use Rattle.sf_replay.specs.Written.{call_json, option_json, result_json, record_text, history_text, HasCount, HasShortKey};
+ghost use Rattle.sf_replay.specs.Written.{call_json, option_json, result_json, record_with, history_text, time_end, recording_text, HasCount, HasShortKey};
 
-use crate::record::TextEvent;
+use crate::reading::Recording;
+use crate::record::{Interval, TextEvent};
 use serde_json::Value;
 use sf_history::{CallId, Event, History, Memory};
 use sf_text::Text;
@@ -75,17 +76,17 @@ fn settled(alloc: Global, outcome: &Result<Text, Text>) -> Result<String, Memory
     }
 }
 
-/// One record, without the end of its line.
-#[tactic(auto, unfolding(crate::specs::Written::record_text))]
-fn record(alloc: Global, event: &TextEvent) -> Result<String, Memory>
-    ensures text { IfOk result (λ string. string_bytes string ≡ record_text event.now) }
+/// One record with what stands at its end, without the end of its line.
+#[tactic(auto, unfolding(crate::specs::Written::record_with))]
+fn record(alloc: Global, event: &TextEvent, end: &str) -> Result<String, Memory>
+    ensures text { IfOk result (λ string. string_bytes string ≡ record_with end.now event.now) }
     ensures counted { IfOk result (λ string. HasCount event.now) }
 {
     match event {
         Event::Lead { by, key, call, own } => {
             let (key, call, own) = (quoted(alloc, key)?, CallJson(*call), OptionJson(*own));
             format!(in alloc;
-                "{{\"e\":\"lead\",\"by\":{by},\"k\":{key},\"c\":{call},\"own\":{own}}}"
+                "{{\"e\":\"lead\",\"by\":{by},\"k\":{key},\"c\":{call},\"own\":{own}{end}"
             )
         }
         Event::Enter {
@@ -96,17 +97,17 @@ fn record(alloc: Global, event: &TextEvent) -> Result<String, Memory>
         } => {
             let (key, call, member) = (quoted(alloc, key)?, CallJson(*call), CallJson(*member));
             format!(in alloc;
-                "{{\"e\":\"enter\",\"by\":{by},\"k\":{key},\"c\":{call},\"m\":{member}}}"
+                "{{\"e\":\"enter\",\"by\":{by},\"k\":{key},\"c\":{call},\"m\":{member}{end}"
             )
         }
         Event::Forget { by, key, closed } => {
             let (key, closed) = (quoted(alloc, key)?, OptionJson(*closed));
-            format!(in alloc; "{{\"e\":\"forget\",\"by\":{by},\"k\":{key},\"closed\":{closed}}}")
+            format!(in alloc; "{{\"e\":\"forget\",\"by\":{by},\"k\":{key},\"closed\":{closed}{end}")
         }
         Event::ForgetCall { by, key, call, hit } => {
             let (key, call, hit) = (quoted(alloc, key)?, CallJson(*call), *hit);
             format!(in alloc;
-                "{{\"e\":\"forgetcall\",\"by\":{by},\"k\":{key},\"c\":{call},\"hit\":\"{hit}\"}}"
+                "{{\"e\":\"forgetcall\",\"by\":{by},\"k\":{key},\"c\":{call},\"hit\":\"{hit}\"{end}"
             )
         }
         Event::Settle {
@@ -117,12 +118,12 @@ fn record(alloc: Global, event: &TextEvent) -> Result<String, Memory>
         } => {
             let (call, result, joiners) = (CallJson(*call), settled(alloc, result)?, *joiners);
             format!(in alloc;
-                "{{\"e\":\"settle\",\"by\":{by},\"c\":{call},{result},\"joiners\":{joiners}}}"
+                "{{\"e\":\"settle\",\"by\":{by},\"c\":{call},{result},\"joiners\":{joiners}{end}"
             )
         }
         Event::Handed { by, call } => {
             let call = CallJson(*call);
-            format!(in alloc; "{{\"e\":\"handed\",\"by\":{by},\"c\":{call}}}")
+            format!(in alloc; "{{\"e\":\"handed\",\"by\":{by},\"c\":{call}{end}")
         }
     }
 }
@@ -137,7 +138,45 @@ pub fn write(alloc: Global, history: &History<Text, Result<Text, Text>>) -> Resu
 {
     let mut text = String::from_str(alloc, FORMAT_LINE)?;
     for event in history.events() {
-        text.push_str(record(alloc, event)?.as_str())?;
+        text.push_str(record(alloc, event, "}")?.as_str())?;
+        text.push_str("\n")?;
+    }
+    Ok(text)
+}
+
+/// The end of a record that may have a time.
+fn end(alloc: Global, time: Option<Interval>) -> Result<String, Memory>
+    ensures { IfOk result (λ string. string_bytes string ≡ time_end time) }
+{
+    match time {
+        Some(Interval { from, to }) => format!(in alloc; ",\"at\":[{from},{to}]}}"),
+        None => String::from_str(alloc, "}"),
+    }
+}
+
+/// The time of this number, where there is one.
+fn time_at(times: &[Option<Interval>], i: usize) -> Option<Interval>
+    ensures { result ≡ get_or times.now i None }
+{
+    match times.get(i) {
+        Some(time) => *time,
+        None => None,
+    }
+}
+
+/// The records of a recording, with their times: the format and how many events were lost, then one record an event, each
+/// line ended. An event for which no time is left has none. Its time is linear in the recording.
+#[tactic(auto, unfolding(crate::specs::Written::recording_text))]
+pub fn write_recording(alloc: Global, recording: &Recording) -> Result<String, Memory>
+    ensures { IfOk result (λ string. string_bytes string
+        ≡ recording_text recording.now.lost recording.now.history recording.now.times.items) }
+{
+    let lost = recording.lost;
+    let mut text = format!(in alloc; "{{\"format\":4,\"lost\":{lost}}}\n")?;
+    let times = recording.times.as_slice();
+    for (i, event) in recording.history.events().iter().enumerate() {
+        let end = end(alloc, time_at(times, i))?;
+        text.push_str(record(alloc, event, end.as_str())?.as_str())?;
         text.push_str("\n")?;
     }
     Ok(text)

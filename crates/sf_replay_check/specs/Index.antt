@@ -5,6 +5,7 @@ use Rattle.sf_history.specs.declared.event.Event.{Event}
 use Rattle.sf_history.specs.declared.event.Event.TheVariants.{Lead, Enter, Forget, ForgetCall, Settle, Handed}
 use Rattle.sf_history.specs.Calls.{same_call}
 use Rattle.sf_history.specs.History.{holds_call}
+use Rattle.sf_sequential.specs.Noted.{without}
 use Rattle.sf_replay_check.specs.Checker.{Known}
 use Rattle.sf_replay_check.specs.declared.row.Row.{Row}
 use Rattle.sf_replay_check.specs.declared.row.Mark.{Mark}
@@ -46,11 +47,6 @@ was_settled (Some r) = r.settled
 abbrev pub was_handed : Option Row → Bool
 was_handed None = false
 was_handed (Some r) = r.handed
-
--- the call, unless the test holds of it
-abbrev pub without : (CallId → Bool) → Option CallId → Option CallId
-without test None = None
-without test (Some c) = if test c then None else Some c
 
 -- an index as it is seen: the row of each name, and the current call of each key
 pub record Noted (K : Type 0) : Type 0 where

@@ -3,7 +3,8 @@
 ghost use Rattle.std.specs.Prelude.{◌≡◌, ◌+◌, ◌^◌, ◌<◌, IfOk, OnOk, if◌then◌else◌, true, false, Some, None, option_map};
 ghost use Rattle.sf_history.specs.Calls.{same_call};
 ghost use Rattle.sf_history.specs.History.{holds_call, keeps_current};
-ghost use Rattle.sf_replay_check.specs.Index.{new_row, marked, row_after, without, joiners_in, was_settled};
+ghost use Rattle.sf_replay_check.specs.Index.{new_row, marked, row_after, joiners_in, was_settled};
+ghost use Rattle.sf_sequential.specs.Noted.{without};
 ghost use Rattle.sf_replay_check.specs.IndexMaps.{noted_in};
 
 use crate::past::Past;

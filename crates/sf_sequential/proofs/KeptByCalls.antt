@@ -100,7 +100,7 @@ module _ {K V : Type 0} where
   unspent g a left = ltb-false LARGEST_GENERATION (next_generation g.first g.history a) left
 
   -- a caller's next call or member is new
-  next_is_new : (eq : K → K → Bool) (g : GroupState K V) (a : ℕ) → IsKept eq g → list_any (names (next_id g a)) g.history ≡ false
+  pub next_is_new : (eq : K → K → Bool) (g : GroupState K V) (a : ℕ) → IsKept eq g → list_any (names (next_id g a)) g.history ≡ false
   next_is_new eq g a kept = false_from_ne_true _ (λ named. let below = kept.numbered (next_id g a) named in absurd (omega arith))
 
   -- there is room for one more generation of a caller that is not spent
@@ -169,7 +169,7 @@ module _ {K V : Type 0} where
   closed_within eq g k (Some c) kept is = open_within eq g k c kept (sym is)
 
   -- a ticket that is found to be held is the caller's last one, and not taken
-  held_parts : (g : GroupState K V) (t : Ticket) (found : Option Ticket) → option_and_then (untaken g.taken) found ≡ Some t → (found ≡ Some t) × (has_taken g.taken t.member ≡ false)
+  pub held_parts : (g : GroupState K V) (t : Ticket) (found : Option Ticket) → option_and_then (untaken g.taken) found ≡ Some t → (found ≡ Some t) × (has_taken g.taken t.member ≡ false)
   held_parts g t None is = cc
   held_parts g t (Some u) is = at (has_taken g.taken u.member) refl is
     where

@@ -1,3 +1,7 @@
+pub mod OpenByCurrent
+pub mod Told
+pub mod Noting
+pub mod Maps
 mod Standing
 mod Kept
 mod Joiners

@@ -1,3 +1,5 @@
 pub mod CauseText
 pub mod State
 pub mod Sequential
+pub mod Noted
+pub mod NotedMaps

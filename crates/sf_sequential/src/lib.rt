@@ -3,12 +3,16 @@
 #![tactic(auto)]
 
 mod command;
+mod index;
+mod indexed;
 mod refusal;
+mod rows;
 mod seq_group;
 mod ticket;
 pub mod walk;
 
 pub use command::{Asked, ChanAsked, Command, Taken};
+pub use index::Index;
 pub use refusal::ModelRefusal;
 pub use seq_group::SeqGroup;
 pub use ticket::Ticket;

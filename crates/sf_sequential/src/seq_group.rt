@@ -1,26 +1,40 @@
 //! The sequential group: the one-thread singleflight with Forget that every other layer is compared with.
 
-ghost use Rattle.std.specs.Prelude.{◌≡◌, ℕ, ◌<◌, ◌≤◌, ◌↔◌, true, false, IsTrue, [], Ok, Err, Some, IfOk, IfErr, OnErr, MatchResult, All};
+ghost use Rattle.std.specs.Prelude.{◌≡◌, ℕ, ◌<◌, ◌≤◌, ◌↔◌, true, false, IsTrue, [], Ok, Err, Some, IfOk, IfErr, OnOk, OnErr, MatchResult, All, length, get_or, ◌∷◌};
 ghost use Rattle.sf_history.specs.declared.call.CallId.{CallId};
 ghost use Rattle.sf_sequential.specs.declared.ticket.Ticket.{Ticket};
-ghost use Rattle.sf_history.specs.History.{maker, joined};
+ghost use Rattle.sf_history.specs.declared.event.Event.{Event};
+ghost use Rattle.sf_history.specs.declared.event.Event.TheVariants.{Settle, Handed, Forget, ForgetCall};
+ghost use Rattle.sf_history.specs.History.{maker, joined, is_handed, open_call, current_call, next_generation, result_in};
 ghost use Rattle.sf_history.specs.Legal.{IsLegal};
-ghost use Rattle.sf_sequential.specs.State.{GroupState, IsCaller, IsBounded, Leads, Holds, led_call, held_ticket, is_free, is_spent, next_id};
-ghost use Rattle.sf_sequential.specs.Sequential.{ask_of, ask_chan_of, settle_of, forget_of, forget_call_of, take_of, is_current_of, IsRefusal, MayAskChan};
+ghost use Rattle.sf_sequential.specs.State.{GroupState, IsKept, IsCaller, IsBounded, Leads, Holds, led_call, held_ticket, is_free, is_spent, next_id, with_events, with_taken};
+ghost use Rattle.sf_sequential.specs.Sequential.{ask_of, ask_chan_of, settle_of, forget_of, forget_call_of, take_of, is_current_of, hit_of, forgotten_as, asks, asks_chan, IsRefusal, MayAskChan};
 ghost use Rattle.sf_words.specs.declared.limits.TheConstants.{LARGEST_CALLER};
 
 use crate::command::{Asked, ChanAsked, Taken};
 use crate::refusal::ModelRefusal;
 use crate::ticket::Ticket;
 use crate::walk;
-use sf_history::{CallId, Event, Forgotten, History, Hit, Share};
+use sf_history::{CallId, Event, Forgotten, History, Hit, Memory, Share};
 use std::alloc::Global;
 use std::marker::Model;
+use std::mem;
+
+/// Another value equal to the one that the event settles its call with, if it settles one.
+fn share_result<K, V: Share>(event: &mut Event<K, V>) -> Result<Option<V>, Memory>
+    ensures shared { IfOk result (λ found. found ≡ result_in event.old) }
+    ensures same { event.new ≡ event.old }
+{
+    match event {
+        Event::Settle { result, .. } => Ok(Some(result.share()?)),
+        _ => Ok(None),
+    }
+}
 
 /// Singleflight with Forget for one thread, as plain as can be: what happened, and who took a letter.
 ///
-/// Its rules are those of x/sync's `singleflight` (Do, DoChan, Forget), with one command for each step of a caller. It
-/// walks its history for each command.
+/// Its rules are those of x/sync's `singleflight` (Do, DoChan, Forget), with one command for each step of a caller. Its
+/// calls walk its history, but those whose names end in `_by`, which find by an index what the history says.
 #[derive(Drop)]
 pub struct SeqGroup<K: Eq, V> {
     callers: u32,
@@ -93,7 +107,31 @@ impl<K: Eq, V> SeqGroup<K, V> {
     {
         self.check_free(caller)?;
         let id = self.next_id(caller)?;
-        match walk::open_call(self.history.events(), &key) {
+        let opened = walk::open_call(self.history.events(), &key);
+        self.asks(caller, key, id, opened)
+    }
+
+    /// What an asking adds that is not refused, where the caller's next call or member and the key's open call are known.
+    pub(crate) fn asks(
+        &mut self,
+        caller: u32,
+        key: K,
+        id: CallId,
+        opened: Option<CallId>,
+    ) -> Result<Asked, ModelRefusal>
+    where
+        K: Drop,
+        V: Drop,
+        requires caller { IsCaller self.old caller }
+        requires free { is_free self.old caller ≡ true }
+        requires unspent { is_spent self.old caller ≡ false }
+        requires id { id ≡ next_id self.old caller }
+        requires opened { opened ≡ open_call K.eq self.old.history key }
+        ensures ok { IfOk result (λ asked. asks self.old caller key opened ≡ (asked, self.new)) }
+        ensures refused { IfErr result (λ e. e ≡ ModelRefusal.Memory) }
+        ensures unchanged { OnErr result (self.new ≡ self.old) }
+    {
+        match opened {
             None => {
                 self.history.push(Event::Lead {
                     by: caller,
@@ -134,7 +172,35 @@ impl<K: Eq, V> SeqGroup<K, V> {
         ensures unchanged { OnErr result (self.new ≡ self.old) }
     {
         let (id, member) = self.next_ids(caller, second)?;
-        match walk::open_call(self.history.events(), &key) {
+        let opened = walk::open_call(self.history.events(), &key);
+        self.asks_chan(caller, second, key, id, member, opened)
+    }
+
+    /// What such an asking adds that is not refused, where the next call, the next member and the key's open call are known.
+    pub(crate) fn asks_chan(
+        &mut self,
+        caller: u32,
+        second: u32,
+        key: K,
+        id: CallId,
+        member: CallId,
+        opened: Option<CallId>,
+    ) -> Result<ChanAsked, ModelRefusal>
+    where
+        K: Drop,
+        V: Drop,
+        requires caller { IsCaller self.old caller }
+        requires second { IsCaller self.old second }
+        requires may { MayAskChan self.old caller second }
+        requires id { id ≡ next_id self.old caller }
+        requires member { member ≡ next_id self.old second }
+        requires opened { opened ≡ open_call K.eq self.old.history key }
+        ensures ok { IfOk result (λ asked.
+            asks_chan self.old caller second key opened ≡ (asked, self.new)) }
+        ensures refused { IfErr result (λ e. e ≡ ModelRefusal.Memory) }
+        ensures unchanged { OnErr result (self.new ≡ self.old) }
+    {
+        match opened {
             None => {
                 self.history.push(Event::Lead {
                     by: caller,
@@ -173,10 +239,33 @@ impl<K: Eq, V> SeqGroup<K, V> {
             return Err((ModelRefusal::NotLeading(caller), value));
         };
         let joiners = self.joined(call);
-        if let Err(value) = self.history.push_settled(caller, call, value, joiners) {
-            return Err((ModelRefusal::Memory, value));
+        match self.settles(caller, call, joiners, value) {
+            Ok(()) => Ok((call, joiners)),
+            Err(value) => Err((ModelRefusal::Memory, value)),
         }
-        Ok((call, joiners))
+    }
+
+    /// What settling adds, where the call that the caller leads and its number of joiners are known. Where memory is refused,
+    /// the value comes back.
+    pub(crate) fn settles(
+        &mut self,
+        caller: u32,
+        call: CallId,
+        joiners: u32,
+        value: V,
+    ) -> Result<(), V>
+        requires caller { IsCaller self.old caller }
+        requires led { led_call self.old.history caller ≡ Some call }
+        requires joiners { joiners ≡ joined self.old.history call }
+        ensures ok { OnOk result (self.new
+            ≡ with_events self.old (Settle caller call value joiners ∷ Handed caller call ∷ [])) }
+        ensures refused { IfErr result (λ back. back ≡ value) }
+        ensures unchanged { OnErr result (self.new ≡ self.old) }
+    {
+        if let Err(value) = self.history.push_settled(caller, call, value, joiners) {
+            return Err(value);
+        }
+        Ok(())
     }
 
     /// The caller forgets the key, which closes its open call, if it has one. Those who joined that call still get its answer.
@@ -195,6 +284,27 @@ impl<K: Eq, V> SeqGroup<K, V> {
     {
         self.check_free(caller)?;
         let closed = walk::open_call(self.history.events(), &key);
+        self.forgets(caller, key, closed)
+    }
+
+    /// What a Forget adds that is not refused, where the key's open call is known.
+    pub(crate) fn forgets(
+        &mut self,
+        caller: u32,
+        key: K,
+        closed: Option<CallId>,
+    ) -> Result<Forgotten, ModelRefusal>
+    where
+        K: Drop,
+        V: Drop,
+        requires caller { IsCaller self.old caller }
+        requires closed { closed ≡ open_call K.eq self.old.history key }
+        ensures added { OnOk result (self.new
+            ≡ with_events self.old (Forget caller key closed ∷ [])) }
+        ensures ok { IfOk result (λ forgotten. forgotten ≡ forgotten_as closed) }
+        ensures refused { IfErr result (λ e. e ≡ ModelRefusal.Memory) }
+        ensures unchanged { OnErr result (self.new ≡ self.old) }
+    {
         self.history.push(Event::Forget {
             by: caller,
             key,
@@ -223,13 +333,36 @@ impl<K: Eq, V> SeqGroup<K, V> {
     {
         self.check_free(caller)?;
         let hit = walk::hit(self.history.events(), &key, call);
+        self.forgets_call(caller, key, call, hit)?;
+        Ok(hit)
+    }
+
+    /// What a Forget of one call adds that is not refused, where it is known what it finds.
+    pub(crate) fn forgets_call(
+        &mut self,
+        caller: u32,
+        key: K,
+        call: CallId,
+        hit: Hit,
+    ) -> Result<(), ModelRefusal>
+    where
+        K: Drop,
+        V: Drop,
+        requires caller { IsCaller self.old caller }
+        requires hit { hit ≡ hit_of (open_call K.eq self.old.history key)
+            (current_call K.eq self.old.history key) call }
+        ensures added { OnOk result (self.new
+            ≡ with_events self.old (ForgetCall caller key call hit ∷ [])) }
+        ensures refused { IfErr result (λ e. e ≡ ModelRefusal.Memory) }
+        ensures unchanged { OnErr result (self.new ≡ self.old) }
+    {
         self.history.push(Event::ForgetCall {
             by: caller,
             key,
             call,
             hit,
         })?;
-        Ok(hit)
+        Ok(())
     }
 
     /// The caller takes the letter that it holds a ticket for, and is then free. The letter is pending until the call's
@@ -261,6 +394,34 @@ impl<K: Eq, V> SeqGroup<K, V> {
         Ok(letter)
     }
 
+    /// That the caller took the letter of the ticket that it holds.
+    pub(crate) fn takes(&mut self, caller: u32, ticket: Ticket) -> Result<(), ModelRefusal>
+        requires held { held_ticket self.old caller ≡ Some ticket }
+        requires handed { is_handed self.old.history ticket.call ≡ true }
+        ensures took { OnOk result (self.new ≡ with_taken self.old ticket.member) }
+        ensures refused { IfErr result (λ e. e ≡ ModelRefusal.Memory) }
+        ensures unchanged { OnErr result (self.new ≡ self.old) }
+    {
+        self.taken.push(ticket.member)?;
+        Ok(())
+    }
+
+    /// Another value equal to the one that the event at this place of the history settles its call with, if it settles one.
+    pub(crate) fn share_at(&mut self, alloc: Global, place: usize) -> Result<Option<V>, Memory>
+    where
+        K: Drop,
+        V: Share,
+        requires { place < length self.old.history }
+        ensures shared { IfOk result (λ found.
+            (e : Event K V) → found ≡ result_in (get_or self.old.history place e)) }
+        ensures same { self.new ≡ self.old }
+    {
+        let mut events = mem::replace(&mut self.history, History::new(alloc)).into_vec();
+        let shared = share_result(&mut events[place]);
+        self.history = History::from_vec(events);
+        shared
+    }
+
     /// Whether the call is the key's current one: the call that was led last on the key, with no Forget of the key since.
     pub fn is_current(&self, key: &K, call: CallId) -> bool
         ensures { result ≡ is_current_of K.eq self.now key.now call }
@@ -288,7 +449,7 @@ impl<K: Eq, V> SeqGroup<K, V> {
     }
 
     /// The ticket that the caller holds.
-    fn held_ticket(&self, caller: u32) -> Option<Ticket>
+    pub(crate) fn held_ticket(&self, caller: u32) -> Option<Ticket>
         ensures { result ≡ held_ticket self.now caller }
     {
         let ticket = walk::last_ticket(self.history.events(), caller)?;
@@ -300,7 +461,7 @@ impl<K: Eq, V> SeqGroup<K, V> {
     }
 
     /// How many joined the call.
-    fn joined(&self, call: CallId) -> u32
+    pub(crate) fn joined(&self, call: CallId) -> u32
         ensures { result ≡ joined self.now.history call }
     {
         walk::joined(self.history.events(), call) as u32
@@ -319,18 +480,33 @@ impl<K: Eq, V> SeqGroup<K, V> {
         Ok(())
     }
 
+    /// What every group keeps, for the proofs of calls that do not look into it: nothing to run.
+    pub(crate) fn kept(&self)
+        ensures { IsKept K.eq self.now }
+    {
+        let _callers = self.callers;
+    }
+
+    /// The generation that the caller uses next.
+    pub(crate) fn next_generation(&self, caller: u32) -> u64
+        ensures { result ≡ next_generation self.now.first self.now.history caller }
+    {
+        walk::next_generation(self.first_generation, self.history.events(), caller)
+    }
+
+    pub(crate) fn first_generation(&self) -> u32
+        ensures { result ≡ self.now.first }
+    {
+        self.first_generation
+    }
+
     /// The caller's next call or member. Refuses a caller that is spent.
     fn next_id(&self, caller: u32) -> Result<CallId, ModelRefusal>
         ensures { MatchResult result (λ id. (is_spent self.now caller ≡ false)
             × (id ≡ next_id self.now caller)) (λ e. (is_spent self.now caller ≡ true)
             × (e ≡ ModelRefusal.Spent caller)) }
     {
-        let generation = walk::next_generation(
-            self.first_generation,
-            self.history.events(),
-            caller,
-        );
-        match u32::try_from(generation) {
+        match u32::try_from(self.next_generation(caller)) {
             Ok(generation) => Ok(CallId { caller, generation }),
             Err(_) => Err(ModelRefusal::Spent(caller)),
         }

@@ -1,7 +1,7 @@
 -- an asking with a channel keeps the group's promises
 use Rattle.std.proofs.Common.{rules}
 use Rattle.sf_sequential.proofs.KeptByCalls.{kept_lead_own, kept_enter}
-use Rattle.sf_sequential.proofs.seq_group.SeqGroup.ask_chan.Goals as goal
+use Rattle.sf_sequential.proofs.seq_group.SeqGroup.asks_chan.Goals as goal
 
 pub invariant_of-self-in-None : goal.invariant_of-self-in-None
 invariant_of-self-in-None g c =

@@ -1,6 +1,0 @@
--- a caller's generations fit
-use Rattle.sf_sequential.proofs.KeptByCalls.{below_two_64}
-use Rattle.sf_sequential.proofs.seq_group.SeqGroup.next_id.Goals as goal
-
-pub next_generation-generation-requires : goal.next_generation-generation-requires
-next_generation-generation-requires g c = below_two_64 _ (rw c.events.ensures (c.self.invariant.within c.args.caller))
