@@ -93,38 +93,26 @@ module _ (key bytes : List ℕ) (draws : KnownBytes → KnownBytes → Type 0) (
   own_got old new answer had none h =
       own_from h.middle.standing h.middle.desk new.desk h.middle.loaders new.loaders (new.standing, h.counts, answer) (ap (λ (g : GetterValue KnownBytes). g.loaders) h.settled.rest ∙ had) none h.got
 
-  -- the put that comes of such a get, over the parts of its getters
-  module _ {L : Type 0} (desk : KeyDesk) (standing : Standing Filled) (loaders : L) (tallies : Totals) (log : LogValue) (known : KnownBytes)
-      (getter : GetterValue L) (is : record { desk = desk; standing = standing; loaders = loaders; counted = tallies; log = log } ≡ getter) (gives : known ≡ record { key = key; bytes = Some bytes })
-      (gave : GetterValue KnownBytes) (answer : GetAnswer)
-      (after : KeyDesk) (back : Standing Filled) (left : KnownBytes) (counted : Totals) (logged : LogValue) (is_gave : record { desk = after; standing = back; loaders = left; counted = counted; log = logged } ≡ gave) where
+  -- the put that comes of such a get, over the parts of its getter
+  module _ {L : Type 0} (before after : GetterValue (Unit {0})) (loaders : L) (getter : GetterValue L) (is : with_loaders before loaders ≡ getter) (known left : KnownBytes)
+      (gives : known ≡ record { key = key; bytes = Some bytes }) (answer : GetAnswer) where
     pub gets_given : (put : PutAnswer) → got_by put ≡ answer → ((l : LetterValue Filled) → put ≡ Ok (Settled l) → left.bytes ≡ None)
-        → HasGot (GivesKnown key) draws space key (record { desk = desk; standing = standing; loaders = known; counted = tallies; log = log }) gave answer
-        → IsFreshGet space key (record { desk = desk; standing = standing; loaders = known; counted = tallies; log = log }) gave answer
-        → IsCounted (record { desk = desk; standing = standing; loaders = known; counted = tallies; log = log }) gave answer
-        → GetsGiven space key bytes getter (record { desk = after; standing = back; loaders = loaders; counted = counted; log = logged }) put
+        → HasGot (GivesKnown key) draws space key (with_loaders before known) (with_loaders after left) answer → IsFreshGet space key (with_loaders before known) (with_loaders after left) answer
+        → IsCounted (with_loaders before known) (with_loaders after left) answer → GetsGiven space key bytes getter (with_loaders after loaders) put
     gets_given put says gone got fresh count =
-        let giving : GetterValue KnownBytes = record { desk = desk; standing = standing; loaders = known; counted = tallies; log = log } in
-        let back_then : GetterValue L = record { desk = after; standing = back; loaders = loaders; counted = counted; log = logged } in
         let all : KnownBytes = record { key = key; bytes = Some bytes } in
-        let old : giving ≡ with_loaders getter all =
-        ap (λ (k : KnownBytes). let v : GetterValue KnownBytes = record { desk = desk; standing = standing; loaders = k; counted = tallies; log = log } in v) gives
-        ∙ ap (λ (g : GetterValue L). with_loaders g all) is in
-        let new : gave ≡ with_loaders back_then left = sym is_gave in
+        let old : with_loaders before known ≡ with_loaders getter all = ap (λ (k : KnownBytes). with_loaders before k) gives ∙ ap (λ (g : GetterValue L). with_loaders g all) is in
         record {
           left = left;
-          fresh = subst (λ (a : GetAnswer). IsFreshGet {L = KnownBytes} space key (with_loaders getter all) (with_loaders back_then left) a) (sym says)
-              (subst (λ (g : GetterValue KnownBytes). IsFreshGet {L = KnownBytes} space key g (with_loaders back_then left) answer) old
-              (subst (λ (g : GetterValue KnownBytes). IsFreshGet {L = KnownBytes} space key giving g answer) new fresh));
-          counted = subst (λ (a : GetAnswer). IsCounted {L = KnownBytes} (with_loaders getter all) (with_loaders back_then left) a) (sym says)
-              (subst (λ (g : GetterValue KnownBytes). IsCounted {L = KnownBytes} g (with_loaders back_then left) answer) old
-              (subst (λ (g : GetterValue KnownBytes). IsCounted {L = KnownBytes} giving g answer) new count));
+          fresh = subst (λ (a : GetAnswer). IsFreshGet {L = KnownBytes} space key (with_loaders getter all) (with_loaders after left) a) (sym says)
+              (subst (λ (g : GetterValue KnownBytes). IsFreshGet {L = KnownBytes} space key g (with_loaders after left) answer) old fresh);
+          counted = subst (λ (a : GetAnswer). IsCounted {L = KnownBytes} (with_loaders getter all) (with_loaders after left) a) (sym says)
+              (subst (λ (g : GetterValue KnownBytes). IsCounted {L = KnownBytes} g (with_loaders after left) answer) old count);
           given = has put says gone;
           unasked = ap (λ (g : GetterValue L). g.loaders) is;
         }
       where
         has : (put : PutAnswer) → got_by put ≡ answer → ((l : LetterValue Filled) → put ≡ Ok (Settled l) → left.bytes ≡ None) → HasBytes bytes put
-        has (Ok (Settled l)) says gone =
-            own_got (record { desk = desk; standing = standing; loaders = known; counted = tallies; log = log }) gave answer gives (ap (λ (g : GetterValue KnownBytes). g.loaders.bytes) (sym is_gave) ∙ gone l refl) got l (sym says)
+        has (Ok (Settled l)) says gone = own_got (with_loaders before known) (with_loaders after left) answer gives (gone l refl) got l (sym says)
         has (Ok (Met l)) says gone = tt
         has (Err fault) says gone = tt

@@ -12,3 +12,5 @@ pub mod Told
 pub mod Purges
 pub mod Given
 pub mod Bytes
+pub mod Lookups
+pub mod Seats

@@ -37,7 +37,7 @@ use Rattle.sf_fill_store.proofs.LogSteps.{logs_looked}
 use Rattle.sf_fill_values.proofs.Looks.{looked_again, looked_on, looked_twice, still_looked}
 
 module _ {E : Type 0} where
-  only_looked : (c d : CallerValue Filled) (place : ℕ) (found : Option (Result (LetterValue Filled) E)) → HasLookedOn c place found d → HasOnlyLooked c d
+  pub only_looked : (c d : CallerValue Filled) (place : ℕ) (found : Option (Result (LetterValue Filled) E)) → HasLookedOn c place found d → HasOnlyLooked c d
   only_looked c d place None h = looked_twice c d h
   only_looked c d place (Some (Ok m)) h = looked_again c h.0 d h.1 (inr h.2.1.nothing)
   only_looked c d place (Some (Err e)) h = looked_again c h.0 d h.1 (inr h.2.1.nothing)

@@ -1,8 +1,8 @@
 -- Forgets of places in turn
-use Rattle.std.proofs.Common.{◌≡◌, ℕ, suc, ◌+◌, ◌≤◌, ◌<◌, true, false, List, [], ◌++◌, Result, Ok, Err, refl, sym, ap, ◌∙◌, subst, append_assoc, arith, inl, inr, ◌⊎◌}
+use Rattle.std.proofs.Common.{◌≡◌, ℕ, suc, ◌+◌, ◌≤◌, ◌<◌, Bool, true, false, not, List, [], ◌++◌, Result, Ok, Err, refl, sym, ap, ◌∙◌, subst, append_assoc, arith, inl, inr, ◌⊎◌}
 use Rattle.std.proofs.Math.Nat.{eq-or-lt_of_le}
 use Rattle.sf_history.specs.declared.event.Event.{Event}
-use Rattle.sf_group_rows.specs.Tokens.{GroupValue, CallerValue, SettledValue}
+use Rattle.sf_group_rows.specs.Tokens.{GroupValue, CallerValue}
 use Rattle.sf_fill_keys.specs.declared.key_space.KeyDesk.{KeyDesk}
 use Rattle.sf_fill_store.specs.declared.forget.Forgot.{Forgot}
 use Rattle.sf_fill_store.specs.declared.standing.Standing.{Standing}
@@ -11,13 +11,17 @@ use Rattle.sf_fill_values.specs.FillValue.{Filled}
 use Rattle.sf_fill.specs.Fresh.{HasAdded, IsOutdated, delivered_by, handed_by}
 use Rattle.sf_fill_store.specs.Forgets.{forgot_by}
 use Rattle.sf_fill.specs.GetterValue.{GetterValue}
-use Rattle.sf_fill_store.specs.Standings.{number_of, seen_of}
-use Rattle.sf_fill_store.specs.Logs.{LogValue, logged_by}
+use Rattle.sf_fill_store.specs.Standings.{is_owing, number_of, seen_of}
+use Rattle.sf_fill_store.specs.Logs.{HasLogged, LogValue, logged_by}
 use Rattle.sf_fill.specs.Purges.{ForgetsAll, HasForgottenFirst}
 use Rattle.sf_fill_counters.specs.declared.totals.Totals.{Totals}
 use Rattle.sf_fill.specs.Owing.{HasSettledUp}
 use Rattle.sf_fill_store.specs.Forgets.{ForgetsNamed}
-use Rattle.sf_fill.proofs.Fresh.{added_none, added_more, forget_moved, none_forgot}
+use Rattle.sf_fill.specs.Seats.{standing_in}
+use Rattle.sf_fill.specs.declared.chair.Chair.{Chair}
+use Rattle.sf_fill.specs.declared.chair.Chair.TheVariants as chairs
+use Rattle.sf_fill.proofs.Fresh.{added_none, added_more, delivered, forget_moved, none_forgot}
+use Rattle.sf_fill.proofs.LogSteps.{logs_delivered}
 use Rattle.sf_fill.proofs.Outdated.{current_names, names_more, outdated, past_after}
 
 abbrev Seen : Type 0
@@ -66,16 +70,6 @@ rest old middle desk standing loaders tallies log logged settled is new = ap (λ
 
 module _ {L E : Type 0} (places : ℕ) (old middle : GetterValue L) (desk : KeyDesk) (standing : Standing Filled) (loaders : L) (tallies : Totals) (log logged : LogValue)
     (settled : HasSettledUp old middle) (is : record { desk = desk; standing = standing; loaders = loaders; counted = tallies; log = log } ≡ middle) where
-  -- where letters are owed still
-  pub forgets_none : (s : SettledValue Filled) (e : E) (out : Standing Filled × Result Unit E) → HasAdded old.standing middle.standing (delivered_by old.standing middle.standing)
-      → middle.log ≡ logged_by old.log (delivered_by old.standing middle.standing) → standing ≡ Owing s → logged ≡ log → out ≡ (Owing s, Err e) → ForgetsAll places old (record { desk = desk; standing = out.0; loaders = loaders; counted = tallies; log = logged }) out.1
-  forgets_none s e out adds handed owes same ends =
-      let stands : middle.standing ≡ Owing s = sym (ap (λ (m : GetterValue L). m.standing) is) ∙ owes in
-      let still : HasAdded old.standing (Owing s) (handed_by old.standing false) = subst (λ (m : Standing Filled). HasAdded old.standing m (delivered_by old.standing m)) stands adds in
-      let logs : logged ≡ logged_by old.log (handed_by old.standing false) =
-      same ∙ (ap (λ (m : GetterValue L). m.log) is ∙ (handed ∙ ap (λ (m : Standing Filled). logged_by old.log (delivered_by old.standing m)) stands)) in
-      subst (λ (o : Standing Filled × Result Unit E). ForgetsAll places old (record { desk = desk; standing = o.0; loaders = loaders; counted = tallies; log = logged }) o.1) (sym ends) (rest old middle desk standing loaders tallies log logged settled is (Owing s), still, logs)
-
   pub forgets_first : (n : ℕ) (d : CallerValue Filled) (done : Unit {0}) (out : Standing Filled × Result Unit E) → n ≡ places → (first : HasForgottenFirst n (handed_by old.standing true) old.standing (Free d))
       → logged ≡ logged_by old.log (handed_by old.standing true ++ first.forgets)
       → out ≡ (Free d, Ok done) → ForgetsAll places old (record { desk = desk; standing = out.0; loaders = loaders; counted = tallies; log = logged }) out.1
@@ -89,3 +83,26 @@ pub forgotten_start : {L : Type 0} (old middle : GetterValue L) (desk : KeyDesk)
 forgotten_start old middle desk standing loaders tallies log c is adds free =
     let stands : middle.standing ≡ Free c = sym (ap (λ (m : GetterValue _). m.standing) is) ∙ free in
     forgotten_none (handed_by old.standing true) old.standing c (subst (λ (m : Standing Filled). HasAdded old.standing m (delivered_by old.standing m)) stands adds)
+
+-- where letters are owed still
+pub forgets_none : {L E : Type 0} (places : ℕ) (old middle : GetterValue L) (e : E) → HasSettledUp old middle → middle.log ≡ logged_by old.log (delivered_by old.standing middle.standing) → is_owing middle.standing ≡ true
+    → ForgetsAll places old middle (Err e)
+forgets_none places old middle e settled handed owes =
+    let none : not (is_owing middle.standing) ≡ false = ap not owes in (
+      settled.rest,
+      subst (λ (b : Bool). HasAdded old.standing middle.standing (handed_by old.standing b)) none (delivered old.standing middle.standing settled.delivered),
+      handed ∙ ap (λ (b : Bool). logged_by old.log (handed_by old.standing b)) none,
+    )
+
+-- before the first one, over the parts of a seat that has settled up
+module _ (old middle : GetterValue (Unit {0})) (desk : KeyDesk) (chair : Chair Filled) (tallies : Totals) (log : LogValue)
+    (is : record { desk = desk; standing = standing_in chair; loaders = tt; counted = tallies; log = log } ≡ middle) (c : CallerValue Filled) (free : chair ≡ chairs.Free c)
+    (settled : HasSettledUp old middle) where
+  pub purge_from : HasForgottenFirst 0 (handed_by old.standing true) old.standing (Free c)
+  purge_from = forgotten_start old middle desk (standing_in chair) tt tallies log c is (delivered old.standing middle.standing settled.delivered) (ap standing_in free)
+
+  pub purge_logged : middle.log ≡ logged_by old.log (delivered_by old.standing middle.standing) → HasLogged (number_of old.standing) (seen_of old.standing) c.seen old.log log
+  purge_logged handed =
+      subst (λ (x : Chair Filled). HasLogged (number_of old.standing) (seen_of old.standing) (seen_of (standing_in x)) old.log log) free
+      (subst (λ (m : GetterValue (Unit {0})). HasLogged (number_of old.standing) (seen_of old.standing) (seen_of m.standing) old.log m.log) (sym is)
+      (logs_delivered old.standing middle.standing old.log middle.log settled.delivered handed))

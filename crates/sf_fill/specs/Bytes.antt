@@ -1,11 +1,9 @@
 -- the bytes alone of what is answered
-use Rattle.std.specs.Prelude.{◌≡◌, ℕ, List, Option, Result, Ok, Err, IfOk}
-use Rattle.std.specs.Option.{option_map}
+use Rattle.std.specs.Prelude.{◌≡◌, ℕ, List, Result, Ok, Err, IfOk}
 use Rattle.sf_group_rows.specs.Tokens.{LetterValue}
 use Rattle.sf_history.specs.declared.call.CallId.{CallId}
 use Rattle.sf_loaders.specs.declared.faults.LocalFault.{LocalFault}
 use Rattle.sf_loaders.specs.declared.faults.LocalFault.TheVariants as local
-use Rattle.sf_fill_keys.specs.declared.key_place.KeyPlace.{KeyPlace}
 use Rattle.sf_fill_keys.specs.Spaces.{SpaceId}
 use Rattle.sf_fill_keys.specs.Spots.{spot_key}
 use Rattle.sf_fill_values.specs.declared.fault.LoadFault.{LoadFault}
@@ -14,7 +12,7 @@ use Rattle.sf_fill_values.specs.FillValue.{Filled}
 use Rattle.sf_fill.specs.Fresh.{IsFreshGet}
 use Rattle.sf_fill_values.specs.Answers.{GetAnswer, IsLoadedFor}
 use Rattle.sf_fill.specs.GetterValue.{GetterValue}
-use Rattle.sf_fill.specs.Hits.{IsPresent, LooksAtHand}
+use Rattle.sf_fill.specs.Hits.{IsPresent}
 
 -- a value's bytes, or its fault as a get's
 abbrev pub bytes_by : Result (List ℕ) LocalFault → Result (List ℕ) LoadFault
@@ -26,13 +24,6 @@ bytes_by (Err local.Memory) = Err fault.LeaderMemory
 abbrev pub bytes_in : GetAnswer → Result (List ℕ) LoadFault
 bytes_in (Ok l) = bytes_by l.value.result
 bytes_in (Err refused) = Err refused
-
-module _ {L : Type 0} (stated : List ℕ → CallId → List ℕ → Type 0) (key : List ℕ) where
-  -- a look for the key at its place, of whose answer the bytes alone are brought
-  pub record LooksForBytes (at after : KeyPlace) (old new : GetterValue L) (bytes : Option (Result (List ℕ) LoadFault)) : Type 0 where
-    pub answer : Option GetAnswer
-    pub looks : LooksAtHand stated key at after old new answer
-    pub bytes_are : bytes ≡ option_map bytes_in answer
 
 module _ {L : Type 0} (space : SpaceId) (stated : List ℕ → CallId → List ℕ → Type 0) (key : List ℕ) where
   -- the bytes of an answer that a letter at hand gives the key, which is as fresh as a get's

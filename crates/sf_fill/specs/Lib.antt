@@ -11,3 +11,5 @@ pub mod Notes
 pub mod Purges
 pub mod Puts
 pub mod Renewing
+pub mod Seats
+pub mod Lookups

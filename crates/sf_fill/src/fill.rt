@@ -126,14 +126,15 @@ impl<'d, D: Naming, N: Naming, O: Origin> Fill<'d, D, N, O> {
             refusal × (fault ≡ refusal_of refusal)) }
         ensures rest { getter.new ≡ record getter.old { desk = getter.new.desk } }
     {
-        match self.space.find(&mut getter.desk, key) {
-            Ok(place) => {
-                getter.near.remove(place.number().number());
-                self.store.remove_key(rt, place.number().number(), key);
-                Ok(())
-            }
-            Err(refusal) => Err(of_key(refusal)),
-        }
+        let seat = &mut getter.seat;
+        let at = match self.space.find(&mut seat.desk, key) {
+            Ok(at) => at,
+            Err(refusal) => return Err(of_key(refusal)),
+        };
+        let place = at.number().number();
+        seat.near.remove(place);
+        self.store.remove_key(rt, place, key);
+        Ok(())
     }
 
     /// What main or hot holds now, within the limit.

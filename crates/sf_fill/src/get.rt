@@ -1,28 +1,38 @@
 //! Gets.
-ghost use Rattle.std.specs.Prelude.{◌≡◌, ◌<◌, ◌-◌, ◌^◌, ◌⊎◌, Err, IfOk, IfSome, None, false, true};
+ghost use Rattle.std.specs.Prelude.{◌≡◌, ◌<◌, ◌-◌, ◌^◌, ◌⊎◌, Err, IfNone, IfOk, IfSome, None, false, true};
 ghost use Rattle.sf_group_rows.specs.Same.{IsPlaceOf};
-ghost use Rattle.sf_fill_keys.specs.Spots.{IsInSpace, place_at, spot_at, spot_key};
+ghost use Rattle.sf_fill_counters.specs.GetCounts.{hit_counts};
+ghost use Rattle.sf_fill_counters.specs.Totals.{with_counts};
+ghost use Rattle.sf_fill_keys.specs.Spots.{IsInSpace, MayBe, place_at, spot_at, spot_key};
 ghost use Rattle.sf_fill_values.specs.declared.fault.LoadFault.{LoadFault};
 ghost use Rattle.sf_fill_values.specs.declared.fault.GetRefusal.{GetRefusal};
+ghost use Rattle.sf_fill_values.specs.Settled.{HasLookedOn, HasOnlyLooked};
 ghost use Rattle.sf_fill_store.specs.Found.{DrawsWithin, Led, found_by};
-ghost use Rattle.sf_fill.specs.Bytes.{BringsBytes, LooksForBytes};
+ghost use Rattle.sf_fill.specs.Bytes.{BringsBytes};
 ghost use Rattle.sf_fill.specs.Counted.{IsCounted};
 ghost use Rattle.sf_fill.specs.Fresh.{IsFreshGet};
 ghost use Rattle.sf_fill_values.specs.Answers.{IsLoadedFor};
 ghost use Rattle.sf_fill.specs.Gets.{GetsOnce, HasAsked, HasGot};
+ghost use Rattle.sf_fill.specs.GetterValue.{with_loaders};
 ghost use Rattle.sf_fill_store.specs.Replies.{IsOfKey, IsOfPlace, counts_of, reply_of};
-ghost use Rattle.sf_fill.specs.Hits.{IsAbsent, IsPresent, LooksAtHand};
+ghost use Rattle.sf_fill.specs.Hits.{IsAbsent};
+ghost use Rattle.sf_fill.specs.Lookups.{HasFoundHit, IsHitFor};
+ghost use Rattle.sf_fill.specs.Seats.{IsHere, standing_in};
 ghost use Rattle.sf_fill_store.specs.Standings.{is_owing, number_of, seen_of};
 ghost use Rattle.sf_fill_store.specs.Logs.{HasLogged};
 
+use crate::chair::Chair;
 use crate::fill::Fill;
 use crate::getter::Getter;
+use crate::hit::Hit;
+use crate::seat::Seat;
 use bytes::Bytes;
-use sf_fill_counters::{GetCounts, NO_RUN, Naming};
+use sf_fill_counters::{GetCounts, NO_RUN, Naming, Tallies};
 use sf_fill_keys::KeyPlace;
-use sf_fill_store::{Asked, Standing};
+use sf_fill_near::Near;
+use sf_fill_store::Asked;
 use sf_fill_values::{FillValue, GetRefusal, LoadFault, View, of_key, show};
-use sf_group::{Finished, Memory, Spent};
+use sf_group::{Caller, Finished, Letter, Memory};
 use sf_loaders::{LoadPath, Origin};
 use std::sync::Wait;
 
@@ -33,9 +43,9 @@ const GET_ALONE: GetCounts = GetCounts {
     run: NO_RUN,
 };
 
-/// Where a getter's caller stands after it asked, and what the get answers.
+/// Where a getter's caller is kept after it asked, and what the get answers.
 type Reply<'d, D, O> = (
-    Standing<FillValue<'d, D, O>>,
+    Chair<FillValue<'d, D, O>>,
     Result<View<'d, D, O>, LoadFault>,
 );
 
@@ -48,286 +58,253 @@ fn reply<'d, D: Naming, O: Origin>(
     requires space { IsInSpace D.space (spot_at key.now at.old) }
     requires of_place { IsOfPlace (place_at at.old) (found_by asked) }
     requires of_key { IsOfKey key.now (found_by asked) }
-    ensures reply { (result.0, counts_of (found_by asked.entry), result.1)
+    ensures reply { (standing_in result.0, counts_of (found_by asked.entry), result.1)
         ≡ reply_of (found_by asked.entry) }
+    ensures here { IsHere result.0 }
     ensures keyed { IfOk result.1 (λ view.
         spot_key view.value.spot ≡ spot_key (spot_at key.now at.old)) }
     ensures loaded { IfOk result.1 (IsLoadedFor O.loaded (spot_key (spot_at key.now at.old))) }
 {
     match asked {
-        Asked::Unmade(caller) => (Standing::Free(caller), Err(LoadFault::Memory)),
+        Asked::Unmade(caller) => (Chair::Free(caller), Err(LoadFault::Memory)),
         Asked::Spent(caller) => (
-            Standing::Free(caller),
+            Chair::Free(caller),
             Err(LoadFault::Refused(GetRefusal::Spent)),
         ),
-        Asked::Joined(caller, letter) => (Standing::Free(caller), show(letter, at, key)),
+        Asked::Joined(caller, letter) => (Chair::Free(caller), show(letter, at, key)),
         Asked::Led(finished, _) => match finished {
-            Finished::Done(caller, letter) => (Standing::Free(caller), show(letter, at, key)),
-            Finished::Held(settled) => (Standing::Owing(settled), Err(LoadFault::Memory)),
+            Finished::Done(caller, letter) => (Chair::Free(caller), show(letter, at, key)),
+            Finished::Held(settled) => (Chair::Owing(settled), Err(LoadFault::Memory)),
         },
     }
 }
 
 impl<'d, D: Naming, N: Naming, O: Origin> Fill<'d, D, N, O> {
-    // Asks the group for the key at the place, for a getter that owes nothing and found no letter.
+    // A copy of the current letter of the key at the place that a cache has, if there is one, which is counted as a hit there; the
+    // getter keeps it near.
     #[inline(never)]
-    fn get_asking<R: Wait, L>(
+    fn look_in_caches<R: Wait>(
         &self,
         rt: &R,
-        getter: Getter<'d, D, N, O, L>,
+        caller: &mut Caller<FillValue<'d, D, O>>,
+        tallies: &mut Tallies<N>,
+        near: &mut Near<'d, D, N, O>,
+        place: u32,
+        key: &[u8],
+    ) -> Option<Result<Letter<FillValue<'d, D, O>>, Memory>>
+        requires caller { caller.old.group ≡ N.group }
+        requires room { tallies.old.counted.gets < 2 ^ 64 - 1 }
+        ensures looked { HasLookedOn caller.old place result caller.new }
+        ensures of_key { IfSome result (λ found. IfOk found (λ letter.
+            (letter.place ≡ place) × MayBe letter.value.spot key.now)) }
+        ensures hit { IfSome result (λ _.
+            tallies.new.counted ≡ with_counts tallies.old.counted hit_counts) }
+        ensures none { result ≡ None → tallies.new ≡ tallies.old }
+    {
+        let found = self.store.look(rt, tallies, place, key, caller)?;
+        match found {
+            Ok(letter) => {
+                let mut letter = letter;
+                near.keep(self.store.group(), key.len(), &mut letter);
+                Some(Ok(letter))
+            }
+            Err(refused) => Some(Err(refused)),
+        }
+    }
+
+    // The current letter of the key at the place that is at hand: one that the getter keeps near, for which no lock is taken unless
+    // 64 such hits are to be entered, or one that a cache has. It is counted as a hit.
+    #[inline(always)]
+    fn lookup<'g, R: Wait>(
+        &self,
+        rt: &R,
+        caller: &mut Caller<FillValue<'d, D, O>>,
+        tallies: &mut Tallies<N>,
+        near: &'g mut Near<'d, D, N, O>,
+        place: u32,
+        key: &[u8],
+    ) -> Option<Hit<'g, 'd, D, N, O>>
+        requires caller { caller.old.group ≡ N.group }
+        requires room { tallies.old.counted.gets < 2 ^ 64 - 1 }
+        requires place { IsPlaceOf N.group place }
+        ensures found { IfSome result (HasFoundHit caller.old place caller.new) }
+        ensures fits { IfSome result (IsHitFor place key.now) }
+        ensures counted { IfSome result (λ _.
+            tallies.new.counted ≡ with_counts tallies.old.counted hit_counts) }
+        ensures none { IfNone result (HasOnlyLooked caller.old caller.new
+            × (tallies.new.counted ≡ tallies.old.counted)) }
+    {
+        if let Some(letter) = near.look(self.store.group(), place, key, caller) {
+            self.store.count_near_hit(rt, tallies);
+            return Some(Hit::Near(letter));
+        }
+        match self.look_in_caches(rt, caller, tallies, near, place, key) {
+            Some(found) => Some(Hit::Far(found)),
+            None => None,
+        }
+    }
+
+    // Asks the group for the key at the place, for a getter that owes nothing and found no letter. Its caller is away meanwhile.
+    #[inline(never)]
+    fn ask<R: Wait, L>(
+        &self,
+        rt: &R,
+        seat: &mut Seat<'d, D, N, O>,
         at: &mut KeyPlace<'d>,
         key: &[u8],
-    ) -> (Getter<'d, D, N, O, L>, Result<View<'d, D, O>, LoadFault>)
+        loaders: &mut L,
+    ) -> Result<View<'d, D, O>, LoadFault>
     where
         L: LoadPath<Origin = O>,
-        requires room { getter.counted.gets < 2 ^ 64 - 1 }
-        requires free { is_owing getter.standing ≡ false }
+        requires room { seat.old.counted.gets < 2 ^ 64 - 1 }
+        requires free { is_owing seat.old.standing ≡ false }
         requires space { IsInSpace D.space (spot_at key.now at.old) }
         requires keyed { spot_key (spot_at key.now at.old) ≡ key.now }
         requires place { IsPlaceOf N.group (place_at at.old) }
         ensures asked { HasAsked (L.run_gives key.now) (DrawsWithin N.limit L.draw_gives) N.space
-            key.now (spot_at key.now at.old) getter.entry result.0 result.1 }
-        ensures logged { HasLogged (number_of getter.entry.standing) (seen_of getter.entry.standing)
-            (seen_of result.0.standing) getter.entry.log result.0.log }
-        ensures keyed { IfOk result.1 (λ view. spot_key view.value.spot ≡ key.now) }
-        ensures loaded { IfOk result.1 (IsLoadedFor O.loaded key.now) }
+            key.now (spot_at key.now at.old) (with_loaders seat.old loaders.old)
+            (with_loaders seat.new loaders.new) result }
+        ensures logged { HasLogged (number_of seat.old.standing) (seen_of seat.old.standing)
+            (seen_of seat.new.standing) seat.old.log seat.new.log }
+        ensures keyed { IfOk result (λ view. spot_key view.value.spot ≡ key.now) }
+        ensures loaded { IfOk result (IsLoadedFor O.loaded key.now) }
     {
-        let Getter {
-            desk,
-            standing,
-            mut loaders,
-            mut tallies,
-            mut log,
-            near,
-        } = getter;
-        let caller = match standing {
-            Standing::Free(caller) => caller,
-            Standing::Owing(settled) => {
-                settled.abandon();
-                unreachable!()
-            }
+        let Ok(spot) = at.spot(self.alloc, key) else {
+            self.store.count(rt, &mut seat.tallies, GET_ALONE);
+            return Err(LoadFault::Memory);
         };
-        let asked = match at.spot(self.alloc, key) {
-            Ok(spot) => self.store.ask(rt, caller, spot, key, &mut loaders, &mut log, &mut tallies),
-            Err(_) => {
-                self.store.count(rt, &mut tallies, GET_ALONE);
-                Asked::Unmade(caller)
-            }
-        };
-        let (standing, answer) = reply(asked, at, key);
-        let getter = Getter {
-            desk,
-            standing,
-            loaders,
-            tallies,
-            log,
-            near,
-        };
-        (getter, answer)
-    }
-
-    // Answers the key from a letter that the getter keeps near, if there is one, and counts a hit then. No lock is taken, unless 64
-    // such hits are to be entered.
-    #[inline(always)]
-    fn look_near<R: Wait, L>(
-        &self,
-        rt: &R,
-        getter: &mut Getter<'d, D, N, O, L>,
-        at: &mut KeyPlace<'d>,
-        key: &[u8],
-    ) -> Option<Result<View<'d, D, O>, LoadFault>>
-        requires room { getter.old.counted.gets < 2 ^ 64 - 1 }
-        requires space { IsInSpace D.space (spot_at key.now at.old) }
-        requires keyed { spot_key (spot_at key.now at.old) ≡ key.now }
-        requires place { IsPlaceOf N.group (place_at at.old) }
-        ensures { LooksAtHand O.loaded key.now at.old at.new getter.old getter.new result }
-    {
-        let Standing::Free(caller) = &mut getter.standing else {
-            return None;
-        };
-        let found = getter.near.look(self.store.group(), at, key, caller)?;
-        self.store.count_near_hit(rt, &mut getter.tallies);
-        match found {
-            Ok(view) => Some(Ok(view)),
-            Err(_) => Some(Err(LoadFault::Memory)),
-        }
-    }
-
-    // Answers the key from a letter that a cache has, if there is one, and counts a hit where it is found; the getter keeps it near.
-    #[inline(never)]
-    fn look_far<R: Wait, L>(
-        &self,
-        rt: &R,
-        getter: &mut Getter<'d, D, N, O, L>,
-        at: &mut KeyPlace<'d>,
-        key: &[u8],
-    ) -> Option<Result<View<'d, D, O>, LoadFault>>
-        requires room { getter.old.counted.gets < 2 ^ 64 - 1 }
-        requires space { IsInSpace D.space (spot_at key.now at.old) }
-        requires keyed { spot_key (spot_at key.now at.old) ≡ key.now }
-        ensures { LooksAtHand O.loaded key.now at.old at.new getter.old getter.new result }
-    {
-        let Standing::Free(caller) = &mut getter.standing else {
-            return None;
-        };
-        let place = at.number().number();
-        let found = self
+        let caller = seat.chair.take_free();
+        let log = &mut seat.log;
+        let asked = self
             .store
-            .look(rt, &mut getter.tallies, place, key, caller)?;
-        match found {
-            Ok(letter) => {
-                let mut letter = letter;
-                getter.near.keep(self.store.group(), key.len(), &mut letter);
-                Some(show(letter, at, key))
-            }
-            Err(_) => Some(Err(LoadFault::Memory)),
-        }
+            .ask(rt, caller, spot, key, loaders, log, &mut seat.tallies);
+        let (chair, answer) = reply(asked, at, key);
+        seat.chair = chair;
+        answer
     }
 
-    // Answers the key from a letter at hand, if there is one, and counts a hit then.
-    #[inline(always)]
-    fn look_once<R: Wait, L>(
-        &self,
-        rt: &R,
-        getter: &mut Getter<'d, D, N, O, L>,
-        at: &mut KeyPlace<'d>,
-        key: &[u8],
-    ) -> Option<Result<View<'d, D, O>, LoadFault>>
-        requires room { getter.old.counted.gets < 2 ^ 64 - 1 }
-        requires space { IsInSpace D.space (spot_at key.now at.old) }
-        requires keyed { spot_key (spot_at key.now at.old) ≡ key.now }
-        requires place { IsPlaceOf N.group (place_at at.old) }
-        ensures { LooksAtHand O.loaded key.now at.old at.new getter.old getter.new result }
-    {
-        match self.look_near(rt, getter, at, key) {
-            Some(answer) => Some(answer),
-            None => self.look_far(rt, getter, at, key),
-        }
-    }
-
-    // The bytes of a letter that the getter keeps near, if there is one, and counts a hit then.
-    #[inline(always)]
-    fn look_near_for_bytes<R: Wait, L>(
-        &self,
-        rt: &R,
-        getter: &mut Getter<'d, D, N, O, L>,
-        at: &mut KeyPlace<'d>,
-        key: &[u8],
-    ) -> Option<Result<Bytes, LoadFault>>
-        requires room { getter.old.counted.gets < 2 ^ 64 - 1 }
-        requires space { IsInSpace D.space (spot_at key.now at.old) }
-        requires keyed { spot_key (spot_at key.now at.old) ≡ key.now }
-        requires place { IsPlaceOf N.group (place_at at.old) }
-        ensures found { IfSome result (λ bytes.
-            LooksForBytes O.loaded key.now at.old at.new getter.old getter.new (Some bytes)) }
-        ensures none { result ≡ None
-            → LooksAtHand O.loaded key.now at.old at.new getter.old getter.new None }
-    {
-        let Standing::Free(caller) = &mut getter.standing else {
-            return None;
-        };
-        let found = getter
-            .near
-            .look_for_bytes(self.store.group(), at, key, caller)?;
-        self.store.count_near_hit(rt, &mut getter.tallies);
-        match found {
-            Ok(bytes) => Some(Ok(bytes)),
-            Err(_) => Some(Err(LoadFault::Memory)),
-        }
-    }
-
-    // The bytes of a letter at hand, if there is one, and counts a hit then.
-    #[inline(always)]
-    fn look_for_bytes<R: Wait, L>(
-        &self,
-        rt: &R,
-        getter: &mut Getter<'d, D, N, O, L>,
-        at: &mut KeyPlace<'d>,
-        key: &[u8],
-    ) -> Option<Result<Bytes, LoadFault>>
-        requires room { getter.old.counted.gets < 2 ^ 64 - 1 }
-        requires space { IsInSpace D.space (spot_at key.now at.old) }
-        requires keyed { spot_key (spot_at key.now at.old) ≡ key.now }
-        requires place { IsPlaceOf N.group (place_at at.old) }
-        ensures { LooksForBytes O.loaded key.now at.old at.new getter.old getter.new result }
-    {
-        match self.look_near_for_bytes(rt, getter, at, key) {
-            Some(bytes) => Some(bytes),
-            None => match self.look_far(rt, getter, at, key) {
-                Some(Ok(view)) => Some(Ok(view.into_bytes())),
-                Some(Err(fault)) => Some(Err(fault)),
-                None => None,
-            },
-        }
-    }
-
-    // Gets the key's value, for a getter that has delivered what it could. Only an asking takes the getter apart.
+    // Gets the key's value, for a getter that has delivered what it could.
     fn get_once<R: Wait, L>(
         &self,
         rt: &R,
-        getter: Getter<'d, D, N, O, L>,
+        seat: &mut Seat<'d, D, N, O>,
         key: &[u8],
-    ) -> (Getter<'d, D, N, O, L>, Result<View<'d, D, O>, LoadFault>)
+        loaders: &mut L,
+    ) -> Result<View<'d, D, O>, LoadFault>
     where
         L: LoadPath<Origin = O>,
-        requires room { getter.counted.gets < 2 ^ 64 - 1 }
+        requires room { seat.old.counted.gets < 2 ^ 64 - 1 }
         ensures got { GetsOnce (L.run_gives key.now) (DrawsWithin N.limit L.draw_gives) N.space
-            key.now getter.entry result.0 result.1 }
-        ensures logged { HasLogged (number_of getter.entry.standing) (seen_of getter.entry.standing)
-            (seen_of result.0.standing) getter.entry.log result.0.log }
-        ensures keyed { IfOk result.1 (λ view. spot_key view.value.spot ≡ key.now) }
-        ensures loaded { IfOk result.1 (IsLoadedFor O.loaded key.now) }
+            key.now (with_loaders seat.old loaders.old) (with_loaders seat.new loaders.new) result }
+        ensures logged { HasLogged (number_of seat.old.standing) (seen_of seat.old.standing)
+            (seen_of seat.new.standing) seat.old.log seat.new.log }
+        ensures keyed { IfOk result (λ view. spot_key view.value.spot ≡ key.now) }
+        ensures loaded { IfOk result (IsLoadedFor O.loaded key.now) }
     {
-        let mut getter = getter;
-        if getter.owes() {
-            self.store.count(rt, &mut getter.tallies, GET_ALONE);
-            return (getter, Err(LoadFault::Memory));
+        if seat.chair.owes() {
+            self.store.count(rt, &mut seat.tallies, GET_ALONE);
+            return Err(LoadFault::Memory);
         }
-        let mut at = match self.space.find(&mut getter.desk, key) {
+        let mut at = match self.space.find(&mut seat.desk, key) {
             Ok(at) => at,
             Err(refusal) => {
-                self.store.count(rt, &mut getter.tallies, GET_ALONE);
-                return (getter, Err(of_key(refusal)));
+                self.store.count(rt, &mut seat.tallies, GET_ALONE);
+                return Err(of_key(refusal));
             }
         };
-        match self.look_once(rt, &mut getter, &mut at, key) {
-            Some(answer) => (getter, answer),
-            None => self.get_asking(rt, getter, &mut at, key),
+        let place = at.number().number();
+        let Chair::Free(caller) = &mut seat.chair else {
+            unreachable!()
+        };
+        if let Some(hit) = self.lookup(rt, caller, &mut seat.tallies, &mut seat.near, place, key) {
+            return hit.view(self.store.group(), &mut at, key);
         }
+        self.ask(rt, seat, &mut at, key, loaders)
     }
 
-    /// Gets the key's value as `get` does, if a letter at hand answers it: nothing is asked, and the getter is only lent, so that a
-    /// hit moves nothing. `None` where none does, where the key has no place, where the getter owes letters, and where its Gets
-    /// stand at the greatest `u64`; nothing is counted then, and `get` loads it or says why it does not.
-    pub fn get_if_present<R: Wait, L>(
+    // Gets the key's value as `get` does, with these loaders.
+    pub(crate) fn get_with<R: Wait, L>(
+        &self,
+        rt: &R,
+        seat: &mut Seat<'d, D, N, O>,
+        key: &[u8],
+        loaders: &mut L,
+    ) -> Result<View<'d, D, O>, LoadFault>
+    where
+        L: LoadPath<Origin = O>,
+        requires room { seat.old.counted.gets < 2 ^ 64 - 1 }
+        ensures got { HasGot (L.run_gives key.now) (DrawsWithin N.limit L.draw_gives) N.space key.now
+            (with_loaders seat.old loaders.old) (with_loaders seat.new loaders.new) result }
+        ensures counted { IsCounted (with_loaders seat.old loaders.old)
+            (with_loaders seat.new loaders.new) result }
+        ensures fresh { IsFreshGet N.space key.now (with_loaders seat.old loaders.old)
+            (with_loaders seat.new loaders.new) result }
+        ensures keyed { IfOk result (λ view. spot_key view.value.spot ≡ key.now) }
+        ensures loaded { IfOk result (IsLoadedFor O.loaded key.now) }
+    {
+        let _delivered = seat.settle_up(self.store.group());
+        self.get_once(rt, seat, key, loaders)
+    }
+
+    /// Gets the key's value: from a cache, or by leading the key's call, or from the call that another leads. What the getter
+    /// owes is delivered first; where that is refused memory, so is the get. One whose Gets stand at the greatest `u64` is
+    /// refused, and not counted.
+    pub fn get<R: Wait, L>(
         &self,
         rt: &R,
         getter: &mut Getter<'d, D, N, O, L>,
         key: &[u8],
-    ) -> Option<Result<View<'d, D, O>, LoadFault>>
-        ensures present { IfSome result (IsPresent N.space key.now getter.old getter.new) }
-        ensures fresh { IfSome result (IsFreshGet N.space key.now getter.old getter.new) }
-        ensures absent { result ≡ None → (getter.new ≡ getter.old)
-            ⊎ IsAbsent N.space getter.old getter.new }
-        ensures owing { is_owing getter.old.standing ≡ true → (result ≡ None)
-            × (getter.new ≡ getter.old) }
-        ensures full { getter.old.counted.gets ≡ 2 ^ 64 - 1 → (result ≡ None)
-            × (getter.new ≡ getter.old) }
-        ensures keyed { IfSome result (λ answer.
-            IfOk answer (λ view. spot_key view.value.spot ≡ key.now)) }
-        ensures loaded { IfSome result (λ answer. IfOk answer (IsLoadedFor O.loaded key.now)) }
+    ) -> Result<View<'d, D, O>, LoadFault>
+    where
+        L: LoadPath<Origin = O>,
+        ensures got { getter.old.counted.gets < 2 ^ 64 - 1
+            → HasGot (L.run_gives key.now) (DrawsWithin N.limit L.draw_gives) N.space key.now
+            getter.old getter.new result }
+        ensures counted { getter.old.counted.gets < 2 ^ 64 - 1
+            → IsCounted getter.old getter.new result }
+        ensures fresh { getter.old.counted.gets < 2 ^ 64 - 1
+            → IsFreshGet N.space key.now getter.old getter.new result }
+        ensures keyed { IfOk result (λ view. spot_key view.value.spot ≡ key.now) }
+        ensures loaded { IfOk result (IsLoadedFor O.loaded key.now) }
+        ensures full { getter.old.counted.gets ≡ 2 ^ 64 - 1 → (getter.new ≡ getter.old)
+            × (result ≡ Err (LoadFault.Refused GetRefusal.Spent)) }
     {
-        if getter.is_full() || getter.owes() {
-            return None;
+        if getter.is_full() {
+            return Err(LoadFault::Refused(GetRefusal::Spent));
         }
-        let Ok(mut at) = self.space.find(&mut getter.desk, key) else {
-            return None;
-        };
-        self.look_once(rt, getter, &mut at, key)
+        self.get_with(rt, &mut getter.seat, key, &mut getter.loaders)
     }
 
-    /// The bytes alone of what `get_if_present` answers: nothing else of a view is copied, so it is the quickest hit. `None` where that
-    /// answers nothing.
+    // The bytes alone of a letter at hand for the key, for a getter that owes nothing.
+    fn bytes_at_hand<R: Wait>(
+        &self,
+        rt: &R,
+        seat: &mut Seat<'d, D, N, O>,
+        key: &[u8],
+    ) -> Option<Result<Bytes, LoadFault>>
+        requires room { seat.old.counted.gets < 2 ^ 64 - 1 }
+        ensures bytes { IfSome result (BringsBytes N.space O.loaded key.now seat.old seat.new) }
+        ensures absent { IfNone result ((seat.new ≡ seat.old) ⊎ IsAbsent N.space seat.old seat.new) }
+        ensures owing { is_owing seat.old.standing ≡ true → (result ≡ None)
+            × (seat.new ≡ seat.old) }
+    {
+        let Chair::Free(caller) = &mut seat.chair else {
+            return None;
+        };
+        let Ok(mut at) = self.space.find(&mut seat.desk, key) else {
+            return None;
+        };
+        let place = at.number().number();
+        let found = self.lookup(rt, caller, &mut seat.tallies, &mut seat.near, place, key);
+        let Some(hit) = found else {
+            return None;
+        };
+        Some(hit.bytes(&mut at, key))
+    }
+
+    /// The bytes alone of what `get` answers of a letter at hand: nothing else of a view is copied, so it is the quickest hit. `None`
+    /// where no letter is at hand, where the key has no place, where the getter owes letters, and where its Gets stand at the greatest
+    /// `u64`; nothing is counted then, and `get` loads it or says why it does not.
     pub fn get_bytes_if_present<R: Wait, L>(
         &self,
         rt: &R,
@@ -343,45 +320,9 @@ impl<'d, D: Naming, N: Naming, O: Origin> Fill<'d, D, N, O> {
         ensures full { getter.old.counted.gets ≡ 2 ^ 64 - 1 → (result ≡ None)
             × (getter.new ≡ getter.old) }
     {
-        if getter.is_full() || getter.owes() {
-            return None;
-        }
-        let Ok(mut at) = self.space.find(&mut getter.desk, key) else {
-            return None;
-        };
-        self.look_for_bytes(rt, getter, &mut at, key)
-    }
-
-    /// Gets the key's value: from a cache, or by leading the key's call, or from the call that another leads. What the getter
-    /// owes is delivered first; where that is refused memory, so is the get. One whose Gets stand at the greatest `u64` is
-    /// refused, and not counted.
-    pub fn get<R: Wait, L>(
-        &self,
-        rt: &R,
-        getter: Getter<'d, D, N, O, L>,
-        key: &[u8],
-    ) -> (Getter<'d, D, N, O, L>, Result<View<'d, D, O>, LoadFault>)
-    where
-        L: LoadPath<Origin = O>,
-        ensures got { getter.entry.counted.gets < 2 ^ 64 - 1
-            → HasGot (L.run_gives key.now) (DrawsWithin N.limit L.draw_gives) N.space key.now
-            getter.entry result.0 result.1 }
-        ensures counted { getter.entry.counted.gets < 2 ^ 64 - 1
-            → IsCounted getter.entry result.0 result.1 }
-        ensures fresh { getter.entry.counted.gets < 2 ^ 64 - 1
-            → IsFreshGet N.space key.now getter.entry result.0 result.1 }
-        ensures keyed { IfOk result.1 (λ view. spot_key view.value.spot ≡ key.now) }
-        ensures loaded { IfOk result.1 (IsLoadedFor O.loaded key.now) }
-        ensures full { getter.entry.counted.gets ≡ 2 ^ 64 - 1 → (result.0 ≡ getter.entry)
-            × (result.1 ≡ Err (LoadFault.Refused GetRefusal.Spent)) }
-    {
         if getter.is_full() {
-            return (getter, Err(LoadFault::Refused(GetRefusal::Spent)));
+            return None;
         }
-        if getter.owes() {
-            let (getter, _delivered) = getter.settle_up(self);
-            return self.get_once(rt, getter, key);
-        }
-        self.get_once(rt, getter, key)
+        self.bytes_at_hand(rt, &mut getter.seat, key)
     }
 }

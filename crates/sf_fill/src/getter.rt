@@ -1,55 +1,38 @@
 //! Getters: what they owe, and what they tell each other.
 ghost use Rattle.std.specs.Prelude.{IfSome, ◌≡◌, ◌↔◌, ◌-◌, ◌<◌, ◌^◌, IsTrue, false, is_ok, not};
-ghost use Rattle.sf_fill_store.specs.Standings.{IsOfGroup, free_caller, is_owing, seen_of};
+ghost use Rattle.sf_fill_store.specs.Standings.{free_caller, is_owing, seen_of};
 ghost use Rattle.sf_group_rows.specs.Seen.{StartsWith};
 ghost use Rattle.sf_fill.specs.GetterValue.{with_loaders};
 ghost use Rattle.sf_fill.specs.Renewing.{Renews};
 ghost use Rattle.sf_fill.specs.Fresh.{HasAdded, delivered_by};
 ghost use Rattle.sf_fill_store.specs.Logs.{empty_log, logged_by};
-ghost use Rattle.sf_fill.specs.Owing.{HasDelivered, HasSettledUp};
+ghost use Rattle.sf_fill.specs.Owing.{HasSettledUp};
 ghost use Rattle.sf_group_rows.specs.Notes.{HasGrown};
 ghost use Rattle.sf_fill.specs.Notes.{HasToldNote, HasLearntNote, NotesCarryPurges, NotesCarryReloads};
 
+use crate::chair::Chair;
 use crate::fill::Fill;
+use crate::seat::Seat;
 use sf_fill_counters::{Naming, Tallies};
-use sf_fill_keys::KeyDesk;
-use sf_fill_near::Near;
-use sf_fill_store::{Log, Standing};
 use sf_fill_values::FillValue;
-use sf_group::{Caller, Event, Finished, Memory, Note};
+use sf_group::{Caller, Event, Memory, Note};
 use sf_loaders::Origin;
 use sf_words::PlaceNo;
 use std::marker::Model;
-use std::mem;
 use std::sync::Wait;
 
 /// One who gets keys of a fill, in one thread at a time. It has to be spent.
 pub struct Getter<'d, D: Naming, N: Naming, O: Origin, L> {
-    pub(crate) desk: KeyDesk,
-    pub(crate) standing: Standing<FillValue<'d, D, O>>,
+    pub(crate) seat: Seat<'d, D, N, O>,
     pub(crate) loaders: L,
-    pub(crate) tallies: Tallies<N>,
-    pub(crate) log: Log,
-    pub(crate) near: Near<'d, D, N, O>,
 }
 
 impl<'d, D: Naming, N: Naming, O: Origin, L> Model for Getter<'d, D, N, O, L> {
-    ghost use Rattle.sf_fill_keys.specs.Spaces.{IsDeskOf};
-    ghost use Rattle.sf_fill.specs.GetterValue.{GetterValue};
-    ghost use Rattle.sf_fill_store.specs.Standings.{IsOfGroup};
+    ghost use Rattle.sf_fill.specs.GetterValue.{GetterValue, with_loaders};
 
     ghost Value = { GetterValue L };
 
-    ghost view = { λ g.
-        record {
-          desk = g.desk;
-          standing = g.standing;
-          loaders = g.loaders;
-          counted = g.tallies.counted;
-          log = g.log;
-        } };
-
-    ghost invariant = { λ g. IsDeskOf N.space g.desk × IsOfGroup N.group g.standing };
+    ghost view = { λ g. with_loaders g.seat g.loaders };
 }
 
 impl<'d, D: Naming, N: Naming, O: Origin, L> Getter<'d, D, N, O, L> {
@@ -58,14 +41,14 @@ impl<'d, D: Naming, N: Naming, O: Origin, L> Getter<'d, D, N, O, L> {
         ensures full { IsTrue result ↔ (self.now.counted.gets ≡ 2 ^ 64 - 1) }
         ensures room { result ≡ false → self.now.counted.gets < 2 ^ 64 - 1 }
     {
-        self.tallies.is_full()
+        self.seat.is_full()
     }
 
     /// Whether a delivery is owed.
     pub fn owes(&self) -> bool
         ensures { result ≡ is_owing self.now.standing }
     {
-        self.standing.is_owing()
+        self.seat.owes()
     }
 
     /// The events that the getter's calls added, oldest first, as far as there was room for them; the results are `()`. The
@@ -74,7 +57,8 @@ impl<'d, D: Naming, N: Naming, O: Origin, L> Getter<'d, D, N, O, L> {
         ensures events { result.items ≡ self.old.log.events }
         ensures emptied { self.new ≡ record self.old { log = empty_log 0 } }
     {
-        self.log.take()
+        let seat = &mut self.seat;
+        seat.log.take()
     }
 
     /// What the getter loads with, to look at.
@@ -96,16 +80,16 @@ impl<'d, D: Naming, N: Naming, O: Origin, L> Getter<'d, D, N, O, L> {
         ensures caller { result ≡ free_caller self.entry.standing }
         ensures group { IfSome result (λ caller. caller.group ≡ N.group) }
     {
-        let Getter {
+        let Getter { seat, loaders: _ } = self;
+        let Seat {
             desk: _,
-            standing,
-            loaders: _,
+            chair,
             mut tallies,
             log: _,
             near: _,
-        } = self;
+        } = seat;
         fill.store.enter(rt, &mut tallies);
-        standing.into_caller()
+        chair.into_caller()
     }
 
     /// Enters in the fill's book what the getter has counted and not entered yet: the last 63 gets at most that its near letters
@@ -113,7 +97,8 @@ impl<'d, D: Naming, N: Naming, O: Origin, L> Getter<'d, D, N, O, L> {
     pub fn enter<R: Wait>(&mut self, rt: &R, fill: &Fill<'d, D, N, O>)
         ensures { self.new ≡ self.old }
     {
-        fill.store.enter(rt, &mut self.tallies);
+        let seat = &mut self.seat;
+        fill.store.enter(rt, &mut seat.tallies);
     }
 
     /// Spends the getter, once all that it counted is entered in the fill's book; what it owes is abandoned.
@@ -131,7 +116,7 @@ impl<'d, D: Naming, N: Naming, O: Origin, L> Getter<'d, D, N, O, L> {
     where
         L: Drop,
     {
-        let _ = self.into_tallies();
+        drop(self.into_tallies());
     }
 
     // Spends the getter, but for its tallies.
@@ -140,90 +125,40 @@ impl<'d, D: Naming, N: Naming, O: Origin, L> Getter<'d, D, N, O, L> {
         L: Drop,
         ensures { result.counted ≡ self.entry.counted }
     {
-        let Getter {
+        let Getter { seat, loaders: _ } = self;
+        let Seat {
             desk: _,
-            standing,
-            loaders: _,
+            chair: _,
             tallies,
             log: _,
             near: _,
-        } = self;
-        standing.end();
+        } = seat;
         tallies
     }
-}
 
-impl<'d, D: Naming, N: Naming, O: Origin> Fill<'d, D, N, O> {
-    // Delivers the letters that are owed, if there are any; where memory for one is refused, they are owed still.
-    pub(crate) fn deliver(
-        &self,
-        standing: Standing<FillValue<'d, D, O>>,
-        log: &mut Log,
-    ) -> (Standing<FillValue<'d, D, O>>, Result<(), Memory>)
-        requires group { IsOfGroup N.group standing }
-        ensures delivered { HasDelivered standing.entry result.0 }
-        ensures logged { log.new ≡ logged_by log.old (delivered_by standing.entry result.0) }
-        ensures group { IsOfGroup N.group result.0 }
-        ensures done { is_ok result.1 ≡ not (is_owing result.0) }
-    {
-        match standing {
-            Standing::Free(caller) => (Standing::Free(caller), Ok(())),
-            Standing::Owing(settled) => match self.store.group().go_on(settled) {
-                Finished::Done(caller, letter) => {
-                    log.add(Event::Handed {
-                        by: caller.number(),
-                        call: letter.call(),
-                    });
-                    (Standing::Free(caller), Ok(()))
-                }
-                Finished::Held(settled) => (Standing::Owing(settled), Err(Memory)),
-            },
-        }
-    }
-}
-
-impl<'d, D: Naming, N: Naming, O: Origin, L> Getter<'d, D, N, O, L> {
     /// Delivers the letters that are owed; where memory for one is refused, they are owed still.
-    #[inline(never)]
-    pub fn settle_up(self, fill: &Fill<'d, D, N, O>) -> (Getter<'d, D, N, O, L>, Result<(), Memory>)
-        ensures settled { HasSettledUp self.entry result.0 }
-        ensures adds { HasAdded self.entry.standing result.0.standing
-            (delivered_by self.entry.standing result.0.standing) }
-        ensures logged { result.0.log ≡ logged_by self.entry.log
-            (delivered_by self.entry.standing result.0.standing) }
-        ensures done { is_ok result.1 ≡ not (is_owing result.0.standing) }
+    pub fn settle_up(&mut self, fill: &Fill<'d, D, N, O>) -> Result<(), Memory>
+        ensures settled { HasSettledUp self.old self.new }
+        ensures adds { HasAdded self.old.standing self.new.standing
+            (delivered_by self.old.standing self.new.standing) }
+        ensures logged { self.new.log ≡ logged_by self.old.log
+            (delivered_by self.old.standing self.new.standing) }
+        ensures done { is_ok result ≡ not (is_owing self.new.standing) }
     {
-        let Getter {
-            desk,
-            standing,
-            loaders,
-            tallies,
-            mut log,
-            near,
-        } = self;
-        let (standing, outcome) = fill.deliver(standing, &mut log);
-        let getter = Getter {
-            desk,
-            standing,
-            loaders,
-            tallies,
-            log,
-            near,
-        };
-        (getter, outcome)
+        self.seat.settle_up(fill.group())
     }
-}
 
-impl<'d, D: Naming, N: Naming, O: Origin, L> Getter<'d, D, N, O, L> {
     /// A note that shows what the getter has seen, as the Forgets of its reloads.
     pub fn tell(&mut self, fill: &Fill<'d, D, N, O>) -> Note<FillValue<'d, D, O>>
         ensures group { result.group ≡ N.group }
         ensures told { HasToldNote self.old self.new result }
     {
         let group = fill.group();
-        match &mut self.standing {
-            Standing::Free(caller) => group.tell(caller),
-            Standing::Owing(settled) => settled.tell(group),
+        let seat = &mut self.seat;
+        match &mut seat.chair {
+            Chair::Free(caller) => group.tell(caller),
+            Chair::Owing(settled) => settled.tell(group),
+            Chair::Away => unreachable!(),
         }
     }
 
@@ -235,14 +170,14 @@ impl<'d, D: Naming, N: Naming, O: Origin, L> Getter<'d, D, N, O, L> {
         ensures note { HasGrown note.old note.new }
     {
         let group = fill.group();
-        match &mut self.standing {
-            Standing::Free(caller) => group.learn(caller, note),
-            Standing::Owing(settled) => settled.learn(group, note),
+        let seat = &mut self.seat;
+        match &mut seat.chair {
+            Chair::Free(caller) => group.learn(caller, note),
+            Chair::Owing(settled) => settled.learn(group, note),
+            Chair::Away => unreachable!(),
         }
     }
-}
 
-impl<'d, D: Naming, N: Naming, O: Origin, L> Getter<'d, D, N, O, L> {
     /// Returns the getter with these loaders, and the loaders that it had. A getter that was made with no loaders, as of `()`, is a seat
     /// for one that is added while the fill runs: it can get keys once it has loaders.
     pub fn with_loaders<M>(self, loaders: M) -> (Getter<'d, D, N, O, M>, L)
@@ -250,22 +185,10 @@ impl<'d, D: Naming, N: Naming, O: Origin, L> Getter<'d, D, N, O, L> {
         ensures back { result.1 ≡ self.entry.loaders }
     {
         let Getter {
-            desk,
-            standing,
+            seat,
             loaders: back,
-            tallies,
-            log,
-            near,
         } = self;
-        let getter = Getter {
-            desk,
-            standing,
-            loaders,
-            tallies,
-            log,
-            near,
-        };
-        (getter, back)
+        (Getter { seat, loaders }, back)
     }
 
     /// Trades the getter's caller for the spare one, so that a getter whose caller has no generation left goes on. Each of the two
@@ -280,12 +203,7 @@ impl<'d, D: Naming, N: Naming, O: Origin, L> Getter<'d, D, N, O, L> {
         ensures seen { StartsWith (seen_of self.new.standing) (seen_of self.old.standing) }
         ensures group { spare.new.group ≡ N.group }
     {
-        let Standing::Free(caller) = &mut self.standing else {
-            return false;
-        };
-        fill.group().meet(caller, spare);
-        mem::swap(caller, spare);
-        true
+        self.seat.renew(fill.group(), spare)
     }
 }
 

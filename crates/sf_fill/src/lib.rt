@@ -16,12 +16,15 @@
 //! | add a getter, or go on with a spare caller | `with_loaders`, `renew` |
 #![tactic(auto)]
 
+mod chair;
 mod fill;
 mod get;
 mod getter;
+mod hit;
 mod parts;
 mod put;
 mod reload;
+mod seat;
 mod sizes;
 
 pub use fill::Fill;

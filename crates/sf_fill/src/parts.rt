@@ -9,13 +9,15 @@ ghost use Rattle.sf_fill_store.specs.Logs.{empty_log};
 ghost use Rattle.sf_fill.specs.Made.{AreOfGroup, AreParts, new_getters};
 ghost use Rattle.sf_fill_counters.specs.Totals.{names_of};
 
+use crate::chair::Chair;
 use crate::fill::Fill;
 use crate::getter::Getter;
+use crate::seat::Seat;
 use crate::sizes::Sizes;
 use sf_fill_counters::{Accounts, AllParts, Ledgers, Naming};
 use sf_fill_keys::{KeyDesk, KeySpace};
 use sf_fill_near::Near;
-use sf_fill_store::{Log, Standing, Store};
+use sf_fill_store::{Log, Store};
 use sf_fill_values::{FillValue, Kept};
 use sf_group::{Caller, Group, Memory};
 use sf_loaders::Origin;
@@ -59,6 +61,7 @@ fn logs_with_room(alloc: Global, count: usize, room: usize) -> Result<Vec<Log>, 
 {
     let mut logs = Vec::with_capacity(alloc, count)?;
     for index in 0..count {
+        // Named for the loop's invariant alone.
         let _ = index;
         logs.push(Log::with_room(alloc, room)?)?;
     }
@@ -132,14 +135,14 @@ fn getters_of<'d, D: Naming, N: Naming, O: Origin, L: Drop>(
         let Some(log) = logs.pop() else {
             unreachable!()
         };
-        getters.push_reserved(Getter {
+        let seat = Seat {
             desk,
-            standing: Standing::Free(caller),
-            loaders,
+            chair: Chair::Free(caller),
             tallies: all.deal(),
             log,
             near: Near::new(alloc, sizes.near, sizes.near_limit),
-        });
+        };
+        getters.push_reserved(Getter { seat, loaders });
     }
     getters.reverse();
     getters

@@ -27,22 +27,18 @@ impl<'d, D: Naming, N: Naming, O: Origin> Fill<'d, D, N, O> {
     pub fn put<R: Wait, L>(
         &self,
         rt: &R,
-        getter: Getter<'d, D, N, O, L>,
+        getter: &mut Getter<'d, D, N, O, L>,
         key: &[u8],
         bytes: Bytes,
-    ) -> (
-        Getter<'d, D, N, O, L>,
-        Result<Put<View<'d, D, O>>, LoadFault>,
-    )
+    ) -> Result<Put<View<'d, D, O>>, LoadFault>
         requires stated { (call : CallId) → O.loaded key.now call bytes }
-        ensures { HasPut N.space key.now bytes getter.entry result.0 result.1 }
+        ensures { HasPut N.space key.now bytes getter.old getter.new result }
     {
         if getter.is_full() {
-            return (getter, Err(LoadFault::Refused(GetRefusal::Spent)));
+            return Err(LoadFault::Refused(GetRefusal::Spent));
         }
-        let (getter, forgot) = self.reload(rt, getter, key);
-        if let Err(fault) = forgot {
-            return (getter, Err(fault));
+        if let Err(fault) = self.reload(rt, getter, key) {
+            return Err(fault);
         }
         self.put_new(rt, getter, key, bytes)
     }
@@ -51,55 +47,21 @@ impl<'d, D: Naming, N: Naming, O: Origin> Fill<'d, D, N, O> {
     fn put_new<R: Wait, L>(
         &self,
         rt: &R,
-        getter: Getter<'d, D, N, O, L>,
+        getter: &mut Getter<'d, D, N, O, L>,
         key: &[u8],
         bytes: Bytes,
-    ) -> (
-        Getter<'d, D, N, O, L>,
-        Result<Put<View<'d, D, O>>, LoadFault>,
-    )
-        requires room { getter.counted.gets < 2 ^ 64 - 1 }
+    ) -> Result<Put<View<'d, D, O>>, LoadFault>
+        requires room { getter.old.counted.gets < 2 ^ 64 - 1 }
         requires stated { (call : CallId) → O.loaded key.now call bytes }
-        ensures { GetsGiven N.space key.now bytes getter.entry result.0 result.1 }
+        ensures { GetsGiven N.space key.now bytes getter.old getter.new result }
     {
-        let Getter {
-            desk,
-            standing,
-            loaders,
-            tallies,
-            log,
-            near,
-        } = getter;
-        let giving = Getter {
-            desk,
-            standing,
-            loaders: Given::new(key, bytes),
-            tallies,
-            log,
-            near,
-        };
-        let (gave, answer) = self.get(rt, giving, key);
-        let Getter {
-            desk,
-            standing,
-            loaders: given,
-            tallies,
-            log,
-            near,
-        } = gave;
-        let getter = Getter {
-            desk,
-            standing,
-            loaders,
-            tallies,
-            log,
-            near,
-        };
+        let mut given = Given::new(key, bytes);
+        let answer = self.get_with(rt, &mut getter.seat, key, &mut given);
         let put = match answer {
             Ok(view) if given.is_left() => Ok(Put::Met(view)),
             Ok(view) => Ok(Put::Settled(view)),
             Err(fault) => Err(fault),
         };
-        (getter, put)
+        put
     }
 }

@@ -1,18 +1,18 @@
 //! Reloads.
+ghost use Rattle.std.specs.Prelude.{◌≡◌};
 ghost use Rattle.sf_fill.specs.Reloads.{HasReloaded, ReloadsFrom};
-ghost use Rattle.sf_fill_keys.specs.Spaces.{IsDeskOf};
 ghost use Rattle.sf_fill.specs.Fresh.{IsReloading};
 ghost use Rattle.sf_fill.specs.Purges.{ForgetsAll};
-ghost use Rattle.sf_fill_store.specs.Standings.{IsOfGroup, number_of, seen_of};
+ghost use Rattle.sf_fill_store.specs.Standings.{number_of, seen_of};
 ghost use Rattle.sf_fill_store.specs.Logs.{HasLogged};
 
+use crate::chair::Chair;
 use crate::fill::Fill;
 use crate::getter::Getter;
+use crate::seat::Seat;
 use sf_fill_counters::Naming;
-use sf_fill_keys::KeyDesk;
-use sf_fill_near::Near;
-use sf_fill_store::{Forgot, Log, Standing};
-use sf_fill_values::{FillValue, LoadFault, of_key};
+use sf_fill_store::Forgot;
+use sf_fill_values::{LoadFault, of_key};
 use sf_group::Memory;
 use sf_loaders::Origin;
 use sf_words::PlaceNo;
@@ -23,35 +23,30 @@ impl<'d, D: Naming, N: Naming, O: Origin> Fill<'d, D, N, O> {
     fn forget<R: Wait>(
         &self,
         rt: &R,
-        standing: Standing<FillValue<'d, D, O>>,
-        desk: &mut KeyDesk,
+        seat: &mut Seat<'d, D, N, O>,
         key: &[u8],
-        log: &mut Log,
-        near: &mut Near<'d, D, N, O>,
-    ) -> (Standing<FillValue<'d, D, O>>, Result<Forgot, LoadFault>)
-        requires group { IsOfGroup N.group standing }
-        requires desk { IsDeskOf N.space desk.old }
-        ensures reloaded { ReloadsFrom N.space key.now standing.entry desk.old desk.new result.0
-            result.1 }
-        ensures logged { HasLogged (number_of standing.entry) (seen_of standing.entry)
-            (seen_of result.0) log.old log.new }
-        ensures group { IsOfGroup N.group result.0 }
-        ensures desk { IsDeskOf N.space desk.new }
+    ) -> Result<Forgot, LoadFault>
+        ensures reloaded { ReloadsFrom N.space key.now seat.old.standing seat.old.desk seat.new.desk
+            seat.new.standing result }
+        ensures logged { HasLogged (number_of seat.old.standing) (seen_of seat.old.standing)
+            (seen_of seat.new.standing) seat.old.log seat.new.log }
+        ensures rest { seat.new ≡ record seat.old {
+          desk = seat.new.desk;
+          standing = seat.new.standing;
+          log = seat.new.log;
+        } }
     {
-        let mut caller = match standing {
-            Standing::Owing(settled) => {
-                return (Standing::Owing(settled), Err(LoadFault::Memory));
-            }
-            Standing::Free(caller) => caller,
+        let Chair::Free(caller) = &mut seat.chair else {
+            return Err(LoadFault::Memory);
         };
-        match self.space.find(desk, key) {
-            Err(refusal) => (Standing::Free(caller), Err(of_key(refusal))),
-            Ok(place) => {
-                let number = place.number();
-                near.remove(number.number());
-                let forgot = self.store.forget_named(rt, &mut caller, number.number());
-                log.add_forgot(caller.number(), number, forgot);
-                (Standing::Free(caller), Ok(forgot))
+        match self.space.find(&mut seat.desk, key) {
+            Err(refusal) => Err(of_key(refusal)),
+            Ok(at) => {
+                let place = at.number();
+                seat.near.remove(place.number());
+                let forgot = self.store.forget_named(rt, caller, place.number());
+                seat.log.add_forgot(caller.number(), place, forgot);
+                Ok(forgot)
             }
         }
     }
@@ -62,31 +57,35 @@ impl<'d, D: Naming, N: Naming, O: Origin> Fill<'d, D, N, O> {
     pub fn reload<R: Wait, L>(
         &self,
         rt: &R,
-        getter: Getter<'d, D, N, O, L>,
+        getter: &mut Getter<'d, D, N, O, L>,
         key: &[u8],
-    ) -> (Getter<'d, D, N, O, L>, Result<Forgot, LoadFault>)
-        ensures reloaded { HasReloaded N.space key.now getter.entry result.0 result.1 }
-        ensures adds { IsReloading N.space key.now getter.entry result.0 result.1 }
+    ) -> Result<Forgot, LoadFault>
+        ensures reloaded { HasReloaded N.space key.now getter.old getter.new result }
+        ensures adds { IsReloading N.space key.now getter.old getter.new result }
     {
-        let (getter, _delivered) = getter.settle_up(self);
-        let Getter {
-            mut desk,
-            standing,
-            loaders,
-            tallies,
-            mut log,
-            mut near,
-        } = getter;
-        let (standing, answer) = self.forget(rt, standing, &mut desk, key, &mut log, &mut near);
-        let getter = Getter {
-            desk,
-            standing,
-            loaders,
-            tallies,
-            log,
-            near,
-        };
-        (getter, answer)
+        let seat = &mut getter.seat;
+        let _delivered = seat.settle_up(self.store.group());
+        self.forget(rt, seat, key)
+    }
+
+    // Forgets the call that each place names, in turn, once what is owed is delivered. The caller is away meanwhile.
+    fn forget_each<R: Wait>(&self, rt: &R, seat: &mut Seat<'d, D, N, O>) -> Result<(), Memory>
+        ensures { ForgetsAll N.group.sizes.places seat.old seat.new result }
+    {
+        let _delivered = seat.settle_up(self.store.group());
+        if seat.chair.owes() {
+            return Err(Memory);
+        }
+        let mut caller = seat.chair.take_free();
+        seat.near.empty();
+        let log = &mut seat.log;
+        for index in 0..self.space.place_count() {
+            let place = PlaceNo::from_index(index as usize);
+            let forgot = self.store.forget_named(rt, &mut caller, place.number());
+            log.add_forgot(caller.number(), place, forgot);
+        }
+        seat.chair = Chair::Free(caller);
+        Ok(())
     }
 
     /// Forgets the call that each place names, in turn, whose entries then leave both caches; a call that is led meanwhile at a
@@ -95,40 +94,10 @@ impl<'d, D: Naming, N: Naming, O: Origin> Fill<'d, D, N, O> {
     pub fn forget_all<R: Wait, L>(
         &self,
         rt: &R,
-        getter: Getter<'d, D, N, O, L>,
-    ) -> (Getter<'d, D, N, O, L>, Result<(), Memory>)
-        ensures { ForgetsAll N.group.sizes.places getter.entry result.0 result.1 }
+        getter: &mut Getter<'d, D, N, O, L>,
+    ) -> Result<(), Memory>
+        ensures { ForgetsAll N.group.sizes.places getter.old getter.new result }
     {
-        let (getter, _delivered) = getter.settle_up(self);
-        let Getter {
-            desk,
-            standing,
-            loaders,
-            tallies,
-            mut log,
-            mut near,
-        } = getter;
-        let (standing, outcome) = match standing {
-            Standing::Owing(settled) => (Standing::Owing(settled), Err(Memory)),
-            Standing::Free(caller) => {
-                let mut caller = caller;
-                near.empty();
-                for index in 0..self.space.place_count() {
-                    let place = PlaceNo::from_index(index as usize);
-                    let forgot = self.store.forget_named(rt, &mut caller, place.number());
-                    log.add_forgot(caller.number(), place, forgot);
-                }
-                (Standing::Free(caller), Ok(()))
-            }
-        };
-        let getter = Getter {
-            desk,
-            standing,
-            loaders,
-            tallies,
-            log,
-            near,
-        };
-        (getter, outcome)
+        self.forget_each(rt, &mut getter.seat)
     }
 }

@@ -7,3 +7,4 @@ mod near;
 mod view;
 
 pub use near::Near;
+pub use view::NearView;

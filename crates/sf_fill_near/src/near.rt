@@ -1,16 +1,13 @@
 //! The slots of a getter's near letters.
-ghost use Rattle.std.specs.Prelude.{◌≡◌, ◌≤◌, ◌<◌, IfOk, IfSome, None, Ok, Some, true};
-ghost use Rattle.sf_fill_keys.specs.Spots.{IsInSpace, MayBe, place_at, spot_at, spot_key};
+ghost use Rattle.std.specs.Prelude.{◌≡◌, ◌≤◌, ◌<◌, IfNone, IfOk, IfSome, Some, true};
+ghost use Rattle.sf_fill_keys.specs.Spots.{MayBe};
+ghost use Rattle.sf_fill_near.specs.Hits.{IsHit};
 ghost use Rattle.sf_group_rows.specs.Notes.{HasLent};
 ghost use Rattle.sf_group_rows.specs.Same.{IsPlaceOf};
-ghost use Rattle.sf_fill_values.specs.Answers.{IsLoadedFor, answer_in};
-ghost use Rattle.sf_fill_values.specs.Settled.{HasLooked, HasOnlyLooked, IsCurrentLetter, IsKeptLetter, IsSettled};
-ghost use Rattle.sf_fill_near.specs.Bytes.{FindsBytes};
+ghost use Rattle.sf_fill_values.specs.Settled.{HasOnlyLooked, IsCurrentLetter, IsKeptLetter, IsSettled};
 
 use crate::view::NearView;
-use bytes::Bytes;
 use sf_fill_counters::Naming;
-use sf_fill_keys::KeyPlace;
 use sf_fill_values::{FillValue, View};
 use sf_group::{Caller, Group, Letter, Memory};
 use sf_loaders::Origin;
@@ -90,8 +87,7 @@ fn slot_count(most: u32) -> usize {
 // Slots with nothing in them.
 fn empty_slots<T: Drop>(alloc: Global, count: usize) -> Result<Vec<Option<T>>, Memory> {
     let mut slots = Vec::with_capacity(alloc, count)?;
-    for index in 0..count {
-        let _ = index;
+    for _ in 0..count {
         slots.push(None)?;
     }
     Ok(slots)
@@ -207,65 +203,31 @@ impl<'d, D: Naming, N: Naming, O: Origin> Near<'d, D, N, O> {
         }
     }
 
-    /// What the getter's own letter of the key at the place answers, if its call is current; else its slot is emptied. Each 64th
-    /// time there is none, so that the getter looks in the caches.
+    /// The getter's own letter of the key at the place, if its call is current; else its slot is emptied. Each 64th time there is
+    /// none, so that the getter looks in the caches.
     #[inline(always)]
     pub fn look(
         &mut self,
         group: &Group<FillValue<'d, D, O>>,
-        at: &mut KeyPlace<'d>,
+        place: u32,
         key: &[u8],
         caller: &mut Caller<FillValue<'d, D, O>>,
-    ) -> Option<Result<View<'d, D, O>, Memory>>
+    ) -> Option<&mut NearView<'d, D, N, O>>
         requires group { group.now ≡ N.group }
         requires caller { caller.old.group ≡ N.group }
-        requires place { IsPlaceOf N.group (place_at at.old) }
-        requires space { IsInSpace D.space (spot_at key.now at.old) }
-        ensures looked { HasLooked caller.old (place_at at.old) result caller.new }
-        ensures answer { IfSome result (λ found. IfOk found (λ view. answer_in view ≡ Ok view)) }
-        ensures keyed { IfSome result (λ found.
-            IfOk found (λ view. spot_key view.value.spot ≡ spot_key (spot_at key.now at.old))) }
-        ensures loaded { IfSome result (λ found.
-            IfOk found (IsLoadedFor O.loaded (spot_key (spot_at key.now at.old)))) }
-        ensures same { at.new ≡ at.old }
+        requires place { IsPlaceOf N.group place }
+        ensures found { IfSome result (λ near.
+            IsHit caller.old place key.now caller.new near.now) }
+        ensures none { IfNone result (HasOnlyLooked caller.old caller.new) }
     {
-        let place = at.number().number();
-        let index = self.find(place)?;
-        let letter = self.slots.get_mut(index)?.as_mut()?;
-        let current = letter.is_current(group, place, key, caller)?;
-        if current {
-            return Some(letter.near.show(group, at, key));
+        let slot = self.find(place)?;
+        let letter = self.slots.get_mut(slot)?.as_mut()?;
+        match letter.is_current(group, place, key, caller) {
+            Some(true) => return Some(&mut letter.near),
+            Some(false) => {}
+            None => return None,
         }
-        self.clear(index);
-        None
-    }
-
-    /// The bytes of the getter's own letter of the key at the place, where `look` would answer the letter.
-    #[inline(always)]
-    pub fn look_for_bytes(
-        &mut self,
-        group: &Group<FillValue<'d, D, O>>,
-        at: &mut KeyPlace<'d>,
-        key: &[u8],
-        caller: &mut Caller<FillValue<'d, D, O>>,
-    ) -> Option<Result<Bytes, Memory>>
-        requires group { group.now ≡ N.group }
-        requires caller { caller.old.group ≡ N.group }
-        requires place { IsPlaceOf N.group (place_at at.old) }
-        requires space { IsInSpace D.space (spot_at key.now at.old) }
-        ensures found { IfSome result (FindsBytes O.loaded (spot_key (spot_at key.now at.old))
-            caller.old (place_at at.old) caller.new) }
-        ensures none { result ≡ None → HasOnlyLooked caller.old caller.new }
-        ensures same { at.new ≡ at.old }
-    {
-        let place = at.number().number();
-        let index = self.find(place)?;
-        let letter = self.slots.get_mut(index)?.as_mut()?;
-        let current = letter.is_current(group, place, key, caller)?;
-        if current {
-            return Some(letter.near.bytes(at, key));
-        }
-        self.clear(index);
+        self.clear(slot);
         None
     }
 

@@ -18,12 +18,15 @@ use std::marker::{Model, PhantomData};
 
 /// A letter of the fill's group, whose call was settled so, as a view: its bytes nobody shares but who was answered it.
 #[derive(Drop)]
-pub(crate) struct NearView<'d, D: Naming, N: Naming, O: Origin> {
+pub struct NearView<'d, D: Naming, N: Naming, O: Origin> {
     own: View<'d, D, O>,
+    /// The number of its place, which is compared at each look.
+    place: u32,
     of: PhantomData<N>,
 }
 
 impl<'d, D: Naming, N: Naming, O: Origin> Model for NearView<'d, D, N, O> {
+    ghost use Rattle.std.specs.Prelude.{◌≡◌};
     ghost use Rattle.sf_fill_values.specs.FillValue.{Filled};
     ghost use Rattle.sf_fill_values.specs.Settled.{IsKeptLetter};
     ghost use Rattle.sf_group_rows.specs.Tokens.{LetterValue};
@@ -32,7 +35,7 @@ impl<'d, D: Naming, N: Naming, O: Origin> Model for NearView<'d, D, N, O> {
 
     ghost view = { λ n. n.own };
 
-    ghost invariant = { λ n. IsKeptLetter N.group n.own.place n.own };
+    ghost invariant = { λ n. IsKeptLetter N.group n.own.place n.own × (n.place ≡ n.own.place) };
 }
 
 impl<'d, D: Naming, N: Naming, O: Origin> NearView<'d, D, N, O> {
@@ -42,6 +45,7 @@ impl<'d, D: Naming, N: Naming, O: Origin> NearView<'d, D, N, O> {
         ensures { result ≡ own.entry }
     {
         NearView {
+            place: own.place(),
             own,
             of: PhantomData,
         }
@@ -51,7 +55,7 @@ impl<'d, D: Naming, N: Naming, O: Origin> NearView<'d, D, N, O> {
     pub(crate) fn place(&self) -> u32
         ensures { result ≡ self.now.place }
     {
-        self.own.place()
+        self.place
     }
 
     // Its call.
@@ -80,12 +84,13 @@ impl<'d, D: Naming, N: Naming, O: Origin> NearView<'d, D, N, O> {
         ensures kept { IsKeptLetter N.group self.old.place self.old }
         ensures asked { HasQuestioned caller.old self.old result caller.new self.new }
     {
-        self.own.is_current(group, caller)
+        self.own.is_current(group, self.place, caller)
     }
 
-    // Another view of the same, for the key of the place, which it may be of.
+    /// Another view of the same, for the key of the place, which it may be of. Refused where a count of what both share is at its
+    /// greatest.
     #[inline(always)]
-    pub(crate) fn show(
+    pub fn show(
         &mut self,
         group: &Group<FillValue<'d, D, O>>,
         at: &mut KeyPlace<'d>,
@@ -106,9 +111,9 @@ impl<'d, D: Naming, N: Naming, O: Origin> NearView<'d, D, N, O> {
         self.own.again(group)
     }
 
-    // Its bytes, for the key of the place, which it may be of.
+    /// Its bytes, for the key of the place, which it may be of. Refused where their count is at its greatest.
     #[inline(always)]
-    pub(crate) fn bytes(&mut self, at: &mut KeyPlace<'d>, key: &[u8]) -> Result<Bytes, Memory>
+    pub fn bytes(&mut self, at: &mut KeyPlace<'d>, key: &[u8]) -> Result<Bytes, Memory>
         requires space { IsInSpace D.space (spot_at key.now at.old) }
         requires number { place_at at.old ≡ self.old.place }
         requires may_be { MayBe self.old.value.spot key.now }

@@ -14,5 +14,5 @@ pub use body::Body;
 pub use door::with_fill;
 pub use sf_fill::Sizes;
 pub use sf_keys_places::Places;
-pub use sizes::{DirectoryKeys, FillSizes, Keys};
+pub use sizes::{DirectoryKeys, FillSizes, Keys, NEAR, NEAR_BYTES};
 pub use team::{Team, with_team};

@@ -1,10 +1,16 @@
 //! How large a fill is, and where its keys have their places.
-ghost use Rattle.std.specs.Prelude.{◌≡◌, ◌≤◌};
+ghost use Rattle.std.specs.Prelude.{◌≡◌, ◌≤◌, ◌<ℤ◌, ◌≤ℤ◌, pos};
 ghost use Rattle.sf_words.specs.declared.limits.TheConstants.{LARGEST_PLACE, LONGEST_KEY};
 
 use sf_fill::Sizes;
 use sf_keys_places::Places;
 use sf_words::{LARGEST_PLACE, LONGEST_KEY};
+
+/// How many letters a getter keeps near itself, where nothing else is asked for.
+pub const NEAR: u32 = 256;
+
+/// How many bytes of keys and values these have together at most: 1 MiB for each getter.
+pub const NEAR_BYTES: usize = 1_048_576;
 
 /// Where the keys of a fill have their places.
 #[derive(Clone, Copy)]
@@ -43,17 +49,24 @@ pub struct FillSizes {
 }
 
 impl FillSizes {
-    /// A fill of these keys, whose caches keep so many bytes of keys and values; getters log nothing, and keep no letter near.
+    /// A fill of these keys, whose caches keep so many bytes of keys and values. Getters log nothing. Each keeps up to 256 letters of
+    /// 1 MiB together near itself, beside the caches' limit; and none where that is 0 or less. `keeps.near` takes another number.
     pub fn new(keys: Keys, limit: i64) -> FillSizes
         ensures keys { result.keys ≡ keys }
         ensures limit { result.keeps.limit ≡ limit }
         ensures log { result.keeps.log ≡ 0 }
-        ensures near { (result.keeps.near ≡ 0) × (result.keeps.near_limit ≡ 0) }
+        ensures near { pos 0 <ℤ limit → (result.keeps.near ≡ NEAR) × (result.keeps.near_limit ≡ NEAR_BYTES) }
+        ensures none { limit ≤ℤ pos 0 → (result.keeps.near ≡ 0) × (result.keeps.near_limit ≡ 0) }
         ensures first { result.first_generation ≡ 1 }
     {
+        let mut keeps = Sizes::new(limit, 0);
+        if limit > 0 {
+            keeps.near = NEAR;
+            keeps.near_limit = NEAR_BYTES;
+        }
         FillSizes {
             keys,
-            keeps: Sizes::new(limit, 0),
+            keeps,
             first_generation: 1,
         }
     }

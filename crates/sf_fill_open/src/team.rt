@@ -37,24 +37,24 @@ pub trait Team {
     /// How many events each getter has room to log.
     ghost room: { Self → ℕ };
 
-    /// What it says of the getter that the thread of this index gives back, and of its part; the getter is of this group over this
-    /// key space.
+    /// What it says of the getter that the thread of this index was lent, as it leaves it, and of its part; the getter is of this group
+    /// over this key space.
     ghost gives: { Self → SpaceId → GroupValue → ℕ → GetterValue (Unit {0}) → Self.Part → Type 0 };
 
     /// What it says of the parts, in the order of the loaders, and of its answer.
     ghost ends: { Self → List Self.Part → Self.Answer → Type 0 };
 
-    /// What the thread of this index does, from 0, with its getter, which it gives back.
+    /// What the thread of this index does, from 0, with its getter, which it is lent.
     fn work<'d, D: Naming, N: Naming, O: Origin, L: LoadPath<Origin = O> + Drop>(
         &self,
         fill: &Fill<'d, D, N, O>,
-        getter: Getter<'d, D, N, O, L>,
+        getter: &mut Getter<'d, D, N, O, L>,
         index: u32,
-    ) -> (Getter<'d, D, N, O, L>, Self::Part)
+    ) -> Self::Part
         requires wants { wants self.now N.getters O.loaded }
-        requires new { IsNewGetter N.group (room self.now) getter }
+        requires new { IsNewGetter N.group (room self.now) getter.old }
         requires index { index < N.getters }
-        ensures { gives self.now N.space N.group index (without_loaders result.0) result.1 };
+        ensures { gives self.now N.space N.group index (without_loaders getter.new) result };
 
     /// What comes of the threads, once all have ended. The getters and the parts stand in the order of the loaders.
     fn finish<'d, D: Naming, N: Naming, O: Origin, L: LoadPath<Origin = O> + Drop>(
@@ -233,10 +233,10 @@ impl<'a, 'd, D: Naming, N: Naming, O: Origin, L: LoadPath<Origin = O> + Drop, T:
         let Job {
             fill,
             team,
-            getter,
+            mut getter,
             index,
         } = self;
-        let (getter, part) = team.work(fill, getter, index);
+        let part = team.work(fill, &mut getter, index);
         Ended { getter, part }
     }
 }

@@ -60,8 +60,7 @@ impl<'a, R: Wait> Body for Behind<'a, R> {
         getters.destroy_empty();
         let mut most: u128 = 0;
         for turn in 0..400u32 {
-            let (back, _answer) = fill.get(rt, getter, key_of(turn, refused));
-            getter = back;
+            let _answer = fill.get(rt, &mut getter, key_of(turn, refused));
             let behind = (turn as u128 + 1).saturating_sub(fill.book(rt).gets);
             if most < behind {
                 most = behind;

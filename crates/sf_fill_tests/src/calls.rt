@@ -269,56 +269,40 @@ counted 5 2 3 3 0 0 3 0",
 }
 
 const PRESENT: &str = "\
-1 get-present a
 1 get-bytes a
 1 get a
 1 get-bytes a
-1 get-present a
 1 reload a
-1 get-present a
 1 get-bytes a
-1 get-present abcde
 1 get-bytes abcde
 =
-1 a none
 1 a no bytes
 1 a v=true 1.1 root=1.1 joiners=0
 1 a bytes v=true
-1 a v=true 1.1 root=1.1 joiners=0
 1 reload a cleared 1.1
-1 a none
 1 a no bytes
-1 abcde none
 1 abcde no bytes
-counted 3 2 1 1 0 0 1 0
+counted 2 1 1 1 0 0 1 0
 
 near 4
-1 get-present a
 1 get-bytes a
 1 get a
 1 get-bytes a
-1 get-present a
 1 reload a
-1 get-present a
 1 get-bytes a
-1 get-present abcde
 1 get-bytes abcde
 =
-1 a none
 1 a no bytes
 1 a v=true 1.1 root=1.1 joiners=0
 1 a bytes v=true
-1 a v=true 1.1 root=1.1 joiners=0
 1 reload a cleared 1.1
-1 a none
 1 a no bytes
-1 abcde none
 1 abcde no bytes
-counted 3 2 1 1 0 0 1 0";
+counted 2 1 1 1 0 0 1 0";
 
-// Only a letter at hand is answered to who lends its getter, from a cache or from those near, and nothing is counted but that hit.
+// Only a letter at hand is answered in bytes, from a cache or from those near, and nothing is counted but that hit.
 #[test]
-fn only_what_is_present_is_lent(rt: HostRuntime) -> Result<(), Fail> {
+fn only_what_is_present_is_answered(rt: HostRuntime) -> Result<(), Fail> {
     trials(&rt, rt.alloc(), PRESENT)
 }
 

@@ -89,8 +89,8 @@ impl<'a, R: Wait> Body for SecondLook<'a, R> {
         requires new { All (IsNewGetter N.group 0) getters.items }
     {
         let SecondLook { rt, case } = self;
-        let (one, two) = both(getters);
-        let (one, _view) = fill.get(rt, one, b"a");
+        let (mut one, two) = both(getters);
+        let _view = fill.get(rt, &mut one, b"a");
         one.end(rt, fill);
         found_after(rt, fill, two.into_caller(rt, fill)?, case)
     }
@@ -117,7 +117,7 @@ fn found_after<'d, D: Naming, N: Naming, O: Origin, R: Wait>(
     Some(Looked { forgot, found })
 }
 
-/// The two getters of a fill.
+// The two getters of a fill.
 pub(crate) fn both<'d, D: Naming, N: Naming, O: Origin, L: Drop>(
     getters: Vec<Getter<'d, D, N, O, L>>,
 ) -> (Getter<'d, D, N, O, L>, Getter<'d, D, N, O, L>)
@@ -134,7 +134,7 @@ pub(crate) fn both<'d, D: Naming, N: Naming, O: Origin, L: Drop>(
     (one, two)
 }
 
-/// Loaders that answer `v`, with no peer.
+// Loaders that answer `v`, with no peer.
 pub(crate) fn loaders(
     alloc: Global,
 ) -> Result<Loaders<FixedPicker, Script, Script, RoundChance>, Memory> {
@@ -152,7 +152,9 @@ fn try_out<R: Wait>(rt: &R, alloc: Global, case: Case) -> Result<Option<Looked>,
         seed0: 0,
         seed1: 0,
     };
-    let sizes = FillSizes::new(Keys::Hashed(places), 100);
+    // The caches are tried: nothing is kept near.
+    let mut sizes = FillSizes::new(Keys::Hashed(places), 100);
+    sizes.keeps.near = 0;
     let sets = vec![in alloc; loaders(alloc)?, loaders(alloc)?]?;
     with_fill(alloc, sizes, sets, SecondLook { rt, case })
 }

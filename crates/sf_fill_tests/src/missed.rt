@@ -57,7 +57,8 @@ impl<'a, 'd, 'f, D: Naming, N: Naming> Reloader<'a, 'd, 'f, D, N> {
             begins,
         } = self;
         begins.store(true, Ordering::SeqCst);
-        let (getter, answer) = fill.reload(rt, getter, b"a");
+        let mut getter = getter;
+        let answer = fill.reload(rt, &mut getter, b"a");
         getter.abandon();
         matches!(answer, Ok(Forgot::Missed(_)))
     }
@@ -71,6 +72,7 @@ fn wait(begins: &AtomicBool, looks: u32) {
         }
     }
     for _ in 0..looks {
+        // Each look takes its time, and what it says does not matter.
         let _ = begins.load(Ordering::SeqCst);
     }
 }
@@ -155,8 +157,8 @@ fn play<'d, D: Naming + Send + Sync, N: Naming + Send + Sync, R: Wait + Threads 
 ) -> Option<(bool, bool)>
     requires { vec_len getters ≡ 2 }
 {
-    let (one, two) = both(getters);
-    let (one, _view) = fill.get(rt, one, b"a");
+    let (mut one, two) = both(getters);
+    let _view = fill.get(rt, &mut one, b"a");
     match two.into_caller(rt, fill) {
         Some(caller) if fill.group().has(1) => Some(play_beside(rt, fill, one, caller, looks)),
         _ => {

@@ -45,12 +45,11 @@ fn say<'d, D: Naming>(said: &mut String, answer: Result<View<'d, D, AnyValue>, L
 fn get<'d, D: Naming, N: Naming, R: Wait>(
     rt: &R,
     fill: &Fill<'d, D, N, AnyValue>,
-    getter: OneGetter<'d, D, N>,
+    getter: &mut OneGetter<'d, D, N>,
     said: &mut String,
-) -> OneGetter<'d, D, N> {
-    let (getter, answer) = fill.get(rt, getter, b"a");
+) {
+    let answer = fill.get(rt, getter, b"a");
     say(said, answer);
-    getter
 }
 
 // The book's gets and loads.
@@ -67,9 +66,9 @@ fn add<'d, D: Naming, N: Naming, R: Wait>(
     with: OneLoaders,
     said: &mut String,
 ) -> OneGetter<'d, D, N> {
-    let (getter, ()) = seat.with_loaders(with);
-    let getter = get(rt, fill, getter, said);
-    let getter = get(rt, fill, getter, said);
+    let (mut getter, ()) = seat.with_loaders(with);
+    get(rt, fill, &mut getter, said);
+    get(rt, fill, &mut getter, said);
     say_book(said, fill.book(rt));
     getter
 }
@@ -78,13 +77,12 @@ fn add<'d, D: Naming, N: Naming, R: Wait>(
 fn renew<'d, D: Naming, N: Naming, R: Wait>(
     rt: &R,
     fill: &Fill<'d, D, N, AnyValue>,
-    getter: OneGetter<'d, D, N>,
+    getter: &mut OneGetter<'d, D, N>,
     spare: Seat<'d, D, N>,
     said: &mut String,
-) -> OneGetter<'d, D, N> {
-    let mut getter = getter;
+) {
     let Some(mut caller) = spare.into_caller(rt, fill) else {
-        return getter;
+        return;
     };
     if getter.renew(fill, &mut caller) {
         let number = caller.number();
@@ -116,8 +114,8 @@ fn play<'d, D: Naming, N: Naming, R: Wait>(
         unreachable!()
     };
     seats.destroy_empty();
-    let one = add(rt, fill, one, first, &mut said);
-    let one = renew(rt, fill, one, three, &mut said);
+    let mut one = add(rt, fill, one, first, &mut said);
+    renew(rt, fill, &mut one, three, &mut said);
     one.end(rt, fill);
     let two = add(rt, fill, two, second, &mut said);
     two.end(rt, fill);

@@ -44,13 +44,13 @@ impl<'a, R: Wait> Body for Stale<'a, R> {
         requires new { All (IsNewGetter N.group 0) getters.items }
     {
         let rt = self.rt;
-        let (one, two) = both(getters);
-        let (one, _view) = fill.get(rt, one, b"a");
+        let (mut one, two) = both(getters);
+        let _view = fill.get(rt, &mut one, b"a");
         let kept = fill.cache_stats(rt, Which::Main).items;
         if let Some(caller) = two.into_caller(rt, fill) {
             forget_place(rt, fill, caller);
         }
-        let (one, _fault) = fill.get(rt, one, b"a");
+        let _fault = fill.get(rt, &mut one, b"a");
         one.end(rt, fill);
         [kept, fill.cache_stats(rt, Which::Main).items]
     }
@@ -89,7 +89,9 @@ fn stale_entry_leaves(rt: HostRuntime) -> Result<(), Fail> {
         seed0: 0,
         seed1: 0,
     };
-    let sizes = FillSizes::new(Keys::Hashed(places), 100);
+    // The caches are tried: nothing is kept near.
+    let mut sizes = FillSizes::new(Keys::Hashed(places), 100);
+    sizes.keeps.near = 0;
     let sets = vec![in alloc; loaders(alloc)?, loaders(alloc)?]?;
     let items = with_fill(alloc, sizes, sets, Stale { rt: &rt })?;
     assert!(rt; items == [1, 0], "the stale entry stayed");

@@ -18,8 +18,6 @@ use std::thread::yield_now;
 pub enum Verb {
     /// Gets the key.
     Get,
-    /// Gets the key if a letter of it is at hand.
-    GetPresent,
     /// Gets the key's bytes alone if a letter of it is at hand.
     GetBytes,
     /// Gets the key, and says the key of what is answered.
@@ -73,7 +71,6 @@ const CHANGES: u8 = 250;
 fn verb_of(word: &str) -> Verb {
     match word {
         "get" => Verb::Get,
-        "get-present" => Verb::GetPresent,
         "get-bytes" => Verb::GetBytes,
         "get-key" => Verb::GetKey,
         "repeat" => Verb::Repeat,
@@ -136,20 +133,6 @@ fn say_view<'d, D: Naming, O: Origin>(
     };
 }
 
-// What is answered of a letter at hand, if there is one.
-fn say_present<'d, D: Naming, O: Origin>(
-    said: &mut String,
-    key: &str,
-    answer: Option<Result<View<'d, D, O>, LoadFault>>,
-) {
-    match answer {
-        Some(answer) => say_view(said, key, &answer),
-        None => {
-            let _ = write!(said, "{key} none\n");
-        }
-    }
-}
-
 // What bytes are answered.
 fn say_bytes(said: &mut String, key: &str, answer: Option<Result<Bytes, LoadFault>>) {
     let _ = match answer {
@@ -166,11 +149,11 @@ fn say_bytes(said: &mut String, key: &str, answer: Option<Result<Bytes, LoadFaul
 fn get_key<'d, D: Naming, N: Naming, O: Origin, L: LoadPath<Origin = O>>(
     rt: &impl Wait,
     fill: &Fill<'d, D, N, O>,
-    getter: Getter<'d, D, N, O, L>,
+    getter: &mut Getter<'d, D, N, O, L>,
     key: &str,
     said: &mut String,
-) -> Getter<'d, D, N, O, L> {
-    let (getter, answer) = fill.get(rt, getter, key.as_bytes());
+) {
+    let answer = fill.get(rt, getter, key.as_bytes());
     let _ = match &answer {
         Ok(view) => match view.key() {
             Some(own) => {
@@ -181,7 +164,6 @@ fn get_key<'d, D: Naming, N: Naming, O: Origin, L: LoadPath<Origin = O>>(
         },
         Err(fault) => write!(said, "{key} {fault}\n"),
     };
-    getter
 }
 
 // What a put of `w` came to, with the bytes of its view.
@@ -211,15 +193,14 @@ fn say_put<'d, D: Naming, O: Origin>(
 fn put<'d, D: Naming, N: Naming, O: Origin, L: LoadPath<Origin = O>>(
     rt: &impl Wait,
     fill: &Fill<'d, D, N, O>,
-    getter: Getter<'d, D, N, O, L>,
+    getter: &mut Getter<'d, D, N, O, L>,
     key: &str,
     said: &mut String,
-) -> Getter<'d, D, N, O, L>
+)
     requires { IsOpenOrigin O.loaded }
 {
-    let (getter, answer) = fill.put(rt, getter, key.as_bytes(), Bytes::from("w"));
+    let answer = fill.put(rt, getter, key.as_bytes(), Bytes::from("w"));
     say_put(said, key, answer);
-    getter
 }
 
 // What a cache holds.
@@ -252,11 +233,11 @@ fn say_caches<'d, D: Naming, N: Naming, O: Origin>(
 fn reload<'d, D: Naming, N: Naming, O: Origin, L>(
     rt: &impl Wait,
     fill: &Fill<'d, D, N, O>,
-    getter: Getter<'d, D, N, O, L>,
+    getter: &mut Getter<'d, D, N, O, L>,
     key: &str,
     said: &mut String,
-) -> Getter<'d, D, N, O, L> {
-    let (getter, answer) = fill.reload(rt, getter, key.as_bytes());
+) {
+    let answer = fill.reload(rt, getter, key.as_bytes());
     let _ = match &answer {
         Ok(Forgot::Closed(call)) => write!(said, "reload {key} closed {call}\n"),
         Ok(Forgot::Cleared(call)) => write!(said, "reload {key} cleared {call}\n"),
@@ -264,33 +245,30 @@ fn reload<'d, D: Naming, N: Naming, O: Origin, L>(
         Ok(Forgot::Idle) => write!(said, "reload {key} idle\n"),
         Err(fault) => write!(said, "reload {key} {fault}\n"),
     };
-    getter
 }
 
 // Forgets all places, and says whether that was done.
 fn forget_all<'d, D: Naming, N: Naming, O: Origin, L>(
     rt: &impl Wait,
     fill: &Fill<'d, D, N, O>,
-    getter: Getter<'d, D, N, O, L>,
+    getter: &mut Getter<'d, D, N, O, L>,
     said: &mut String,
-) -> Getter<'d, D, N, O, L> {
-    let (getter, outcome) = fill.forget_all(rt, getter);
+) {
+    let outcome = fill.forget_all(rt, getter);
     let forgotten = outcome.is_ok();
     let _ = write!(said, "forget all {forgotten}\n");
-    getter
 }
 
 // Settles up, and says whether letters were owed, and whether they are delivered.
 fn settle_up<'d, D: Naming, N: Naming, O: Origin, L>(
     fill: &Fill<'d, D, N, O>,
-    getter: Getter<'d, D, N, O, L>,
+    getter: &mut Getter<'d, D, N, O, L>,
     said: &mut String,
-) -> Getter<'d, D, N, O, L> {
+) {
     let owed = getter.owes();
-    let (getter, outcome) = getter.settle_up(fill);
+    let outcome = getter.settle_up(fill);
     let settled = outcome.is_ok();
     let _ = write!(said, "owes={owed} settled={settled}\n");
-    getter
 }
 
 fn say_events(said: &mut String, log: &[Event<PlaceNo, ()>]) {
@@ -335,38 +313,29 @@ fn bytes_of<'d, D: Naming, O: Origin>(
     }
 }
 
-// Gets the key's bytes as a server does: of a letter at hand first, for one of the keys the bytes alone, and else by a get.
+// Gets the key's bytes: for one of the keys those of a letter at hand first, and else by a get.
 fn get_bytes<'d, D: Naming, N: Naming, O: Origin, L: LoadPath<Origin = O>>(
     rt: &impl Wait,
     fill: &Fill<'d, D, N, O>,
-    getter: Getter<'d, D, N, O, L>,
+    getter: &mut Getter<'d, D, N, O, L>,
     key: &str,
-) -> (Getter<'d, D, N, O, L>, Result<Bytes, LoadFault>) {
-    let mut getter = getter;
-    let present = if key == KEYS[0] {
-        fill.get_bytes_if_present(rt, &mut getter, key.as_bytes())
-    } else {
-        match fill.get_if_present(rt, &mut getter, key.as_bytes()) {
-            Some(answer) => Some(bytes_of(answer)),
-            None => None,
+) -> Result<Bytes, LoadFault> {
+    if key == KEYS[0] {
+        if let Some(answer) = fill.get_bytes_if_present(rt, getter, key.as_bytes()) {
+            return answer;
         }
-    };
-    if let Some(answer) = present {
-        return (getter, answer);
     }
-    let (getter, answer) = fill.get(rt, getter, key.as_bytes());
-    (getter, bytes_of(answer))
+    bytes_of(fill.get(rt, getter, key.as_bytes()))
 }
 
 // Gets often, and says how many answers were old.
 fn read<'d, D: Naming, N: Naming, O: Origin, L: LoadPath<Origin = O>>(
     rt: &impl Wait,
     fill: &Fill<'d, D, N, O>,
-    getter: Getter<'d, D, N, O, L>,
+    getter: &mut Getter<'d, D, N, O, L>,
     flags: &Flags,
     said: &mut String,
-) -> Getter<'d, D, N, O, L> {
-    let mut getter = getter;
+) {
     let mut old = 0_u64;
     for _ in 0..READS {
         for key in KEYS {
@@ -374,51 +343,44 @@ fn read<'d, D: Naming, N: Naming, O: Origin, L: LoadPath<Origin = O>>(
                 .versions(key.as_bytes())
                 .reloaded
                 .load(Ordering::SeqCst);
-            let (back, answer) = get_bytes(rt, fill, getter, key);
-            getter = back;
+            let answer = get_bytes(rt, fill, getter, key);
             if is_old(&answer, version) {
                 old = old.saturating_add(1);
             }
         }
     }
     let _ = write!(said, "old={old}\n");
-    getter
 }
 
 // Changes the sources often, and reloads.
 fn change<'d, D: Naming, N: Naming, O: Origin, L>(
     rt: &impl Wait,
     fill: &Fill<'d, D, N, O>,
-    getter: Getter<'d, D, N, O, L>,
+    getter: &mut Getter<'d, D, N, O, L>,
     flags: &Flags,
-) -> Getter<'d, D, N, O, L> {
-    let mut getter = getter;
+) {
     for version in 0..CHANGES {
         for key in KEYS {
             let versions = flags.versions(key.as_bytes());
             versions.source.store(version, Ordering::SeqCst);
-            let (back, answer) = fill.reload(rt, getter, key.as_bytes());
-            getter = back;
-            if answer.is_ok() {
+            if fill.reload(rt, getter, key.as_bytes()).is_ok() {
                 versions.reloaded.store(version, Ordering::SeqCst);
             }
             yield_now();
         }
     }
-    getter
 }
 
 // Gets the key, and says what is answered.
 fn get<'d, D: Naming, N: Naming, O: Origin, L: LoadPath<Origin = O>>(
     rt: &impl Wait,
     fill: &Fill<'d, D, N, O>,
-    getter: Getter<'d, D, N, O, L>,
+    getter: &mut Getter<'d, D, N, O, L>,
     key: &str,
     said: &mut String,
-) -> Getter<'d, D, N, O, L> {
-    let (getter, answer) = fill.get(rt, getter, key.as_bytes());
+) {
+    let answer = fill.get(rt, getter, key.as_bytes());
     say_view(said, key, &answer);
-    getter
 }
 
 // How often a key is to be got, and which one.
@@ -431,16 +393,13 @@ fn times(key: &str) -> (u32, &str) {
 fn repeat<'d, D: Naming, N: Naming, O: Origin, L: LoadPath<Origin = O>>(
     rt: &impl Wait,
     fill: &Fill<'d, D, N, O>,
-    getter: Getter<'d, D, N, O, L>,
+    getter: &mut Getter<'d, D, N, O, L>,
     key: &str,
-) -> Getter<'d, D, N, O, L> {
+) {
     let (gets, key) = times(key);
-    let mut getter = getter;
     for _ in 0..gets {
-        let (back, _answer) = fill.get(rt, getter, key.as_bytes());
-        getter = back;
+        let _answer = fill.get(rt, getter, key.as_bytes());
     }
-    getter
 }
 
 // Takes the key out of the caches, and says whether it has a place.
@@ -455,18 +414,6 @@ fn remove<'d, D: Naming, N: Naming, O: Origin, L>(
     let _ = write!(said, "remove {key} {removed}\n");
 }
 
-// Gets the key if a letter of it is at hand, and says what is answered.
-fn get_present<'d, D: Naming, N: Naming, O: Origin, L: LoadPath<Origin = O>>(
-    rt: &impl Wait,
-    fill: &Fill<'d, D, N, O>,
-    getter: &mut Getter<'d, D, N, O, L>,
-    key: &str,
-    said: &mut String,
-) {
-    let answer = fill.get_if_present(rt, getter, key.as_bytes());
-    say_present(said, key, answer);
-}
-
 // Gets the key's bytes if a letter of it is at hand, and says what is answered.
 fn get_present_bytes<'d, D: Naming, N: Naming, O: Origin, L: LoadPath<Origin = O>>(
     rt: &impl Wait,
@@ -479,7 +426,7 @@ fn get_present_bytes<'d, D: Naming, N: Naming, O: Origin, L: LoadPath<Origin = O
     say_bytes(said, key, answer);
 }
 
-// What the getter does and says in a step that leaves it free.
+// What the getter does and says in a step that asks and forgets nothing.
 fn look<'d, D: Naming, N: Naming, O: Origin, L: LoadPath<Origin = O>>(
     rt: &impl Wait,
     fill: &Fill<'d, D, N, O>,
@@ -490,7 +437,6 @@ fn look<'d, D: Naming, N: Naming, O: Origin, L: LoadPath<Origin = O>>(
 ) {
     let key = step.key;
     match step.does {
-        Verb::GetPresent => get_present(rt, fill, getter, key, said),
         Verb::GetBytes => get_present_bytes(rt, fill, getter, key, said),
         Verb::Remove => remove(rt, fill, getter, key, said),
         Verb::Stats => say_caches(rt, fill, said),
@@ -503,15 +449,15 @@ fn look<'d, D: Naming, N: Naming, O: Origin, L: LoadPath<Origin = O>>(
     }
 }
 
-// The getter once its step is made, and says what comes of it.
+// What the getter does and says in a step.
 fn make<'d, D: Naming, N: Naming, O: Origin, L: LoadPath<Origin = O>>(
     rt: &impl Wait,
     fill: &Fill<'d, D, N, O>,
-    mut getter: Getter<'d, D, N, O, L>,
+    getter: &mut Getter<'d, D, N, O, L>,
     step: Step<'_>,
     flags: &Flags,
     said: &mut String,
-) -> Getter<'d, D, N, O, L>
+)
     requires { IsOpenOrigin O.loaded }
 {
     let key = step.key;
@@ -525,28 +471,23 @@ fn make<'d, D: Naming, N: Naming, O: Origin, L: LoadPath<Origin = O>>(
         Verb::SettleUp => settle_up(fill, getter, said),
         Verb::Read => read(rt, fill, getter, flags, said),
         Verb::Change => change(rt, fill, getter, flags),
-        _ => {
-            look(rt, fill, &mut getter, step, flags, said);
-            getter
-        }
+        _ => look(rt, fill, getter, step, flags, said),
     }
 }
 
-/// The getter when its steps are made, and what it says of them.
+/// The getter makes its steps, and this is what it says of them.
 pub fn run<'d, D: Naming, N: Naming, O: Origin, L: LoadPath<Origin = O>>(
     rt: &impl Wait,
     fill: &Fill<'d, D, N, O>,
-    getter: Getter<'d, D, N, O, L>,
+    getter: &mut Getter<'d, D, N, O, L>,
     steps: Steps<'_>,
     said: &mut String,
-) -> Getter<'d, D, N, O, L>
+)
     requires { IsOpenOrigin O.loaded }
 {
-    let mut getter = getter;
     for line in steps.script.lines() {
         if let Some(step) = step_of(line, steps.number) {
-            getter = make(rt, fill, getter, step, steps.flags, said);
+            make(rt, fill, getter, step, steps.flags, said);
         }
     }
-    getter
 }

@@ -164,9 +164,9 @@ impl<'a, R: Wait> Play<'a, R> {
     fn turns<'d, D: Naming, N: Naming, O: Origin, L: LoadPath<Origin = O> + Drop>(
         &self,
         fill: &Fill<'d, D, N, O>,
-        getter: Getter<'d, D, N, O, L>,
+        getter: &mut Getter<'d, D, N, O, L>,
         number: &str,
-    ) -> (Getter<'d, D, N, O, L>, String)
+    ) -> String
         requires { IsOpenOrigin O.loaded }
     {
         let mut part = String::new(self.alloc);
@@ -175,11 +175,11 @@ impl<'a, R: Wait> Play<'a, R> {
             script: self.script,
             flags: self.flags,
         };
-        let mut getter = run(self.rt, fill, getter, steps, &mut part);
+        run(self.rt, fill, getter, steps, &mut part);
         if setting(self.script, "near").is_some() {
             getter.enter(self.rt, fill);
         }
-        (getter, numbered(self.alloc, number, part))
+        numbered(self.alloc, number, part)
     }
 
     // The getters after the turns of the first of them, which is the last one then.
@@ -195,8 +195,8 @@ impl<'a, R: Wait> Play<'a, R> {
         ensures { vec_len result ≡ 3 }
     {
         let mut getters = getters;
-        let getter = getters.remove(0);
-        let (getter, part) = self.turns(fill, getter, number);
+        let mut getter = getters.remove(0);
+        let part = self.turns(fill, &mut getter, number);
         getters.push_reserved(getter);
         let _ = said.push_str(part.as_str());
         getters
@@ -261,15 +261,15 @@ impl<'a, R: Wait> Team for Play<'a, R> {
     fn work<'d, D: Naming, N: Naming, O: Origin, L: LoadPath<Origin = O> + Drop>(
         &self,
         fill: &Fill<'d, D, N, O>,
-        getter: Getter<'d, D, N, O, L>,
+        getter: &mut Getter<'d, D, N, O, L>,
         index: u32,
-    ) -> (Getter<'d, D, N, O, L>, String)
+    ) -> String
         requires wants { (N.getters ≡ 3) × IsOpenOrigin O.loaded }
     {
         if self.is_beside() {
             self.turns(fill, getter, number_of(index))
         } else {
-            (getter, String::new(self.alloc))
+            String::new(self.alloc)
         }
     }
 

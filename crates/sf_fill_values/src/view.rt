@@ -178,19 +178,21 @@ impl<'d, D: Naming, O: Origin> View<'d, D, O> {
         self.spot.agree(at, key);
     }
 
-    /// Whether its call is its place's current one. The caller learns what its note shows first.
+    /// Whether its call is the current one of its place, whose number this is. The caller learns what its note shows first.
     pub fn is_current(
         &mut self,
         group: &Group<FillValue<'d, D, O>>,
+        place: u32,
         caller: &mut Caller<FillValue<'d, D, O>>,
     ) -> bool
         requires caller { caller.old.group ≡ group.now }
         requires own { self.old.group ≡ group.now }
+        requires number { place ≡ self.old.place }
         requires place { IsPlaceOf group.now self.old.place }
         ensures { HasQuestioned caller.old self.old result caller.new self.new }
     {
         group.learn(caller, &mut self.note);
-        group.is_still_current(caller, self.spot.number().number(), self.call)
+        group.is_still_current(caller, place, self.call)
     }
 
     /// Another one of the same, which shares its bytes; refused where their count, or that of the key's, is at its greatest.

@@ -10,11 +10,11 @@ use Rattle.sf_fill.proofs.Dealt.{dealt_more}
 use Rattle.sf_fill.proofs.Popped.{popped, last_is}
 use Rattle.sf_fill.proofs.parts.getters_of.Goals as goal
 
-pub invariant_of-push_reserved : goal.invariant_of-push_reserved
-invariant_of-push_reserved g c =
+pub invariant_of-seat : goal.invariant_of-seat
+invariant_of-seat g c =
     let desk = popped (IsDeskOf g.N.Naming.space) c.deal.desks.items c.pop.new.self.items c.pop.result c.in-Some.desk c.pop.ensures.items c.in-Some.is c.deal.invariant.desks in
     let caller = popped (λ (k : CallerValue Filled). k.group ≡ g.N.Naming.group) c.deal.callers.items c.pop-in-Some.new.self.items c.pop-in-Some.result c.in-Some-pop.caller c.pop-in-Some.ensures.items c.in-Some-pop.is c.deal.invariant.callers.1 in
-    (desk.0, caller.0)
+    (desk.0, tt, caller.0)
 
 pub deal-preserved : goal.deal-preserved
 deal-preserved g c =
