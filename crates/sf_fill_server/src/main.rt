@@ -42,13 +42,12 @@ impl<'a, R: Wait> Team for Serve<'a, R> {
     fn work<'d, D: Naming, N: Naming, O: Origin, L: LoadPath<Origin = O> + Drop>(
         &self,
         fill: &Fill<'d, D, N, O>,
-        getter: Getter<'d, D, N, O, L>,
+        getter: &mut Getter<'d, D, N, O, L>,
         _index: u32,
-    ) -> (Getter<'d, D, N, O, L>, ())
+    )
         requires wants { N.getters ≡ 2 }
     {
-        let (getter, _page) = fill.get(self.rt, getter, PAGE);
-        (getter, ())
+        let _page = fill.get(self.rt, getter, PAGE);
     }
 
     fn finish<'d, D: Naming, N: Naming, O: Origin, L: LoadPath<Origin = O> + Drop>(
@@ -63,7 +62,7 @@ impl<'a, R: Wait> Team for Serve<'a, R> {
     {
         let rt = self.rt;
         let mut getters = getters;
-        let Some(two) = getters.pop() else {
+        let Some(mut two) = getters.pop() else {
             unreachable!()
         };
         let Some(mut one) = getters.pop() else {
@@ -71,10 +70,10 @@ impl<'a, R: Wait> Team for Serve<'a, R> {
         };
 
         self.pages.change();
-        let (mut two, _forgot) = fill.reload(rt, two, PAGE);
+        let _forgot = fill.reload(rt, &mut two, PAGE);
         let mut note = two.tell(fill);
         one.learn(fill, &mut note);
-        let (one, page) = fill.get(rt, one, PAGE);
+        let page = fill.get(rt, &mut one, PAGE);
 
         let is_new = page.is_ok_and(|view| view.into_bytes().as_slice() == b"version 2".as_slice());
         getters.push_reserved(one);
