@@ -46,6 +46,7 @@ no_state = record {
   own = false;
   last_own = false;
   callers = [];
+  cache = None;
 }
 
 abbrev pub HeldNote : Type 0

@@ -50,6 +50,12 @@ pub const NO_MEMORY: u32 = 13;
 /// All callers have a slot.
 pub const NO_CALLER: u32 = 14;
 
+/// The answer is in the cache, and another came out in its place.
+pub const REPLACED: u32 = 15;
+
+/// Another answer came out of the cache to make room, and this one is not in it yet.
+pub const EVICTED: u32 = 16;
+
 // The number of a code. A slot that is not open has none of these.
 pub(crate) fn to_number(code: Code) -> u32
     ensures is { result ≡ number_of code }
@@ -71,5 +77,7 @@ pub(crate) fn to_number(code: Code) -> u32
         Code::BadNumber => BAD_NUMBER,
         Code::NoMemory => NO_MEMORY,
         Code::NoCaller => NO_CALLER,
+        Code::Replaced => REPLACED,
+        Code::Evicted => EVICTED,
     }
 }

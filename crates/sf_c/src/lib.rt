@@ -16,6 +16,7 @@ ghost use Rattle.sf_c.specs.Numbers.{IsNumber};
 ghost use Rattle.sf_group_rows.specs.Notes.{HasGrown};
 ghost use Rattle.sf_c_slots.specs.Rows.{AreSizes, HasOpened, HasSplit, HasTakenBack, HasAskedKey, HasAskedChanKey, HasForgotKey, HasFinishedPart, HasGoneOnPart, HasPolledPart, HasQuestionedPart, HasToldNote, HasNotTold, HasLearntNote, HasGivenUp, HasCounted, HasNumbered, IsNotSplit, MarksLed, MarksDone, HasGivenKey, KeepsGroup, KeepsLetter, KeepsKey, AreBeside, ArePlacesOfOne};
 
+mod cache;
 mod codes;
 mod handle;
 mod loose;
@@ -25,15 +26,21 @@ mod one_call;
 mod slot;
 mod stamps;
 
+pub use cache::{
+    sflight_add_cache, sflight_empty_way, sflight_keep, sflight_look, sflight_take_out,
+    sflight_weight,
+};
 use codes::to_number;
 pub use codes::{
-    BAD_NUMBER, BUSY, CLEARED, DONE, JOINED, LED, NO_CALLER, NO_MEMORY, NOT_OPEN, NOTHING,
-    OTHER_KEY, OWES, PENDING, SPENT, WRONG_STATE,
+    BAD_NUMBER, BUSY, CLEARED, DONE, EVICTED, JOINED, LED, NO_CALLER, NO_MEMORY, NOT_OPEN, NOTHING,
+    OTHER_KEY, OWES, PENDING, REPLACED, SPENT, WRONG_STATE,
 };
 pub use handle::Handle;
 pub use note_handle::NoteHandle;
 pub use note_slot::NoteSlot;
-pub use one_call::{sflight_forget_call, sflight_named};
+pub use one_call::{
+    sflight_ask_at, sflight_forget_at, sflight_forget_call, sflight_named, sflight_named_at,
+};
 use sf_c_slots::{Answer, Code, NoteState, Stamp, State};
 use sf_group::{MOST_CALLERS, MOST_PLACES};
 pub use slot::Slot;

@@ -3,7 +3,7 @@ use Rattle.std.proofs.Common.{ℕ, List, Option}
 use Rattle.sf_group_rows.specs.Tokens.{FlightValue, LetterValue, SettledValue}
 use Rattle.sf_group_rows.specs.Finishes.{IsHeld}
 use Rattle.sf_group.proofs.Deliveries.{done_after, held_after}
-use Rattle.sf_c_slots.specs.Keys.{WordValue, word}
+use Rattle.sf_c_values.specs.Keys.{WordValue, word}
 use Rattle.sf_c_slots.specs.Rows.{HasFinishedPart, HasGoneOnPart, fits}
 use Rattle.sf_c_slots.specs.declared.codes.Code.{Code}
 use Rattle.sf_c_slots.specs.declared.stamps.Answer.{Answer}

@@ -1,4 +1,3 @@
-pub mod Keys
 pub mod OneCall
 pub mod Rows
 pub mod Stamps

@@ -1,19 +1,21 @@
 -- How Forgets of one call end, and the question which call a key names.
-use Rattle.std.specs.Prelude.{◌≡◌, ◌⊎◌, ℕ, List, Option, Some, None}
+use Rattle.std.specs.Prelude.{◌≡◌, ◌⊎◌, ◌<◌, ℕ, List, Option, Some, None}
 use Rattle.sf_history.specs.declared.call.CallId.{CallId}
 use Rattle.sf_history.specs.declared.event.Hit.{Hit}
 use Rattle.sf_history.specs.declared.event.Hit.TheVariants as hit
 use Rattle.sf_group_rows.specs.Tokens.{CallerValue}
 use Rattle.sf_group_rows.specs.Forgets.{HasForgotCall, HasNamed}
+use Rattle.sf_group_rows.specs.Same.{IsPlaceOf}
 use Rattle.sf_c_slots.specs.declared.part.Part.{Part}
 use Rattle.sf_c_slots.specs.declared.part.Part.TheVariants.{Free, Leads, Waits, Owes, Gone}
 use Rattle.sf_c_slots.specs.declared.codes.Code.{Code}
 use Rattle.sf_c_slots.specs.declared.codes.Code.TheVariants as codes
 use Rattle.sf_c_slots.specs.declared.stamps.Stamp.{Stamp}
 use Rattle.sf_keys_places.specs.Places.{place_of}
-use Rattle.sf_c_slots.specs.Keys.{WordValue}
+use Rattle.sf_c_values.specs.Keys.{WordValue}
 use Rattle.sf_c_slots.specs.Written.{stamp_of, call_of, IsStampOf}
 use Rattle.sf_group.specs.Calls.{HasTriedAtMost}
+use Rattle.sf_group.specs.declared.group.TheConstants.{MOST_TRIES}
 use Rattle.sf_c_slots.specs.Rows.{Seat, IsOther, IsForgetBusy, IsFree, IsNotFree, AreTries, HasNotCalled}
 
 -- the code of what a Forget of one call found
@@ -91,3 +93,70 @@ pub record HasNamedNone (s t : Seat) (x y : Stamp) (code : Code) : Type 0 where
 
 abbrev pub HasNamedKey : Seat → List ℕ → Seat → Stamp → Stamp → Code → Type 0
 HasNamedKey s key t x y code = HasNamedPlace s key t x y code ⊎ HasNamedNone s t x y code
+
+-- by the place's number; a number of no place is refused
+pub record HasNamedItsPlace (s : Seat) (k : ℕ) (t : Seat) (x y : Stamp) (code : Code) : Type 0 where
+  pub place : IsPlaceOf s.group k
+  pub free : IsFree s.part
+  pub row : HasNamedPart s.part k t.part x y code
+
+pub record HasNamedOther (s : Seat) (k : ℕ) (t : Seat) (x y : Stamp) (code : Code) : Type 0 where
+  pub place : IsPlaceOf s.group k
+  pub row : HasNamedNone s t x y code
+
+pub record HasNoSuchPlace (s : Seat) (k : ℕ) (t : Seat) (x y : Stamp) (code : Code) : Type 0 where
+  pub code_is : code ≡ codes.BadNumber
+  pub none : IsPlaceOf s.group k → ⊥
+  pub same : t ≡ s
+  pub unwritten : y ≡ x
+
+abbrev pub HasNamedAt : Seat → ℕ → Seat → Stamp → Stamp → Code → Type 0
+HasNamedAt s k t x y code = HasNamedItsPlace s k t x y code ⊎ HasNamedOther s k t x y code ⊎ HasNoSuchPlace s k t x y code
+
+-- the code of what a Forget found of the call that its place named just before
+abbrev pub code_of_named_hit : Hit → Code
+code_of_named_hit hit.Closed = codes.Done
+code_of_named_hit hit.Cleared = codes.Cleared
+code_of_named_hit hit.Missed = codes.Busy
+
+pub record HasHitNamed (c : CallerValue WordValue) (k : ℕ) (x : CallId) (d : CallerValue WordValue) (code : Code) : Type 0 where
+  pub found : Hit
+  pub code_is : code ≡ code_of_named_hit found
+  pub row : HasForgotCall c k x found d
+
+-- the place named no call, or the call that it named is forgotten so
+abbrev pub HasForgotFound : CallerValue WordValue → ℕ → Option CallId → ℕ → CallerValue WordValue → Code → Type 0
+HasForgotFound c k None tries d code = (code ≡ codes.Nothing) × (d ≡ c)
+HasForgotFound c k (Some x) tries d code = (HasHitNamed c k x d code × HasTriedAtMost c tries d.turns) ⊎ IsForgetBusy c k tries d code
+
+pub record HasForgotNamed (c : CallerValue WordValue) (k tries : ℕ) (d : CallerValue WordValue) (code : Code) : Type 0 where
+  pub found : Option CallId
+  pub then : CallerValue WordValue
+  pub named : HasNamed c k found then
+  pub row : HasForgotFound then k found tries d code
+
+abbrev pub HasForgotNamedPart : Part → ℕ → ℕ → Part → Code → Type 0
+HasForgotNamedPart (Free c) k tries (Free d) code = HasForgotNamed c k tries d code
+HasForgotNamedPart (Free c) k tries (Leads f) code = ⊥
+HasForgotNamedPart (Free c) k tries (Waits t) code = ⊥
+HasForgotNamedPart (Free c) k tries (Owes s) code = ⊥
+HasForgotNamedPart (Free c) k tries Gone code = ⊥
+HasForgotNamedPart (Leads f) k tries q code = IsOther (Leads f) q code
+HasForgotNamedPart (Waits t) k tries q code = IsOther (Waits t) q code
+HasForgotNamedPart (Owes s) k tries q code = IsOther (Owes s) q code
+HasForgotNamedPart Gone k tries q code = IsOther Gone q code
+
+-- by the place's number
+pub record HasForgotItsPlace (s : Seat) (k tries : ℕ) (t : Seat) (code : Code) : Type 0 where
+  pub place : IsPlaceOf s.group k
+  pub tries_are : AreTries tries
+  pub free : IsFree s.part
+  pub row : HasForgotNamedPart s.part k tries t.part code
+
+pub record HasNotForgotAt (s : Seat) (k tries : ℕ) (t : Seat) (code : Code) : Type 0 where
+  pub why : ((code ≡ codes.BadNumber) × ((IsPlaceOf s.group k → ⊥) ⊎ (tries < 1) ⊎ (MOST_TRIES < tries)))
+      ⊎ ((code ≡ codes.WrongState) × IsPlaceOf s.group k × AreTries tries × IsNotFree s.part)
+  pub same : t ≡ s
+
+abbrev pub HasForgotAt : Seat → ℕ → ℕ → Seat → Code → Type 0
+HasForgotAt s k tries t code = HasForgotItsPlace s k tries t code ⊎ HasNotForgotAt s k tries t code

@@ -6,6 +6,7 @@ use Rattle.sf_group_rows.specs.Begins.{HasLed, HasJoined, IsRefusedSpent, HasLed
 use Rattle.sf_group_rows.specs.Finishes.{IsDone, IsHeld, IsDoneAtLast, IsHeldStill, IsReady, IsPending}
 use Rattle.sf_group_rows.specs.Forgets.{HasForgot}
 use Rattle.sf_group_rows.specs.Currents.{HasQuestioned}
+use Rattle.sf_group_rows.specs.Same.{IsPlaceOf}
 use Rattle.sf_group_rows.specs.declared.limits.TheConstants.{MOST_CALLERS, MOST_PLACES}
 use Rattle.sf_group_rows.specs.Notes.{HasLearnt, HasLearntLeading}
 use Rattle.sf_group_rows.specs.Making.{IsNewCaller}
@@ -15,8 +16,8 @@ use Rattle.sf_group.specs.declared.group.TheConstants.{MOST_TRIES}
 use Rattle.sf_history.specs.declared.call.CallId.{CallId}
 use Rattle.sf_keys_places.specs.declared.places.Places.{Places}
 use Rattle.sf_keys_places.specs.Places.{place_of}
-use Rattle.sf_c_slots.specs.declared.key.TheConstants.{SHORT}
-use Rattle.sf_c_slots.specs.Keys.{WordValue, word}
+use Rattle.sf_c_values.specs.declared.key.TheConstants.{SHORT}
+use Rattle.sf_c_values.specs.Keys.{WordValue, word}
 use Rattle.sf_c_slots.specs.declared.part.Part.{Part}
 use Rattle.sf_c_slots.specs.declared.part.Part.TheVariants.{Free, Leads, Waits, Owes, Gone}
 use Rattle.sf_c_slots.specs.declared.codes.Code.{Code}
@@ -24,10 +25,20 @@ use Rattle.sf_c_slots.specs.declared.codes.Code.TheVariants as codes
 use Rattle.sf_c_slots.specs.declared.stamps.Answer.{Answer}
 use Rattle.sf_c_slots.specs.declared.stamps.Stamp.{Stamp}
 use Rattle.sf_c_slots.specs.Written.{stamp_of, answer_of, with_value}
+use Rattle.sf_cache.specs.Caches.{CacheId}
+use Rattle.sf_cache_letters.specs.Letters.{IsStored}
+
+-- what clauses see of a cache: how many sets of ways it has, and the limit of its weights
+pub record Limits : Type 0 where
+  pub sets : ℕ
+  pub weight : ℕ
+
+abbrev pub limits_of : {G : Type 0} → CacheId G → Limits
+limits_of c = record { sets = c.sets; weight = c.scale.limit }
 
 -- what clauses see of a slot: its group, the places of keys, what its caller does, the key that it asked for where it leads or
 -- waits, the letter of such a key that it had last, whether the call that it leads, or led last, has an own channel, whether it
--- led that letter's call and that has one, and the callers that it has for other slots
+-- led that letter's call and that has one, the callers that it has for other slots, and the limits of the group's cache, if it has one
 pub record Seat : Type 0 where
   pub group : GroupValue
   pub places : Places
@@ -37,6 +48,7 @@ pub record Seat : Type 0 where
   pub own : Bool
   pub last_own : Bool
   pub callers : List (CallerValue WordValue)
+  pub cache : Option Limits
 
 -- what clauses see of a note: the places of keys of its group, and what it shows
 pub record Told : Type 0 where
@@ -51,10 +63,10 @@ IsOf g (Waits t) = t.group ≡ g
 IsOf g (Owes s) = s.group ≡ g
 IsOf g Gone = Unit {0}
 
--- so is the letter, if there is one
+-- so is the letter, if there is one, and its call was settled so
 abbrev pub IsLetterOf : GroupValue → Option (LetterValue WordValue) → Type 0
 IsLetterOf g None = Unit {0}
-IsLetterOf g (Some l) = l.group ≡ g
+IsLetterOf g (Some l) = IsStored g l
 
 -- any number fits any call
 abbrev pub fits : FitOf WordValue
@@ -276,8 +288,8 @@ IsNotWaiting (Waits t) = ⊥
 IsNotWaiting (Owes s) = Unit {0}
 IsNotWaiting Gone = Unit {0}
 
--- a slot of this group, by these places, with this caller, which has had no letter here; and with these callers for other slots
-pub record IsSeatOf (g : GroupValue) (p : Places) (c : CallerValue WordValue) (more : List (CallerValue WordValue)) (s : Seat) : Type 0 where
+-- a slot of this group, by these places, with this caller, which has had no letter here; with these callers for other slots, and this cache
+pub record IsSeatOf (g : GroupValue) (p : Places) (c : CallerValue WordValue) (more : List (CallerValue WordValue)) (cache : Option Limits) (s : Seat) : Type 0 where
   pub group : s.group ≡ g
   pub places : s.places ≡ p
   pub part : s.part ≡ Free c
@@ -286,6 +298,7 @@ pub record IsSeatOf (g : GroupValue) (p : Places) (c : CallerValue WordValue) (m
   pub own : s.own ≡ false
   pub last_own : s.last_own ≡ false
   pub callers : s.callers ≡ more
+  pub cache_is : s.cache ≡ cache
 
 -- the first slot of a new group, all of whose callers are new
 pub record HasOpened (places callers seed0 seed1 : ℕ) (s : Seat) : Type 0 where
@@ -295,20 +308,20 @@ pub record HasOpened (places callers seed0 seed1 : ℕ) (s : Seat) : Type 0 wher
   pub seed0_is : s.places.seed0 ≡ seed0
   pub seed1_is : s.places.seed1 ≡ seed1
   pub caller : CallerValue WordValue
-  pub seat : IsSeatOf s.group s.places caller s.callers s
+  pub seat : IsSeatOf s.group s.places caller s.callers None s
   pub is_new : IsNewCaller s.group caller
   pub others : All (IsNewCaller s.group) s.callers
 
 -- the slot with these callers for other slots
 abbrev pub with_callers : Seat → List (CallerValue WordValue) → Seat
-with_callers s more = record { group = s.group; places = s.places; part = s.part; asked = s.asked; last = s.last; own = s.own; last_own = s.last_own; callers = more }
+with_callers s more = record { group = s.group; places = s.places; part = s.part; asked = s.asked; last = s.last; own = s.own; last_own = s.last_own; callers = more; cache = s.cache }
 
 -- the last of the callers for other slots got one
 pub record HasSplit (s t o : Seat) : Type 0 where
   pub caller : CallerValue WordValue
   pub callers : s.callers ≡ t.callers ++ caller ∷ []
   pub rest : t ≡ with_callers s t.callers
-  pub seat : IsSeatOf s.group s.places caller [] o
+  pub seat : IsSeatOf s.group s.places caller [] s.cache o
 
 -- no slot was made: all callers have one, or there is no memory
 abbrev pub IsNotSplit : Seat → Code → Type 0
@@ -416,6 +429,27 @@ pub record HasNotAsked (s : Seat) (key : List ℕ) (tries : ℕ) (t : Seat) (cod
 abbrev pub HasAskedKey : Seat → List ℕ → ℕ → Seat → Code → Stamp → Stamp → Type 0
 HasAskedKey s key tries t code x y = HasAskedPlace s key tries t code x y ⊎ HasNotAsked s key tries t code x y
 
+-- how an asking by key at a place ends for a caller that is free
+abbrev pub HasAskedFree : Seat → List ℕ → ℕ → ℕ → Seat → Code → Stamp → Stamp → Type 0
+HasAskedFree s key k tries t code x y = (HasAsked s.part k tries t.part code x y × KeepsAsked code key s.asked t.asked)
+    ⊎ ((code ≡ codes.NoMemory) × (SHORT < length key) × (t ≡ s) × (y ≡ x))
+
+-- how an asking by key ends at the place that the program has for the key
+pub record HasAskedItsPlace (s : Seat) (key : List ℕ) (k tries : ℕ) (t : Seat) (code : Code) (x y : Stamp) : Type 0 where
+  pub place : IsPlaceOf s.group k
+  pub tries_are : AreTries tries
+  pub free : IsFree s.part
+  pub row : HasAskedFree s key k tries t code x y
+
+pub record HasNotAskedAt (s : Seat) (k tries : ℕ) (t : Seat) (code : Code) (x y : Stamp) : Type 0 where
+  pub why : ((code ≡ codes.BadNumber) × ((IsPlaceOf s.group k → ⊥) ⊎ (tries < 1) ⊎ (MOST_TRIES < tries)))
+      ⊎ ((code ≡ codes.WrongState) × IsPlaceOf s.group k × AreTries tries × IsNotFree s.part)
+  pub same : t ≡ s
+  pub unwritten : y ≡ x
+
+abbrev pub HasAskedAt : Seat → List ℕ → ℕ → ℕ → Seat → Code → Stamp → Stamp → Type 0
+HasAskedAt s key k tries t code x y = HasAskedItsPlace s key k tries t code x y ⊎ HasNotAskedAt s k tries t code x y
+
 -- an asking by key with a second that made nothing: as one without, or where the second is not free, or is of another group
 pub record HasNotAskedChan (s u : Seat) (key : List ℕ) (tries : ℕ) (t v : Seat) (code : Code) (x y : Stamp) : Type 0 where
   pub row : HasBadTries s tries t code ⊎ AreOtherSeats s u tries t code ⊎ HaveNoRoom s u key tries t code
@@ -444,17 +478,19 @@ pub record HasForgotPlace (s : Seat) (key : List ℕ) (tries : ℕ) (t : Seat) (
 abbrev pub HasForgotKey : Seat → List ℕ → ℕ → Seat → Code → Type 0
 HasForgotKey s key tries t code = HasForgotPlace s key tries t code ⊎ HasNotCalled s tries t code
 
--- the group, the places and the callers for other slots are as they were, and so is the letter it had last, with how many have its value;
+-- the group, the places, the callers for other slots and the cache are as they were, and so is the letter it had last, with how many have its value;
 -- or the key that it asked for
 pub record KeepsGroup (s t : Seat) : Type 0 where
   pub group : t.group ≡ s.group
   pub places : t.places ≡ s.places
   pub callers : t.callers ≡ s.callers
+  pub cache : t.cache ≡ s.cache
 
 pub record KeepsLetter (s t : Seat) : Type 0 where
   pub group : t.group ≡ s.group
   pub places : t.places ≡ s.places
   pub callers : t.callers ≡ s.callers
+  pub cache : t.cache ≡ s.cache
   pub last : t.last ≡ s.last
   pub last_own : t.last_own ≡ s.last_own
 
@@ -462,6 +498,7 @@ pub record KeepsKey (s t : Seat) : Type 0 where
   pub group : t.group ≡ s.group
   pub places : t.places ≡ s.places
   pub callers : t.callers ≡ s.callers
+  pub cache : t.cache ≡ s.cache
   pub asked : t.asked ≡ s.asked
 
 -- who leads then has the mark, whether another waits on an own channel of its call, and else it is as it was

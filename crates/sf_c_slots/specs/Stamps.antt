@@ -8,7 +8,7 @@ use Rattle.sf_group_rows.specs.Currents.{IsStillSaid}
 use Rattle.sf_c_slots.specs.declared.part.Part.{Part}
 use Rattle.sf_c_slots.specs.declared.part.Part.TheVariants.{Free, Leads, Waits, Owes, Gone}
 use Rattle.sf_c_slots.specs.declared.stamps.Stamp.{Stamp}
-use Rattle.sf_c_slots.specs.Keys.{WordValue}
+use Rattle.sf_c_values.specs.Keys.{WordValue}
 use Rattle.sf_c_slots.specs.Written.{IsStampOf, call_of}
 
 -- what the caller of a part has seen

@@ -5,7 +5,7 @@ use Rattle.sf_group_rows.specs.Tokens.{GroupValue, LetterValue}
 use Rattle.sf_group_rows.specs.Same.{IsPlaceOf}
 use Rattle.sf_c_slots.specs.declared.stamps.Answer.{Answer}
 use Rattle.sf_c_slots.specs.declared.stamps.Stamp.{Stamp}
-use Rattle.sf_c_slots.specs.Keys.{WordValue}
+use Rattle.sf_c_values.specs.Keys.{WordValue}
 
 -- the stamp of a call of a place, and the call of a stamp
 abbrev pub stamp_of : ℕ → CallId → Stamp

@@ -31,4 +31,8 @@ pub enum Code {
     NoMemory,
     /// All callers have a slot.
     NoCaller,
+    /// The letter is in the cache, and another came out in its place.
+    Replaced,
+    /// Another letter came out to make room, and this one is not in the cache yet.
+    Evicted,
 }

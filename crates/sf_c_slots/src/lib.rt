@@ -4,15 +4,14 @@
 #![tactic(auto)]
 
 mod codes;
-mod key;
 mod note_state;
 mod one_call;
 mod part;
 mod stamps;
 mod state;
-mod word;
 
 pub use codes::Code;
 pub use note_state::NoteState;
+pub use part::Part;
 pub use stamps::{Answer, Stamp};
 pub use state::State;

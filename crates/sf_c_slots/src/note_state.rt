@@ -1,7 +1,7 @@
 //! What a note in C holds.
 ghost use Rattle.std.specs.Prelude.{◌≡◌};
 
-use crate::word::Word;
+use sf_c_values::Word;
 use sf_group::{Group, Note};
 use sf_keys_places::Places;
 use std::marker::Model;

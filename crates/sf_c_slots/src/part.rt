@@ -8,9 +8,8 @@ ghost use Rattle.sf_c_slots.specs.declared.codes.Code.TheVariants as codes;
 ghost use Rattle.sf_c_slots.specs.declared.part.Part.TheVariants.{Free, Leads, Owes, Waits};
 
 use crate::codes::Code;
-use crate::key::Key;
 use crate::stamps::{Answer, Stamp};
-use crate::word::Word;
+use sf_c_values::{Key, Word};
 use sf_group::{
     Begun, Caller, ChanBegun, Finished, Flight, Forgotten, Group, Letter, MOST_TRIES, NotBegun,
     Note, Polled, Settled, Ticket,
@@ -19,7 +18,7 @@ use sf_keys_places::OfKey;
 use std::mem::replace;
 
 /// What a slot's caller does. `Gone` is one that gave up what it had open.
-pub(crate) enum Part {
+pub enum Part {
     Free(Caller<Word>),
     Leads(Flight<Word>),
     Waits(Ticket<Word>),
@@ -74,7 +73,7 @@ fn ask_both(
 
 impl Part {
     /// Whether it is one of a free caller.
-    pub(crate) fn is_free(&self) -> bool
+    pub fn is_free(&self) -> bool
         ensures yes { IsTrue result → IsFree self.now }
         ensures no { IsFalse result → IsNotFree self.now }
     {
@@ -85,7 +84,7 @@ impl Part {
     }
 
     /// Whether it is one of a caller that leads.
-    pub(crate) fn leads(&self) -> bool
+    pub fn leads(&self) -> bool
         ensures yes { IsTrue result → IsLeading self.now }
         ensures no { IsFalse result → IsNotLeading self.now }
     {
@@ -96,7 +95,7 @@ impl Part {
     }
 
     /// Whether it is one of a caller that waits.
-    pub(crate) fn waits(&self) -> bool
+    pub fn waits(&self) -> bool
         ensures yes { IsTrue result → IsWaiting self.now }
         ensures no { IsFalse result → IsNotWaiting self.now }
     {
@@ -107,7 +106,7 @@ impl Part {
     }
 
     /// Its caller, which is free. One that is not comes back.
-    pub(crate) fn into_caller(self) -> Result<Caller<Word>, Part>
+    pub fn into_caller(self) -> Result<Caller<Word>, Part>
         ensures free { IfOk result (λ caller. self ≡ Free caller) }
         ensures refused { IfErr result (λ part. (part ≡ self) × IsNotFree self) }
     {
@@ -162,13 +161,7 @@ impl Part {
     }
 
     /// Asks for the place, and writes the stamp of the call that it leads or joins.
-    pub(crate) fn ask(
-        &mut self,
-        group: &Group<Word>,
-        place: u32,
-        tries: u32,
-        stamp: &mut Stamp,
-    ) -> Code
+    pub fn ask(&mut self, group: &Group<Word>, place: u32, tries: u32, stamp: &mut Stamp) -> Code
         requires own { IsOf group.now self.old }
         requires place { IsPlaceOf group.now place }
         requires tries { (1 ≤ tries) × (tries ≤ MOST_TRIES) }
@@ -205,7 +198,7 @@ impl Part {
 
     /// Asks for the place with a second, and writes the stamp of the call: where it leads that, the second waits on its own
     /// channel; and where one was open, the second waits for that, and it is free.
-    pub(crate) fn ask_chan(
+    pub fn ask_chan(
         self,
         second: Part,
         group: &Group<Word>,
@@ -230,7 +223,7 @@ impl Part {
     }
 
     /// Settles the call that it leads with a value of the key: done where all letters are handed out, else some are owed still.
-    pub(crate) fn finish(
+    pub fn finish(
         &mut self,
         group: &Group<Word>,
         value: u64,
@@ -317,7 +310,7 @@ impl Part {
     }
 
     /// Goes on with a delivery: done where all letters are handed out then, else some are owed still.
-    pub(crate) fn go_on(
+    pub fn go_on(
         self,
         group: &Group<Word>,
         answer: &mut Answer,
@@ -344,7 +337,7 @@ impl Part {
 
     /// Looks for the letter that it waits for: done where it is there and of the key, the other key's where it is not of the
     /// key, and pending where it is not there yet.
-    pub(crate) fn poll(
+    pub fn poll(
         &mut self,
         group: &Group<Word>,
         key: &Key,
@@ -383,7 +376,7 @@ impl Part {
     }
 
     /// Forgets the place: done where that closed a call, and nothing where none was open.
-    pub(crate) fn forget(&mut self, group: &Group<Word>, place: u32, tries: u32) -> Code
+    pub fn forget(&mut self, group: &Group<Word>, place: u32, tries: u32) -> Code
         requires own { IsOf group.now self.old }
         requires place { IsPlaceOf group.now place }
         requires tries { (1 ≤ tries) × (tries ≤ MOST_TRIES) }
@@ -401,7 +394,7 @@ impl Part {
     }
 
     /// Gives up a call that it leads, a ticket, or letters that it owes, for good.
-    pub(crate) fn give_up(self) -> (Part, Code)
+    pub fn give_up(self) -> (Part, Code)
         ensures row { HasGivenUp self result.0 result.1 }
     {
         match self {
@@ -424,11 +417,7 @@ impl Part {
 
     /// Whether the call of the letter it had last is its place's current one. The answer is no where there was none, or its
     /// caller is not free.
-    pub(crate) fn is_current(
-        &mut self,
-        group: &Group<Word>,
-        last: &mut Option<Letter<Word>>,
-    ) -> bool
+    pub fn is_current(&mut self, group: &Group<Word>, last: &mut Option<Letter<Word>>) -> bool
         requires own { IsOf group.now self.old }
         requires last { IsLetterOf group.now last.old }
         ensures own { IsOf group.now self.new }
@@ -445,7 +434,7 @@ impl Part {
     }
 
     /// The number of its caller, which is free.
-    pub(crate) fn number(&self, number: &mut u32) -> Code
+    pub fn number(&self, number: &mut u32) -> Code
         ensures row { HasNumbered self.now result number.old number.new }
     {
         let Part::Free(caller) = self else {
@@ -456,7 +445,7 @@ impl Part {
     }
 
     /// Whether another is not one of a caller of the same number, where both are free.
-    pub(crate) fn is_numbered_apart(&self, other: &Part) -> bool
+    pub fn is_numbered_apart(&self, other: &Part) -> bool
         ensures { IsTrue result ↔ AreNumberedApart self.now other.now }
     {
         let Part::Free(caller) = self else {
@@ -469,7 +458,7 @@ impl Part {
     }
 
     /// A note that shows what its caller has seen. None where that is not free.
-    pub(crate) fn tell(&mut self, group: &Group<Word>) -> Option<Note<Word>>
+    pub fn tell(&mut self, group: &Group<Word>) -> Option<Note<Word>>
         requires own { IsOf group.now self.old }
         ensures same { self.new ≡ self.old }
         ensures told { IfSome result (HasToldPart group.now self.old) }
@@ -482,7 +471,7 @@ impl Part {
     }
 
     /// Its caller, which is free or leads, has then seen what the note shows.
-    pub(crate) fn learn(&mut self, group: &Group<Word>, note: &mut Note<Word>) -> Code
+    pub fn learn(&mut self, group: &Group<Word>, note: &mut Note<Word>) -> Code
         requires own { IsOf group.now self.old }
         requires note { note.old.group ≡ group.now }
         ensures own { IsOf group.now self.new }

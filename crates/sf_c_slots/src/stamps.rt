@@ -7,31 +7,31 @@ ghost use Rattle.sf_c_slots.specs.Written.{IsStampOf, answer_of, call_of, stamp_
 
 use crate::part::Part;
 use crate::state::State;
-use crate::word::Word;
+use sf_c_values::Word;
 use sf_group::{CallId, Group, Letter};
 
 /// Which call, by its place and its two numbers.
 #[repr(C)]
 #[derive(Clone, Copy)]
 pub struct Stamp {
-    pub(crate) place: u32,
-    pub(crate) zero: u32,
-    pub(crate) caller: u32,
-    pub(crate) generation: u32,
+    pub place: u32,
+    pub zero: u32,
+    pub caller: u32,
+    pub generation: u32,
 }
 
 /// What a letter says: the value, how many joined the call, and the stamp of that.
 #[repr(C)]
 #[derive(Clone, Copy)]
 pub struct Answer {
-    pub(crate) value: u64,
-    pub(crate) joiners: u32,
-    pub(crate) stamp: Stamp,
+    pub value: u64,
+    pub joiners: u32,
+    pub stamp: Stamp,
 }
 
 impl Stamp {
-    // The stamp of a call of the place.
-    pub(crate) fn of(place: u32, call: CallId) -> Stamp
+    /// The stamp of a call of the place.
+    pub fn of(place: u32, call: CallId) -> Stamp
         ensures { result ≡ stamp_of place call }
     {
         Stamp {
@@ -42,8 +42,8 @@ impl Stamp {
         }
     }
 
-    // Its call.
-    pub(crate) fn call(&self) -> CallId
+    /// Its call.
+    pub fn call(&self) -> CallId
         ensures { result ≡ call_of self.now }
     {
         CallId {
@@ -52,8 +52,8 @@ impl Stamp {
         }
     }
 
-    // Whether it is one of a place of the group.
-    pub(crate) fn is_of(&self, group: &Group<Word>) -> bool
+    /// Whether it is one of a place of the group.
+    pub fn is_of(&self, group: &Group<Word>) -> bool
         ensures { IsTrue result ↔ IsStampOf group.now self.now }
     {
         self.zero == 0 && group.has(self.place)
@@ -61,8 +61,8 @@ impl Stamp {
 }
 
 impl Answer {
-    // What the letter says.
-    pub(crate) fn of(letter: &Letter<Word>) -> Answer
+    /// What the letter says.
+    pub fn of(letter: &Letter<Word>) -> Answer
         ensures { result ≡ answer_of letter.now }
     {
         Answer {
@@ -72,8 +72,8 @@ impl Answer {
         }
     }
 
-    // Takes this value.
-    pub(crate) fn take_value(&mut self, value: u64)
+    /// Takes this value.
+    pub fn take_value(&mut self, value: u64)
         ensures { self.new ≡ with_value self.old value }
     {
         self.value = value;

@@ -1,16 +1,18 @@
 //! What a slot holds.
-ghost use Rattle.std.specs.Prelude.{◌≡◌, ◌≢◌, ◌<◌, ◌≤◌, ◌↔◌, All, IsTrue, IfOk, IfErr, IfSome, IfNone, true, false};
+ghost use Rattle.std.specs.Prelude.{◌≡◌, ◌≢◌, ◌<◌, ◌≤◌, ◌↔◌, All, IsTrue, IfOk, IfErr, IfSome, IfNone, option_map, true, false};
 ghost use Rattle.sf_group_rows.specs.Making.{IsNewCaller};
 ghost use Rattle.sf_group_rows.specs.Notes.{HasGrown};
+ghost use Rattle.sf_group_rows.specs.Same.{IsPlaceOf};
+ghost use Rattle.sf_group.specs.declared.group.TheConstants.{MOST_TRIES};
 ghost use Rattle.sf_c_slots.specs.declared.codes.Code.TheVariants as codes;
-ghost use Rattle.sf_c_slots.specs.Rows.{HasOpened, HasSplit, HasTakenBack, HasAskedKey, HasAskedChanKey, HasForgotKey, HasFinishedPart, HasGoneOnPart, HasPolledPart, HasQuestionedPart, HasToldNote, HasNotTold, HasLearntNote, HasGivenUp, HasCounted, HasNumbered, MarksLed, MarksDone, KeepsAsked, KeepsLed, HasGivenKey, IsNotSplit, AreBeside, ArePlacesOfOne, KeepsGroup, KeepsLetter, KeepsKey};
+ghost use Rattle.sf_c_slots.specs.Rows.{HasOpened, HasSplit, HasTakenBack, HasAskedAt, HasAskedFree, HasAskedKey, IsFree, HasAskedChanKey, HasForgotKey, HasFinishedPart, HasGoneOnPart, HasPolledPart, HasQuestionedPart, HasToldNote, HasNotTold, HasLearntNote, HasGivenUp, HasCounted, limits_of, HasNumbered, MarksLed, MarksDone, KeepsAsked, KeepsLed, HasGivenKey, IsNotSplit, AreBeside, ArePlacesOfOne, KeepsGroup, KeepsLetter, KeepsKey};
 
 use crate::codes::Code;
-use crate::key::Key;
 use crate::note_state::NoteState;
 use crate::part::Part;
 use crate::stamps::{Answer, Stamp};
-use crate::word::Word;
+use sf_c_values::{Key, Word};
+use sf_cache_letters::Letters;
 use sf_group::{Caller, Group, Letter, MOST_CALLERS, MOST_PLACES, MOST_TRIES, Memory};
 use sf_keys_places::Places;
 use std::alloc::Global;
@@ -20,22 +22,23 @@ use std::sync::Arc;
 
 /// A caller, with a share of its group; the places of keys; the key that it asks for, where it leads or waits; the letter of
 /// such a key that it had last; whether the call that it leads, or led last, has an own channel; whether it led that
-/// letter's call, and that has one; and the callers that have no slot.
+/// letter's call, and that has one; the callers that have no slot; and the group's cache, if it has one.
 #[derive(Drop)]
 pub struct State {
-    pub(crate) group: Arc<Group<Word>>,
-    pub(crate) places: Places,
-    pub(crate) part: Part,
-    pub(crate) asked: Key,
-    pub(crate) last: Option<Letter<Word>>,
-    pub(crate) own: bool,
-    pub(crate) last_own: bool,
-    pub(crate) callers: Vec<Caller<Word>>,
+    pub group: Arc<Group<Word>>,
+    pub places: Places,
+    pub part: Part,
+    pub asked: Key,
+    pub last: Option<Letter<Word>>,
+    pub own: bool,
+    pub last_own: bool,
+    pub callers: Vec<Caller<Word>>,
+    pub cache: Option<Arc<Letters<Word>>>,
 }
 
 impl Model for State {
-    ghost use Rattle.std.specs.Prelude.{◌≡◌, All};
-    ghost use Rattle.sf_c_slots.specs.Rows.{IsOf, IsLetterOf, Seat};
+    ghost use Rattle.std.specs.Prelude.{◌≡◌, All, IfSome, option_map};
+    ghost use Rattle.sf_c_slots.specs.Rows.{IsOf, IsLetterOf, Seat, limits_of};
 
     ghost Value = { Seat };
 
@@ -49,11 +52,13 @@ impl Model for State {
           own = s.own;
           last_own = s.last_own;
           callers = s.callers.items;
+          cache = option_map (λ c. limits_of c.value.cache) s.cache;
         } };
 
     ghost invariant = { λ s. IsOf s.group.value s.part × IsLetterOf s.group.value s.last
         × (s.group.value.sizes.places ≡ s.places.count)
-        × All (λ c. c.group ≡ s.group.value) s.callers.items };
+        × All (λ c. c.group ≡ s.group.value) s.callers.items
+        × IfSome s.cache (λ c. c.value.cache.of.group ≡ s.group.value) };
 }
 
 // A check of the tests makes the proof that a state may go to another thread only where something asks for it.
@@ -121,7 +126,22 @@ impl State {
             own: false,
             last_own: false,
             callers,
+            cache: None,
         }))
+    }
+
+    // A further share of the group's cache, if it has one.
+    fn share_cache(&self) -> Result<Option<Arc<Letters<Word>>>, Memory>
+        ensures limits { IfOk result (λ cache. option_map (λ c. limits_of c.value.cache) cache ≡ self.now.cache) }
+        ensures own { IfOk result (λ cache. IfSome cache (λ c. c.value.cache.of.group ≡ self.now.group)) }
+    {
+        let Some(cache) = &self.cache else {
+            return Ok(None);
+        };
+        match Arc::try_clone(cache) {
+            Ok(cache) => Ok(Some(cache)),
+            Err(_) => Err(Memory),
+        }
     }
 
     /// A state for another slot, with the last of the callers that have none.
@@ -135,6 +155,9 @@ impl State {
         let Ok(group) = Arc::try_clone(&self.group) else {
             return Err(Code::NoMemory);
         };
+        let Ok(cache) = self.share_cache() else {
+            return Err(Code::NoMemory);
+        };
         let Ok(mut made) = Box::new(
             alloc,
             State {
@@ -146,6 +169,7 @@ impl State {
                 own: false,
                 last_own: false,
                 callers: Vec::new(alloc),
+                cache,
             },
         ) else {
             return Err(Code::NoMemory);
@@ -202,10 +226,52 @@ impl State {
         if !self.part.is_free() {
             return Code::WrongState;
         }
+        let place = self.places.of(key);
+        self.ask_free(alloc, key, place, tries, stamp)
+    }
+
+    /// Asks for the key at the place of this number, which the program has for the key, and writes the stamp of the call that its
+    /// caller leads or joins.
+    pub fn ask_at(
+        &mut self,
+        alloc: Global,
+        key: &[u8],
+        place: u32,
+        tries: u32,
+        stamp: &mut Stamp,
+    ) -> Code
+        ensures kept { KeepsLetter self.old self.new }
+        ensures own { MarksLed result false self.old.own self.new.own }
+        ensures row { HasAskedAt self.old key.now place tries self.new result stamp.old stamp.new }
+    {
+        if !self.group.has(place) || tries < 1 || tries > MOST_TRIES {
+            return Code::BadNumber;
+        }
+        if !self.part.is_free() {
+            return Code::WrongState;
+        }
+        self.ask_free(alloc, key, place, tries, stamp)
+    }
+
+    // Asks for the key at the place, for a caller that is free.
+    fn ask_free(
+        &mut self,
+        alloc: Global,
+        key: &[u8],
+        place: u32,
+        tries: u32,
+        stamp: &mut Stamp,
+    ) -> Code
+        requires free { IsFree self.old.part }
+        requires place { IsPlaceOf self.old.group place }
+        requires tries { (1 ≤ tries) × (tries ≤ MOST_TRIES) }
+        ensures kept { KeepsLetter self.old self.new }
+        ensures own { MarksLed result false self.old.own self.new.own }
+        ensures row { HasAskedFree self.old key.now place tries self.new result stamp.old stamp.new }
+    {
         let Ok(long) = Key::counted(alloc, key) else {
             return Code::NoMemory;
         };
-        let place = self.places.of(key);
         let code = self.part.ask(&self.group, place, tries, stamp);
         if code == Code::Led {
             self.own = false;

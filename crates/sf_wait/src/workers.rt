@@ -154,7 +154,7 @@ fn end<'a, V: Fit, W: Work<V>, G: Gate>(
     Ended(do_job(group, gate, number, job))
 }
 
-/// Starts a worker for the job, which does it, or finds that none can be made.
+// Starts a worker for the job, which does it, or finds that none can be made.
 pub(crate) fn start<'s, E, V: Fit + Send + 's, W: Work<V> + Send + 's, G: Gate + Sync>(
     scope: &Scope<'s, E>,
     gate: &'s G,
@@ -189,7 +189,7 @@ pub(crate) fn start<'s, E, V: Fit + Send + 's, W: Work<V> + Send + 's, G: Gate +
 }
 
 impl<V: Fit, W: Work<V>> Started<V, W> {
-    /// Waits until its worker is done, and answers how the job ended.
+    // Waits until its worker is done, and answers how the job ended.
     pub(crate) fn join<R: Threads>(self, rt: &R) -> Served<V, W>
         ensures { HasServed V.fits W.answers self result }
     {

@@ -1,6 +1,6 @@
 use Rattle.std.proofs.Common.{◌≡◌, ◌∙◌, sym, ap, subst}
 use Rattle.sf_group_rows.specs.Finishes.{IsHeld}
-use Rattle.sf_c_slots.specs.Keys.{WordValue, word}
+use Rattle.sf_c_values.specs.Keys.{WordValue, word}
 use Rattle.sf_c_slots.specs.Rows.{HasFinishedPart}
 use Rattle.sf_c_slots.specs.declared.part.Part.{Part}
 use Rattle.sf_c_slots.specs.declared.part.Part.TheVariants.{Leads}

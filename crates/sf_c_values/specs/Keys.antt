@@ -1,8 +1,8 @@
 -- What clauses see of keys, and of the values that calls are settled with.
 use Rattle.std.specs.Prelude.{ℕ, ◌<◌, List, length}
-use Rattle.sf_c_slots.specs.declared.key.Kept.{Kept}
-use Rattle.sf_c_slots.specs.declared.key.Kept.TheVariants.{Inline, Counted}
-use Rattle.sf_c_slots.specs.declared.key.TheConstants.{SHORT}
+use Rattle.sf_c_values.specs.declared.key.Kept.{Kept}
+use Rattle.sf_c_values.specs.declared.key.Kept.TheVariants.{Inline, Counted}
+use Rattle.sf_c_values.specs.declared.key.TheConstants.{SHORT}
 
 -- a number and the key that it is of
 pub record WordValue : Type 0 where

@@ -8,7 +8,7 @@ use std::marker::Model;
 use std::sync::Arc;
 
 /// So many bytes of a key at most lie in the value itself.
-pub(crate) const SHORT: usize = 40;
+pub const SHORT: usize = 40;
 
 /// Where the bytes of a key are. A counted one is a pointer, which lies where the first bytes of the other do: keys are moved
 /// as whole words then.
@@ -26,7 +26,7 @@ pub struct Key {
 
 impl Model for Key {
     ghost use Rattle.std.specs.Prelude.{ℕ, List};
-    ghost use Rattle.sf_c_slots.specs.Keys.{bytes_in, IsKept};
+    ghost use Rattle.sf_c_values.specs.Keys.{bytes_in, IsKept};
 
     ghost Value = { List ℕ };
 
@@ -37,7 +37,7 @@ impl Model for Key {
 
 impl Key {
     /// The empty key.
-    pub(crate) fn empty() -> Key
+    pub fn empty() -> Key
         ensures { result ≡ [] }
     {
         Key {
@@ -46,7 +46,7 @@ impl Key {
     }
 
     /// The bytes on the heap, where they are too many to lie in the value itself.
-    pub(crate) fn counted(alloc: Global, bytes: &[u8]) -> Result<Option<Arc<Vec<u8>>>, Memory>
+    pub fn counted(alloc: Global, bytes: &[u8]) -> Result<Option<Arc<Vec<u8>>>, Memory>
         ensures long { IfOk result (λ made. IfSome made (λ long.
             (long.value.items ≡ bytes.now) × (SHORT < length bytes.now))) }
         ensures short { IfOk result (λ made. IfNone made (length bytes.now ≤ SHORT)) }
@@ -63,7 +63,7 @@ impl Key {
     }
 
     /// A copy of these bytes. Few need no memory.
-    pub(crate) fn of(alloc: Global, bytes: &[u8]) -> Result<Key, Memory>
+    pub fn of(alloc: Global, bytes: &[u8]) -> Result<Key, Memory>
         ensures copy { IfOk result (λ key. key ≡ bytes.now) }
         ensures refused { IfErr result (λ _. SHORT < length bytes.now) }
     {
@@ -75,7 +75,7 @@ impl Key {
 
     /// Becomes these bytes, which are long where they are too many to lie in the value itself. Others are written where the key
     /// lies: what was just stored is not moved, since a move of whole words would wait for the stores.
-    pub(crate) fn put(&mut self, bytes: &[u8], long: Option<Arc<Vec<u8>>>)
+    pub fn put(&mut self, bytes: &[u8], long: Option<Arc<Vec<u8>>>)
         requires long { IfSome long (λ long.
             (long.value.items ≡ bytes.now) × (SHORT < length bytes.now)) }
         requires short { IfNone long (length bytes.now ≤ SHORT) }
@@ -96,7 +96,7 @@ impl Key {
     }
 
     /// Another one.
-    pub(crate) fn again(&self) -> Result<Key, Memory>
+    pub fn again(&self) -> Result<Key, Memory>
         ensures copy { IfOk result (λ key. key ≡ self.now) }
         ensures refused { IfErr result (λ _. SHORT < length self.now) }
     {
@@ -120,7 +120,7 @@ impl Key {
     }
 
     /// The bytes.
-    pub(crate) fn as_slice(&self) -> &[u8]
+    pub fn as_slice(&self) -> &[u8]
         ensures { result.now ≡ self.now }
     {
         match &self.kept {

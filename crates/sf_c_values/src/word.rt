@@ -1,9 +1,10 @@
 //! The values that calls are settled with: numbers that the program in C gives, which nothing here follows, with the key
 //! that each is of.
 ghost use Rattle.std.specs.Prelude.{◌≡◌};
-ghost use Rattle.sf_c_slots.specs.Keys.{word};
+ghost use Rattle.sf_c_values.specs.Keys.{word};
 
 use crate::key::Key;
+use sf_cache_letters::Readable;
 use sf_group::{Fit, Memory, Share};
 use sf_keys_places::OfKey;
 use std::marker::Model;
@@ -16,7 +17,7 @@ pub struct Word {
 }
 
 impl Model for Word {
-    ghost use Rattle.sf_c_slots.specs.Keys.{WordValue, word};
+    ghost use Rattle.sf_c_values.specs.Keys.{WordValue, word};
 
     ghost Value = { WordValue };
 
@@ -24,13 +25,15 @@ impl Model for Word {
 }
 
 impl Word {
-    pub(crate) fn new(number: u64, key: Key) -> Self
+    /// This number of this key.
+    pub fn new(number: u64, key: Key) -> Self
         ensures { result ≡ word number key }
     {
         Word { number, key }
     }
 
-    pub(crate) fn number(&self) -> u64
+    /// The number.
+    pub fn number(&self) -> u64
         ensures { result ≡ self.now.number }
     {
         self.number
@@ -52,5 +55,15 @@ impl OfKey for Word {
 
     fn key(&self) -> &[u8] {
         self.key.as_slice()
+    }
+}
+
+impl Readable for Word {
+    type Read = u64;
+
+    ghost read_of = { λ word. word.number };
+
+    fn read(&self) -> u64 {
+        self.number
     }
 }
