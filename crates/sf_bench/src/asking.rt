@@ -353,7 +353,7 @@ fn next_asker<'a>(
     }
 }
 
-/// What it costs to lead a call and settle it.
+// What it costs to lead a call and settle it.
 pub(crate) fn measure_lead<R>(rt: &R, table: &Table) -> Result<(), Fault>
 where
     R: AllocGlobal + Print + Wait + Threads + Clock + Sync,
@@ -370,7 +370,7 @@ where
     table.row(rt, case, times)
 }
 
-/// What it costs to lead a call, join it, settle it and collect the joiner's letter.
+// What it costs to lead a call, join it, settle it and collect the joiner's letter.
 pub(crate) fn measure_join<R>(rt: &R, table: &Table) -> Result<(), Fault>
 where
     R: AllocGlobal + Print + Wait + Threads + Clock + Sync,
@@ -394,7 +394,7 @@ where
     table.row(rt, case, times)
 }
 
-/// What it costs to forget a place: one with no open call, and one whose call is led and settled.
+// What it costs to forget a place: one with no open call, and one whose call is led and settled.
 pub(crate) fn measure_forget<R>(rt: &R, table: &Table) -> Result<(), Fault>
 where
     R: AllocGlobal + Print + Wait + Threads + Clock + Sync,
@@ -420,7 +420,7 @@ where
     table.row(rt, case, times)
 }
 
-/// What it costs to ask whether a letter's call is current.
+// What it costs to ask whether a letter's call is current.
 pub(crate) fn measure_current<R>(rt: &R, table: &Table) -> Result<(), Fault>
 where
     R: AllocGlobal + Print + Wait + Threads + Clock + Sync,
@@ -500,7 +500,7 @@ where
     side_by_side(rt, table, Case { threads: 4, ..case })
 }
 
-/// What a do costs where each thread has a place of its own.
+// What a do costs where each thread has a place of its own.
 pub(crate) fn measure_distinct<R>(rt: &R, table: &Table) -> Result<(), Fault>
 where
     R: AllocGlobal + Print + Wait + Threads + Clock + Sync,
@@ -508,7 +508,7 @@ where
     at_all_threads(rt, table, Benchmark::Distinct, "do_with, a key a thread")
 }
 
-/// What a do costs where all threads have one place.
+// What a do costs where all threads have one place.
 pub(crate) fn measure_hot<R>(rt: &R, table: &Table) -> Result<(), Fault>
 where
     R: AllocGlobal + Print + Wait + Threads + Clock + Sync,

@@ -100,25 +100,22 @@ impl<'a, R: Wait + Clock> Gets<'a, R> {
     fn get_in_order<'d, D: Naming, N: Naming, O: Origin, L: LoadPath<Origin = O>>(
         &self,
         fill: &Fill<'d, D, N, O>,
-        getter: Getter<'d, D, N, O, L>,
+        getter: &mut Getter<'d, D, N, O, L>,
         first: usize,
         count: u32,
-    ) -> (Getter<'d, D, N, O, L>, bool) {
-        let mut getter = getter;
+    ) -> bool {
         let mut answered = true;
         let mut turn = first;
         for _ in 0..count {
             let key = self.order.key(turn);
             turn = turn.wrapping_add(1);
-            if let Some(answer) = fill.get_bytes_if_present(self.rt, &mut getter, key) {
+            if let Some(answer) = fill.get_bytes_if_present(self.rt, getter, key) {
                 answered = answered && answer.is_ok();
                 continue;
             }
-            let (back, answer) = fill.get(self.rt, getter, key);
-            answered = answered && answer.is_ok();
-            getter = back;
+            answered = fill.get(self.rt, getter, key).is_ok() && answered;
         }
-        (getter, answered)
+        answered
     }
 }
 
@@ -142,21 +139,21 @@ impl<'a, R: Wait + Clock> Team for Gets<'a, R> {
     fn work<'d, D: Naming, N: Naming, O: Origin, L: LoadPath<Origin = O> + Drop>(
         &self,
         fill: &Fill<'d, D, N, O>,
-        getter: Getter<'d, D, N, O, L>,
+        getter: &mut Getter<'d, D, N, O, L>,
         index: u32,
-    ) -> (Getter<'d, D, N, O, L>, Result<Span, Fault>) {
+    ) -> Result<Span, Fault> {
         // Each key is loaded and is near, if it is to be, before the times count.
         let first = (index as usize).wrapping_mul(TURNS / 4);
-        let (getter, warm) = self.get_in_order(fill, getter, first, self.order.to_warm());
+        let warm = self.get_in_order(fill, getter, first, self.order.to_warm());
         let began = self.passed();
-        let (getter, answered) = self.get_in_order(fill, getter, first, OPERATIONS);
+        let answered = self.get_in_order(fill, getter, first, OPERATIONS);
         let ended = self.passed();
         if !(warm && answered) {
-            return (getter, Err(Fault::Refused));
+            return Err(Fault::Refused);
         }
         match (began, ended) {
-            (Ok(began), Ok(ended)) => (getter, Ok(Span { began, ended })),
-            _ => (getter, Err(Fault::Clock)),
+            (Ok(began), Ok(ended)) => Ok(Span { began, ended }),
+            _ => Err(Fault::Clock),
         }
     }
 
@@ -214,6 +211,7 @@ fn loaders(
 {
     let mut sets = Vec::with_capacity(alloc, getters as usize)?;
     for getter in 0..getters {
+        // Named for the loop's invariant alone.
         let _ = getter;
         sets.push_reserved(Loaders::new(
             FixedPicker::new(None),
@@ -295,7 +293,7 @@ where
     measure_both(rt, table, Setup { order, ..near }, details[3])
 }
 
-/// What a get costs of keys that caches have, and of those whose letters are near, too.
+// What a get costs of keys that caches have, and of those whose letters are near, too.
 pub(crate) fn measure_fill<R>(rt: &R, table: &Table) -> Result<(), Fault>
 where
     R: AllocGlobal + Print + Wait + Threads + Clock + Sync,

@@ -166,7 +166,7 @@ where
     table.row(rt, case, times)
 }
 
-/// What a do by a key of one's own costs, on one and four threads.
+// What a do by a key of one's own costs, on one and four threads.
 pub(crate) fn measure_key<R>(rt: &R, table: &Table) -> Result<(), Fault>
 where
     R: AllocGlobal + Print + Wait + Threads + Clock + Sync,
@@ -213,7 +213,7 @@ where
     table.row(rt, case, times)
 }
 
-/// What the place of a key costs.
+// What the place of a key costs.
 pub(crate) fn measure_place<R>(rt: &R, table: &Table) -> Result<(), Fault>
 where
     R: AllocGlobal + Print + Wait + Threads + Clock + Sync,

@@ -103,7 +103,7 @@ where
     table.row(rt, case, times)
 }
 
-/// Lookups in directories of two sizes, each half full, 90 % full and full.
+// Lookups in directories of two sizes, each half full, 90 % full and full.
 pub(crate) fn measure_lookup<R>(rt: &R, table: &Table) -> Result<(), Fault>
 where
     R: AllocGlobal + Print + Wait + Threads + Clock + Sync,

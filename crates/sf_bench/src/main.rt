@@ -28,7 +28,7 @@ use std::{env, io};
 /// The exit status where nothing, or not all, could be measured.
 const FAILED: u8 = 2;
 
-/// The words of the command line, without the program's name.
+// The words of the command line, without the program's name.
 fn words(rt: &(impl Env + AllocGlobal)) -> io::Result<Vec<String>> {
     let mut words = Vec::new(rt.alloc());
     for word in env::args(rt)?.skip(1) {
@@ -37,7 +37,7 @@ fn words(rt: &(impl Env + AllocGlobal)) -> io::Result<Vec<String>> {
     Ok(words)
 }
 
-/// Measures one benchmark, and prints its rows.
+// Measures one benchmark, and prints its rows.
 fn run<R>(rt: &R, table: &Table, benchmark: Benchmark) -> Result<(), Fault>
 where
     R: AllocGlobal + Print + Wait + Threads + Clock + Sync,
@@ -56,7 +56,7 @@ where
     }
 }
 
-/// Measures these benchmarks, one after the other.
+// Measures these benchmarks, one after the other.
 fn run_all<R>(rt: &R, benchmarks: &[Benchmark]) -> Result<(), Fault>
 where
     R: AllocGlobal + Print + Wait + Threads + Clock + Sync,
@@ -68,7 +68,7 @@ where
     table.close(rt)
 }
 
-/// Does what the words ask for.
+// Does what the words ask for.
 fn serve<R>(rt: &R, asked: Asked) -> Result<(), Fault>
 where
     R: AllocGlobal + Print + Wait + Threads + Clock + Sync,
@@ -79,7 +79,7 @@ where
     }
 }
 
-/// Says on standard error why it ends so, as far as that can be written.
+// Says on standard error why it ends so, as far as that can be written.
 fn failed<D: std::fmt::Display + Drop>(rt: &impl Eprint, why: D) -> ExitCode {
     let _ = eprintln!(rt; "sf_bench: {why}");
     ExitCode::from(FAILED)

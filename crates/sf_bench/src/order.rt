@@ -54,12 +54,12 @@ impl Order {
         })
     }
 
-    /// One key.
+    // One key.
     pub(crate) fn of_one(alloc: Global) -> Result<Order, Fault> {
         Order::of_pages(alloc, 1)
     }
 
-    /// 1,000 keys by zipf, exponent 1: the second has half of the first one's turns, the third a third, and so on.
+    // 1,000 keys by zipf, exponent 1: the second has half of the first one's turns, the third a third, and so on.
     pub(crate) fn by_zipf(alloc: Global) -> Result<Order, Fault> {
         let mut order = Order::of_pages(alloc, PAGES)?;
         order.to_warm = 2 * TURNS as u32;
@@ -80,12 +80,12 @@ impl Order {
         Ok(order)
     }
 
-    /// How many turns there are until each key has had two: one that loads it, and one whose letter can be near then.
+    // How many turns there are until each key has had two: one that loads it, and one whose letter can be near then.
     pub(crate) fn to_warm(&self) -> u32 {
         self.to_warm
     }
 
-    /// The key whose turn it is.
+    // The key whose turn it is.
     pub(crate) fn key(&self, turn: usize) -> &[u8] {
         let page = self.turns.get(turn % TURNS).copied().unwrap_or(0);
         match self.names.get(page as usize) {

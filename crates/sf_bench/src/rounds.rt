@@ -27,7 +27,7 @@ fn repeat<R: Wait, O: Operation>(rt: &R, worker: Worker<O>) -> Worker<O> {
     Ok(operation)
 }
 
-/// The nanoseconds an operation of a round that began then, of so many workers.
+// The nanoseconds an operation of a round that began then, of so many workers.
 pub(crate) fn time_since<R: Clock>(rt: &R, began: Instant, workers: usize) -> Result<u64, Fault> {
     let Ok(took) = began.elapsed(rt) else {
         return Err(Fault::Clock);
@@ -36,14 +36,14 @@ pub(crate) fn time_since<R: Clock>(rt: &R, began: Instant, workers: usize) -> Re
     Ok(of_one(nanos, workers))
 }
 
-/// What an operation took, where so many workers did all theirs in so many nanoseconds.
+// What an operation took, where so many workers did all theirs in so many nanoseconds.
 pub(crate) fn of_one(nanos: u64, workers: usize) -> u64 {
     let operations = (OPERATIONS as u64).saturating_mul(workers as u64);
     nanos.checked_div(operations).unwrap_or(nanos)
 }
 
-/// Times nine rounds of these operations, each on a thread of its own: the nanoseconds of a round by all operations
-/// that all threads did in it.
+// Times nine rounds of these operations, each on a thread of its own: the nanoseconds of a round by all operations
+// that all threads did in it.
 pub(crate) fn measure<R: Wait + Threads + Clock + Sync, O: Operation + Send>(
     rt: &R,
     workers: Vec<Worker<O>>,
@@ -63,7 +63,7 @@ pub(crate) fn measure<R: Wait + Threads + Clock + Sync, O: Operation + Send>(
     Ok(Times::of(times))
 }
 
-/// Times nine rounds of one operation, on one thread.
+// Times nine rounds of one operation, on one thread.
 pub(crate) fn measure_one<R: Wait + Threads + Clock + Sync, O: Operation + Send>(
     rt: &R,
     alloc: Global,

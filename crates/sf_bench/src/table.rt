@@ -19,7 +19,7 @@ pub(crate) struct Case {
 }
 
 impl Table {
-    /// Prints the head: the machine's cores, and what stands in each column.
+    // Prints the head: the machine's cores, and what stands in each column.
     pub(crate) fn open(rt: &(impl Print + Threads)) -> Result<Table, Fault> {
         let cores = match available_parallelism(rt) {
             Ok(cores) => cores.get(),
@@ -38,7 +38,7 @@ impl Table {
         }
     }
 
-    /// Prints a row.
+    // Prints a row.
     pub(crate) fn row(&self, rt: &impl Print, case: Case, times: Times) -> Result<(), Fault> {
         let name = case.benchmark.name();
         let detail = case.detail;
@@ -54,7 +54,7 @@ impl Table {
         }
     }
 
-    /// Prints the last line.
+    // Prints the last line.
     pub(crate) fn close(self, rt: &impl Print) -> Result<(), Fault> {
         match println!(rt; "These times were measured on this machine, and nothing is promised.") {
             Ok(()) => Ok(()),

@@ -101,7 +101,8 @@ const STATUSES: &str = "Example:
   printf 'ask 1 k\\nsettle 1 ok v\\n' | sfctl run
 
 `sfctl SUBCOMMAND --help` has the forms of its lines and its exit statuses:
-0 where the input is answered, 1 for an illegal history, 2 for refused input.";
+0 where the input is answered, 1 for an illegal or incomplete history, 2 for
+refused input.";
 
 const RUN: &str = "Commands, one a line:
   ask CALLER KEY              leads a call of the key, or joins the open one
@@ -151,13 +152,16 @@ const CHECK: &str = "Records, one JSON object a line; the first is {\"format\":3
 `own` and `closed` may be null, `err` may stand in place of `ok`, and a hit is
 closed, cleared or missed. Calls and members are [CALLER,GENERATION]. Formats 1
 and 2 are read too: they have no forgetcall, and in format 1 a settle has
-`shared`, true or false, in place of `joiners`.
+`shared`, true or false, in place of `joiners`. Format 4 begins with
+{\"format\":4,\"lost\":N}, where N events were lost. In it a record may have a time
+too, as \"at\":[FROM,TO] in nanoseconds. A log that lost events is incomplete, and
+never called legal.
 
 Example:
   sfctl steps --history < schedule | sfctl check
 
-Exit status: 0 for a legal history, 1 for an illegal one, 2 for refused records,
-usage, want of memory, and a failing read or write.";
+Exit status: 0 for a legal history, 1 for an illegal or incomplete one, 2 for
+refused records, usage, want of memory, and a failing read or write.";
 
 const BENCH: &str =
     "Each NAME is a benchmark; without one all are measured, in about twelve seconds.

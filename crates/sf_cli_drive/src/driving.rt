@@ -77,14 +77,14 @@ impl<'a, R: Wait + Clock + Eprint> Team for Crew<'a, R> {
     fn work<'d, D: Naming, N: Naming, O: Origin, L: LoadPath<Origin = O> + Drop>(
         &self,
         fill: &Fill<'d, D, N, O>,
-        getter: Getter<'d, D, N, O, L>,
+        getter: &mut Getter<'d, D, N, O, L>,
         index: u32,
-    ) -> (Getter<'d, D, N, O, L>, Ended)
+    ) -> Ended
         requires wants { (N.getters ≡ self.now.line.threads)
             × AreEntries self.now.line.keys self.now.entries.now × StatesValues O.loaded }
-        requires new { IsNewGetter N.group (8 * self.now.line.gets) getter }
+        requires new { IsNewGetter N.group (8 * self.now.line.gets) getter.old }
         ensures { IsJobOf N.space N.group self.now.line.keys self.now.line.gets index
-            (without_loaders result.0) result.1 }
+            (without_loaders getter.new) result }
     {
         self.get_all(fill, getter, index)
     }
@@ -154,6 +154,7 @@ fn loaders(
 {
     let mut sets = Vec::new(alloc);
     for getter in 0..getters {
+        // Named for the loop's invariant alone.
         let _ = getter;
         sets.push(Loaders::new(
             OddPicker,

@@ -18,7 +18,7 @@ pub(crate) struct Found {
     pub(crate) history: History<PlaceNo, ()>,
 }
 
-/// The event as records have it. A log keeps no values, so a call is settled with the empty text.
+// The event as records have it. A log keeps no values, so a call is settled with the empty text.
 fn empty_settled(alloc: Global, event: Event<Text, ()>) -> TextEvent
     ensures { result ≡ empty_settled event }
 {
@@ -52,7 +52,7 @@ fn empty_settled(alloc: Global, event: Event<Text, ()>) -> TextEvent
     }
 }
 
-/// The records of a drive's history, where the key of a place is its number.
+// The records of a drive's history, where the key of a place is its number.
 fn records(alloc: Global, history: History<PlaceNo, ()>) -> Result<String, Memory>
     ensures { IfOk result (λ text. string_bytes text ≡ drive_records history) }
 {
@@ -64,7 +64,7 @@ fn records(alloc: Global, history: History<PlaceNo, ()>) -> Result<String, Memor
     write(alloc, &History::from_vec(settled))
 }
 
-/// What a drive says that found this: the records of its history, or its report.
+// What a drive says that found this: the records of its history, or its report.
 pub(crate) fn said(alloc: Global, shows_history: bool, found: Found) -> Result<String, Memory>
     ensures { IfOk result (λ text.
         string_bytes text ≡ said_text shows_history found.report found.history) }

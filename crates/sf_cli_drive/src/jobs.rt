@@ -69,19 +69,18 @@ fn is_value<'d, D: Naming, O: Origin>(
 fn get_entry<'d, D: Naming, N: Naming, O: Origin, L: LoadPath<Origin = O>>(
     rt: &impl Wait,
     fill: &Fill<'d, D, N, O>,
-    getter: Getter<'d, D, N, O, L>,
+    getter: &mut Getter<'d, D, N, O, L>,
     entry: &Entry,
-) -> (Getter<'d, D, N, O, L>, bool)
+) -> bool
     requires values { StatesValues O.loaded }
     requires entry { string_bytes entry.now.value ≡ value_of (string_bytes entry.now.key) }
-    ensures { getter.entry.counted.gets < 2 ^ 64 - 1
-        → IsGetOf N.space (string_bytes entry.now.key) getter.entry result.0 result.1 }
+    ensures { getter.old.counted.gets < 2 ^ 64 - 1
+        → IsGetOf N.space (string_bytes entry.now.key) getter.old getter.new result }
 {
     let key = entry.key.as_bytes();
     let value = entry.value.as_bytes();
-    let (getter, answer) = fill.get(rt, getter, key);
-    let is_right = is_value(&answer, value);
-    (getter, is_right)
+    let answer = fill.get(rt, getter, key);
+    is_value(&answer, value)
 }
 
 impl<'a, R: Wait + Clock + Eprint> Crew<'a, R> {
@@ -89,47 +88,46 @@ impl<'a, R: Wait + Clock + Eprint> Crew<'a, R> {
     fn take_turn<'d, D: Naming, N: Naming, O: Origin, L: LoadPath<Origin = O>>(
         &self,
         fill: &Fill<'d, D, N, O>,
-        getter: Getter<'d, D, N, O, L>,
+        getter: &mut Getter<'d, D, N, O, L>,
         thread: u32,
         turn: u32,
-    ) -> (Getter<'d, D, N, O, L>, bool)
+    ) -> bool
         requires entries { AreEntries self.now.line.keys self.now.entries.now }
         requires values { StatesValues O.loaded }
-        ensures { getter.entry.counted.gets < 2 ^ 64 - 1
+        ensures { getter.old.counted.gets < 2 ^ 64 - 1
             → IsTurn N.space (turn_key self.now.line.keys thread turn) (reloads_at turn)
-            getter.entry result.0 result.1 }
+            getter.old getter.new result }
     {
         let number = turn_number(self.line, thread, turn);
         let entry = &self.entries[number];
-        let (getter, is_right) = get_entry(self.rt, fill, getter, entry);
+        let is_right = get_entry(self.rt, fill, getter, entry);
         if turn % 10 != 9 {
-            return (getter, is_right);
+            return is_right;
         }
         let key = entry.key.as_bytes();
-        let (getter, _forgot) = fill.reload(self.rt, getter, key);
-        (getter, is_right)
+        let _forgot = fill.reload(self.rt, getter, key);
+        is_right
     }
 
     // Makes the gets and the reloads, and delivers what is owed then, so that no other thread waits for it.
     pub(crate) fn get_all<'d, D: Naming, N: Naming, O: Origin, L: LoadPath<Origin = O>>(
         &self,
         fill: &Fill<'d, D, N, O>,
-        getter: Getter<'d, D, N, O, L>,
+        getter: &mut Getter<'d, D, N, O, L>,
         thread: u32,
-    ) -> (Getter<'d, D, N, O, L>, Ended)
+    ) -> Ended
         requires entries { AreEntries self.now.line.keys self.now.entries.now }
         requires values { StatesValues O.loaded }
-        ensures job { getter.entry.counted.gets + self.now.line.gets < 2 ^ 64
+        ensures job { getter.old.counted.gets + self.now.line.gets < 2 ^ 64
             → IsJob N.space self.now.line.keys self.now.line.gets thread
-            getter.entry result.0 result.1 }
-        ensures counted { getter.entry.counted.gets + self.now.line.gets < 2 ^ 64
-            → result.0.counted.gets ≡ getter.entry.counted.gets + self.now.line.gets }
-        ensures logged { getter.entry.counted.gets + self.now.line.gets < 2 ^ 64
-            → IsLogOf getter.entry result.0 result.1.log.items }
-        ensures answers { result.1.answers ≤ self.now.line.gets }
+            getter.old getter.new result }
+        ensures counted { getter.old.counted.gets + self.now.line.gets < 2 ^ 64
+            → getter.new.counted.gets ≡ getter.old.counted.gets + self.now.line.gets }
+        ensures logged { getter.old.counted.gets + self.now.line.gets < 2 ^ 64
+            → IsLogOf getter.old getter.new result.log.items }
+        ensures answers { result.answers ≤ self.now.line.gets }
     {
         let (rt, line) = (self.rt, self.line);
-        let mut getter = getter;
         let mut answers: u32 = 0;
         let mut progress = if line.progress && thread == 0 {
             Progress::new(rt)
@@ -140,37 +138,31 @@ impl<'a, R: Wait + Clock + Eprint> Crew<'a, R> {
             if let Some(progress) = &mut progress {
                 progress.say(rt, turn, line.gets);
             }
-            let (back, is_right) = self.take_turn(fill, getter, thread, turn);
-            getter = back;
+            let is_right = self.take_turn(fill, getter, thread, turn);
             answers += is_right as u32;
         }
-        let (mut getter, settled) = settle_up_often(fill, getter);
+        let settled = settle_up_often(fill, getter);
         let log = getter.take_log();
-        let ended = Ended {
+        Ended {
             answers,
             settled,
             log,
-        };
-        (getter, ended)
+        }
     }
 }
 
 // Delivers what is owed, in 1,000 tries at most; whether it is done.
 fn settle_up_often<'d, D: Naming, N: Naming, O: Origin, L>(
     fill: &Fill<'d, D, N, O>,
-    getter: Getter<'d, D, N, O, L>,
-) -> (Getter<'d, D, N, O, L>, bool)
-    ensures { HasSettled getter.entry result.0 result.1 }
+    getter: &mut Getter<'d, D, N, O, L>,
+) -> bool
+    ensures { HasSettled getter.old getter.new result }
 {
-    let mut getter = getter;
     for _ in 0..1_000 {
-        let (back, settled) = getter.settle_up(fill);
-        getter = back;
-        if settled.is_ok() {
-            return (getter, true);
+        if getter.settle_up(fill).is_ok() {
+            return true;
         }
         yield_now();
     }
-    let owes = getter.owes();
-    (getter, !owes)
+    !getter.owes()
 }

@@ -42,7 +42,7 @@ pub(crate) struct Progress {
 }
 
 impl Progress {
-    /// Progress that begins now, if there is a clock.
+    // Progress that begins now, if there is a clock.
     pub(crate) fn new(rt: &impl Clock) -> Option<Progress> {
         match Instant::now(rt) {
             Ok(started) => Some(Progress {
@@ -53,7 +53,7 @@ impl Progress {
         }
     }
 
-    /// Says it where a second has gone by since it was said.
+    // Says it where a second has gone by since it was said.
     pub(crate) fn say(&mut self, rt: &(impl Clock + Eprint), made: u32, gets: u32) {
         if made % GETS_A_LOOK != 0 {
             return;

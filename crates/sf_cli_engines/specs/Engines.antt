@@ -12,7 +12,7 @@ use Rattle.sf_cli_engines.specs.Checking.{IsCheckOf, checked_text, ending_of}
 use Rattle.sf_cli_engines.specs.Playing.{IsTraceText, HasPicture}
 use Rattle.sf_cli_engines.specs.Recording.{IsScriptRecords, IsScheduleRecords}
 use Rattle.sf_cli_engines.specs.declared.ending.Ending.{Ending}
-use Rattle.sf_cli_engines.specs.declared.ending.Ending.TheVariants.{Answered, Illegal, Refused}
+use Rattle.sf_cli_engines.specs.declared.ending.Ending.TheVariants.{Answered, Illegal, Incomplete, Refused}
 use Rattle.sf_cli_engines.specs.declared.engine.Engine.{Engine}
 use Rattle.sf_cli_engines.specs.declared.engine.Engine.TheVariants.{Run, Steps, Check}
 use Rattle.sf_cli_engines.specs.declared.engine.Shown.{Shown}
@@ -39,10 +39,11 @@ abbrev pub IsScheduleRefused : List ℕ → List ℕ → Type 0
 IsScheduleRefused input text = (refusal : ScheduleRefusal) × IsRefusalOf (lines input) refusal
     × (text ≡ trace_texts.refusal_text refusal ++ codes "\n")
 
--- what is written of an input that is answered by such a text or refused by such a line, and never illegal
+-- what is written of an input that is answered by such a text or refused by such a line, and never illegal or incomplete
 abbrev pub IsWrittenAs : (List ℕ → Type 0) → (List ℕ → Type 0) → Ending → List ℕ → Type 0
 IsWrittenAs IsText IsRefusal Answered text = IsText text
 IsWrittenAs IsText IsRefusal Illegal text = ⊥
+IsWrittenAs IsText IsRefusal Incomplete text = ⊥
 IsWrittenAs IsText IsRefusal Refused text = IsRefusal text
 
 -- what `sfctl check` writes of an input when it ends so

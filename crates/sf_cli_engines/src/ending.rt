@@ -12,17 +12,19 @@ pub enum Ending {
     Answered,
     /// The history is illegal.
     Illegal,
+    /// Events of the history were lost, so nothing is said of the whole of it.
+    Incomplete,
     /// The input was refused, and one line says why.
     Refused,
 }
 
-/// The exit status: 0 for an answer, 1 for an illegal history, 2 for input that is refused.
+/// The exit status: 0 for an answer, 1 for an illegal or incomplete history, 2 for input that is refused.
 pub fn status(ending: Ending) -> u8
     ensures { result ≡ status_of ending }
 {
     match ending {
         Ending::Answered => 0,
-        Ending::Illegal => 1,
+        Ending::Illegal | Ending::Incomplete => 1,
         Ending::Refused => 2,
     }
 }

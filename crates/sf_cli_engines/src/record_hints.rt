@@ -13,7 +13,7 @@ pub(crate) fn record_hint(alloc: Global, input: &[u8]) -> Option<Hint> {
     if line == 1 {
         return Some(Hint {
             line,
-            says: "expected {\"format\":3}, {\"format\":2} or {\"format\":1}",
+            says: "expected {\"format\":4,\"lost\":N}, {\"format\":3}, {\"format\":2} or {\"format\":1}",
         });
     }
     match Value::from_slice(alloc, line_of(input, line)) {
@@ -45,35 +45,56 @@ fn format_of(alloc: Global, input: &[u8]) -> u64 {
     }
 }
 
-/// Whether these names, `e` and no others stand in the record.
-fn has(record: &Value, names: &[&str]) -> bool {
+/// Whether these names, `e` and no others stand in the record, but for the time that a record of format 4 may have.
+fn has(record: &Value, names: &[&str], format: u64) -> bool {
+    let time = usize::from(format == 4 && record.get("at").is_some());
     match record.as_object() {
         Some(members) => {
-            members.len().saturating_sub(1) == names.len()
+            members.len().saturating_sub(1) == names.len() + time
                 && names.iter().all(|name| record.get(*name).is_some())
         }
         None => false,
     }
 }
 
+/// Whether the time of a record of format 4 is no pair of readings.
+fn has_bad_time(record: &Value, format: u64) -> bool {
+    if format != 4 {
+        return false;
+    }
+    let Some(time) = record.get("at") else {
+        return false;
+    };
+    match time.as_array().map(|readings| readings.as_slice()) {
+        Some([from, to]) => match (from.as_u64(), to.as_u64()) {
+            (Some(from), Some(to)) => to < from,
+            _ => true,
+        },
+        _ => true,
+    }
+}
+
 /// What is wrong with a value that is no record of this format.
 fn record_says(record: &Value, format: u64) -> &'static str {
+    if has_bad_time(record, format) {
+        return "expected [FROM,TO] at the name at, two readings of a clock in nanoseconds, the later one last";
+    }
     match record.get("e").and_then(Value::as_str) {
-        Some("lead") if !has(record, &["by", "k", "c", "own"]) => {
+        Some("lead") if !has(record, &["by", "k", "c", "own"], format) => {
             "expected the names e, by, k, c and own"
         }
-        Some("enter") if !has(record, &["by", "k", "c", "m"]) => {
+        Some("enter") if !has(record, &["by", "k", "c", "m"], format) => {
             "expected the names e, by, k, c and m"
         }
-        Some("forget") if !has(record, &["by", "k", "closed"]) => {
+        Some("forget") if !has(record, &["by", "k", "closed"], format) => {
             "expected the names e, by, k and closed"
         }
         Some("forgetcall") if format < 3 => "forgetcall needs {\"format\":3}",
-        Some("forgetcall") if !has(record, &["by", "k", "c", "hit"]) => {
+        Some("forgetcall") if !has(record, &["by", "k", "c", "hit"], format) => {
             "expected the names e, by, k, c and hit"
         }
         Some("settle") => settle_says(record, format),
-        Some("handed") if !has(record, &["by", "c"]) => "expected the names e, by and c",
+        Some("handed") if !has(record, &["by", "c"], format) => "expected the names e, by and c",
         Some("lead") | Some("enter") | Some("forget") | Some("forgetcall") | Some("handed") =>
             VALUES,
         _ if format < 3 => "expected an object whose e is lead, enter, forget, settle or handed",
@@ -84,7 +105,9 @@ fn record_says(record: &Value, format: u64) -> &'static str {
 /// What is wrong with a settle that is no record of this format.
 fn settle_says(record: &Value, format: u64) -> &'static str {
     let joiners = if format == 1 { "shared" } else { "joiners" };
-    if has(record, &["by", "c", "ok", joiners]) || has(record, &["by", "c", "err", joiners]) {
+    if has(record, &["by", "c", "ok", joiners], format)
+        || has(record, &["by", "c", "err", joiners], format)
+    {
         VALUES
     } else if format == 1 {
         "expected the names e, by, c, shared, and one of ok and err"

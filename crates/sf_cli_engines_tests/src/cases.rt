@@ -46,12 +46,15 @@ pub(crate) fn read<'t>(rt: &impl Abort, section: &'t str) -> Case<'t> {
     }
 }
 
-/// How an engine ends that answers so: a refusal begins with `line`, and what is illegal with `event`.
+/// How an engine ends that answers so: a refusal begins with `line`, what is illegal with `event`, and what lost events
+/// with `incomplete`.
 pub(crate) fn ending_of(answer: &str) -> Ending {
     if answer.starts_with("line ") {
         Ending::Refused
     } else if answer.starts_with("event ") {
         Ending::Illegal
+    } else if answer.starts_with("incomplete: ") {
+        Ending::Incomplete
     } else {
         Ending::Answered
     }

@@ -70,7 +70,7 @@ hint: line 2: an operation is dropped only right after a failed exchange
 # check
 {"format":9}
 =
-hint: line 1: expected {"format":3}, {"format":2} or {"format":1}
+hint: line 1: expected {"format":4,"lost":N}, {"format":3}, {"format":2} or {"format":1}
 # check
 {"format":1}
 {"e":

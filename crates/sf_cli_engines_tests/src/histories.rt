@@ -48,6 +48,82 @@ event 3: forget names another call
 legal: 4 events
 "#;
 
+/// Format 4: a log with times, and logs that lost events or whose times are no times.
+const TIMED: &str = r#"# check: an_event_may_have_a_time
+{"format":4,"lost":0}
+{"e":"lead","by":1,"k":"k","c":[1,1],"own":null,"at":[1000,1180]}
+{"e":"enter","by":2,"k":"k","c":[1,1],"m":[2,1],"at":[1450,1530]}
+{"at":[7,7],"e":"forgetcall","by":3,"k":"k","c":[9,9],"hit":"missed"}
+{"e":"settle","by":1,"c":[1,1],"ok":"v","joiners":1,"at":[0,18446744073709551615]}
+{"e":"handed","by":1,"c":[1,1]}
+{"e":"forget","by":3,"k":"k","closed":null,"at":[9500,9560]}
+=
+legal: 6 events
+# check: a_log_that_lost_events_is_not_legal
+{"lost":3,"format":4}
+{"e":"lead","by":1,"k":"k","c":[1,1],"own":null}
+=
+incomplete: 3 lost; legal: 1 events
+# check: a_fault_of_a_log_that_lost_events
+{"format":4,"lost":18446744073709551615}
+{"e":"lead","by":1,"k":"k","c":[1,1],"own":null}
+{"e":"lead","by":3,"k":"k","c":[3,1],"own":null,"at":[5,6]}
+=
+incomplete: 18446744073709551615 lost; event 2: key has an open call
+# check: no_number_of_lost_events
+{"format":4}
+=
+line 1: not a record
+# check: a_number_of_lost_events_in_format_3
+{"format":3,"lost":0}
+=
+line 1: not a record
+# check: a_negative_number_of_lost_events
+{"format":4,"lost":-1}
+=
+line 1: not a record
+# check: a_format_that_is_to_come
+{"format":5,"lost":0}
+=
+line 1: not a record
+# check: a_time_in_format_3
+{"format":3}
+{"e":"handed","by":1,"c":[1,1],"at":[1,2]}
+=
+line 2: not a record
+# check: a_time_that_ends_before_it_begins
+{"format":4,"lost":2}
+{"e":"lead","by":1,"k":"k","c":[1,1],"own":null,"at":[5,5]}
+{"e":"handed","by":1,"c":[1,1],"at":[3,2]}
+=
+line 3: not a record
+# check: a_time_of_one_reading
+{"format":4,"lost":0}
+{"e":"forget","by":1,"k":"k","closed":null,"at":[3]}
+=
+line 2: not a record
+# check: a_time_of_three_readings
+{"format":4,"lost":0}
+{"e":"enter","by":2,"k":"k","c":[1,1],"m":[2,1],"at":[1,2,3]}
+=
+line 2: not a record
+# check: a_time_that_is_null
+{"format":4,"lost":0}
+{"e":"settle","by":1,"c":[1,1],"ok":"v","joiners":0,"at":null}
+=
+line 2: not a record
+# check: a_name_in_place_of_the_time
+{"format":4,"lost":0}
+{"e":"handed","by":1,"c":[1,1],"on":[1,2]}
+=
+line 2: not a record
+"#;
+
+#[test]
+fn timed_histories(rt: HostRuntime) -> Result<(), Fail> {
+    all_answer(&rt, rt.alloc(), TIMED)
+}
+
 #[test]
 fn histories(rt: HostRuntime) -> Result<(), Fail> {
     all_answer(&rt, rt.alloc(), HISTORIES)

@@ -8,7 +8,7 @@ use sf_history::Memory;
 use std::alloc::Global;
 use std::process::Abort;
 
-/// A group of one place, and so many callers. Where memory is refused it is asked for once more.
+// A group of one place, and so many callers. Where memory is refused it is asked for once more.
 pub(crate) fn make<V: Fit>(
     alloc: Global,
     callers: u32,
@@ -45,7 +45,7 @@ fn ask<V: Fit>(
     }
 }
 
-/// The caller of the greatest number leads.
+// The caller of the greatest number leads.
 pub(crate) fn lead<V: Fit>(
     rt: &impl Abort,
     group: &Group<V>,
@@ -65,7 +65,7 @@ pub(crate) fn lead<V: Fit>(
     }
 }
 
-/// The caller of the greatest number joins.
+// The caller of the greatest number joins.
 pub(crate) fn join<V: Fit>(
     rt: &impl Abort,
     group: &Group<V>,
@@ -85,7 +85,7 @@ pub(crate) fn join<V: Fit>(
     }
 }
 
-/// The ticket's letter, which is there at the first look.
+// The ticket's letter, which is there at the first look.
 pub(crate) fn letter<V: Fit>(rt: &impl Abort, group: &Group<V>, ticket: Ticket<V>) -> Letter<V>
     requires { ticket.group ≡ group.now }
 {

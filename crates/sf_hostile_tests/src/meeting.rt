@@ -48,23 +48,23 @@ impl Flags {
         self.wait(&self.asked, &self.asked);
     }
 
-    /// Waits until the first getter loads or was answered. Whether it loads.
+    // Waits until the first getter loads or was answered. Whether it loads.
     pub(crate) fn meets_load(&self) -> bool {
         self.wait(&self.loading, &self.answered);
         self.loading.load(Ordering::SeqCst)
     }
 
-    /// The spare caller has asked, or will not.
+    // The spare caller has asked, or will not.
     pub(crate) fn end_asking(&self) {
         self.asked.store(true, Ordering::SeqCst);
     }
 
-    /// The first getter was answered.
+    // The first getter was answered.
     pub(crate) fn end_get(&self) {
         self.answered.store(true, Ordering::SeqCst);
     }
 
-    /// Whether no wait was given up.
+    // Whether no wait was given up.
     pub(crate) fn met(&self) -> bool {
         !self.unmet.load(Ordering::SeqCst)
     }
@@ -95,7 +95,7 @@ impl<'f> Local for Meeting<'f> {
 /// What a getter of a pair loads with.
 pub(crate) type PairLoaders<'f> = Loaders<FixedPicker, Script, Meeting<'f>, RoundChance>;
 
-/// The peer, where there is one, fails; the local getter gives `v`.
+// The peer, where there is one, fails; the local getter gives `v`.
 pub(crate) fn loaders<'f>(
     alloc: Global,
     peer: Option<u32>,

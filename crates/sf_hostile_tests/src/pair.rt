@@ -274,7 +274,7 @@ fn try_out<R: Wait + Threads + Abort + Sync>(
     with_space::<Brand, R>(rt, alloc, KeySpace::Directory(&directory), desks, scene)
 }
 
-/// A get whose load is joined, and another get of the key then.
+// A get whose load is joined, and another get of the key then.
 pub(crate) fn gets_beside_a_joiner<R: Wait + Threads + Abort + Sync>(
     rt: &R,
     alloc: Global,

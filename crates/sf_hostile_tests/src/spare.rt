@@ -52,7 +52,7 @@ impl<'a, 'd, 'f, D: Naming, N: Naming> Model for Spare<'a, 'd, 'f, D, N> {
 }
 
 impl<'a, 'd, 'f, D: Naming, N: Naming> Spare<'a, 'd, 'f, D, N> {
-    /// Its ticket. None where the first getter was answered without a load.
+    // Its ticket. None where the first getter was answered without a load.
     pub(crate) fn ask<R: Wait + Abort>(self, rt: &R) -> Option<Waiting<'d, D>>
         ensures { IfSome result (λ w. w.ticket.group ≡ N.group) }
     {
@@ -102,8 +102,8 @@ fn check_letter<'d, D: Naming>(
     assert!(rt; bytes == Some(1) || refused == 1, "another value");
 }
 
-/// The ticket is the spare caller's first member of the first getter's call. Its letter is there, with the value where no memory
-/// was refused.
+// The ticket is the spare caller's first member of the first getter's call. Its letter is there, with the value where no memory
+// was refused.
 pub(crate) fn take_letter<'d, D: Naming, N: Naming>(
     rt: &impl Abort,
     fill: &Fill<'d, D, N, AnyValue>,

@@ -171,19 +171,16 @@ fn key_of<'t>(line: &'t str) -> Option<&'t str> {
 fn get_all<'d, D: Naming, N: Naming, O: Origin, L: LoadPath<Origin = O>>(
     rt: &impl Wait,
     fill: &Fill<'d, D, N, O>,
-    getter: Getter<'d, D, N, O, L>,
+    getter: &mut Getter<'d, D, N, O, L>,
     script: &str,
     said: &mut String,
-) -> Getter<'d, D, N, O, L> {
-    let mut getter = getter;
+) {
     for line in script.lines() {
         if let Some(key) = key_of(line) {
-            let (back, answer) = fill.get(rt, getter, key.as_bytes());
+            let answer = fill.get(rt, getter, key.as_bytes());
             say(said, &answer);
-            getter = back;
         }
     }
-    getter
 }
 
 /// Gets of keys in turn.
@@ -218,12 +215,13 @@ impl<'a, R: Wait> Body for GetAll<'a, R> {
     {
         let GetAll { rt, alloc, script } = self;
         let mut getters = getters;
-        let Some(getter) = getters.pop() else {
+        let Some(mut getter) = getters.pop() else {
             unreachable!()
         };
         getters.destroy_empty();
         let mut said = String::new(alloc);
-        get_all(rt, fill, getter, script, &mut said).end(rt, fill);
+        get_all(rt, fill, &mut getter, script, &mut said);
+        getter.end(rt, fill);
         say_counters(&mut said, fill.book(rt));
         said
     }

@@ -75,14 +75,14 @@ impl<'a, 'd, 'f, D: Naming, N: Naming> Tried<'a, 'd, 'f, D, N> {
         }
     }
 
-    /// The value, or the fault for want of memory.
+    // The value, or the fault for want of memory.
     pub(crate) fn get<R: Wait + Abort>(self, rt: &R) -> Self {
         let Tried {
             fill,
-            getter,
+            mut getter,
             refused,
         } = self;
-        let (getter, answer) = fill.get(rt, getter, b"a");
+        let answer = fill.get(rt, &mut getter, b"a");
         let refused = refused.wrapping_add(u32::from(check_answer(rt, answer)));
         Tried {
             fill,
@@ -91,21 +91,21 @@ impl<'a, 'd, 'f, D: Naming, N: Naming> Tried<'a, 'd, 'f, D, N> {
         }
     }
 
-    /// A get that tells the spare caller when it was answered.
+    // A get that tells the spare caller when it was answered.
     pub(crate) fn get_beside<R: Wait + Abort>(self, rt: &R, flags: &Flags) -> Self {
         let tried = self.get(rt);
         flags.end_get();
         tried
     }
 
-    /// A Forget, or the fault for want of memory where letters are owed.
+    // A Forget, or the fault for want of memory where letters are owed.
     pub(crate) fn reload<R: Wait + Abort>(self, rt: &R) -> Self {
         let Tried {
             fill,
-            getter,
+            mut getter,
             refused,
         } = self;
-        let (getter, answer) = fill.reload(rt, getter, b"a");
+        let answer = fill.reload(rt, &mut getter, b"a");
         let refused = match answer {
             Ok(_) => refused,
             Err(LoadFault::Memory) => refused.wrapping_add(1),
@@ -122,10 +122,10 @@ impl<'a, 'd, 'f, D: Naming, N: Naming> Tried<'a, 'd, 'f, D, N> {
     fn settle_up(self, rt: &impl Abort) -> Self {
         let Tried {
             fill,
-            getter,
+            mut getter,
             refused,
         } = self;
-        let (mut getter, settled) = getter.settle_up(fill);
+        let settled = getter.settle_up(fill);
         assert!(rt; settled.is_ok(), "it is refused memory again");
         assert!(rt; !getter.owes(), "it owes letters still");
         let log = getter.take_log();
@@ -137,8 +137,8 @@ impl<'a, 'd, 'f, D: Naming, N: Naming> Tried<'a, 'd, 'f, D, N> {
         }
     }
 
-    /// What is owed is delivered, and a get then answers the value. How many were refused memory, and how many loads there were
-    /// in all.
+    // What is owed is delivered, and a get then answers the value. How many were refused memory, and how many loads there were
+    // in all.
     pub(crate) fn end<R: Wait + Abort>(self, rt: &R) -> (u32, u64) {
         let tried = self.settle_up(rt).get(rt);
         (tried.refused, tried.getter.loaders().picker.asked)

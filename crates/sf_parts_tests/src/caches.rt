@@ -120,7 +120,7 @@ fn drop_the_oldest(rt: &impl Abort, alloc: Global, is_looked_at: bool) -> Result
     Ok(())
 }
 
-/// A peek reads an entry and leaves it the oldest, where a look makes it the newest.
+// A peek reads an entry and leaves it the oldest, where a look makes it the newest.
 #[test]
 fn peeked_entry_stays_the_oldest(rt: HostRuntime) -> Result<(), AllocError> {
     drop_the_oldest(&rt, rt.alloc(), false)?;

@@ -155,3 +155,38 @@ fn desks_agree(rt: HostRuntime) -> Result<(), Memory> {
     check_rounds(&rt, &directory, forwards, backwards);
     Ok(())
 }
+
+fn assert_place(rt: &impl Abort, directory: &Directory, desk: &mut Desk, key: &[u8], due: u32)
+    requires { desk.old.directory ≡ directory.now }
+    ensures { desk.new.directory ≡ directory.now }
+{
+    let place = place_of(rt, directory, desk, key, "no place");
+    let found = place.number().number();
+    assert!(rt; found == due, "place {found} in place of {due}");
+}
+
+// In an empty directory a key's place is where its walk begins: its SipHash-1-3 by both halves of the seed, scaled down.
+fn assert_begins(
+    rt: &impl Abort,
+    alloc: Global,
+    seeds: (u64, u64),
+    first: u32,
+    second: u32,
+) -> Result<(), Memory> {
+    let (directory, mut desks) = Directory::new(alloc, 65_536, 8, 1, seeds.0, seeds.1)?;
+    let Some(mut desk) = desks.pop() else {
+        panic!(rt; "no desk")
+    };
+    assert_place(rt, &directory, &mut desk, b"a", first);
+    assert_place(rt, &directory, &mut desk, b"user-7", second);
+    Ok(())
+}
+
+#[test]
+fn places_by_two_seeds(rt: HostRuntime) -> Result<(), Memory> {
+    let (low, high) = (0x0706_0504_0302_0100, 0x0f0e_0d0c_0b0a_0908);
+    assert_begins(&rt, rt.alloc(), (low, high), 7207, 39_403)?;
+    assert_begins(&rt, rt.alloc(), (low, 0), 16_309, 3218)?;
+    assert_begins(&rt, rt.alloc(), (0, high), 32_905, 39_709)?;
+    assert_begins(&rt, rt.alloc(), (high, low), 46_885, 16_012)
+}

@@ -81,7 +81,7 @@ fn assert_asked(rt: &impl Abort, loaders: &mut ScriptLoaders, due: [u64; 3]) {
     assert!(rt; loaders.chance.draw() == 0, "a load draws");
 }
 
-/// One run of the load path over a picker, a peer and a local getter of one answer each.
+// One run of the load path over a picker, a peer and a local getter of one answer each.
 fn assert_run(
     rt: &impl Abort,
     alloc: Global,
@@ -228,7 +228,7 @@ impl Local for Echo {
     }
 }
 
-/// A value is what its origin states, whichever loader gave it.
+// A value is what its origin states, whichever loader gave it.
 fn echoed(alloc: Global, picked: Option<u32>, key: &[u8]) -> Result<(Bytes, Source), LocalFault>
     ensures { IfOk result (λ found. found.0 ≡ key.now) }
 {

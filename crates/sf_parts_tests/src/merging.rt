@@ -23,7 +23,7 @@ fn call(rt: &impl Abort, word: &str) -> CallId {
     }
 }
 
-/// What a Forget of the call of a key found: `closed`, `cleared` or `missed`.
+// What a Forget of the call of a key found: `closed`, `cleared` or `missed`.
 fn forget_call(rt: &impl Abort, found: &str, by: u32, call: CallId, key: u32) -> NumberEvent {
     let hit = match found {
         "closed" => Hit::Closed,
@@ -34,7 +34,7 @@ fn forget_call(rt: &impl Abort, found: &str, by: u32, call: CallId, key: u32) ->
     Event::ForgetCall { by, key, call, hit }
 }
 
-/// What is done to the call of a key.
+// What is done to the call of a key.
 fn of_key(rt: &impl Abort, kind: &str, by: u32, call: CallId, key: u32) -> NumberEvent {
     match kind {
         "lead" => {
@@ -49,8 +49,8 @@ fn of_key(rt: &impl Abort, kind: &str, by: u32, call: CallId, key: u32) -> Numbe
     }
 }
 
-/// The event that a line is: its kind and who made it, then its call, and its key or how many joined: `lead 1 1.1 7`,
-/// `enter 2 1.1 7 2.1`, `settle 1 1.1 1`, `handed 1 1.1`; `idle 1 7` is a Forget that closed nothing.
+// The event that a line is: its kind and who made it, then its call, and its key or how many joined: `lead 1 1.1 7`,
+// `enter 2 1.1 7 2.1`, `settle 1 1.1 1`, `handed 1 1.1`; `idle 1 7` is a Forget that closed nothing.
 fn event(rt: &impl Abort, line: &str) -> NumberEvent {
     let (kind, rest) = first_word(line);
     let (by, rest) = first_word(rest);
@@ -82,7 +82,7 @@ fn event(rt: &impl Abort, line: &str) -> NumberEvent {
     }
 }
 
-/// The events that lines are.
+// The events that lines are.
 fn log(rt: &impl Abort, alloc: Global, lines: &str) -> Vec<NumberEvent> {
     let mut log = Vec::new(alloc);
     for line in lines.lines() {
@@ -92,7 +92,7 @@ fn log(rt: &impl Abort, alloc: Global, lines: &str) -> Vec<NumberEvent> {
     log
 }
 
-/// What is merged of logs, which an empty line parts.
+// What is merged of logs, which an empty line parts.
 fn merged(rt: &impl Abort, alloc: Global, logs: &str) -> History<u32, ()> {
     let mut all = Vec::new(alloc);
     for lines in logs.split("\n\n") {
@@ -105,7 +105,7 @@ fn merged(rt: &impl Abort, alloc: Global, logs: &str) -> History<u32, ()> {
     history
 }
 
-/// What is compared of an event: its kind, who made it, and its call; `0.0` for a Forget that closed nothing.
+// What is compared of an event: its kind, who made it, and its call; `0.0` for a Forget that closed nothing.
 fn said_of(event: &NumberEvent) -> (&'static str, u32, CallId) {
     match event {
         Event::Lead { by, call, .. } => ("lead", *by, *call),
@@ -133,7 +133,7 @@ fn text_of(alloc: Global, history: &History<u32, ()>) -> Result<String, AllocErr
     Ok(text)
 }
 
-/// Merges logs, and compares the events of what comes of them.
+// Merges logs, and compares the events of what comes of them.
 fn are_merged(rt: &impl Abort, alloc: Global, logs: &str, due: &str) -> Result<(), Fail> {
     let text = text_of(alloc, &merged(rt, alloc, logs))?;
     assert!(rt; text.as_str() == due, "{text}");
@@ -164,7 +164,7 @@ handed 1 1.1
 handed 3 9.9
 ";
 
-/// By keys: forgets that closed nothing, then each call with its parts in order; what nobody led comes last.
+// By keys: forgets that closed nothing, then each call with its parts in order; what nobody led comes last.
 #[test]
 fn logs_merge_by_keys_and_calls(rt: HostRuntime) -> Result<(), Fail> {
     are_merged(&rt, rt.alloc(), CALLS, CALLS_MERGED)
@@ -204,8 +204,8 @@ cleared 2 1.1
 cleared 3 9.9
 ";
 
-/// Forgets of one call that missed it stand with those that closed nothing, those that closed it with its Forgets, and those
-/// that cleared it at its end, also where it was never handed out.
+// Forgets of one call that missed it stand with those that closed nothing, those that closed it with its Forgets, and those
+// that cleared it at its end, also where it was never handed out.
 #[test]
 fn forgets_of_one_call_are_merged(rt: HostRuntime) -> Result<(), Fail> {
     are_merged(&rt, rt.alloc(), FORGETS, FORGETS_MERGED)
@@ -245,7 +245,7 @@ settle 1 1.1 0
 handed 1 1.1
 ";
 
-/// What a group did is legal once its logs are merged.
+// What a group did is legal once its logs are merged.
 #[test]
 fn merged_logs_of_a_group_are_legal(rt: HostRuntime) -> Result<(), Fail> {
     assert_legal(&rt, &merged(&rt, rt.alloc(), A_GROUP), 4);
@@ -255,13 +255,13 @@ fn merged_logs_of_a_group_are_legal(rt: HostRuntime) -> Result<(), Fail> {
     Ok(())
 }
 
-/// Adds the event that a line is.
+// Adds the event that a line is.
 fn push(rt: &impl Abort, history: &mut History<u32, ()>, line: &str) {
     let pushed = history.push(event(rt, line));
     assert!(rt; pushed.is_ok(), "no memory");
 }
 
-/// The same history with two events in place of its last one.
+// The same history with two events in place of its last one.
 fn with_others(
     rt: &impl Abort,
     history: History<u32, ()>,
@@ -276,7 +276,7 @@ fn with_others(
     history
 }
 
-/// The checker at keys and values of other types.
+// The checker at keys and values of other types.
 #[test]
 fn numbers_as_keys(rt: HostRuntime) {
     let mut history: History<u32, ()> = History::new(rt.alloc());

@@ -4,12 +4,12 @@ use sf_text::Text;
 use std::alloc::Global;
 use std::process::Abort;
 
-/// The first of some words, and the others.
+// The first of some words, and the others.
 pub(crate) fn first_word(words: &str) -> (&str, &str) {
     words.split_once(' ').unwrap_or((words, ""))
 }
 
-/// The number that a word is.
+// The number that a word is.
 pub(crate) fn number(rt: &impl Abort, word: &str) -> u32 {
     match word.parse::<u32>() {
         Ok(number) => number,
@@ -17,7 +17,7 @@ pub(crate) fn number(rt: &impl Abort, word: &str) -> u32 {
     }
 }
 
-/// A copy of a text, for which there is memory.
+// A copy of a text, for which there is memory.
 pub(crate) fn text(rt: &impl Abort, alloc: Global, text: &str) -> Text {
     let Ok(text) = Text::copied(alloc, text) else {
         panic!(rt; "no memory")

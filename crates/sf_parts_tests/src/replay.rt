@@ -27,7 +27,7 @@ cleared {"e":"forgetcall","by":3,"k":"k","c":[1,1],"hit":"cleared"}
 missed {"e":"forgetcall","by":3,"k":"k","c":[1,1],"hit":"missed"}
 "#;
 
-/// The record of this name.
+// The record of this name.
 fn record(rt: &impl Abort, name: &str) -> &'static str {
     for row in RECORDS.lines() {
         let (called, record) = row.split_once(' ').unwrap_or((row, ""));
@@ -38,7 +38,7 @@ fn record(rt: &impl Abort, name: &str) -> &'static str {
     panic!(rt; "no record is called {name}")
 }
 
-/// What is said of these records after the format, by both checkers.
+// What is said of these records after the format, by both checkers.
 fn answer(alloc: Global, text: &str) -> Result<String, AllocError> {
     match read(alloc, text.as_bytes()) {
         Ok(history) => match (check(&history), check_indexed(alloc, &history)) {
@@ -56,7 +56,7 @@ fn answer(alloc: Global, text: &str) -> Result<String, AllocError> {
     }
 }
 
-/// The records of these names, after the format.
+// The records of these names, after the format.
 fn after_format(
     rt: &impl Abort,
     alloc: Global,
@@ -125,7 +125,7 @@ lead enter enter_too settle_two: legal: 4 events
 lead enter enter_too error: event 4: number of joiners is wrong
 ";
 
-/// Both checkers look at the very number of joiners.
+// Both checkers look at the very number of joiners.
 #[test]
 fn joiner_counts_in_records(rt: HostRuntime) -> Result<(), Fail> {
     for row in COUNTS.lines() {
@@ -149,7 +149,7 @@ lead enter error newer cleared: event 5: hit is wrong
 lead enter error cleared cleared: event 5: hit is wrong
 ";
 
-/// Both checkers look at what a Forget of one call found.
+// Both checkers look at what a Forget of one call found.
 #[test]
 fn hits_in_records(rt: HostRuntime) -> Result<(), Fail> {
     for row in HITS.lines() {
@@ -172,7 +172,7 @@ fn second_format_has_no_forgetcall(rt: HostRuntime) -> Result<(), Fail> {
     Ok(())
 }
 
-/// The text that is written for a text of records.
+// The text that is written for a text of records.
 fn rewritten(alloc: Global, text: &str) -> Result<String, Fail> {
     let history = read(alloc, text.as_bytes())?;
     Ok(write(alloc, &history)?)
@@ -192,7 +192,7 @@ fn assert_written(rt: &impl Abort, alloc: Global, names: &str, due: &str) -> Res
     assert_rewritten(rt, alloc, text.as_str(), due.as_str())
 }
 
-/// What a mark of the first format stands for is written in the newest one.
+// What a mark of the first format stands for is written in the newest one.
 #[test]
 fn first_format_is_still_read(rt: HostRuntime) -> Result<(), Fail> {
     let alloc = rt.alloc();
@@ -217,7 +217,7 @@ fn written_records_read_back(rt: HostRuntime) -> Result<(), Fail> {
     assert_rewritten(&rt, alloc, written.as_str(), text.as_str())
 }
 
-/// Names in any order, white space, escapes, a name written twice, and the greatest numbers.
+// Names in any order, white space, escapes, a name written twice, and the greatest numbers.
 #[test]
 fn other_spellings_of_records(rt: HostRuntime) -> Result<(), Fail> {
     let text =

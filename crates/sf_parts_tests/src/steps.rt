@@ -11,7 +11,7 @@ use std::alloc::Global;
 use std::process::Abort;
 use std::test::Fail;
 
-/// Two numbers, which this parts.
+// Two numbers, which this parts.
 fn numbers(rt: &impl Abort, words: &str, between: char) -> (u32, u32) {
     let (first, second) = words.split_once(between).unwrap_or((words, ""));
     (number(rt, first), number(rt, second))
@@ -25,8 +25,8 @@ fn forget_call(rt: &impl Abort, words: &str) -> Op<Outcome> {
     Op::ForgetCall { place, call }
 }
 
-/// What a caller is asked to do: `ask PLACE`, `chan SECOND PLACE`, `settle TEXT`, `forget PLACE`, `forgetcall PLACE CALL`,
-/// `named PLACE`, or `poll`.
+// What a caller is asked to do: `ask PLACE`, `chan SECOND PLACE`, `settle TEXT`, `forget PLACE`, `forgetcall PLACE CALL`,
+// `named PLACE`, or `poll`.
 fn operation(rt: &impl Abort, alloc: Global, words: &str) -> Op<Outcome> {
     let (verb, rest) = first_word(words);
     match verb {
@@ -73,7 +73,7 @@ fn step(rt: &impl Abort, world: &mut World<Outcome>, caller: u32) -> Step<Outcom
     made
 }
 
-/// Makes the next step of a caller's operation, and compares what it prints.
+// Makes the next step of a caller's operation, and compares what it prints.
 fn prints(rt: &impl Abort, alloc: Global, world: &mut World<Outcome>, caller: u32, due: &str) {
     let Ok(text) = step_text(alloc, &step(rt, world, caller)) else {
         panic!(rt; "no memory")
@@ -81,7 +81,7 @@ fn prints(rt: &impl Abort, alloc: Global, world: &mut World<Outcome>, caller: u3
     assert!(rt; text.as_str() == due, "{text} where {due} is due");
 }
 
-/// Whether a caller may do what is asked: `start CALLER OPERATION`, `step CALLER` or `leave CALLER`.
+// Whether a caller may do what is asked: `start CALLER OPERATION`, `step CALLER` or `leave CALLER`.
 fn may(rt: &impl Abort, alloc: Global, world: &World<Outcome>, asked: &str) -> bool {
     let (verb, rest) = first_word(asked);
     let (caller, words) = first_word(rest);
@@ -94,7 +94,7 @@ fn may(rt: &impl Abort, alloc: Global, world: &World<Outcome>, asked: &str) -> b
     }
 }
 
-/// Looks whether a caller may do what is asked; after `not ` that it may not.
+// Looks whether a caller may do what is asked; after `not ` that it may not.
 fn is_allowed(rt: &impl Abort, alloc: Global, world: &World<Outcome>, asked: &str) {
     let (asked, due) = match asked.strip_prefix("not ") {
         Some(refused) => (refused, false),
@@ -104,7 +104,7 @@ fn is_allowed(rt: &impl Abort, alloc: Global, world: &World<Outcome>, asked: &st
     assert!(rt; may == due, "{asked}: {may}");
 }
 
-/// Obeys a command: `start CALLER OPERATION`, `leave CALLER`, `may ..`, or `step CALLER`, below which stands what it prints.
+// Obeys a command: `start CALLER OPERATION`, `leave CALLER`, `may ..`, or `step CALLER`, below which stands what it prints.
 fn obey(rt: &impl Abort, alloc: Global, world: &mut World<Outcome>, command: &str, due: &str) {
     let (verb, rest) = first_word(command);
     let (caller, words) = first_word(rest);
@@ -121,7 +121,7 @@ fn obey(rt: &impl Abort, alloc: Global, world: &mut World<Outcome>, command: &st
     }
 }
 
-/// Obeys the commands of a script, each of which begins with `# `.
+// Obeys the commands of a script, each of which begins with `# `.
 fn obey_all(rt: &impl Abort, alloc: Global, world: &mut World<Outcome>, script: &str) {
     for section in script.strip_prefix("# ").unwrap_or("").split("# ") {
         let (command, due) = section.split_once('\n').unwrap_or((section, ""));
@@ -129,7 +129,7 @@ fn obey_all(rt: &impl Abort, alloc: Global, world: &mut World<Outcome>, script: 
     }
 }
 
-/// Obeys two scripts in turn, in a new world of one place.
+// Obeys two scripts in turn, in a new world of one place.
 fn play_scripts(
     rt: &impl Abort,
     alloc: Global,

@@ -59,7 +59,7 @@ fn words_of_the_layout(rt: HostRuntime) {
     assert_call(&rt, 0, CallState::Free);
 }
 
-/// Tags 6 and 0, generation 0, bit 20, caller 65,536; tags 4 and 5 with an own channel or a top.
+// Tags 6 and 0, generation 0, bit 20, caller 65,536; tags 4 and 5 with an own channel or a top.
 #[test]
 fn numbers_of_no_call_word(rt: HostRuntime) {
     assert_no_call(&rt, 0x0000_0001_6000_0000);
@@ -112,7 +112,7 @@ fn key_words_of_the_layout(rt: HostRuntime) {
     assert_key(&rt, 0, KeyState::Never);
 }
 
-/// Caller 0, generation 0, bit 20, caller 65,536.
+// Caller 0, generation 0, bit 20, caller 65,536.
 #[test]
 fn numbers_of_no_key_word(rt: HostRuntime) {
     assert_no_key(&rt, 0x0000_0001_0000_0000);
@@ -145,7 +145,7 @@ fn assert_no_next(rt: &impl Abort, number: u64) {
     assert!(rt; unpack_next(number).is_none(), "{number} is read");
 }
 
-/// Beside them, as no next words: caller 65,536, bit 20, bit 32.
+// Beside them, as no next words: caller 65,536, bit 20, bit 32.
 #[test]
 fn next_words_of_the_layout(rt: HostRuntime) {
     assert_next(&rt, 0, None);

@@ -46,8 +46,8 @@ impl Origin {
     }
 }
 
-/// Gets the page a hundred times, and counts the answers of the version. None where the caller has asked too often, or there is
-/// no memory for the copy of one that joined.
+// Gets the page a hundred times, and counts the answers of the version. None where the caller has asked too often, or there is
+// no memory for the copy of one that joined.
 fn read(
     rt: &impl Wait,
     group: &Group<Page>,
@@ -78,7 +78,7 @@ fn read(
     Some(right)
 }
 
-/// Forgets the page, and tells of that.
+// Forgets the page, and tells of that.
 fn purge(rt: &impl Wait, group: &Group<Page>, purger: Caller<Page>, place: u32) -> Note<Page>
     requires own { purger.group ≡ group.now }
     requires place { IsPlaceOf group.now place }
@@ -89,7 +89,7 @@ fn purge(rt: &impl Wait, group: &Group<Page>, purger: Caller<Page>, place: u32) 
     group.tell(&mut purger)
 }
 
-/// What two threads count that get the page side by side.
+// What two threads count that get the page side by side.
 fn read_both<R: Threads + Wait + Sync>(
     rt: &R,
     group: &Group<Page>,
