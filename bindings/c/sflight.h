@@ -111,13 +111,17 @@ enum sflight_code {
     SFLIGHT_NOT_OPEN = 11,    /* the slot is not open */
     SFLIGHT_BAD_NUMBER = 12,  /* a size, or a number of tries, is out of range */
     SFLIGHT_NO_MEMORY = 13,   /* malloc failed */
-    SFLIGHT_NO_CALLER = 14    /* all callers of the group have a slot */
+    SFLIGHT_NO_CALLER = 14,   /* all callers of the group have a slot */
+    SFLIGHT_REPLACED = 15,    /* the answer is in the cache, and another came out in its place */
+    SFLIGHT_EVICTED = 16      /* another came out of the cache to make room: keep it once more */
 };
 
 /* Limits of a group and of a function. */
 #define SFLIGHT_MOST_PLACES 134217728u
 #define SFLIGHT_MOST_CALLERS 65535u
 #define SFLIGHT_MOST_TRIES 65536u
+#define SFLIGHT_MOST_SETS 1048576u
+#define SFLIGHT_WAYS 8u /* of a set of the cache */
 
 /* Returns a sentence that says what the code means, for logs. */
 static inline const char *sflight_strerror(uint32_t code)
@@ -138,6 +142,8 @@ static inline const char *sflight_strerror(uint32_t code)
     case SFLIGHT_BAD_NUMBER: return "a size, or a number of tries, is out of range";
     case SFLIGHT_NO_MEMORY: return "out of memory";
     case SFLIGHT_NO_CALLER: return "all callers of the group have a slot";
+    case SFLIGHT_REPLACED: return "the answer is in the cache, and another came out in its place";
+    case SFLIGHT_EVICTED: return "another answer came out of the cache to make room";
     default: return "not a code of this library";
     }
 }
@@ -220,6 +226,14 @@ uint32_t sflight_go_on(sflight_slot *slot, sflight_answer *answer);
 SFLIGHT_MUST_USE
 uint32_t sflight_poll(sflight_slot *slot, sflight_answer *answer);
 
+/* The same at the place of this number, 1 to the group's, for a program that hashes keys itself.
+ * It uses this function, sflight_named_at and sflight_forget_at for all keys of the group then, and
+ * neither sflight_ask nor the functions of the cache.
+ * Returns what sflight_ask does; SFLIGHT_BAD_NUMBER also where the group has no such place. */
+SFLIGHT_MUST_USE
+uint32_t sflight_ask_at(sflight_slot *slot, const uint8_t *key, size_t len, uint32_t place,
+                        uint32_t tries, sflight_stamp *stamp);
+
 /* A free caller closes the call that is open at the key's place: a caller that asks from then on
  * leads or joins a later one. The callers that joined before get its answer still. It may be
  * another key's call, whose next asking then loads once more.
@@ -243,6 +257,18 @@ uint32_t sflight_forget_call(sflight_slot *slot, const sflight_stamp *stamp, uin
  * Returns SFLIGHT_DONE: its stamp is written. SFLIGHT_NOTHING: there is no current call.
  * SFLIGHT_WRONG_STATE where the caller is not free. */
 uint32_t sflight_named(sflight_slot *slot, const uint8_t *key, size_t len, sflight_stamp *stamp);
+
+/* The same of the place of this number, 1 to the group's: a program that forgets all goes over the
+ * places. Returns what sflight_named does; SFLIGHT_BAD_NUMBER where the group has no such place. */
+uint32_t sflight_named_at(sflight_slot *slot, uint32_t place, sflight_stamp *stamp);
+
+/* A free caller forgets the call that the place of this number names, open or settled.
+ * Returns SFLIGHT_DONE: the call was open, and takes no more callers. SFLIGHT_CLEARED: it was
+ * settled, and is current no more. SFLIGHT_NOTHING: the place had no current call. SFLIGHT_BUSY:
+ * nothing is forgotten, so try again. SFLIGHT_BAD_NUMBER also where the group has no such place.
+ * SFLIGHT_WRONG_STATE where the caller is not free. */
+SFLIGHT_MUST_USE
+uint32_t sflight_forget_at(sflight_slot *slot, uint32_t place, uint32_t tries);
 
 /* Returns whether the call of the answer that a free caller had last, by sflight_finish or by
  * sflight_poll, is its place's current one still: no Forget has closed it, and no later call was
@@ -289,6 +315,63 @@ uint32_t sflight_learn(sflight_slot *slot, sflight_note *note);
 
 /* Frees what the note shows, and does nothing to an empty one. */
 void sflight_drop_note(sflight_note *note);
+
+/* The group's cache. It holds answers under their keys, which all its slots share without a lock,
+ * and no answer outlives its call: a look finds only what a call of this very key was settled with,
+ * and only while that call is its place's current one. So a Forget makes the cached answer stale at
+ * once, for every slot. The order is: look; where nothing is found, ask; the leader loads, finishes
+ * and keeps.
+ *
+ * An answer that leaves the cache is handed out, once, so that a program can free what its value
+ * stood for; but a slot that looked just before may use that value still. So let the values be
+ * indexes with generations, or count who uses them: sflight_cache.h does that. */
+
+/* Gives the slot's group a cache of 1 to SFLIGHT_MOST_SETS sets of SFLIGHT_WAYS ways, each of which
+ * has one answer or none; the answers in it weigh `limit` together at most. The slots that are split
+ * from this one from then on share it, so call it after sflight_open. It takes all memory of the
+ * cache, about 130 bytes per way, but for keys of more than 40 bytes.
+ * Returns SFLIGHT_DONE; SFLIGHT_BAD_NUMBER for a number of sets out of range; SFLIGHT_WRONG_STATE
+ * where there is a cache already, or the slot's caller is not free; SFLIGHT_NO_MEMORY. */
+SFLIGHT_MUST_USE
+uint32_t sflight_add_cache(sflight_slot *slot, uint32_t sets, uint64_t limit);
+
+/* A free caller looks for the key in the cache.
+ * Returns SFLIGHT_DONE: *answer is that of a call of the key which was current at a moment after
+ * all that the caller had seen. SFLIGHT_NOTHING: no such answer was found; a look that meets
+ * another on its way may miss one that is there. SFLIGHT_WRONG_STATE where the caller is not free
+ * or there is no cache. */
+SFLIGHT_MUST_USE
+uint32_t sflight_look(sflight_slot *slot, const uint8_t *key, size_t len, sflight_answer *answer);
+
+/* Keeps the answer that the slot had last, by sflight_finish or by sflight_poll, in the cache, if
+ * its call is its place's current one still. It weighs `weight`, 0 to the cache's limit.
+ * Returns SFLIGHT_DONE: it is kept. SFLIGHT_REPLACED: it is kept, and *out is the value of another
+ * that left, of this key or of another. SFLIGHT_EVICTED: it is not kept yet, since the weight has
+ * no room; *out is the value of another that left, so call this again. SFLIGHT_NOTHING: it is not
+ * kept, since its call is not current any more, or the slot had no answer. SFLIGHT_BUSY: it is not
+ * kept, since nothing could leave: all that was found had been looked for lately, or was in use.
+ * SFLIGHT_BAD_NUMBER: it weighs more than the limit. SFLIGHT_NO_MEMORY, for a key of more than 40
+ * bytes. SFLIGHT_WRONG_STATE where the caller is not free, or there is no cache. */
+SFLIGHT_MUST_USE
+uint32_t sflight_keep(sflight_slot *slot, uint64_t weight, uint64_t *out);
+
+/* Takes an answer of the key out of the cache, whatever has become of its call; after a Forget this
+ * gives its weight back sooner.
+ * Returns SFLIGHT_DONE: *out is its value. SFLIGHT_NOTHING: none was found. SFLIGHT_WRONG_STATE
+ * where there is no cache. */
+SFLIGHT_MUST_USE
+uint32_t sflight_take_out(sflight_slot *slot, const uint8_t *key, size_t len, uint64_t *out);
+
+/* Takes out what the way of this number has; ways have numbers from 0, SFLIGHT_WAYS for each set. A
+ * program that closes its cache empties it so.
+ * Returns SFLIGHT_DONE: *out is its value. SFLIGHT_NOTHING: the way was empty or in use, or there
+ * is no such way. SFLIGHT_WRONG_STATE where there is no cache. */
+SFLIGHT_MUST_USE
+uint32_t sflight_empty_way(sflight_slot *slot, uint64_t way, uint64_t *out);
+
+/* Writes what the answers in the cache weigh together, which is never more than its limit.
+ * Returns SFLIGHT_DONE; SFLIGHT_WRONG_STATE where there is no cache. */
+uint32_t sflight_weight(sflight_slot *slot, uint64_t *weight);
 
 /* Gives up for good a call that the caller leads, or an answer that it waits for. A call that was
  * given up is never settled: a caller that joined it, or joins it later, waits in vain until the

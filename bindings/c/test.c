@@ -648,13 +648,125 @@ static void calls(void) {
     sflight_close(&b);
 }
 
+static uint32_t look(sflight_slot *slot, const char *key, sflight_answer *answer) {
+    return sflight_look(slot, (const uint8_t *)key, strlen(key), answer);
+}
+
+static uint32_t take_out(sflight_slot *slot, const char *key, uint64_t *out) {
+    return sflight_take_out(slot, (const uint8_t *)key, strlen(key), out);
+}
+
+/* Loads the key, and settles it with the value. */
+static void load(sflight_slot *slot, const char *key, uint64_t value) {
+    sflight_answer got;
+    check(ask(slot, key, 1) == SFLIGHT_LED && sflight_finish(slot, value, &got) == SFLIGHT_DONE, "a key is loaded");
+}
+
+static uint64_t weight(sflight_slot *slot) {
+    uint64_t n = 999;
+    check(sflight_weight(slot, &n) == SFLIGHT_DONE, "the weight");
+    return n;
+}
+
+/* The group's cache: what it refuses, what it finds, and what comes out. */
+static void cache(void) {
+    sflight_slot a = SFLIGHT_SLOT_NONE, b = SFLIGHT_SLOT_NONE, c = SFLIGHT_SLOT_NONE;
+    sflight_answer got = {5, 5, {5, 5, 5, 5}};
+    uint64_t out = 5;
+    check(sflight_add_cache(&a, 1, 1) == SFLIGHT_NOT_OPEN && look(&a, "k", &got) == SFLIGHT_NOT_OPEN
+              && sflight_keep(&a, 1, &out) == SFLIGHT_NOT_OPEN && take_out(&a, "k", &out) == SFLIGHT_NOT_OPEN
+              && sflight_empty_way(&a, 0, &out) == SFLIGHT_NOT_OPEN && sflight_weight(&a, &out) == SFLIGHT_NOT_OPEN,
+          "a slot that is not open has no cache");
+    check(open_wide(&a, 3) == SFLIGHT_DONE && sflight_split(&a, &c) == SFLIGHT_DONE, "a slot split before");
+    load(&a, "k", 1);
+    check(look(&a, "k", &got) == SFLIGHT_WRONG_STATE && sflight_keep(&a, 1, &out) == SFLIGHT_WRONG_STATE
+              && take_out(&a, "k", &out) == SFLIGHT_WRONG_STATE && sflight_empty_way(&a, 0, &out) == SFLIGHT_WRONG_STATE
+              && sflight_weight(&a, &out) == SFLIGHT_WRONG_STATE,
+          "nor has a group without one");
+    check(sflight_add_cache(&a, 0, 10) == SFLIGHT_BAD_NUMBER && sflight_add_cache(&a, SFLIGHT_MOST_SETS + 1, 10) == SFLIGHT_BAD_NUMBER, "bad numbers of sets");
+    check(ask(&a, "k", 1) == SFLIGHT_LED && sflight_add_cache(&a, 4, 10) == SFLIGHT_WRONG_STATE, "a caller that leads adds none");
+    check(sflight_finish(&a, 1, &got) == SFLIGHT_DONE, "and goes on");
+    check(sflight_add_cache(&a, 4, 10) == SFLIGHT_DONE && sflight_add_cache(&a, 4, 10) == SFLIGHT_WRONG_STATE, "one cache");
+    check(sflight_split(&a, &b) == SFLIGHT_DONE && look(&c, "k", &got) == SFLIGHT_WRONG_STATE, "slots that are split later share it");
+    got.value = 5;
+    check(look(&b, "k", &got) == SFLIGHT_NOTHING && got.value == 5 && out == 5 && weight(&b) == 0, "nothing is there, and nothing written");
+    check(sflight_keep(&b, 1, &out) == SFLIGHT_NOTHING, "who had no answer keeps none");
+    check(sflight_keep(&a, 11, &out) == SFLIGHT_BAD_NUMBER && out == 5, "a weight over the limit");
+    check(sflight_keep(&a, 4, &out) == SFLIGHT_DONE && out == 5 && weight(&b) == 4, "an answer is kept");
+    check(look(&b, "k", &got) == SFLIGHT_DONE && got.value == 1 && got.joiners == 0 && same(&got.stamp, &asked), "another slot finds it");
+    check(look(&b, "kk", &got) == SFLIGHT_NOTHING && look(&b, "", &got) == SFLIGHT_NOTHING, "by its own key alone");
+    check(ask(&b, "other", 1) == SFLIGHT_LED && look(&b, "k", &got) == SFLIGHT_WRONG_STATE && sflight_keep(&b, 1, &out) == SFLIGHT_WRONG_STATE, "who leads does not look");
+    check(sflight_weight(&b, &out) == SFLIGHT_DONE && out == 4, "but may weigh");
+    check(sflight_finish(&b, 2, &got) == SFLIGHT_DONE && sflight_keep(&b, 4, &out) == SFLIGHT_DONE && weight(&a) == 8, "a second one");
+    /* Another call of the key makes the first stale. */
+    load(&b, "k", 3);
+    check(look(&a, "k", &got) == SFLIGHT_NOTHING, "a newer call's key has no cached answer");
+    out = 5;
+    check(sflight_keep(&b, 4, &out) == SFLIGHT_EVICTED && (out == 1 || out == 2) && weight(&a) == 4, "what has no room lets one out");
+    uint64_t first = out;
+    uint32_t code = sflight_keep(&b, 4, &out);
+    check(first == 1 ? code == SFLIGHT_DONE : code == SFLIGHT_REPLACED && out == 1, "and is kept then");
+    check(look(&a, "k", &got) == SFLIGHT_DONE && got.value == 3 && same(&got.stamp, &asked), "as the key's answer");
+    /* A Forget makes it stale, and what was forgotten is not kept. */
+    sflight_stamp stamp;
+    check(sflight_named(&a, (const uint8_t *)"k", 1, &stamp) == SFLIGHT_DONE && sflight_forget_call(&a, &stamp, 1) == SFLIGHT_CLEARED, "it is forgotten");
+    check(look(&a, "k", &got) == SFLIGHT_NOTHING && look(&b, "k", &got) == SFLIGHT_NOTHING, "and found no more");
+    check(sflight_keep(&b, 1, &out) == SFLIGHT_NOTHING, "nor kept again");
+    check(take_out(&a, "k", &out) == SFLIGHT_DONE && out == 3 && take_out(&a, "k", &out) == SFLIGHT_NOTHING, "it comes out once");
+    /* What is left. */
+    uint64_t left = weight(&a), sum = 0;
+    for (uint64_t way = 0; way <= 4 * SFLIGHT_WAYS; way++)
+        if (sflight_empty_way(&b, way, &out) == SFLIGHT_DONE) sum += out;
+    check((left == 0 && sum == 0) || (left == 4 && sum == 2), "all comes out");
+    check(weight(&a) == 0, "and weighs nothing then");
+    /* One set: the ninth key has to replace one of eight. */
+    sflight_close(&b);
+    sflight_close(&a);
+    sflight_close(&c);
+    check(open_wide(&a, 1) == SFLIGHT_DONE && sflight_add_cache(&a, 1, 100) == SFLIGHT_DONE, "one set");
+    char key[64];
+    for (uint64_t n = 0; n < 9; n++) {
+        snprintf(key, sizeof key, "a key of more than forty bytes, by its number %d", (int)n);
+        load(&a, key, n);
+        code = sflight_keep(&a, 1, &out);
+        check(n < 8 ? code == SFLIGHT_DONE : code == SFLIGHT_REPLACED && out < 8, "eight ways");
+    }
+    check(look(&a, key, &got) == SFLIGHT_DONE && got.value == 8 && weight(&a) == 8, "the ninth is there");
+    sflight_close(&a);
+}
+
+/* Places by number. */
+static void places(void) {
+    sflight_slot a = SFLIGHT_SLOT_NONE, b = SFLIGHT_SLOT_NONE;
+    sflight_stamp stamp = {5, 5, 5, 5}, named;
+    sflight_answer got;
+    check(sflight_ask_at(&a, NULL, 0, 1, 1, &stamp) == SFLIGHT_NOT_OPEN && sflight_named_at(&a, 1, &stamp) == SFLIGHT_NOT_OPEN
+              && sflight_forget_at(&a, 1, 1) == SFLIGHT_NOT_OPEN && stamp.place == 5, "a slot that is not open");
+    check(sflight_open(&a, 8, 2, 1, 2) == SFLIGHT_DONE && sflight_split(&a, &b) == SFLIGHT_DONE, "eight places");
+    for (uint32_t place = 0; place < 12; place += 9)
+        check(sflight_ask_at(&a, NULL, 0, place, 1, &stamp) == SFLIGHT_BAD_NUMBER && sflight_named_at(&a, place, &stamp) == SFLIGHT_BAD_NUMBER
+                  && sflight_forget_at(&a, place, 1) == SFLIGHT_BAD_NUMBER && stamp.place == 5, "a place of no number");
+    check(sflight_ask_at(&a, NULL, 0, 1, 0, &stamp) == SFLIGHT_BAD_NUMBER && sflight_forget_at(&a, 1, 0) == SFLIGHT_BAD_NUMBER, "no tries");
+    check(sflight_named_at(&a, 8, &stamp) == SFLIGHT_NOTHING && sflight_forget_at(&a, 8, 1) == SFLIGHT_NOTHING && stamp.place == 5, "nothing is there");
+    check(sflight_ask_at(&a, (const uint8_t *)"k", 1, 8, 1, &stamp) == SFLIGHT_LED && stamp.place == 8, "a call is led there");
+    check(sflight_named_at(&b, 8, &named) == SFLIGHT_DONE && same(&named, &stamp), "and named");
+    check(sflight_named_at(&a, 8, &named) == SFLIGHT_WRONG_STATE && sflight_forget_at(&a, 8, 1) == SFLIGHT_WRONG_STATE, "but not by who leads");
+    check(sflight_ask_at(&b, (const uint8_t *)"k", 1, 8, 1, &named) == SFLIGHT_JOINED && same(&named, &stamp), "another joins it");
+    check(sflight_finish(&a, 7, &got) == SFLIGHT_DONE && sflight_poll(&b, &got) == SFLIGHT_DONE && got.value == 7, "and has its answer");
+    check(sflight_forget_at(&b, 8, 1) == SFLIGHT_CLEARED && sflight_forget_at(&b, 8, 1) == SFLIGHT_NOTHING && !sflight_is_still(&a, &stamp), "it is forgotten once");
+    check(sflight_ask_at(&a, (const uint8_t *)"k", 1, 3, 1, &stamp) == SFLIGHT_LED && sflight_forget_at(&b, 3, 1) == SFLIGHT_DONE, "so is an open one");
+    check(sflight_ask_at(&b, (const uint8_t *)"l", 1, 3, 1, &named) == SFLIGHT_LED && !same(&named, &stamp), "and then another is led");
+    sflight_close(&a);
+    sflight_close(&b);
+}
+
 /* Each code has a sentence of its own. */
 static void sentences(void) {
-    for (uint32_t code = 0; code <= SFLIGHT_NO_CALLER; code++) {
+    for (uint32_t code = 0; code <= SFLIGHT_EVICTED; code++) {
         check(strlen(sflight_strerror(code)) > 3, "a code has a sentence");
         for (uint32_t other = 0; other < code; other++) check(strcmp(sflight_strerror(code), sflight_strerror(other)) != 0, "of its own");
     }
-    check(strcmp(sflight_strerror(SFLIGHT_NO_CALLER + 1), sflight_strerror(UINT32_MAX)) == 0, "what is no code");
+    check(strcmp(sflight_strerror(SFLIGHT_EVICTED + 1), sflight_strerror(UINT32_MAX)) == 0, "what is no code");
 }
 
 int main(void) {
@@ -672,6 +784,8 @@ int main(void) {
     long_keys();
     stamps();
     taken_back();
+    cache();
+    places();
     sentences();
     threads(1);
     threads(16);
