@@ -55,22 +55,67 @@ TEXT ·cAsk(SB), NOSPLIT, $0-48
 	MOVQ AX, ret+40(FP)
 	RET
 
-// func cNamed(s *slot, key unsafe.Pointer, n uintptr) (place, call uint64)
-TEXT ·cNamed(SB), NOSPLIT, $0-40
+// func cNamed(s *slot, key unsafe.Pointer, n uintptr, print uint64) (place, call uint64)
+TEXT ·cNamed(SB), NOSPLIT, $0-48
 	MOVQ s+0(FP), DI
 	MOVQ key+8(FP), SI
 	MOVQ n+16(FP), DX
+	MOVQ print+24(FP), CX
 	CALLC(sfgo_named)
-	MOVQ AX, place+24(FP)
-	MOVQ DX, call+32(FP)
+	MOVQ AX, place+32(FP)
+	MOVQ DX, call+40(FP)
 	RET
 
-// func cFinish(s *slot, l *letter, all bool)
-TEXT ·cFinish(SB), NOSPLIT, $0-17
+// func cFinish(s *slot, l *letter, all bool, value uint64)
+TEXT ·cFinish(SB), NOSPLIT, $0-32
 	MOVQ    s+0(FP), DI
 	MOVQ    l+8(FP), SI
 	MOVBLZX all+16(FP), DX
+	MOVQ    value+24(FP), CX
 	CALLC(sfgo_finish)
+	RET
+
+// func cAddCache(s *slot, sets uint32, limit uint64) uint32
+TEXT ·cAddCache(SB), NOSPLIT, $0-28
+	MOVQ s+0(FP), DI
+	MOVL sets+8(FP), SI
+	MOVQ limit+16(FP), DX
+	CALLC(sfgo_add_cache)
+	MOVL AX, ret+24(FP)
+	RET
+
+// func cLook(s *slot, key unsafe.Pointer, n uintptr) uint64
+TEXT ·cLook(SB), NOSPLIT, $0-32
+	MOVQ s+0(FP), DI
+	MOVQ key+8(FP), SI
+	MOVQ n+16(FP), DX
+	CALLC(sfgo_look)
+	MOVQ AX, ret+24(FP)
+	RET
+
+// func cKeep(s *slot, weight uint64, out *uint64) uint32
+TEXT ·cKeep(SB), NOSPLIT, $0-28
+	MOVQ s+0(FP), DI
+	MOVQ weight+8(FP), SI
+	MOVQ out+16(FP), DX
+	CALLC(sfgo_keep)
+	MOVL AX, ret+24(FP)
+	RET
+
+// func cTakeOut(s *slot, key unsafe.Pointer, n uintptr) uint64
+TEXT ·cTakeOut(SB), NOSPLIT, $0-32
+	MOVQ s+0(FP), DI
+	MOVQ key+8(FP), SI
+	MOVQ n+16(FP), DX
+	CALLC(sfgo_take_out)
+	MOVQ AX, ret+24(FP)
+	RET
+
+// func cWeight(s *slot) uint64
+TEXT ·cWeight(SB), NOSPLIT, $0-16
+	MOVQ s+0(FP), DI
+	CALLC(sfgo_weight)
+	MOVQ AX, ret+8(FP)
 	RET
 
 // func cPoll(s *slot, l *letter)

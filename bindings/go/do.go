@@ -34,24 +34,24 @@ func (p *pool) do(r *Result, key string, fn func() (any, error), all bool) {
 			if !p.asked(&a, s, code, call, k) {
 				p.ask(&a, k, false)
 			}
-			p.goOn(r, &a, k, fn, all)
+			p.goOn(r, &a, k, fn, all, nil)
 			return
 		}
 	}
 	var a asking
 	p.ask(&a, k, false)
-	p.goOn(r, &a, k, fn, all)
+	p.goOn(r, &a, k, fn, all, nil)
 }
 
 // Goes on with an asking until there is a result.
-func (p *pool) goOn(r *Result, a *asking, k keyed, fn func() (any, error), all bool) {
+func (p *pool) goOn(r *Result, a *asking, k keyed, fn func() (any, error), all bool, cache owner) {
 	for ; !a.leads; p.ask(a, k, false) {
 		if p.join(r, a, k, nil, all) == settled {
 			end(r.Err)
 			return
 		}
 	}
-	p.lead(r, a, k, fn, nil, nil)
+	p.lead(r, a, k, fn, nil, nil, cache)
 }
 
 // Goes on in one who has joined a function that panicked or ended its goroutine: so does this one.
@@ -80,9 +80,11 @@ func broken(with any) error {
 // Calls fn, and settles the call that was led, also where fn panics or ends its goroutine. A leader
 // that has to wait for a run of its key takes the result of that in place of calling fn. A watched
 // call has a goroutine of its own, and its panic goes on in the leader's, unless that has left.
-// When stop is closed, nobody waits for the call any more.
+// When stop is closed, nobody waits for the call any more. The cache is told at the end of what has
+// left it for the result.
 func (p *pool) lead(
 	r *Result, a *asking, k keyed, fn func() (any, error), watched *wait, stop <-chan struct{},
+	cache owner,
 ) {
 	returned, adopted := false, false
 	var begun time.Time
@@ -94,8 +96,12 @@ func (p *pool) lead(
 		if p.record != nil {
 			took = time.Since(begun)
 		}
-		p.settle(a, r, k, watched)
+		out := p.settle(a, r, k, watched)
 		r.Shared = r.Shared || adopted
+		if len(out) > 0 {
+			// After all that follows, and if that panics.
+			defer cache.left(out)
+		}
 		// Also where the recorder panics or ends the goroutine.
 		defer p.led(r, watched, returned)
 		if !begun.IsZero() {

@@ -32,6 +32,8 @@ type seat struct {
 	waits    *wait
 	joiners  atomic.Uint32 // how many have joined its call, once that is told; until all have their answers
 	lone     atomic.Uint32 // the generation of its last call that was forgotten as one that nobody has joined
+	hits     atomic.Uint64 // looks of a cache by it that found a value
+	misses   atomic.Uint64 // and those that found none
 	closes   atomic.Uint64 // Forgets by it that closed a call
 	idles    atomic.Uint64 // and those that closed none
 }
@@ -44,10 +46,15 @@ type roomySeat struct {
 
 // Counts a Forget. A counter that all share would be what many Forgets wait for.
 func (s *seat) told(closed bool) {
-	n := &s.idles
 	if closed {
-		n = &s.closes
+		bump(&s.closes)
+	} else {
+		bump(&s.idles)
 	}
+}
+
+// Adds one to a counter of the seat, which the caller has.
+func bump(n *atomic.Uint64) {
 	if hasPlainStores {
 		*(*uint64)(unsafe.Pointer(n))++
 	} else {
@@ -55,12 +62,12 @@ func (s *seat) told(closed bool) {
 	}
 }
 
-// What callers have counted: how often they led and joined, and their Forgets.
-type tally struct{ leads, joins, closes, idles uint64 }
+// What callers have counted: how often they led and joined, their Forgets, and their looks.
+type tally struct{ leads, joins, closes, idles, hits, misses uint64 }
 
 func (t *tally) add(s *seat) {
 	leads, joins := s.counts()
-	t.plus(tally{leads, joins, s.closes.Load(), s.idles.Load()})
+	t.plus(tally{leads, joins, s.closes.Load(), s.idles.Load(), s.hits.Load(), s.misses.Load()})
 }
 
 func (t *tally) plus(more tally) {
@@ -68,6 +75,8 @@ func (t *tally) plus(more tally) {
 	t.joins += more.joins
 	t.closes += more.closes
 	t.idles += more.idles
+	t.hits += more.hits
+	t.misses += more.misses
 }
 
 // The wait of the call that it leads. Its lock is held.
@@ -106,27 +115,30 @@ type chunk [chunkSize]seatPointer
 // calls have ended. An epoch that was replaced frees each seat as it comes back. The pool's lock protects what has no
 // other.
 type epoch struct {
-	number  uint64 // no two epochs of a pool have the same
-	size    sizes
-	closed  atomic.Bool
-	nos     atomic.Uint64                                    // stamps of this epoch that were not current
-	hot     [hotSeats]seatPointer                            // who is taken first, each by the goroutines of some stacks
-	chunks  [mostCallers/chunkSize + 2]atomic.Pointer[chunk] // seats by their numbers
-	root    *seat                                            // splits seats off; asks questions and forgets where no seat is free
-	free    []*seat
-	resting atomic.Uint32 // how many are in free
-	made    atomic.Uint32
-	gone    atomic.Uint32
-	spent   uint32
-	met     uint32 // how often a call met another key's
-	forgets uint64 // Forgets of the pool before it
+	number    uint64 // no two epochs of a pool have the same
+	size      sizes
+	closed    atomic.Bool
+	nos       atomic.Uint64                                    // stamps of this epoch that were not current
+	hot       [hotSeats]seatPointer                            // who is taken first, each by the goroutines of some stacks
+	chunks    [mostCallers/chunkSize + 2]atomic.Pointer[chunk] // seats by their numbers
+	root      *seat                                            // splits seats off; asks questions and forgets where no seat is free
+	free      []*seat
+	resting   atomic.Uint32 // how many are in free
+	made      atomic.Uint32
+	gone      atomic.Uint32
+	spent     uint32
+	met       uint32 // how often a call met another key's
+	wanted    uint32 // how often a call had no caller
+	forgets   uint64 // Forgets of the pool before it
+	table     *table // of a cache
+	forgotten bool   // whether a ForgetAll has closed its calls
 }
 
 // None where a size is out of range, or there is no memory.
-func newEpoch(number uint64, size sizes, seed0, seed1 uint64) *epoch {
-	e := &epoch{number: number, size: size, root: &seat{}}
+func newEpoch(size sizes, seed0, seed1 uint64) *epoch {
+	e := &epoch{size: size, root: &seat{}}
 	// The slot from which the callers are split off has one of its own.
-	if !e.root.open(sizes{places: size.places, callers: size.callers + 1}, seed0, seed1) {
+	if !e.root.open(sizes{places: size.places, callers: size.callers + 1, isCache: size.isCache}, seed0, seed1) {
 		return nil
 	}
 	return e

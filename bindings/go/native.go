@@ -24,6 +24,7 @@ type slot struct {
 	generation   uint64 // of the call that its asking may lead, until that is about to be settled; else 0
 	print        uint64 // the fingerprint of the key that it asked for last; stored before the generation
 	last         uint64 // the generation after which it is spent
+	places       uint32 // of its group, where the fingerprint of a key tells its place; else 0
 }
 
 // The library's code, at which no Go code may point: calls_amd64.s knows where in it the calls below stand.
@@ -42,7 +43,7 @@ func cClose(s *slot)
 func cAsk(s *slot, key unsafe.Pointer, n uintptr, tries uint32, print uint64) uint64
 
 //go:noescape
-func cFinish(s *slot, l *letter, all bool)
+func cFinish(s *slot, l *letter, all bool, value uint64)
 
 //go:noescape
 func cPoll(s *slot, l *letter)
@@ -51,10 +52,25 @@ func cPoll(s *slot, l *letter)
 func cIsStill(s *slot, place, call uint64) bool
 
 //go:noescape
-func cNamed(s *slot, key unsafe.Pointer, n uintptr) (place, call uint64)
+func cNamed(s *slot, key unsafe.Pointer, n uintptr, print uint64) (place, call uint64)
 
 //go:noescape
 func cForgetCall(s *slot, place, call uint64, tries uint32) uint32
+
+//go:noescape
+func cAddCache(s *slot, sets uint32, limit uint64) uint32
+
+//go:noescape
+func cLook(s *slot, key unsafe.Pointer, n uintptr) uint64
+
+//go:noescape
+func cKeep(s *slot, weight uint64, out *uint64) uint32
+
+//go:noescape
+func cTakeOut(s *slot, key unsafe.Pointer, n uintptr) uint64
+
+//go:noescape
+func cWeight(s *slot) uint64
 
 // So often a call tries before the goroutine may be stopped.
 const tries = 64
@@ -64,12 +80,20 @@ func bytesOf(key string) unsafe.Pointer { return *(*unsafe.Pointer)(unsafe.Point
 
 func (s *slot) open(size sizes, seed0, seed1 uint64) bool {
 	s.stack = new([stackSize]byte)
-	return cOpen(s, size.places, size.callers, seed0, seed1) == codeDone
+	if cOpen(s, size.places, size.callers, seed0, seed1) != codeDone {
+		return false
+	}
+	// The library finds a key of its cache by its own hash.
+	if !size.isCache {
+		s.places = size.places
+	}
+	return true
 }
 
 // Puts another caller into the slot, and tells its number. None where it is 0.
 func (s *slot) split(other *slot) uint32 {
 	other.stack = new([stackSize]byte)
+	other.places = s.places
 	if split := cSplit(s, other); uint8(split) == codeDone {
 		return split >> 8
 	}
@@ -96,15 +120,18 @@ func (s *slot) ask(key string, print uint64) (uint8, Call) {
 }
 
 // The call that the key's slot names: the one that was led there last, unless a Forget cleared it.
-func (s *slot) named(key string) (Call, bool) {
-	place, word := cNamed(s, bytesOf(key), uintptr(len(key)))
+func (s *slot) named(key string, print uint64) (Call, bool) {
+	place, word := cNamed(s, bytesOf(key), uintptr(len(key)), print)
 	call := callOf(word)
 	call.place = uint32(place)
 	return call, word != 0
 }
 
-// Settles the call that it leads. The letter tells how many joined, and where all is wanted, its stamp and call.
-func (s *slot) finish(l *letter, all bool) { cFinish(s, l, all) }
+// Settles the call that it leads with the value. The letter tells how many joined, and where all is wanted, its stamp and call.
+func (s *slot) finish(l *letter, all bool, value uint64) { cFinish(s, l, all, value) }
+
+// Gives the group a cache, which the slots share that are split off from then on.
+func (s *slot) addCache(sets uint32, limit uint64) bool { return cAddCache(s, sets, limit) == codeDone }
 
 func (s *slot) poll(l *letter) { cPoll(s, l) }
 

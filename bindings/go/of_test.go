@@ -615,7 +615,7 @@ func TestForgetUnsharedOfTwoOpenCalls(t *testing.T) {
 	led := make(chan any, 1)
 	go func() {
 		var r Result
-		p.lead(&r, &leads, k, value("new"), nil, nil)
+		p.lead(&r, &leads, k, value("new"), nil, nil, nil)
 		led <- r.Val
 	}()
 	close(release)

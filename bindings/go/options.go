@@ -15,6 +15,20 @@ type sizes struct {
 	label           string
 	record          func(Load)
 	onPanic         func(value any, stack []byte)
+
+	// Of a cache.
+	isCache, hasCosts, hasTTL bool
+	cacheOption               string // the name of an option that is for caches alone
+	limit                     int64
+	ttl                       time.Duration
+	clock                     func() instant // may be another in tests
+	cost, onEvict             any            // functions of the cache's types; none in a pool
+}
+
+// The same, for an option of this name that is for caches alone.
+func (s *sizes) forCache(option string) *sizes {
+	s.cacheOption = option
+	return s
 }
 
 const (
@@ -48,7 +62,8 @@ func (s sizes) wider() (sizes, bool) {
 	return s, true
 }
 
-// Option is an option of New and NewGroup.
+// Option is an option of New, NewGroup and NewCache. WithCost, WithTTL and WithOnEvict are for NewCache
+// alone.
 type Option func(*sizes)
 
 // WithSlots sets how many slots there are, 1 to 134,217,728, of 8 bytes each, once and for all. By
@@ -94,6 +109,13 @@ func makePool(options []Option) (*pool, error) {
 	for _, option := range options {
 		option(&s)
 	}
+	if s.cacheOption != "" {
+		return nil, fmt.Errorf("%w: %s is for a cache", ErrOption, s.cacheOption)
+	}
+	return newPoolOf(s)
+}
+
+func newPoolOf(s sizes) (*pool, error) {
 	if s.callers == 0 || s.callers > mostCallers {
 		return nil, fmt.Errorf("%w: %d callers, not 1 to %d", ErrSize, s.callers, mostCallers)
 	}

@@ -20,7 +20,8 @@ func same(t *testing.T, seed int64) {
 	const callers = 5
 	var root, slots [callers]slot
 	var plainRoot, plains [callers]plainSlot
-	if !root[0].open(sizes{places: 1, callers: callers + 1}, 1, 2) || !plainRoot[0].open(sizes{places: 1, callers: callers + 1}, 1, 2) {
+	// With a cache the library hashes keys itself.
+	if !root[0].open(sizes{places: 1, callers: callers + 1, isCache: seed%2 == 1}, 1, 2) || !plainRoot[0].open(sizes{places: 1, callers: callers + 1}, 1, 2) {
 		t.Fatal("a group")
 	}
 	defer root[0].close()
@@ -51,8 +52,8 @@ func same(t *testing.T, seed int64) {
 		case states[i] == leads && did < 5:
 			var l, m letter
 			generation := uint32(s.generation)
-			s.finish(&l, true)
-			p.finish(&m, true)
+			s.finish(&l, true, 7)
+			p.finish(&m, true, 7)
 			led := callOf(l.call)
 			if led != callOf(m.call) || led.generation != generation {
 				t.Fatal(seed, step, "which call it led", led, m, generation)
@@ -85,13 +86,13 @@ func same(t *testing.T, seed int64) {
 				calls = append(calls, call)
 			}
 		case states[i] == free && did == 5:
-			call, ok := s.named(key)
-			call2, ok2 := p.named(key)
+			call, ok := s.named(key, 7)
+			call2, ok2 := p.named(key, 7)
 			call.place, call2.place = 0, 0 // by two hashes
 			got, want = fmt.Sprint("named ", call, ok), fmt.Sprint("named ", call2, ok2)
 		case states[i] == free && did == 6 && len(calls) > 0:
 			call := calls[len(calls)-1-r.Intn(min(3, len(calls)))]
-			got, want = fmt.Sprint("forget call ", forgetNamed(s, key, call)), fmt.Sprint("forget call ", forgetNamed(p, key, call))
+			got, want = fmt.Sprint("forget call ", forgetNamed(s, key, 7, call)), fmt.Sprint("forget call ", forgetNamed(p, key, 7, call))
 		case did == 7 && len(stamps) > 0:
 			stamp := stamps[len(stamps)-1-r.Intn(min(3, len(stamps)))]
 			got, want = fmt.Sprint("is still ", s.isStill(stamp)), fmt.Sprint("is still ", p.isStill(stamp))

@@ -35,27 +35,32 @@ import (
 // begins again where now has changed meanwhile. The order matters: a leader that comes between finds no old run to take the
 // result of, and one that took it before is closed. A Forget leaves open calls of other keys alone.
 type pool struct {
-	now    epochPointer // none where the group is closed, or there is no memory
-	record func(Load)
-	seed   maphash.Seed
-	alert  [alerts]atomic.Int32 // by fingerprint: how many runs, open calls of old epochs, strangers and replacements there are to look for
-	spare  maphash.Seed         // of the second half of a long key's digest
-	closes atomic.Uint64        // Forgets that no seat has counted, as closes and idles of a seat
-	idles  atomic.Uint64
-	alone  atomic.Uint64 // runs beside the library
-	open   atomic.Int64  // those that have not ended
-	book   atomic.Pointer[book]
-	beside atomic.Uint64 // how many joined without a caller
-	voids  atomic.Uint64 // calls that were given up before their loads
-	parted atomic.Uint64 // how many had joined such a call, or another key's
-	adopts atomic.Uint64 // calls that took another's result in place of a load
+	now      epochPointer // none where the group is closed, or there is no memory
+	record   func(Load)
+	seed     maphash.Seed
+	alert    [alerts]atomic.Int32 // by fingerprint: how many runs, open calls of old epochs, strangers and replacements there are to look for
+	spare    maphash.Seed         // of the second half of a long key's digest
+	closes   atomic.Uint64        // Forgets that no seat has counted, as closes and idles of a seat
+	idles    atomic.Uint64
+	alone    atomic.Uint64 // runs beside the library
+	open     atomic.Int64  // those that have not ended
+	book     atomic.Pointer[book]
+	beside   atomic.Uint64 // how many joined without a caller
+	voids    atomic.Uint64 // calls that were given up before their loads
+	parted   atomic.Uint64 // how many had joined such a call, or another key's
+	adopts   atomic.Uint64 // calls that took another's result in place of a load
+	room     *room         // of a cache
+	missed   atomic.Uint64 // looks of a cache that no seat has counted
+	replaced atomic.Uint32 // whether there are tables
 
 	mu       sync.Mutex // protects the rest
 	runs     map[string]*wait
 	draining []*epoch // those that were replaced and have calls still, the oldest first
 	size     sizes
 	number   uint64
-	past     tally // of epochs that are gone
+	past     tally    // of epochs that are gone
+	tables   []*table // of a cache: those of epochs that were replaced, whose values have not left
+	closing  int      // how many of these were taken, and are not empty yet
 	shut     bool
 	label    string
 	onPanic  func(value any, stack []byte)
@@ -102,19 +107,42 @@ func newPool(size sizes) *pool {
 		seed: maphash.MakeSeed(), spare: maphash.MakeSeed(), size: size, runs: make(map[string]*wait),
 		label: size.label, record: size.record, onPanic: size.onPanic,
 	}
-	p.now.Store(p.newEpoch(size))
+	if size.isCache {
+		p.room = &room{limit: size.limit, ttl: size.ttl}
+	}
+	first := p.newEpoch(size)
+	p.beginTable(first)
+	p.now.Store(first)
 	p.write(nil)
 	return p
 }
 
-// None where a size is out of range, or there is no memory.
-func (p *pool) newEpoch(size sizes) *epoch {
+// None where a size is out of range, or there is no memory. The lock is held, once there are other goroutines.
+func (p *pool) newEpoch(size sizes) *epoch { return p.numbered(p.makeEpoch(size)) }
+
+// Gives the epoch, if there is one, its number. The lock is held.
+func (p *pool) numbered(e *epoch) *epoch {
+	if e != nil {
+		p.number++
+		e.number = p.number
+	}
+	return e
+}
+
+// An epoch without a number, made without the lock.
+func (p *pool) makeEpoch(size sizes) *epoch {
 	var seeds [16]byte
 	if _, err := rand.Read(seeds[:]); err != nil || size.refused != nil && size.refused() {
 		return nil
 	}
-	p.number++
-	return newEpoch(p.number, size, binary.LittleEndian.Uint64(seeds[:8]), binary.LittleEndian.Uint64(seeds[8:]))
+	e := newEpoch(size, binary.LittleEndian.Uint64(seeds[:8]), binary.LittleEndian.Uint64(seeds[8:]))
+	if e != nil && p.room != nil {
+		if e.table = newTable(e, size, p.room); e.table == nil {
+			e.root.close()
+			return nil
+		}
+	}
+	return e
 }
 
 func (p *pool) lock() { acquire(&p.mu) }
@@ -273,7 +301,7 @@ func (p *pool) lookBy(e *epoch, by *seat, k keyed) found {
 		return found{}
 	}
 	var digest [16]byte
-	call, ok := by.named(p.name(k, &digest))
+	call, ok := by.named(p.name(k, &digest), k.print)
 	if !ok {
 		return found{}
 	}
@@ -350,6 +378,9 @@ func (p *pool) runOf(k keyed, before uint64) *wait {
 		if e.number >= before {
 			break
 		}
+		if e.forgotten {
+			continue
+		}
 		var a asking
 		if it := p.lookBy(e, e.root, k); it.seat != nil && p.follow(&a, it, k) {
 			return a.wait
@@ -400,14 +431,15 @@ func (p *pool) askBeside(a *asking, k keyed, e *epoch, wants bool) bool {
 
 // Whether a larger epoch has taken the place of this one, which has no free caller for a call. The lock is held.
 func (p *pool) grows(e *epoch) bool {
-	return p.replace(e.size.more())
+	e.wanted++
+	return p.isWorth(uint64(e.wanted)) && p.replace(e.size.more())
 }
 
 // Another key's call is open at the slot. Whether a new epoch has taken the place of this one, since that is so often.
 // The lock is held.
 func (p *pool) meets(e *epoch) bool {
 	e.met++
-	if e.met < 64 || e.met < e.size.places/32 {
+	if e.met < 64 || e.met < e.size.places/32 || !p.isWorth(uint64(e.met)) {
 		return false
 	}
 	return p.replace(e.size.wider())
@@ -432,6 +464,7 @@ func (p *pool) replace(size sizes, ok bool) bool {
 func (p *pool) change(next *epoch) {
 	old := p.now.Load()
 	if old == nil {
+		p.beginTable(next)
 		p.now.Store(next)
 		p.write(nil)
 		return
@@ -442,6 +475,7 @@ func (p *pool) change(next *epoch) {
 	}
 	yield()
 	p.now.Store(next)
+	p.leaveTable(old)
 	yield()
 	old.each(func(_ uint32, s *seat) {
 		generation, print := s.asking()
@@ -586,7 +620,7 @@ func (p *pool) forgetBeside(k keyed) bool {
 // key. A call that was led meanwhile is newer than this Forget. Whether that closed a call.
 func (p *pool) forgetBy(e *epoch, by *seat, k keyed) bool {
 	var digest [16]byte
-	call, ok := by.named(p.name(k, &digest))
+	call, ok := by.named(p.name(k, &digest), k.print)
 	if !ok {
 		return false
 	}
@@ -678,7 +712,7 @@ func (p *pool) sole(e *epoch, by *seat, name string, k keyed) (it sole, shared b
 	if !by.live {
 		return sole{}, false
 	}
-	call, ok := by.named(name)
+	call, ok := by.named(name, k.print)
 	if !ok {
 		return sole{}, false
 	}
@@ -733,7 +767,7 @@ func (it sole) forget() (closed bool) {
 // have the newer result of the run first, and then join that call. The lock is held.
 func (p *pool) endStamp(e *epoch, k keyed) {
 	var digest [16]byte
-	call, ok := e.root.named(p.name(k, &digest))
+	call, ok := e.root.named(p.name(k, &digest), k.print)
 	if !ok {
 		return
 	}
@@ -769,7 +803,7 @@ func (p *pool) forgetCall(key string, call Call) Hit {
 	if s == nil {
 		return p.forgetOld(k, call)
 	}
-	code := forgetNamed(s, name, call)
+	code := forgetNamed(s, name, k.print, call)
 	p.putAny(s)
 	switch code {
 	case codeDone:
@@ -782,10 +816,10 @@ func (p *pool) forgetCall(key string, call Call) Hit {
 
 // Forgets the call, if it is the one that the key's slot names. One that is not has nothing to forget: it is not current.
 func forgetNamed(by interface {
-	named(string) (Call, bool)
+	named(string, uint64) (Call, bool)
 	forgetCall(Call) uint32
-}, name string, call Call) uint32 {
-	named, ok := by.named(name)
+}, name string, print uint64, call Call) uint32 {
+	named, ok := by.named(name, print)
 	if !ok || wordOf(named) != wordOf(call) {
 		return codeNothing
 	}
@@ -798,7 +832,7 @@ func (p *pool) forgetOld(k keyed, call Call) Hit {
 	defer p.mu.Unlock()
 	var digest [16]byte
 	for _, e := range p.draining {
-		if e.number == call.epoch && forgetNamed(e.root, p.name(k, &digest), call) == codeDone {
+		if e.number == call.epoch && forgetNamed(e.root, p.name(k, &digest), k.print, call) == codeDone {
 			return Closed
 		}
 	}
@@ -857,7 +891,7 @@ func (p *pool) noted(e *epoch) {
 	if e.size.fixed || nos < 256 || nos < uint64(e.size.places)/8 || nos%64 != 0 {
 		return
 	}
-	if forgets := p.forgetsSince(e); nos < forgets || nos-forgets < uint64(e.size.places)/8 {
+	if forgets := p.forgetsSince(e); nos < forgets || nos-forgets < uint64(e.size.places)/8 || !p.isWorth(nos-forgets) {
 		return
 	}
 	p.lock()
@@ -872,12 +906,13 @@ func (p *pool) forgetsSince(e *epoch) uint64 {
 	return all.closes + all.idles + p.closes.Load() + p.idles.Load() - e.forgets
 }
 
-// Settles the call with what the result has, tells the result of the call, and wakes all that wait for it.
-func (p *pool) settle(a *asking, r *Result, k keyed, watched *wait) {
+// Settles the call with what the result has, tells the result of the call, and wakes all that wait for it. It returns what
+// left a cache for the result.
+func (p *pool) settle(a *asking, r *Result, k keyed, watched *wait) (out []*item) {
 	s := a.seat
 	if s == nil {
 		p.settleRun(a.wait, r, k)
-		return
+		return nil
 	}
 	s.ended = false
 	if watched != nil {
@@ -885,7 +920,7 @@ func (p *pool) settle(a *asking, r *Result, k keyed, watched *wait) {
 		s.ended = watched.ended
 		s.mu.Unlock()
 	}
-	p.settleBy(s, r, k, true, watched != nil)
+	return p.settleBy(s, r, k, true, watched != nil)
 }
 
 func (p *pool) settleRun(w *wait, r *Result, k keyed) {
@@ -898,7 +933,17 @@ func (p *pool) settleRun(w *wait, r *Result, k keyed) {
 	close(w.done)
 }
 
-func (p *pool) settleBy(s *seat, r *Result, k keyed, all, watched bool) {
+func (p *pool) settleBy(s *seat, r *Result, k keyed, all, watched bool) (out []*item) {
+	e, crowded, stale := s.epoch, false, false
+	var kept *item
+	var id uint64
+	if e.table != nil && r.Err == nil {
+		// One that was given up has none.
+		if kept, _ = r.Val.(*item); kept != nil {
+			var digest [16]byte
+			id = e.table.enter(kept, p.name(k, &digest))
+		}
+	}
 	s.val, s.err = r.Val, r.Err
 	if isRaceDetected {
 		s.owed.Store(0)
@@ -906,19 +951,28 @@ func (p *pool) settleBy(s *seat, r *Result, k keyed, all, watched bool) {
 	var letter letter
 	// One who follows it has its stamp too.
 	all = all || s.followed.Load() != 0
-	s.finish(&letter, all)
+	s.finish(&letter, all, id)
 	if all {
 		r.Stamp, r.Call = letter.stamp, callOf(letter.call)
-		r.Stamp.Place |= s.epoch.number << placeBits
-		r.Call.epoch = s.epoch.number
+		r.Stamp.Place |= e.number << placeBits
+		r.Call.epoch = e.number
 	}
 	yield()
+	if kept != nil {
+		out, crowded, stale = e.table.keep(s, kept, id, letter.stamp)
+	}
 	if letter.joiners > 0 || watched || s.followed.Load() != 0 {
 		p.share(s, r, k, int64(letter.joiners))
-		return
+	} else {
+		// Nobody has a part in it.
+		p.clear(s)
 	}
-	// Nobody has a part in it.
-	p.clear(s)
+	if crowded {
+		p.widen(e)
+	} else if stale {
+		p.noted(e)
+	}
+	return out
 }
 
 // Nobody needs any more what the seat's call came to, and the seat is free.

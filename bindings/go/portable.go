@@ -100,7 +100,7 @@ func (s *plainSlot) ask(key string, print uint64) (uint8, Call) {
 }
 
 // The call that the key's slot names: the one that was led there last, unless a Forget cleared it.
-func (s *plainSlot) named(key string) (Call, bool) {
+func (s *plainSlot) named(key string, _ uint64) (Call, bool) {
 	w := s.words
 	place := w.placeOf(key)
 	w.mu.Lock()
@@ -112,7 +112,7 @@ func (s *plainSlot) named(key string) (Call, bool) {
 }
 
 // Settles the call that it leads. The letter tells how many joined, its stamp and call.
-func (s *plainSlot) finish(l *letter, _ bool) {
+func (s *plainSlot) finish(l *letter, _ bool, _ uint64) {
 	w, c := s.words, s.call
 	atomic.StoreUint64(&s.generation, 0)
 	yield()

@@ -415,7 +415,9 @@ func playWorld(t *testing.T, seed int64) {
 }
 
 // Random schedules of random calls keep the promises. SFLIGHT_SCHEDULES says how many, and SFLIGHT_SEED with which one to begin.
-func TestSchedules(t *testing.T) {
+func TestSchedules(t *testing.T) { eachSchedule(t, playWorld) }
+
+func eachSchedule(t *testing.T, play func(t *testing.T, seed int64)) {
 	count, from := 2000, int64(1)
 	for name, set := range map[string]func(int){"SFLIGHT_SCHEDULES": func(n int) { count = n }, "SFLIGHT_SEED": func(n int) { from = int64(n) }} {
 		if text := os.Getenv(name); text != "" {
@@ -427,7 +429,7 @@ func TestSchedules(t *testing.T) {
 		}
 	}
 	for seed := from; seed < from+int64(count); seed++ {
-		playWorld(t, seed)
+		play(t, seed)
 	}
 }
 

@@ -8,6 +8,7 @@ typedef struct {
 	uint64_t leads, joins;
 	void *stack;
 	uint64_t generation, print, last;
+	uint32_t places;
 } seat;
 
 // A stamp as two words: see Stamp in singleflight.go.
@@ -21,6 +22,9 @@ typedef struct {
 	words stamp;
 	uint64_t call;
 } letter;
+
+// The place of a key by its fingerprint, in a group of so many: the fingerprint's upper half, scaled down. So no key is hashed twice.
+static uint32_t place_of(const seat *s, uint64_t print) { return (uint32_t)((print >> 32) * s->places >> 32) + 1; }
 
 static void count(uint64_t *n) { __atomic_store_n(n, *n + 1, __ATOMIC_RELAXED); }
 
@@ -56,7 +60,7 @@ uint64_t sfgo_ask(seat *s, const uint8_t *key, size_t len, uint32_t tries, uint6
 	__atomic_store_n(&s->print, print, __ATOMIC_RELEASE);
 	__atomic_store_n(&s->generation, generation, __ATOMIC_RELEASE);
 	sflight_stamp call;
-	uint32_t code = sflight_ask(&s->slot, key, len, tries, &call);
+	uint32_t code = s->places ? sflight_ask_at(&s->slot, key, len, place_of(s, print), tries, &call) : sflight_ask(&s->slot, key, len, tries, &call);
 	if (code == SFLIGHT_LED) {
 		count(&s->leads);
 		return code;
@@ -71,18 +75,19 @@ uint64_t sfgo_ask(seat *s, const uint8_t *key, size_t len, uint32_t tries, uint6
 }
 
 // Which call the key's slot names: its stamp, or zeros.
-words sfgo_named(seat *s, const uint8_t *key, size_t len) {
+words sfgo_named(seat *s, const uint8_t *key, size_t len, uint64_t print) {
 	sflight_stamp stamp;
-	if (sflight_named(&s->slot, key, len, &stamp) != SFLIGHT_DONE) return (words){0, 0};
+	uint32_t code = s->places ? sflight_named_at(&s->slot, place_of(s, print), &stamp) : sflight_named(&s->slot, key, len, &stamp);
+	if (code != SFLIGHT_DONE) return (words){0, 0};
 	return words_of(&stamp);
 }
 
-// Settles the call that the seat leads, and tells of it what is wanted: a Do wants no more than how many joined. First it says so by the
+// Settles the call that the seat leads with the value, and tells of it what is wanted: a Do wants no more than how many joined. First it says so by the
 // generation: the locked exchange by which the library settles stands between that and what the package reads then.
-void sfgo_finish(seat *s, letter *l, uint32_t all) {
+void sfgo_finish(seat *s, letter *l, uint32_t all, uint64_t value) {
 	sflight_answer answer;
 	__atomic_store_n(&s->generation, 0, __ATOMIC_RELEASE);
-	if (sflight_finish(&s->slot, 0, &answer) == SFLIGHT_OWES) {
+	if (sflight_finish(&s->slot, value, &answer) == SFLIGHT_OWES) {
 		while (sflight_go_on(&s->slot, &answer) == SFLIGHT_OWES) {}
 	}
 	l->joiners = answer.joiners;
@@ -109,4 +114,27 @@ uint32_t sfgo_is_still(seat *s, uint64_t place, uint64_t call) {
 uint32_t sfgo_forget_call(seat *s, uint64_t place, uint64_t call, uint32_t tries) {
 	sflight_stamp stamp = stamp_of(place, call);
 	return sflight_forget_call(&s->slot, &stamp, tries);
+}
+
+// The cache of the group. No value in it is 0, which stands for none.
+
+uint32_t sfgo_add_cache(seat *s, uint32_t sets, uint64_t limit) { return sflight_add_cache(&s->slot, sets, limit); }
+
+uint64_t sfgo_look(seat *s, const uint8_t *key, size_t len) {
+	sflight_answer answer;
+	return sflight_look(&s->slot, key, len, &answer) == SFLIGHT_DONE ? answer.value : 0;
+}
+
+// Keeps the answer that the seat had last. The value that left is written to out, where the code tells of one.
+uint32_t sfgo_keep(seat *s, uint64_t weight, uint64_t *out) { return sflight_keep(&s->slot, weight, out); }
+
+uint64_t sfgo_take_out(seat *s, const uint8_t *key, size_t len) {
+	uint64_t out;
+	return sflight_take_out(&s->slot, key, len, &out) == SFLIGHT_DONE ? out : 0;
+}
+
+uint64_t sfgo_weight(seat *s) {
+	uint64_t weight = 0;
+	sflight_weight(&s->slot, &weight);
+	return weight;
 }
