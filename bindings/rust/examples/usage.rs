@@ -1,5 +1,5 @@
 //! Four threads want one key at one time: one of them loads. `cargo run --example usage`
-use singleflight::Group;
+use singleflight::{Cache, Group};
 
 fn main() {
     // For any number of keys; `open` takes other sizes.
@@ -16,4 +16,12 @@ fn main() {
     group.forget("user-7");
     let got = group.get_or_load("user-7", || "Grace".to_string());
     println!("{}, shared: {}", got.value, got.shared());
+
+    // A cache keeps what was loaded, until it is invalidated or makes room.
+    let cache = Cache::<String>::new(10_000);
+    let page = cache.get_or_load("ada", || "the page of Ada".to_string());
+    assert_eq!(*page, "the page of Ada");
+    cache.invalidate("ada");
+    let page = cache.get_or_load("ada", || "her new page".to_string());
+    assert_eq!(*page, "her new page");
 }

@@ -101,6 +101,7 @@ compile_error!(
 );
 
 mod asker;
+mod cache;
 mod caller;
 mod chan;
 mod epoch;
@@ -123,6 +124,7 @@ mod wait;
 struct Readme;
 
 use asker::Asker;
+pub use cache::{Cache, CacheBuilder, CacheStats};
 pub use caller::Caller;
 use chan::Handle;
 pub use chan::{Job, Receiver};

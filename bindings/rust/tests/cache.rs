@@ -1,0 +1,503 @@
+//! The cache: what it promises, each with a test.
+use singleflight::{Cache, Error};
+use std::future::Future;
+use std::panic::{catch_unwind, AssertUnwindSafe};
+use std::pin::{pin, Pin};
+use std::sync::atomic::{AtomicBool, AtomicU64, AtomicUsize, Ordering::SeqCst};
+use std::sync::{Arc, Barrier, Mutex, Weak};
+use std::task::{Context, Poll, Waker};
+use std::time::Duration;
+
+/// Runs the test in a thread, and fails where it takes too long.
+fn within_a_minute(test: impl FnOnce() + Send + 'static) {
+    let (done, ended) = std::sync::mpsc::channel();
+    let runs = std::thread::spawn(move || {
+        test();
+        done.send(()).ok();
+    });
+    if ended.recv_timeout(Duration::from_secs(60)).is_err() && !runs.is_finished() {
+        panic!("it hangs");
+    }
+    runs.join().unwrap();
+}
+
+fn counted(limit: u64) -> (Cache<String>, Arc<Mutex<Vec<String>>>) {
+    let left = Arc::new(Mutex::new(Vec::new()));
+    let told = left.clone();
+    let cache = Cache::builder(limit)
+        .weigher(|_, value: &String| value.len() as u64)
+        .on_evict(move |key, value| {
+            told.lock().unwrap().push(format!("{} {value}", String::from_utf8_lossy(key)));
+        })
+        .build()
+        .unwrap();
+    (cache, left)
+}
+
+#[test]
+fn a_value_is_loaded_once_and_found() {
+    let cache = Cache::new(10);
+    assert_eq!(*cache.get_or_load("key", || 7), 7);
+    assert_eq!(*cache.get_or_load("key", || unreachable!()), 7);
+    assert_eq!(cache.get("key").as_deref(), Some(&7));
+    assert_eq!(cache.get("kez"), None);
+    assert_eq!(cache.get(""), None);
+    let stats = cache.stats();
+    assert_eq!((stats.hits, stats.misses, stats.loads, stats.entries), (2, 3, 1, 1), "{stats:?}");
+    assert_eq!((stats.joins, stats.failures, stats.evictions, stats.weight), (0, 0, 0, 1));
+}
+
+#[test]
+fn keys_of_every_length_are_told_apart() {
+    let cache = Cache::new(1000);
+    let key: Vec<u8> = (0..=255).cycle().take(5000).collect();
+    let lengths = [0, 1, 7, 8, 15, 16, 17, 32, 39, 40, 41, 64, 4096, 5000];
+    for len in lengths {
+        assert_eq!(*cache.get_or_load(&key[..len], || len), len);
+    }
+    for len in lengths {
+        assert_eq!(cache.get(&key[..len]).as_deref(), Some(&len));
+    }
+    assert_eq!(cache.get([1]), None);
+}
+
+#[test]
+fn the_weight_is_within_the_limit() {
+    let (cache, left) = counted(100);
+    for number in 0..50 {
+        cache.get_or_load(format!("{number}"), || "x".repeat(30));
+        assert!(cache.stats().weight <= 100);
+    }
+    let stats = cache.stats();
+    assert_eq!((stats.weight, stats.entries, stats.evictions), (90, 3, 47));
+    assert_eq!(left.lock().unwrap().len(), 47);
+    // One that is too heavy is answered, not kept, and empties nothing.
+    assert_eq!(cache.get_or_load("heavy", || "x".repeat(101)).len(), 101);
+    assert_eq!(cache.get("heavy"), None);
+    assert_eq!(cache.stats().entries, 3);
+    // One that fills the cache makes all others leave.
+    cache.get_or_load("whole", || "x".repeat(100));
+    assert!(cache.get("whole").is_some());
+    assert_eq!((cache.stats().weight, cache.stats().entries), (100, 1));
+    assert_eq!(left.lock().unwrap().len(), 50);
+}
+
+#[test]
+fn what_was_found_lately_stays() {
+    // With many hash slots, so that hardly any value is made stale by the load of another key.
+    let cache: Cache<()> = Cache::builder(2000).entries(50_000).build().unwrap();
+    for round in 0..10 {
+        for key in 0..200u32 {
+            cache.get_or_load(key.to_le_bytes(), || ());
+        }
+        for key in 0..1500u32 {
+            cache.get_or_load((10_000 + 1500 * round + key).to_le_bytes(), || ());
+        }
+    }
+    let kept = (0..200u32).filter(|key| cache.get(key.to_le_bytes()).is_some()).count();
+    assert!(kept > 160, "{kept} of 200 keys that are in use are left");
+}
+
+#[test]
+fn each_entry_that_leaves_is_told_once() {
+    let (cache, left) = counted(100);
+    cache.get_or_load("a", || "1".into());
+    cache.get_or_load("b", || "2".into());
+    cache.invalidate("a");
+    cache.invalidate("a");
+    cache.insert("b", "3".into());
+    cache.invalidate_all();
+    cache.invalidate_all();
+    assert_eq!(*left.lock().unwrap(), ["a 1", "b 2", "b 3"]);
+    assert_eq!((cache.stats().weight, cache.stats().evictions), (0, 0));
+}
+
+#[test]
+fn a_listener_may_use_the_cache() {
+    within_a_minute(|| {
+        let own: Arc<Mutex<Weak<Cache<u32>>>> = Arc::default();
+        let told = own.clone();
+        let depth = AtomicUsize::new(0);
+        let cache = Cache::builder(1).on_evict(move |_, value| {
+            let cache = told.lock().unwrap().upgrade();
+            if depth.fetch_add(1, SeqCst) < 5 {
+                let cache = cache.expect("it lives");
+                cache.get_or_load("left", || **value + 1);
+                cache.invalidate("left");
+                cache.stats();
+            }
+        });
+        let cache = Arc::new(cache.build().unwrap());
+        *own.lock().unwrap() = Arc::downgrade(&cache);
+        for key in 0..10u32 {
+            cache.get_or_load(key.to_le_bytes(), || key);
+        }
+        assert!(cache.stats().weight <= 1);
+    });
+}
+
+#[test]
+fn a_listener_that_panics_takes_no_room() {
+    let cache: Cache<u32> =
+        Cache::builder(10).on_evict(|_, _| panic!("on purpose")).build().unwrap();
+    for key in 0..8u32 {
+        cache.get_or_load(key.to_le_bytes(), || key);
+    }
+    assert!(catch_unwind(AssertUnwindSafe(|| cache.invalidate([0; 4]))).is_err());
+    assert_eq!(cache.weight(), 7);
+    while cache.stats().entries > 0 {
+        assert!(catch_unwind(AssertUnwindSafe(|| cache.invalidate_all())).is_err());
+    }
+    assert_eq!(cache.weight(), 0, "what left keeps its weight");
+}
+
+#[test]
+fn a_value_is_freed_when_it_has_left() {
+    let cache = Cache::new(1);
+    let first = Arc::downgrade(&cache.get_or_load("first", || 1));
+    for _ in 0..5 {
+        assert!(cache.get("first").is_some() && first.upgrade().is_some());
+    }
+    cache.get_or_load("second", || 2);
+    assert!(first.upgrade().is_none(), "what was evicted is reachable");
+    let second = Arc::downgrade(&cache.get("second").unwrap());
+    cache.invalidate("second");
+    assert!(second.upgrade().is_none(), "what was invalidated is reachable");
+    let third = Arc::downgrade(&cache.get_or_load("third", || 3));
+    drop(cache);
+    assert!(third.upgrade().is_none(), "a dropped cache holds a value");
+}
+
+// A key that was found some times in turn is remembered beside the shards. Somebody holds the value,
+// so that it lives whatever becomes of its entry.
+#[test]
+fn what_is_remembered_is_as_new_as_the_rest() {
+    let cache = Cache::<u32>::new(2);
+    let remembered = |value: u32| {
+        let held = cache.get_or_load("key", || value);
+        for _ in 0..40 {
+            assert!(cache.get("key").is_some_and(|found| Arc::ptr_eq(&found, &held)));
+        }
+        held
+    };
+    let held = remembered(1);
+    cache.invalidate("key");
+    assert_eq!(cache.get("key"), None, "it was invalidated");
+    let again = remembered(2);
+    cache.invalidate_all();
+    assert_eq!(cache.get("key"), None, "all were");
+    cache.insert("key", 3);
+    let third = remembered(4);
+    assert_eq!((*held, *again, *third), (1, 2, 3));
+}
+
+#[test]
+fn what_is_remembered_gets_too_old() {
+    let time = Duration::from_millis(100);
+    let cache: Cache<u32> = Cache::builder(2).time_to_live(time).build().unwrap();
+    let held = cache.get_or_load("key", || 1);
+    let begun = std::time::Instant::now();
+    // On a busy machine it may be too old before it is remembered.
+    for _ in 0..10 {
+        assert!(cache.get("key").is_some() || begun.elapsed() >= time);
+    }
+    std::thread::sleep(time);
+    assert_eq!((cache.get("key"), *held), (None, 1));
+}
+
+#[test]
+fn a_hot_key_stays() {
+    let cache: Cache<u32> = Cache::builder(500).entries(50_000).build().unwrap();
+    let loads = AtomicUsize::new(0);
+    for round in 0..20_000u32 {
+        cache.get_or_load("hot", || {
+            loads.fetch_add(1, SeqCst);
+            1
+        });
+        cache.get_or_load(round.to_le_bytes(), || 2);
+    }
+    // It may be loaded again where a key of its hash slot was loaded.
+    let loads = loads.into_inner();
+    assert!(loads < 8, "a key that is always in use was loaded {loads} times");
+}
+
+#[test]
+fn an_invalidation_ends_a_load_that_is_under_way() {
+    within_a_minute(|| {
+        let cache = Cache::new(10);
+        let old = cache.get_or_load("key", || {
+            cache.invalidate("key");
+            assert_eq!(*cache.get_or_load("key", || 2), 2, "a later call joined the load");
+            1
+        });
+        assert_eq!(*old, 1);
+        assert_eq!(
+            cache.get("key").as_deref(),
+            Some(&2),
+            "what was invalidated while it was loaded is kept"
+        );
+        let old = cache.get_or_load("other", || {
+            cache.invalidate_all();
+            assert_eq!(*cache.get_or_load("other", || 2), 2);
+            1
+        });
+        assert_eq!((*old, cache.get("other").as_deref()), (1, Some(&2)));
+        assert_eq!(cache.get("key"), None);
+    });
+}
+
+#[test]
+fn an_insert_wins_over_what_is_under_way_and_loses_to_what_comes_later() {
+    within_a_minute(|| {
+        let cache = Cache::new(10);
+        let old = cache.get_or_load("key", || {
+            cache.insert("key", 2);
+            1
+        });
+        assert_eq!((*old, cache.get("key").as_deref()), (1, Some(&2)));
+        cache.insert("key", 3);
+        assert_eq!(*cache.get_or_load("key", || unreachable!()), 3);
+        cache.invalidate("key");
+        assert_eq!(cache.get("key"), None);
+    });
+}
+
+#[test]
+fn errors_are_shared_and_not_kept() {
+    let cache = Cache::<u32, String>::builder(10).build().unwrap();
+    let (loads, begin) = (AtomicUsize::new(0), Barrier::new(4));
+    std::thread::scope(|scope| {
+        for _ in 0..4 {
+            scope.spawn(|| {
+                begin.wait();
+                let got = cache.try_get_or_load("key", || {
+                    loads.fetch_add(1, SeqCst);
+                    std::thread::sleep(Duration::from_millis(20));
+                    Err("no".to_string())
+                });
+                assert_eq!(*got.unwrap_err(), "no");
+            });
+        }
+    });
+    let stats = cache.stats();
+    assert_eq!(stats.failures as usize, loads.load(SeqCst));
+    assert_eq!(stats.joins as usize + loads.load(SeqCst), 4);
+    assert_eq!((stats.entries, stats.loads), (0, 0));
+    assert_eq!(*cache.try_get_or_load("key", || Ok(7)).unwrap(), 7);
+}
+
+#[test]
+fn a_panic_goes_on_and_leaves_nothing() {
+    let cache = Cache::<u32>::new(10);
+    let panics =
+        catch_unwind(AssertUnwindSafe(|| cache.get_or_load("key", || panic!("on purpose"))));
+    assert!(panics.is_err());
+    assert_eq!(*cache.get_or_load("key", || 7), 7);
+}
+
+#[test]
+fn a_time_to_live_ends() {
+    let cache: Cache<u32> =
+        Cache::builder(10).time_to_live(Duration::from_millis(30)).build().unwrap();
+    let begun = std::time::Instant::now();
+    cache.get_or_load("key", || 7);
+    if cache.get("key").is_none() {
+        assert!(begun.elapsed() >= Duration::from_millis(30), "it ended too early");
+    }
+    std::thread::sleep(Duration::from_millis(40));
+    assert_eq!(cache.get("key"), None);
+    assert_eq!(*cache.get_or_load("key", || 8), 8);
+    let endless: Cache<u32> = Cache::builder(10).time_to_live(Duration::MAX).build().unwrap();
+    endless.get_or_load("key", || 7);
+    assert!(endless.get("key").is_some());
+}
+
+#[test]
+fn numbers_out_of_range_are_refused() {
+    assert_eq!(Cache::<u32>::builder(10).loads(0).build().err(), Some(Error::Callers(0)));
+    assert!(matches!(
+        Cache::<u32>::builder(10).loads(u32::MAX).build().err(),
+        Some(Error::Callers(u32::MAX))
+    ));
+    let none = Cache::new(0);
+    assert_eq!((*none.get_or_load("key", || 7), none.get("key")), (7, None));
+}
+
+/// A future that is ready at its second poll.
+struct Later(bool);
+
+impl Future for Later {
+    type Output = u32;
+
+    fn poll(mut self: Pin<&mut Self>, _: &mut Context<'_>) -> Poll<u32> {
+        if std::mem::replace(&mut self.0, true) {
+            Poll::Ready(7)
+        } else {
+            Poll::Pending
+        }
+    }
+}
+
+#[test]
+fn tasks_load_once_and_may_be_dropped() {
+    let left = Arc::new(AtomicUsize::new(0));
+    let told = left.clone();
+    let cache: Cache<u32> = Cache::builder(10)
+        .on_evict(move |_, _| {
+            told.fetch_add(1, SeqCst);
+        })
+        .build()
+        .unwrap();
+    let mut context = Context::from_waker(Waker::noop());
+    {
+        let mut dropped = pin!(cache.get_or_load_async("key", Later(false)));
+        assert!(dropped.as_mut().poll(&mut context).is_pending());
+    }
+    assert_eq!(cache.get("key"), None);
+    let mut leads = pin!(cache.get_or_load_async("key", Later(false)));
+    assert!(leads.as_mut().poll(&mut context).is_pending());
+    let mut joins = pin!(cache.get_or_load_async("key", Later(true)));
+    assert!(joins.as_mut().poll(&mut context).is_pending());
+    assert!(matches!(leads.as_mut().poll(&mut context), Poll::Ready(value) if *value == 7));
+    assert!(matches!(joins.as_mut().poll(&mut context), Poll::Ready(value) if *value == 7));
+    let stats = cache.stats();
+    assert_eq!((stats.loads, stats.joins, stats.entries), (1, 1, 1));
+    assert_eq!(left.load(SeqCst), 0, "the leader alone keeps the value");
+}
+
+// Gets beside writes: after an invalidation has returned, no get that begins later has an older
+// value. The long form makes 10,000,000 gets beside 1,000,000 invalidations.
+fn gets_beside_writes(gets: u64, all: bool) {
+    const KEYS: usize = 64;
+    const THREADS: u64 = 4;
+    // Each change: an odd version is written, the key invalidated, and the next even version told.
+    let versions: Vec<AtomicU64> = (0..KEYS).map(|_| AtomicU64::new(0)).collect();
+    let live = Arc::new(());
+    let cache: Cache<(usize, u64, Arc<()>)> = Cache::builder(48).build().unwrap();
+    let (stop, old, wrong, heavy) =
+        (AtomicBool::new(false), AtomicU64::new(0), AtomicU64::new(0), AtomicU64::new(0));
+    let step = |state: &mut u64| {
+        *state =
+            state.wrapping_mul(6_364_136_223_846_793_005).wrapping_add(1_442_695_040_888_963_407);
+        (*state >> 33) as usize % KEYS
+    };
+    std::thread::scope(|scope| {
+        let readers: Vec<_> = (0..THREADS)
+            .map(|number| {
+                let (cache, versions, live, old, wrong) = (&cache, &versions, &live, &old, &wrong);
+                scope.spawn(move || {
+                    let mut state = number;
+                    for turn in 0..gets / THREADS {
+                        let key = step(&mut state);
+                        let seen = versions[key].load(SeqCst);
+                        let load = || (key, versions[key].load(SeqCst), live.clone());
+                        let got = match turn % 3 {
+                            0 => cache.get(key.to_le_bytes()),
+                            _ => Some(cache.get_or_load(key.to_le_bytes(), load)),
+                        };
+                        let Some(got) = got else { continue };
+                        if got.0 != key {
+                            wrong.fetch_add(1, SeqCst);
+                        }
+                        if got.1 + 1 < seen & !1 {
+                            old.fetch_add(1, SeqCst);
+                        }
+                    }
+                })
+            })
+            .collect();
+        let writer = scope.spawn(|| {
+            let (mut state, mut turn) = (99, 0);
+            while turn < gets / 10 || !stop.load(SeqCst) {
+                let key = step(&mut state);
+                let version = versions[key].fetch_add(1, SeqCst) + 1;
+                match turn % 8 {
+                    0 => cache.insert(key.to_le_bytes(), (key, version, live.clone())),
+                    1 if all => cache.invalidate_all(),
+                    _ => cache.invalidate(key.to_le_bytes()),
+                }
+                versions[key].fetch_add(1, SeqCst);
+                if cache.weight() > 48 {
+                    heavy.fetch_add(1, SeqCst);
+                }
+                turn += 1;
+            }
+        });
+        readers.into_iter().for_each(|reader| reader.join().unwrap());
+        stop.store(true, SeqCst);
+        writer.join().unwrap();
+    });
+    let counts = [old, wrong, heavy].map(AtomicU64::into_inner);
+    assert_eq!(counts, [0, 0, 0], "old, of another key, over the limit");
+    let stats = cache.stats();
+    assert!(stats.hits > 0 && stats.loads > 0 && stats.evictions > 0, "{stats:?}");
+    assert_eq!(Arc::strong_count(&live) as u64, stats.entries + 1, "a value that left is held");
+}
+
+#[test]
+fn no_get_has_an_older_value() {
+    gets_beside_writes(200_000, false);
+    gets_beside_writes(100_000, true);
+}
+
+#[test]
+#[ignore = "long: half a minute"]
+fn no_get_of_ten_million_has_an_older_value() {
+    gets_beside_writes(10_000_000, false);
+    gets_beside_writes(1_000_000, true);
+}
+
+#[test]
+fn an_insert_loses_to_an_invalidation_that_begins_meanwhile() {
+    let own: Arc<Mutex<Weak<Cache<u32>>>> = Arc::default();
+    let told = own.clone();
+    let is_first = AtomicBool::new(true);
+    // The listener is called between the insert's own invalidation and its call.
+    let cache = Cache::builder(10).on_evict(move |_, _| {
+        if is_first.swap(false, SeqCst) {
+            told.lock().unwrap().upgrade().expect("it lives").invalidate("key");
+        }
+    });
+    let cache = Arc::new(cache.build().unwrap());
+    *own.lock().unwrap() = Arc::downgrade(&cache);
+    cache.get_or_load("key", || 1);
+    cache.insert("key", 2);
+    assert_eq!(cache.get("key"), None, "a write that was invalidated meanwhile is kept");
+}
+
+// The listener is called after the leader has asked whether its call is current, and before it puts
+// the value down: so what it invalidates lies in the cache, and must not be found.
+#[test]
+fn what_was_invalidated_while_it_was_put_down_is_not_found() {
+    let own: Arc<Mutex<Weak<Cache<u32>>>> = Arc::default();
+    let told = own.clone();
+    let cache = Cache::builder(1).on_evict(move |key, _| {
+        if key == b"first" {
+            told.lock().unwrap().upgrade().expect("it lives").invalidate("key");
+        }
+    });
+    let cache = Arc::new(cache.build().unwrap());
+    *own.lock().unwrap() = Arc::downgrade(&cache);
+    cache.get_or_load("first", || 1);
+    assert_eq!(*cache.get_or_load("key", || 2), 2);
+    assert_eq!(cache.stats().entries, 1, "the value was put down");
+    assert_eq!(cache.get("key"), None);
+    assert_eq!(*cache.get_or_load("key", || 3), 3);
+}
+
+#[test]
+fn an_insert_loses_to_an_invalidation_of_all_that_begins_meanwhile() {
+    let own: Arc<Mutex<Weak<Cache<u32>>>> = Arc::default();
+    let told = own.clone();
+    let is_first = AtomicBool::new(true);
+    let cache = Cache::builder(10).on_evict(move |_, _| {
+        if is_first.swap(false, SeqCst) {
+            told.lock().unwrap().upgrade().expect("it lives").invalidate_all();
+        }
+    });
+    let cache = Arc::new(cache.build().unwrap());
+    *own.lock().unwrap() = Arc::downgrade(&cache);
+    cache.get_or_load("key", || 1);
+    cache.insert("key", 2);
+    assert_eq!(cache.get("key"), None, "a write that was invalidated meanwhile is kept");
+}
