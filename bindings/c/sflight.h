@@ -253,7 +253,9 @@ SFLIGHT_MUST_USE
 uint32_t sflight_forget_call(sflight_slot *slot, const sflight_stamp *stamp, uint32_t tries);
 
 /* Finds which call the key's place names, as a free caller sees it: the one that was led last
- * there, which may be another key's, unless a Forget has cleared it.
+ * there, which may be another key's, unless a Forget has cleared it. A Forget closes an open call
+ * before it clears the place, so the call may be closed already: ask sflight_is_still about the
+ * stamp before a caller waits for the call in any other way than by sflight_ask.
  * Returns SFLIGHT_DONE: its stamp is written. SFLIGHT_NOTHING: there is no current call.
  * SFLIGHT_WRONG_STATE where the caller is not free. */
 uint32_t sflight_named(sflight_slot *slot, const uint8_t *key, size_t len, sflight_stamp *stamp);

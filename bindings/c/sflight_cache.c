@@ -387,17 +387,20 @@ int sflight_cache_get(sflight_reader *r, const uint8_t *key, size_t len, sflight
 void sflight_cache_forget(sflight_reader *r, const uint8_t *key, size_t len) {
     sflight_stamp stamp;
     uint64_t word;
-    while (sflight_named(&r->slot, key, len, &stamp) == SFLIGHT_DONE) {
-        uint32_t code = sflight_forget_call(&r->slot, &stamp, SFLIGHT_MOST_TRIES);
-        if (code == SFLIGHT_DONE || code == SFLIGHT_CLEARED) break;
+    /* Where the call is not current any more, another thread has forgotten it, or has led a newer
+     * one since this began: neither is to be waited for. */
+    while (sflight_named(&r->slot, key, len, &stamp) == SFLIGHT_DONE &&
+           sflight_forget_call(&r->slot, &stamp, SFLIGHT_MOST_TRIES) == SFLIGHT_BUSY) {
     }
     if (sflight_take_out(&r->slot, key, len, &word) == SFLIGHT_DONE) leave(r->cache, word, 1);
 }
 
 void sflight_cache_forget_all(sflight_reader *r) {
     sflight_cache *c = r->cache;
+    sflight_stamp stamp;
     for (uint32_t place = 1; place <= c->places; place++)
-        while (sflight_forget_at(&r->slot, place, SFLIGHT_MOST_TRIES) == SFLIGHT_BUSY) {
+        while (sflight_named_at(&r->slot, place, &stamp) == SFLIGHT_DONE &&
+               sflight_forget_call(&r->slot, &stamp, SFLIGHT_MOST_TRIES) == SFLIGHT_BUSY) {
         }
     empty(c, &r->slot);
 }

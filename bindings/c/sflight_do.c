@@ -377,6 +377,18 @@ static bool named(sflight_pool *pool, struct epoch *epoch, struct seat *seat, co
     return found;
 }
 
+/* Whose the call is that the key's slot names, as asked by the seat, or where there is none by the root. Where another thread's Forget
+ * has closed it, and is stopped before it clears the slot, the slot names it still: to the key it has ended. Whoever knows of a later
+ * Forget, which found nothing to close, may not follow it. */
+static enum whose find_call(sflight_pool *pool, struct epoch *epoch, struct seat *seat, const uint8_t *key, size_t len,
+                            uint64_t fingerprint, sflight_stamp *stamp) {
+    if (!named(pool, epoch, seat, key, len, stamp)) return ENDED;
+    if (!seat) pthread_mutex_lock(&pool->lock);
+    bool is_still = sflight_is_still(seat ? &seat->slot : &epoch->root, stamp);
+    if (!seat) pthread_mutex_unlock(&pool->lock);
+    return is_still ? whose_call(&epoch->seats[stamp->caller], stamp->generation, fingerprint) : ENDED;
+}
+
 /* The side table. Its lock is held. */
 
 static atomic_uint *alert_of(sflight_pool *pool, uint64_t fingerprint) { return &pool->alerts[fingerprint % ALERTS]; }
@@ -574,7 +586,7 @@ static enum beside ask_beside(sflight_pool *pool, const uint8_t *key, size_t len
         atomic_fetch_add(alert_of(pool, fingerprint), 1);
         /* The current epoch stays: it is replaced with this lock held. */
         struct epoch *epoch = pool->current;
-        enum whose whose = named(pool, epoch, NULL, key, len, &call) ? whose_call(&epoch->seats[call.caller], call.generation, fingerprint) : ENDED;
+        enum whose whose = find_call(pool, epoch, NULL, key, len, fingerprint, &call);
         is_over = true;
         if (whose == SAME) {
             atomic_fetch_sub(alert_of(pool, fingerprint), 1);
@@ -740,7 +752,7 @@ int sflight_do(sflight_pool *pool, const uint8_t *key, size_t len, sflight_load 
         bool is_beside = !seat || is_alert(pool, fingerprint), is_alone = !seat;
         if (!is_beside && atomic_load(&epoch->strangers) > 0) {
             sflight_stamp call;
-            enum whose whose = named(pool, epoch, seat, key, len, &call) ? whose_call(&epoch->seats[call.caller], call.generation, fingerprint) : ENDED;
+            enum whose whose = find_call(pool, epoch, seat, key, len, fingerprint, &call);
             is_beside = whose != ENDED;
             if (whose == ANOTHER) clash(pool, epoch);
         }

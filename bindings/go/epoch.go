@@ -104,6 +104,15 @@ func (s *seat) asking() (generation, print uint64) {
 	}
 }
 
+// The call that the key's slot names, unless a Forget has closed it. Where another goroutine's
+// Forget has closed it, and is stopped before it clears the slot, the slot names it still. Who
+// knows of a later Forget, which found nothing to close, may not follow it.
+func (s *seat) current(name string, print uint64) (Call, bool) {
+	call, ok := s.named(name, print)
+	yield()
+	return call, ok && s.isStill(Stamp{Place: uint64(call.place), Call: wordOf(call)})
+}
+
 // Whether it was free, and is the caller's now.
 func (s *seat) take() bool {
 	return atomic.LoadUint32(&s.taken) == 0 && atomic.CompareAndSwapUint32(&s.taken, 0, 1)

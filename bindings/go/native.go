@@ -120,6 +120,7 @@ func (s *slot) ask(key string, print uint64) (uint8, Call) {
 }
 
 // The call that the key's slot names: the one that was led there last, unless a Forget cleared it.
+// A Forget that has closed it may not have cleared it yet: isStill tells.
 func (s *slot) named(key string, print uint64) (Call, bool) {
 	place, word := cNamed(s, bytesOf(key), uintptr(len(key)), print)
 	call := callOf(word)

@@ -301,7 +301,7 @@ func (p *pool) lookBy(e *epoch, by *seat, k keyed) found {
 		return found{}
 	}
 	var digest [16]byte
-	call, ok := by.named(p.name(k, &digest), k.print)
+	call, ok := by.current(p.name(k, &digest), k.print)
 	if !ok {
 		return found{}
 	}
@@ -712,7 +712,7 @@ func (p *pool) sole(e *epoch, by *seat, name string, k keyed) (it sole, shared b
 	if !by.live {
 		return sole{}, false
 	}
-	call, ok := by.named(name, k.print)
+	call, ok := by.current(name, k.print)
 	if !ok {
 		return sole{}, false
 	}

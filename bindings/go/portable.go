@@ -36,14 +36,18 @@ type words struct {
 	mu      sync.Mutex
 	current []uint64
 	open    map[uint64]*openCall
-	left    uint32 // how many callers are left to split off, with the numbers up to that
+	closed  map[uint64]uint64 // by its place, a call that a Forget has closed, and has still to clear
+	left    uint32            // how many callers are left to split off, with the numbers up to that
 }
 
 func (s *plainSlot) open(size sizes, _, _ uint64) bool {
 	if size.places == 0 || size.places > mostPlaces {
 		return false
 	}
-	w := &words{seed: maphash.MakeSeed(), current: make([]uint64, size.places), open: make(map[uint64]*openCall), left: size.callers - 1}
+	w := &words{
+		seed: maphash.MakeSeed(), current: make([]uint64, size.places),
+		open: make(map[uint64]*openCall), closed: make(map[uint64]uint64), left: size.callers - 1,
+	}
 	s.live, s.words, s.number = true, w, size.callers
 	return true
 }
@@ -100,6 +104,7 @@ func (s *plainSlot) ask(key string, print uint64) (uint8, Call) {
 }
 
 // The call that the key's slot names: the one that was led there last, unless a Forget cleared it.
+// A Forget that has closed it may not have cleared it yet: isStill tells.
 func (s *plainSlot) named(key string, _ uint64) (Call, bool) {
 	w := s.words
 	place := w.placeOf(key)
@@ -120,6 +125,7 @@ func (s *plainSlot) finish(l *letter, _ bool, _ uint64) {
 	defer w.mu.Unlock()
 	c.settled = true
 	w.shut(c)
+	w.clear(c.stamp.Place, c.stamp.Call)
 	s.call = nil
 	l.joiners, l.stamp, l.call = c.joined, c.stamp, c.stamp.Call
 }
@@ -154,20 +160,40 @@ func (s *plainSlot) isStill(stamp Stamp) bool {
 	w := s.words
 	w.mu.Lock()
 	defer w.mu.Unlock()
-	return stamp.Call != 0 && stamp.Place-1 < uint64(len(w.current)) && w.current[stamp.Place-1] == stamp.Call
+	return stamp.Call != 0 && stamp.Place-1 < uint64(len(w.current)) &&
+		w.current[stamp.Place-1] == stamp.Call && w.closed[stamp.Place] != stamp.Call
 }
 
-// Forgets the call, which named told.
+// Forgets the call, which named told. A Forget that closes the call clears its place after that: in
+// the library others may come between, and so they may here where schedules are tried.
 func (s *plainSlot) forgetCall(call Call) uint32 {
-	w, place := s.words, uint64(call.place)
+	w, place, word := s.words, uint64(call.place), wordOf(call)
 	w.mu.Lock()
 	defer w.mu.Unlock()
-	if w.current[place-1] != wordOf(call) {
+	if w.current[place-1] != word || w.closed[place] == word {
 		return codeNothing
 	}
-	w.current[place-1] = 0
-	if c := w.open[place]; c != nil && w.shut(c) {
-		return codeDone
+	if c := w.open[place]; c == nil || !w.shut(c) {
+		w.current[place-1] = 0
+		return codeCleared
 	}
-	return codeCleared
+	w.closed[place] = word
+	if isScheduled {
+		w.mu.Unlock()
+		yield()
+		w.mu.Lock()
+	}
+	w.clear(place, word)
+	return codeDone
+}
+
+// Clears the place of a call that a Forget has closed, if it names that still. The lock is held.
+func (w *words) clear(place, word uint64) {
+	if w.closed[place] != word {
+		return
+	}
+	delete(w.closed, place)
+	if w.current[place-1] == word {
+		w.current[place-1] = 0
+	}
 }

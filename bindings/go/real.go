@@ -12,6 +12,8 @@ import (
 // Where the tests of schedules stop a goroutine; see schedules.go.
 func yield() {}
 
+const isScheduled = false
+
 func acquire(mu *sync.Mutex) { mu.Lock() }
 
 // Waits until done is closed; or until stop is, and then it is false.

@@ -19,6 +19,8 @@ type scheduled interface {
 
 var schedule scheduled
 
+const isScheduled = true
+
 func yield() {
 	if schedule != nil {
 		schedule.yield(false)

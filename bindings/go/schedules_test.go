@@ -27,6 +27,7 @@ type world struct {
 	stalls  bool // whether who goes on is told by priorities, so that some are stopped for long
 	lowest  int
 	few     bool // whether there are two keys, which are asked for and nothing else
+	one     bool // whether there is one key, which is asked for by those who may leave, and forgotten
 	trace   []string
 
 	group    *Group
@@ -261,6 +262,12 @@ func (w *world) got(key, asked int, v any, shared bool) {
 
 var errEnded = errors.New("the load was told to end")
 
+// Numbers of what a worker may do.
+const (
+	asksAndMayLeave = 12
+	forgets         = 14
+)
+
 // One thing that a worker does.
 func (w *world) act(depth, least int) {
 	if least >= len(w.keys) {
@@ -269,12 +276,14 @@ func (w *world) act(depth, least int) {
 	key := least + w.random.Intn(len(w.keys)-least)
 	if w.few {
 		key %= 2
+	} else if w.one {
+		key = 0
 	}
 	name := w.name(key)
 	asked := w.now
 	mayPanic := w.random.Intn(12) == 0
 	body := func() {
-		if depth < 2 && !w.few && w.random.Intn(3) == 0 {
+		if depth < 2 && !w.few && !w.one && w.random.Intn(3) == 0 {
 			w.act(depth+1, key+1)
 		}
 		if mayPanic {
@@ -288,7 +297,11 @@ func (w *world) act(depth, least int) {
 			}
 		}
 	}()
-	switch what := w.random.Intn(21); {
+	what := w.random.Intn(21)
+	if w.one {
+		what = []int{asksAndMayLeave, forgets}[w.random.Intn(2)]
+	}
+	switch {
 	case what < 8 || w.few:
 		w.log("asks for key %d", key)
 		v, err, shared, stamp := doStamped(w.group, name, func() (any, error) { return w.load(key, asked, body) })
@@ -300,7 +313,7 @@ func (w *world) act(depth, least int) {
 		if it, ok := v.(*run); ok {
 			w.stamps = append(w.stamps, stampOf{stamp, Call{}, it})
 		}
-	case what < 13:
+	case what <= asksAndMayLeave:
 		ctx, cancel := context.WithCancel(context.Background())
 		w.cancels = append(w.cancels, cancel)
 		w.log("asks for key %d, and may leave", key)
@@ -327,7 +340,7 @@ func (w *world) act(depth, least int) {
 		}
 	case what < 14:
 		w.forgetUnshared(key)
-	case what < 15:
+	case what <= forgets:
 		w.keys[key].forgets = append(w.keys[key].forgets, interval{from: w.now})
 		mine := len(w.keys[key].forgets) - 1
 		w.log("forgets key %d", key)
@@ -375,6 +388,10 @@ func playWorld(t *testing.T, seed int64) {
 	s.fixedCallers = w.random.Intn(2) == 0
 	w.stalls = w.random.Intn(2) == 0
 	w.few = w.random.Intn(4) == 0
+	w.one = !w.few && w.random.Intn(4) == 0
+	if w.one {
+		s.callers = 8
+	}
 	schedule, schedulesHash = nil, uint64(seed)*0x9e3779b97f4a7c15
 	p := newPool(s)
 	w.group = &Group{}

@@ -502,12 +502,12 @@ impl<T, P: Deref<Target = Pool<T>>> Asker<T, P> {
         outcome
     }
 
-    /// Which call the key's hash slot names.
-    pub(crate) fn named(&mut self, key: &[u8]) -> Option<Call> {
+    /// Which call is the current one of the key's hash slot.
+    pub(crate) fn current_call(&mut self, key: &[u8]) -> Option<Call> {
         self.refresh();
         match &mut self.taken {
-            Some(taken) => taken.epoch.named(Some(&mut taken.seat), key),
-            None => self.pool.current().named(None, key),
+            Some(taken) => taken.epoch.current(Some(&mut taken.seat), key),
+            None => self.pool.current().current(None, key),
         }
     }
 

@@ -171,7 +171,7 @@ impl<T: Send + Sync> Caller<T> {
     /// assert_eq!(caller.current_call("key"), got.call());
     /// ```
     pub fn current_call(&mut self, key: impl AsRef<[u8]>) -> Option<Call> {
-        self.0.named(key.as_ref())
+        self.0.current_call(key.as_ref())
     }
 
     /// Returns whether a value with this stamp may still be used, as

@@ -42,6 +42,9 @@ pub(crate) struct Epoch<T> {
     pub(crate) clashes: AtomicU64,
     /// How many of its callers have had all their calls.
     pub(crate) spent: AtomicU32,
+    /// In the schedule test, the Forgets that have closed a call and have still to clear its place.
+    #[cfg(test)]
+    pub(crate) closing: crate::schedules::Closing,
 }
 
 /// A seat, with its epoch.
@@ -99,6 +102,8 @@ impl<T> Epoch<T> {
                 strangers: AtomicU32::new(0),
                 clashes: AtomicU64::new(0),
                 spent: AtomicU32::new(0),
+                #[cfg(test)]
+                closing: Default::default(),
             }),
             _ => Err(Error::OutOfMemory),
         }
@@ -178,19 +183,30 @@ impl<T> Epoch<T> {
         }
     }
 
-    /// Which call the key's place names.
-    pub(crate) fn named(&self, seat: Option<&mut Seat>, key: &[u8]) -> Option<Call> {
-        self.named_stamp(seat, key).map(|stamp| Call::of(self.number, stamp))
+    /// Which call the key's place names, unless a Forget has closed it. Where another's Forget has
+    /// closed it, and is stopped before it clears the place, the place names it still. Who knows of
+    /// a later Forget, which found nothing to close, may not follow it.
+    pub(crate) fn current(&self, mut seat: Option<&mut Seat>, key: &[u8]) -> Option<Call> {
+        let stamp = self.named(seat.as_deref_mut(), key)?;
+        let is_still = self.by(seat, |slot| {
+            point();
+            raw::sflight_is_still(slot, &stamp)
+        });
+        is_still.then(|| Call::of(self.number, stamp))
     }
 
-    /// Its stamp.
-    pub(crate) fn named_stamp(&self, seat: Option<&mut Seat>, key: &[u8]) -> Option<raw::Stamp> {
+    /// The stamp of the call that the key's place names.
+    pub(crate) fn named(&self, seat: Option<&mut Seat>, key: &[u8]) -> Option<raw::Stamp> {
         let mut stamp = raw::Stamp::default();
         let name = self.names.of(key);
         let code = self.by(seat, |slot| {
             point();
             raw::named(slot, &name, &mut stamp)
         });
+        #[cfg(test)]
+        if code != raw::DONE {
+            return self.closing.named(key);
+        }
         (code == raw::DONE).then_some(stamp)
     }
 
@@ -201,7 +217,7 @@ impl<T> Epoch<T> {
         key: &[u8],
         fingerprint: u64,
     ) -> (Option<Call>, Whose) {
-        match self.named(seat, key) {
+        match self.current(seat, key) {
             None => (None, Whose::Ended),
             Some(call) => (Some(call), self.post(call.caller).whose(call.generation, fingerprint)),
         }

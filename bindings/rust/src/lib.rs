@@ -515,7 +515,7 @@ impl<T: Send + Sync> Group<T> {
     /// assert_eq!(group.current_call("key"), got.call());
     /// ```
     pub fn current_call(&self, key: impl AsRef<[u8]>) -> Option<Call> {
-        self.asker().named(key.as_ref())
+        self.asker().current_call(key.as_ref())
     }
 
     /// Returns whether the call of the stamp is the current one of its hash slot: no Forget of a

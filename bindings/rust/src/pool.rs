@@ -554,14 +554,13 @@ impl<T> Pool<T> {
         loop {
             let epoch = self.epoch_of(taken);
             closed |= self.forget_beside(key, fingerprint);
-            if let Some(stamp) = epoch.named_stamp(taken.as_mut().map(|taken| &mut taken.seat), key)
-            {
+            if let Some(stamp) = epoch.named(taken.as_mut().map(|taken| &mut taken.seat), key) {
                 let post = epoch.post(stamp.caller);
                 // Another key's open call stays: of this key nothing is open then, nor current.
                 if post.whose(stamp.generation, fingerprint) != Whose::Other {
                     post.forget(stamp.generation);
-                    let hit =
-                        epoch.forget_stamp(taken.as_mut().map(|taken| &mut taken.seat), stamp);
+                    let seat = taken.as_mut().map(|taken| &mut taken.seat);
+                    let hit = epoch.forget_stamp(seat, key, stamp);
                     closed |= hit == ForgetOutcome::Closed;
                 }
             }
@@ -744,14 +743,21 @@ impl<T> Epoch<T> {
     // Forgets the call, if it is the one that the key's place names. One that is not has nothing to
     // forget: it is not current.
     fn forget_call(&self, mut seat: Option<&mut Seat>, key: &[u8], call: Call) -> ForgetOutcome {
-        match self.named_stamp(seat.as_deref_mut(), key) {
-            Some(stamp) if Call::of(self.number, stamp) == call => self.forget_stamp(seat, stamp),
+        match self.named(seat.as_deref_mut(), key) {
+            Some(stamp) if Call::of(self.number, stamp) == call => {
+                self.forget_stamp(seat, key, stamp)
+            }
             _ => ForgetOutcome::Missed,
         }
     }
 
-    fn forget_stamp(&self, seat: Option<&mut Seat>, stamp: raw::Stamp) -> ForgetOutcome {
-        self.by(seat, |slot| loop {
+    fn forget_stamp(
+        &self,
+        seat: Option<&mut Seat>,
+        _key: &[u8],
+        stamp: raw::Stamp,
+    ) -> ForgetOutcome {
+        let outcome = self.by(seat, |slot| loop {
             point();
             match raw::forget_call(slot, &stamp) {
                 raw::DONE => return ForgetOutcome::Closed,
@@ -759,7 +765,12 @@ impl<T> Epoch<T> {
                 raw::BUSY => std::hint::spin_loop(),
                 _ => return ForgetOutcome::Missed,
             }
-        })
+        });
+        #[cfg(test)]
+        if outcome == ForgetOutcome::Closed {
+            self.closing.stops(_key, stamp);
+        }
+        outcome
     }
 }
 

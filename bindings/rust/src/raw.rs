@@ -26,7 +26,7 @@ impl Note {
 
 /// Which call. All zeros is that of no call.
 #[repr(C)]
-#[derive(Clone, Copy, Default)]
+#[derive(Clone, Copy, Default, PartialEq, Eq)]
 pub struct Stamp {
     pub place: u32,
     pub reserved: u32,

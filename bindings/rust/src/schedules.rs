@@ -1,6 +1,7 @@
 //! The crate's own code under schedules that are drawn at random: callers run as coroutines of one
 //! thread, and take turns at each step that others can see (`sync::point`). The library's calls are
-//! steps of their own, which its proof allows.
+//! steps of their own, which its proof allows, but for a Forget that has still to clear its place
+//! (`Closing`).
 //!
 //! Of each schedule it is checked that it ends, that no load of a key begins while another one runs
 //! that no Forget ended, that no answer is older than one that was returned before its asking
@@ -10,7 +11,8 @@
 //! `SFLIGHT_SCHEDULES` says how many are drawn, and `SFLIGHT_SEED` with which one it begins.
 
 use crate::asker::Asker;
-use crate::{Caller, Group, Loaded, Plan, Stamp};
+use crate::sync::lock;
+use crate::{raw, Caller, Group, Loaded, Plan, Stamp};
 use std::arch::global_asm;
 use std::cell::Cell;
 use std::collections::HashMap;
@@ -20,7 +22,7 @@ use std::pin::{pin, Pin};
 use std::ptr::null_mut;
 use std::rc::Rc;
 use std::sync::atomic::{AtomicBool, Ordering::SeqCst};
-use std::sync::Arc;
+use std::sync::{Arc, Mutex};
 use std::task::{Context, Poll, Wake, Waker};
 use std::time::Duration;
 
@@ -236,6 +238,29 @@ impl Random {
 
     fn below(&mut self, most: u64) -> u64 {
         self.next() % most
+    }
+}
+
+/// The library's Forget closes a call and then clears its place. The library is not stopped between
+/// the two here; but a Forget that is stopped after both makes the place name the call as long as
+/// it would, had it been stopped between. All other answers are equal.
+#[derive(Default)]
+pub(crate) struct Closing(Mutex<Vec<(Vec<u8>, raw::Stamp)>>);
+
+impl Closing {
+    /// The call that the key's place would name, where it names none.
+    pub(crate) fn named(&self, key: &[u8]) -> Option<raw::Stamp> {
+        lock(&self.0).iter().find(|(of, _)| of == key).map(|(_, stamp)| *stamp)
+    }
+
+    /// A Forget of the key has closed the call: may it be stopped.
+    pub(crate) fn stops(&self, key: &[u8], stamp: raw::Stamp) {
+        lock(&self.0).push((key.into(), stamp));
+        point();
+        let mut all = lock(&self.0);
+        if let Some(at) = all.iter().position(|(of, it)| of == key && *it == stamp) {
+            all.remove(at);
+        }
     }
 }
 
