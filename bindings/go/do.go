@@ -18,11 +18,12 @@ func (p *pool) do(r *Result, key string, fn func() (any, error), all bool) {
 	if e != nil && alert.Load() == 0 {
 		if s := e.takeHot(); s != nil {
 			yield()
-			var code uint8
-			var call Call
+			asked := uint64(codeBusy)
 			if len(key) <= longestKey {
-				code, call = s.ask(key, k.print)
-			} else {
+				asked = s.askOnce(key, k.print)
+			}
+			code, call := askedOf(asked)
+			if code == codeBusy {
 				code, call = p.askBy(s, k)
 			}
 			yield()
@@ -170,7 +171,7 @@ func (p *pool) leadBy(r *Result, s *seat, k keyed, fn func() (any, error), all b
 			r.Err = broken(recover())
 		}
 		s.ended = false
-		p.settleBy(s, r, k, all, false)
+		p.settlePlain(s, r, k, all)
 		if !returned {
 			goOnPanic(r.Err)
 		}

@@ -248,11 +248,16 @@ func (s *seat) release() {
 const hasPlainStores = isProved && !isRaceDetected
 
 func (p *pool) put(s *seat) {
-	e := s.epoch
 	if s.hot {
-		p.putHot(e, s)
+		p.putHot(s.epoch, s)
 		return
 	}
+	p.putBack(s)
+}
+
+// The same of a seat that is not hot.
+func (p *pool) putBack(s *seat) {
+	e := s.epoch
 	p.lock()
 	e.free = append(e.free, s)
 	e.resting.Store(uint32(len(e.free)))

@@ -437,6 +437,39 @@ func manyContexts(t *testing.T, callers uint32) {
 	}
 }
 
+type failure struct{ text [64]byte }
+
+func (f *failure) Error() string { return string(f.text[:]) }
+
+// Once a call has ended, its seat keeps neither its value nor its error, whoever has the result too.
+func TestResultsAreFreed(t *testing.T) {
+	var made, freed atomic.Int64
+	result := func() (any, error) {
+		made.Add(2)
+		v, err := new(failure), new(failure)
+		runtime.SetFinalizer(v, func(*failure) { freed.Add(1) })
+		runtime.SetFinalizer(err, func(*failure) { freed.Add(1) })
+		return v, err
+	}
+	for _, key := range []string{"key", "a key of more than the forty bytes that the library keeps of it"} {
+		g := open(t, 16)
+		g.Do(key, result)
+		release := make(chan struct{})
+		started := make(chan struct{})
+		joined := g.DoChan(key, func() (any, error) { close(started); <-release; return result() })
+		begun(t, started)
+		other := g.DoChan(key, result)
+		close(release)
+		<-joined
+		<-other
+		ctx, cancel := context.WithCancel(context.Background())
+		doContext(ctx, g, key, func(context.Context) (any, error) { return result() })
+		cancel()
+		g.Do(key, result)
+		until(t, "all are freed", func() bool { runtime.GC(); return freed.Load() == made.Load() })
+	}
+}
+
 // More clients than callers, in rounds: each has one load.
 func TestRounds(t *testing.T) {
 	const clients = 200

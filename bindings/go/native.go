@@ -112,20 +112,28 @@ func (s *slot) counts() (leads, joins uint64) {
 
 // Asks for the key, whose fingerprint is told too. The code, and the call where that is codeJoined.
 func (s *slot) ask(key string, print uint64) (uint8, Call) {
-	asked := cAsk(s, bytesOf(key), uintptr(len(key)), tries, print)
+	asked := s.askOnce(key, print)
 	for uint8(asked) == codeBusy {
-		asked = cAsk(s, bytesOf(key), uintptr(len(key)), tries, print)
+		asked = s.askOnce(key, print)
 	}
-	return uint8(asked), Call{caller: uint32(asked) >> 8, generation: uint32(asked >> 32)}
+	return askedOf(asked)
+}
+
+// The same, which may be codeBusy: as calls.c answers.
+func (s *slot) askOnce(key string, print uint64) uint64 {
+	return cAsk(s, bytesOf(key), uintptr(len(key)), tries, print)
 }
 
 // The call that the key's slot names: the one that was led there last, unless a Forget cleared it.
 // A Forget that has closed it may not have cleared it yet: isStill tells.
 func (s *slot) named(key string, print uint64) (Call, bool) {
-	place, word := cNamed(s, bytesOf(key), uintptr(len(key)), print)
-	call := callOf(word)
-	call.place = uint32(place)
-	return call, word != 0
+	place, word := s.namedWords(key, print)
+	return callAt(place, word), word != 0
+}
+
+// The same as the number of its place, and its word, which is 0 where none is named.
+func (s *slot) namedWords(key string, print uint64) (place, word uint64) {
+	return cNamed(s, bytesOf(key), uintptr(len(key)), print)
 }
 
 // Settles the call that it leads with the value. The letter tells how many joined, and where all is wanted, its stamp and call.

@@ -578,30 +578,48 @@ func (p *pool) forget(key string) {
 			closed = p.forgetBeside(k) || closed
 		}
 		yield()
-		var s *seat
 		if e != nil {
-			if s = e.takeHot(); s == nil {
-				s = p.any(e)
+			if s := e.takeHot(); s != nil {
+				closed = p.forgetBy(e, s, k) || closed
+				yield()
+				// A leader of a newer epoch may have taken the result of a run before that was dropped.
+				ends := p.now.Load() == e
+				if ends {
+					s.told(closed)
+				}
+				p.putHot(e, s)
+				if ends {
+					return
+				}
+				continue
 			}
 		}
-		if s != nil {
-			closed = p.forgetBy(e, s, k) || closed
-		}
-		yield()
-		// A leader of a newer epoch may have taken the result of a run before that was dropped.
-		ends := p.now.Load() == e
-		if s != nil {
-			if ends {
-				s.told(closed)
-			}
-			p.putAny(s)
-		} else if ends {
-			p.told(closed)
-		}
-		if ends {
+		if p.forgetByAny(e, k, &closed) {
 			return
 		}
 	}
+}
+
+// The same where no seat is near, once. Whether the epoch is the present one still.
+func (p *pool) forgetByAny(e *epoch, k keyed, closed *bool) (ends bool) {
+	var s *seat
+	if e != nil {
+		s = p.any(e)
+	}
+	if s != nil {
+		*closed = p.forgetBy(e, s, k) || *closed
+	}
+	yield()
+	ends = p.now.Load() == e
+	if s != nil {
+		if ends {
+			s.told(*closed)
+		}
+		p.putAny(s)
+	} else if ends {
+		p.told(*closed)
+	}
+	return ends
 }
 
 // Nobody who asks from now on joins the key's run beside the library, or its open call in an epoch that drains. Whether
@@ -620,12 +638,18 @@ func (p *pool) forgetBeside(k keyed) bool {
 // key. A call that was led meanwhile is newer than this Forget. Whether that closed a call.
 func (p *pool) forgetBy(e *epoch, by *seat, k keyed) bool {
 	var digest [16]byte
-	call, ok := by.named(p.name(k, &digest), k.print)
-	if !ok {
-		return false
+	name := k.key
+	if len(name) > longestKey {
+		name = p.name(k, &digest)
 	}
+	place, word := by.namedWords(name, k.print)
+	return word != 0 && e.forgetNamed(by, callAt(place, word), k.print)
+}
+
+func (e *epoch) forgetNamed(by *seat, call Call, print uint64) bool {
 	yield()
-	if generation, print := e.numbered(call.caller).asking(); uint32(generation) == call.generation && print != k.print {
+	generation, other := e.numbered(call.caller).asking()
+	if uint32(generation) == call.generation && other != print {
 		return false
 	}
 	return by.forgetCall(call) == codeDone
@@ -953,9 +977,7 @@ func (p *pool) settleBy(s *seat, r *Result, k keyed, all, watched bool) (out []*
 	all = all || s.followed.Load() != 0
 	s.finish(&letter, all, id)
 	if all {
-		r.Stamp, r.Call = letter.stamp, callOf(letter.call)
-		r.Stamp.Place |= e.number << placeBits
-		r.Call.epoch = e.number
+		e.tell(r, &letter)
 	}
 	yield()
 	if kept != nil {
@@ -973,6 +995,30 @@ func (p *pool) settleBy(s *seat, r *Result, k keyed, all, watched bool) (out []*
 		p.noted(e)
 	}
 	return out
+}
+
+// The same of a call that nobody watches, of a group that is no cache.
+func (p *pool) settlePlain(s *seat, r *Result, k keyed, all bool) {
+	s.val, s.err = r.Val, r.Err
+	if isRaceDetected {
+		s.owed.Store(0)
+	}
+	var letter letter
+	// One who follows it has its stamp too.
+	all = all || s.followed.Load() != 0
+	s.finish(&letter, all, 0)
+	if all {
+		s.epoch.tell(r, &letter)
+	}
+	yield()
+	if letter.joiners > 0 || s.followed.Load() != 0 {
+		p.share(s, r, k, int64(letter.joiners))
+	} else if s.hot && len(s.key) == 0 {
+		s.val, s.err = nil, nil
+		p.putHot(s.epoch, s)
+	} else {
+		p.clear(s)
+	}
 }
 
 // Nobody needs any more what the seat's call came to, and the seat is free.
@@ -1068,7 +1114,26 @@ type letter struct {
 	call          uint64
 }
 
+// Tells the result the stamp and the call of its letter.
+func (e *epoch) tell(r *Result, l *letter) {
+	r.Stamp, r.Call = l.stamp, callOf(l.call)
+	r.Stamp.Place |= e.number << placeBits
+	r.Call.epoch = e.number
+}
+
 func callOf(word uint64) Call { return Call{caller: uint32(word), generation: uint32(word >> 32)} }
+
+// What an asking was answered: its code, and the call that it joined.
+func askedOf(asked uint64) (uint8, Call) {
+	return uint8(asked), Call{caller: uint32(asked) >> 8, generation: uint32(asked >> 32)}
+}
+
+// The same of a call that a place names.
+func callAt(place, word uint64) Call {
+	call := callOf(word)
+	call.place = uint32(place)
+	return call
+}
 
 func wordOf(call Call) uint64 { return uint64(call.generation)<<32 | uint64(call.caller) }
 

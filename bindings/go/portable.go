@@ -75,6 +75,12 @@ func (w *words) placeOf(key string) uint64 {
 	return hash(w.seed, key)%uint64(len(w.current)) + 1
 }
 
+// The same as the library's code answers it.
+func (s *plainSlot) askOnce(key string, print uint64) uint64 {
+	code, call := s.ask(key, print)
+	return uint64(call.generation)<<32 | uint64(call.caller)<<8 | uint64(code)
+}
+
 // Asks for the key, whose fingerprint is told too. The code, and the call where that is codeJoined.
 func (s *plainSlot) ask(key string, print uint64) (uint8, Call) {
 	w := s.words
@@ -105,15 +111,18 @@ func (s *plainSlot) ask(key string, print uint64) (uint8, Call) {
 
 // The call that the key's slot names: the one that was led there last, unless a Forget cleared it.
 // A Forget that has closed it may not have cleared it yet: isStill tells.
-func (s *plainSlot) named(key string, _ uint64) (Call, bool) {
+func (s *plainSlot) named(key string, print uint64) (Call, bool) {
+	place, word := s.namedWords(key, print)
+	return callAt(place, word), word != 0
+}
+
+// The same as the number of its place, and its word, which is 0 where none is named.
+func (s *plainSlot) namedWords(key string, _ uint64) (place, word uint64) {
 	w := s.words
-	place := w.placeOf(key)
+	place = w.placeOf(key)
 	w.mu.Lock()
 	defer w.mu.Unlock()
-	word := w.current[place-1]
-	call := callOf(word)
-	call.place = uint32(place)
-	return call, word != 0
+	return place, w.current[place-1]
 }
 
 // Settles the call that it leads. The letter tells how many joined, its stamp and call.
