@@ -86,3 +86,132 @@ counted 2 0 2 2 0 0 2 0";
 fn caches_keep_within_their_limit(rt: HostRuntime) -> Result<(), Fail> {
     trials(&rt, rt.alloc(), LIMITS)
 }
+
+const WEIGHTS: &str = "\
+longest 8
+limit 9
+1 repeat 1 aaa
+1 repeat 1 bbbb
+1 stats
+1 repeat 1 c
+1 stats
+=
+1 main 9 bytes, 2 items, 0 evictions
+1 hot 0 bytes, 0 items, 0 evictions
+1 main 7 bytes, 2 items, 1 evictions
+1 hot 0 bytes, 0 items, 0 evictions
+counted 3 0 3 3 0 0 3 0
+
+places 1
+longest 8
+1 repeat 1 aaa
+1 put aaa
+1 stats
+=
+1 put aaa settled 1.2 of 1 w=true
+1 main 4 bytes, 1 items, 0 evictions
+1 hot 0 bytes, 0 items, 0 evictions
+counted 2 0 2 2 0 0 2 0
+
+longest 8
+peer value
+1 repeat 2 aaa
+1 stats
+=
+1 main 0 bytes, 0 items, 0 evictions
+1 hot 4 bytes, 1 items, 0 evictions
+counted 2 1 1 1 1 0 0 0";
+
+// An entry weighs its key's bytes and its value's, which has one: in main, after a put, and in hot.
+#[test]
+fn keys_weigh_their_bytes(rt: HostRuntime) -> Result<(), Fail> {
+    trials(&rt, rt.alloc(), WEIGHTS)
+}
+
+const HOT_ALONE: &str = "\
+peer value
+1 repeat 2 a
+1 remove a
+1 stats
+1 repeat 1 a
+=
+1 remove a true
+1 main 0 bytes, 0 items, 0 evictions
+1 hot 0 bytes, 0 items, 0 evictions
+counted 3 1 2 2 2 0 0 0
+
+peer value
+1 repeat 2 a
+1 reload a
+1 stats
+1 repeat 1 a
+=
+1 reload a cleared 1.1
+1 main 0 bytes, 0 items, 0 evictions
+1 hot 0 bytes, 0 items, 0 evictions
+counted 3 1 2 2 2 0 0 0
+
+peer value
+1 repeat 2 a
+1 forget-all
+1 stats
+1 repeat 1 a
+=
+1 forget all true
+1 main 0 bytes, 0 items, 0 evictions
+1 hot 0 bytes, 0 items, 0 evictions
+counted 3 1 2 2 2 0 0 0
+
+keys hashed
+places 1
+peer value
+1 repeat 2 a
+1 remove b
+1 stats
+1 repeat 1 a
+=
+1 remove b true
+1 main 0 bytes, 0 items, 0 evictions
+1 hot 2 bytes, 1 items, 0 evictions
+counted 3 2 1 1 1 0 0 0";
+
+// The only entry is in hot. It leaves at a remove, a reload and a `forget_all`, and stays where another key of its place is removed.
+#[test]
+fn entry_in_hot_alone_leaves(rt: HostRuntime) -> Result<(), Fail> {
+    trials(&rt, rt.alloc(), HOT_ALONE)
+}
+
+const LARGE: &str = "\
+limit 70001
+local large
+1 repeat 2 a
+1 stats
+=
+1 main 70001 bytes, 1 items, 0 evictions
+1 hot 0 bytes, 0 items, 0 evictions
+counted 2 1 1 1 0 0 1 0
+
+limit 70001
+peer large
+1 repeat 2 a
+1 stats
+=
+1 main 0 bytes, 0 items, 0 evictions
+1 hot 70001 bytes, 1 items, 0 evictions
+counted 2 1 1 1 1 0 0 0
+
+limit 70001
+local large
+near 2
+near-bytes 70001
+1 repeat 2 a
+1 repeat 1 b
+1 repeat 1 a
+=
+counted 4 2 2 2 0 0 2 0";
+
+// A value of 70,000 bytes is kept in main, in hot and near the getter, if there is just room for it.
+#[test]
+fn large_value_is_kept(rt: HostRuntime) -> Result<(), Fail> {
+    trials(&rt, rt.alloc(), LARGE)
+}

@@ -16,7 +16,13 @@ mod leaders;
 #[cfg(test)]
 mod loaders;
 #[cfg(test)]
+mod many;
+#[cfg(test)]
 mod missed;
+#[cfg(test)]
+mod near;
+#[cfg(test)]
+mod own;
 #[cfg(test)]
 mod rows;
 #[cfg(test)]

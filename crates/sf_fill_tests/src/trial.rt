@@ -23,10 +23,11 @@
 //!     keys hashed       a hash says them, and no directory gives them
 //!     longest 4         the longest key of a directory, in bytes
 //!     limit 100         how many bytes of keys and values main and hot keep
-//!     near 0            how many letters each getter keeps near, within 100 bytes
+//!     near 0            how many letters each getter keeps near
+//!     near-bytes 100    how many bytes of keys and values these have at most
 //!     log 64            how many events each getter can log
-//!     peer value        a peer gives the value `v`, or a `fault`; else there is no peer
-//!     local value       the local getter gives the value `v`, a `fault`, or the `version` of the key's source
+//!     peer value        a peer gives the value `v`, a `large` one, or a `fault`; else there is no peer
+//!     local value       the local getter gives these, or the `version` of the key's source; a `large` value has 70,000 bytes
 //!     getters beside    each getter makes its steps on a thread of its own, and not one getter after another
 //!     getters end       the getters end one by one, and are not gathered
 //!
@@ -101,6 +102,17 @@ fn limit(rt: &impl Abort, script: &str) -> i64 {
         panic!(rt; "no limit")
     };
     limit
+}
+
+// How many bytes of keys and values a getter keeps near.
+fn near_bytes(rt: &impl Abort, script: &str) -> usize {
+    let Some(value) = setting(script, "near-bytes") else {
+        return 100;
+    };
+    let Ok(bytes) = value.parse::<usize>() else {
+        panic!(rt; "no bytes of near letters")
+    };
+    bytes
 }
 
 // Where keys have their places.
@@ -306,12 +318,21 @@ fn number_of(index: u32) -> &'static str {
 
 // The answers of a loader that gives a value, and else a fault.
 fn answers(alloc: Global, gives: &str) -> Result<Script, Memory> {
-    let answer = if gives == "value" {
-        Answer::Value(Bytes::from("v"))
-    } else {
-        Answer::Failed(ByteStr::from("down"))
+    let answer = match gives {
+        "value" => Answer::Value(Bytes::from("v")),
+        "large" => Answer::Value(large(alloc)?),
+        _ => Answer::Failed(ByteStr::from("down")),
     };
     Ok(Script::new(vec![in alloc; answer]?))
+}
+
+// A value of 70,000 bytes, each of which is `v`.
+fn large(alloc: Global) -> Result<Bytes, Memory> {
+    let mut bytes = Vec::with_capacity(alloc, 70_000)?;
+    for _ in 0..70_000 {
+        bytes.push(b'v')?;
+    }
+    Ok(Bytes::from_vec(bytes)?)
 }
 
 // The local getter that the script asks for; it waits until the second getter was answered, or not.
@@ -375,7 +396,7 @@ fn sizes_of(rt: &impl Abort, script: &str) -> FillSizes
             limit: limit(rt, script),
             log: number(rt, script, "log", 64) as usize,
             near: number(rt, script, "near", 0),
-            near_limit: 100,
+            near_limit: near_bytes(rt, script),
         },
         first_generation: 1,
     }
@@ -446,6 +467,7 @@ fn is_known(line: &str) -> bool {
             | "longest"
             | "limit"
             | "near"
+            | "near-bytes"
             | "log"
             | "peer"
             | "local"

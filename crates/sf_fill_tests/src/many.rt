@@ -1,0 +1,157 @@
+//! Fills of more than 1,000 getters, with places by a hash and in a directory, and keys of thousands of bytes.
+ghost use Rattle.std.specs.Prelude.{◌≡◌, ◌<◌, ◌≤◌, All, IfOk, vec_len};
+ghost use Rattle.sf_words.specs.declared.limits.TheConstants.{LARGEST_PLACE};
+ghost use Rattle.sf_fill_open.specs.Opened.{IsNewGetter, places_for};
+
+use crate::leaders::loaders;
+use bytes::Bytes;
+use sf_fill::{Fill, Getter, Naming};
+use sf_fill_open::{Body, DirectoryKeys, FillSizes, Keys, Places, with_fill};
+use sf_group::Memory;
+use sf_loaders::scripted::{FixedPicker, RoundChance, Script};
+use sf_loaders::{LoadPath, Loaders, Origin};
+use std::alloc::Global;
+use std::process::Abort;
+use std::sync::Wait;
+use std::test::Fail;
+
+/// How many getters there are, and how many gets of the key by each are answered `v`: two of the last, and one of each other.
+#[derive(Drop)]
+struct Many<'a, R> {
+    rt: &'a R,
+    key: &'a [u8],
+}
+
+/// What came of them.
+#[derive(Clone, Copy, PartialEq, Eq)]
+struct Came {
+    getters: u32,
+    answers: u32,
+    loads: u128,
+}
+
+impl<'a, R: Wait> Body for Many<'a, R> {
+    type Answer = Came;
+
+    ghost use Rattle.std.specs.Prelude.{⊤};
+
+    ghost wants = { λ many getters loaded. ⊤ };
+
+    ghost room = { λ many. 0 };
+
+    ghost ends = { λ many came. ⊤ };
+
+    fn run<
+        'd,
+        D: Naming + Send + Sync,
+        N: Naming + Send + Sync,
+        O: Origin + Send + Sync,
+        L: LoadPath<Origin = O> + Send + Drop,
+    >(self, fill: &Fill<'d, D, N, O>, getters: Vec<Getter<'d, D, N, O, L>>) -> Came
+        requires getters { vec_len getters ≡ N.getters }
+        requires new { All (IsNewGetter N.group 0) getters.items }
+    {
+        let Many { rt, key } = self;
+        let mut count: u32 = 0;
+        let mut answers: u32 = 0;
+        let mut getters = getters;
+        'each: while let Some(mut getter) = getters.pop() {
+            count = count.saturating_add(1);
+            if let Ok(view) = fill.get(rt, &mut getter, key) {
+                if view.into_bytes().as_slice() == b"v".as_slice() {
+                    answers = answers.saturating_add(1);
+                }
+            }
+            getter.end(rt, fill);
+        }
+        getters.destroy_empty();
+        Came {
+            getters: count,
+            answers,
+            loads: fill.book(rt).loads,
+        }
+    }
+}
+
+type OneLoaders = Loaders<FixedPicker, Script, Script, RoundChance>;
+
+// Loaders for so many getters.
+fn all_loaders(alloc: Global, count: u32) -> Result<Vec<OneLoaders>, Memory>
+    ensures { IfOk result (λ sets. vec_len sets ≡ count) }
+{
+    let mut sets = Vec::new(alloc);
+    for index in 0..count {
+        // Named for the loop's invariant alone.
+        let _ = index;
+        sets.push(loaders(alloc)?)?;
+    }
+    Ok(sets)
+}
+
+// The key is loaded once for so many getters, each of which is answered.
+fn check<R: Wait + Abort>(
+    rt: &R,
+    alloc: Global,
+    keys: Keys,
+    count: u32,
+    key: &[u8],
+) -> Result<(), Memory>
+    requires places { places_for keys ≤ LARGEST_PLACE }
+    requires count { (0 < count) × (count ≤ 1100) }
+{
+    let sizes = FillSizes::new(keys, 100_000);
+    let sets = all_loaders(alloc, count)?;
+    let came = with_fill(alloc, sizes, sets, Many { rt, key })?;
+    let due = Came {
+        getters: count,
+        answers: count,
+        loads: 1,
+    };
+    assert!(rt;
+        came == due,
+        "{count} getters and a key of {} bytes",
+        key.len()
+    );
+    Ok(())
+}
+
+// A key of so many bytes.
+fn key_of(alloc: Global, count: u32) -> Result<Vec<u8>, Memory> {
+    let mut key = Vec::new(alloc);
+    for _ in 0..count {
+        key.push(b'k')?;
+    }
+    Ok(key)
+}
+
+const PLACES: Places = Places {
+    count: 8,
+    seed0: 0,
+    seed1: 0,
+};
+
+// Of 1,100 getters one loads, and the others find its letter in main.
+#[test]
+fn many_getters_share_a_load(rt: HostRuntime) -> Result<(), Fail> {
+    let alloc = rt.alloc();
+    check(&rt, alloc, Keys::Hashed(PLACES), 1_100, b"a")?;
+    let keys = DirectoryKeys {
+        keys: 8,
+        key_bytes: 4,
+        seed0: 0,
+        seed1: 0,
+    };
+    check(&rt, alloc, Keys::Directory(keys), 1_100, b"a")?;
+    Ok(())
+}
+
+// A key by a hash may have any number of bytes.
+#[test]
+fn key_of_thousands_of_bytes_is_shared(rt: HostRuntime) -> Result<(), Fail> {
+    let alloc = rt.alloc();
+    for count in [0, 251, 5_000, 70_000] {
+        let key = key_of(alloc, count)?;
+        check(&rt, alloc, Keys::Hashed(PLACES), 2, key.as_slice())?;
+    }
+    Ok(())
+}
