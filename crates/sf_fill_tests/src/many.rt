@@ -97,9 +97,11 @@ fn check<R: Wait + Abort>(
     key: &[u8],
 ) -> Result<(), Memory>
     requires places { places_for keys ≤ LARGEST_PLACE }
-    requires count { (0 < count) × (count ≤ 1100) }
+    requires count { (0 < count) × (count ≤ 1001) }
 {
-    let sizes = FillSizes::new(keys, 100_000);
+    // Nothing is kept near, since each getter would make room for 256 letters.
+    let mut sizes = FillSizes::new(keys, 100_000);
+    sizes.keeps.near = 0;
     let sets = all_loaders(alloc, count)?;
     let came = with_fill(alloc, sizes, sets, Many { rt, key })?;
     let due = Came {
@@ -130,18 +132,18 @@ const PLACES: Places = Places {
     seed1: 0,
 };
 
-// Of 1,100 getters one loads, and the others find its letter in main.
+// Of 1,001 getters one loads, and the others find its letter in main.
 #[test]
 fn many_getters_share_a_load(rt: HostRuntime) -> Result<(), Fail> {
     let alloc = rt.alloc();
-    check(&rt, alloc, Keys::Hashed(PLACES), 1_100, b"a")?;
+    check(&rt, alloc, Keys::Hashed(PLACES), 1_001, b"a")?;
     let keys = DirectoryKeys {
         keys: 8,
         key_bytes: 4,
         seed0: 0,
         seed1: 0,
     };
-    check(&rt, alloc, Keys::Directory(keys), 1_100, b"a")?;
+    check(&rt, alloc, Keys::Directory(keys), 1_001, b"a")?;
     Ok(())
 }
 

@@ -14,9 +14,11 @@ near-bytes 4
 1 repeat 2 aaa
 1 repeat 9 bbb
 1 repeat 1 ccc
-1 repeat 1 bbb
-1 repeat 1 aaa
+1 get bbb
+1 get aaa
 =
+1 bbb v=true 1.2 root=1.2 joiners=0
+1 aaa v=true 1.4 root=1.4 joiners=0
 counted 14 10 4 4 0 0 4 0
 
 limit 3
@@ -26,9 +28,11 @@ near-bytes 5
 1 repeat 2 aa
 1 repeat 10 bb
 1 repeat 1 cc
-1 repeat 1 bb
-1 repeat 1 aa
+1 get bb
+1 get aa
 =
+1 bb v=true 1.2 root=1.2 joiners=0
+1 aa v=true 1.4 root=1.4 joiners=0
 counted 15 11 4 4 0 0 4 0
 
 limit 3
@@ -38,9 +42,11 @@ near-bytes 6
 1 repeat 2 aa
 1 repeat 10 bb
 1 repeat 1 cc
-1 repeat 1 bb
-1 repeat 1 aa
+1 get bb
+1 get aa
 =
+1 bb v=true 1.2 root=1.2 joiners=0
+1 aa v=true 1.1 root=1.1 joiners=0
 counted 15 12 3 3 0 0 3 0";
 
 // A letter weighs its key's bytes and its value's, which has one.
@@ -51,6 +57,107 @@ counted 15 12 3 3 0 0 3 0";
 #[test]
 fn near_letters_keep_within_their_bytes(rt: HostRuntime) -> Result<(), Fail> {
     trials(&rt, rt.alloc(), BUDGETS)
+}
+
+const MADE_ROOM: &str = "\
+limit 3
+longest 8
+near 8
+near-bytes 6
+1 repeat 2 aa
+1 repeat 2 bb
+1 repeat 9 cc
+1 repeat 1 dd
+1 get cc
+=
+1 cc v=true 1.3 root=1.3 joiners=0
+counted 15 11 4 4 0 0 4 0
+
+limit 3
+longest 8
+near 8
+near-bytes 6
+1 repeat 2 cc
+1 repeat 2 aa
+1 repeat 9 bb
+1 repeat 1 dd
+1 get bb
+=
+1 bb v=true 1.3 root=1.3 joiners=0
+counted 15 11 4 4 0 0 4 0
+
+limit 3
+longest 8
+near 8
+near-bytes 6
+1 repeat 2 bb
+1 repeat 2 cc
+1 repeat 9 aa
+1 repeat 1 dd
+1 get aa
+=
+1 aa v=true 1.3 root=1.3 joiners=0
+counted 15 11 4 4 0 0 4 0
+
+limit 5
+longest 8
+near 1
+near-bytes 6
+1 repeat 2 aa
+1 repeat 2 bb
+1 repeat 2 cccc
+1 repeat 1 aa
+1 get cccc
+=
+1 cccc v=true 1.3 root=1.3 joiners=0
+counted 8 4 4 4 0 0 4 0";
+
+// A third letter has no room beside two others of 3 bytes. Each get of it in main empties one more of the eight slots, so it is near
+// after eight of them, whichever slots the others have. A letter that takes another's slot gives that one's bytes back: there is room
+// for one of 5 bytes then.
+#[test]
+fn near_slots_are_emptied_in_turn(rt: HostRuntime) -> Result<(), Fail> {
+    trials(&rt, rt.alloc(), MADE_ROOM)
+}
+
+const BOTH: &str = "\
+places 4
+limit 2
+near 2
+1 repeat 2 a
+1 repeat 2 b
+1 repeat 1 c
+1 repeat 1 a
+1 repeat 1 b
+=
+counted 7 4 3 3 0 0 3 0
+
+places 4
+limit 2
+near 2
+1 repeat 2 b
+1 repeat 2 c
+1 repeat 1 a
+1 repeat 1 b
+1 repeat 1 c
+=
+counted 7 4 3 3 0 0 3 0
+
+places 4
+limit 2
+near 2
+1 repeat 2 c
+1 repeat 2 a
+1 repeat 1 b
+1 repeat 1 c
+1 repeat 1 a
+=
+counted 7 4 3 3 0 0 3 0";
+
+// Two letters are near at once, also where they share their first slot, as two of three places do.
+#[test]
+fn near_letters_of_both_slots_answer(rt: HostRuntime) -> Result<(), Fail> {
+    trials(&rt, rt.alloc(), BOTH)
 }
 
 const TOO_LARGE: &str = "\
@@ -126,10 +233,48 @@ near-bytes 3
 1 reload bb cleared 1.1
 1 remove cc true
 1 forget all true
-counted 14 7 7 7 0 0 7 0";
+counted 14 7 7 7 0 0 7 0
+
+limit 3
+longest 8
+near 8
+near-bytes 3
+getters beside
+1 repeat 2 aa
+1 tell answered
+2 await answered
+2 reload aa
+2 tell got
+1 await got
+1 repeat 1 aa
+1 repeat 2 bb
+1 repeat 1 cc
+1 repeat 1 bb
+=
+2 reload aa cleared 1.1
+counted 7 3 4 4 0 0 4 0
+
+limit 3
+longest 8
+near 8
+near-bytes 3
+getters beside
+1 repeat 2 bb
+1 tell answered
+2 await answered
+2 reload bb
+2 tell got
+1 await got
+1 repeat 1 bb
+1 repeat 2 aa
+1 repeat 1 cc
+1 repeat 1 aa
+=
+2 reload bb cleared 1.1
+counted 7 3 4 4 0 0 4 0";
 
 // There is room for one letter. A reload, a remove and a `forget_all` take it out, and give its bytes back at once: the next key's
-// letter is near as soon as main has answered it.
+// letter is near as soon as main has answered it. So does a get that finds it forgotten by another getter.
 #[test]
 fn near_letters_give_their_bytes_back(rt: HostRuntime) -> Result<(), Fail> {
     trials(&rt, rt.alloc(), GIVEN_BACK)
