@@ -92,6 +92,28 @@ fn weight_makes_room_one_by_one(rt: HostRuntime) -> Result<(), Fail> {
     Ok(())
 }
 
+// An item that was asked for stays, and the other one leaves; where both were asked for, one leaves once all ways were passed by, in the
+// same put: there are 32, and it passes 64.
+#[test]
+fn what_was_asked_for_is_passed_by_once(rt: HostRuntime) -> Result<(), Fail> {
+    let token = Arc::new(rt.alloc(), 7u8)?;
+    for (asked, other) in [(1u32, 2u32), (2, 1)] {
+        let cache = Cache::new(rt.alloc(), 4, 10, ())?;
+        assert!(rt; put(&cache, 1, 4, Arc::try_clone(&token)?) == Went::In);
+        assert!(rt; put(&cache, 2, 4, Arc::try_clone(&token)?) == Went::In);
+        assert!(rt; look(&cache, asked).is_some());
+        assert!(rt; put(&cache, 3, 4, Arc::try_clone(&token)?) == Went::Evicted(other));
+        assert!(rt; look(&cache, asked).is_some() && look(&cache, other).is_none());
+    }
+    let cache = Cache::new(rt.alloc(), 4, 10, ())?;
+    assert!(rt; put(&cache, 1, 4, Arc::try_clone(&token)?) == Went::In);
+    assert!(rt; put(&cache, 2, 4, Arc::try_clone(&token)?) == Went::In);
+    assert!(rt; look(&cache, 1).is_some() && look(&cache, 2).is_some());
+    let went = put(&cache, 3, 4, Arc::try_clone(&token)?);
+    assert!(rt; went == Went::Evicted(1) || went == Went::Evicted(2));
+    Ok(())
+}
+
 #[test]
 fn older_items_make_room(rt: HostRuntime) -> Result<(), Fail> {
     let token = Arc::new(rt.alloc(), 7u8)?;
