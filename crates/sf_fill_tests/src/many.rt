@@ -1,11 +1,10 @@
 //! Fills of more than 1,000 getters, with places by a hash and in a directory, and keys of thousands of bytes.
-ghost use Rattle.std.specs.Prelude.{◌≡◌, ◌<◌, ◌≤◌, All, IfOk, vec_len};
-ghost use Rattle.sf_words.specs.declared.limits.TheConstants.{LARGEST_PLACE};
+ghost use Rattle.std.specs.Prelude.{◌≡◌, ◌≤◌, All, IfOk, vec_len};
+ghost use Rattle.sf_words.specs.declared.limits.TheConstants.{LARGEST_CALLER, LARGEST_PLACE};
 ghost use Rattle.sf_fill_open.specs.Opened.{IsNewGetter, places_for};
 
 use crate::leaders::loaders;
-use bytes::Bytes;
-use sf_fill::{Fill, Getter, Naming};
+use sf_fill::{Fill, Getter, LoadFault, Naming, View};
 use sf_fill_open::{Body, DirectoryKeys, FillSizes, Keys, Places, with_fill};
 use sf_group::Memory;
 use sf_loaders::scripted::{FixedPicker, RoundChance, Script};
@@ -15,7 +14,7 @@ use std::process::Abort;
 use std::sync::Wait;
 use std::test::Fail;
 
-/// How many getters there are, and how many gets of the key by each are answered `v`: two of the last, and one of each other.
+/// Gets of the key, one by each getter.
 #[derive(Drop)]
 struct Many<'a, R> {
     rt: &'a R,
@@ -52,24 +51,40 @@ impl<'a, R: Wait> Body for Many<'a, R> {
         requires new { All (IsNewGetter N.group 0) getters.items }
     {
         let Many { rt, key } = self;
-        let mut count: u32 = 0;
-        let mut answers: u32 = 0;
-        let mut getters = getters;
-        'each: while let Some(mut getter) = getters.pop() {
-            count = count.saturating_add(1);
-            if let Ok(view) = fill.get(rt, &mut getter, key) {
-                if view.into_bytes().as_slice() == b"v".as_slice() {
-                    answers = answers.saturating_add(1);
-                }
-            }
-            getter.end(rt, fill);
+        get_each(rt, fill, getters, key)
+    }
+}
+
+// Each getter gets the key, and ends.
+fn get_each<'d, D: Naming, N: Naming, O: Origin, L: LoadPath<Origin = O> + Drop, R: Wait>(
+    rt: &R,
+    fill: &Fill<'d, D, N, O>,
+    getters: Vec<Getter<'d, D, N, O, L>>,
+    key: &[u8],
+) -> Came {
+    let mut getters = getters;
+    let mut count: u32 = 0;
+    let mut answers: u32 = 0;
+    'each: while let Some(mut getter) = getters.pop() {
+        count = count.saturating_add(1);
+        if is_v(fill.get(rt, &mut getter, key)) {
+            answers = answers.saturating_add(1);
         }
-        getters.destroy_empty();
-        Came {
-            getters: count,
-            answers,
-            loads: fill.book(rt).loads,
-        }
+        getter.end(rt, fill);
+    }
+    getters.destroy_empty();
+    Came {
+        getters: count,
+        answers,
+        loads: fill.book(rt).loads,
+    }
+}
+
+// Whether the answer is the value `v`.
+fn is_v<'d, D: Naming, O: Origin>(answer: Result<View<'d, D, O>, LoadFault>) -> bool {
+    match answer {
+        Ok(view) => view.into_bytes().as_slice() == b"v".as_slice(),
+        Err(_) => false,
     }
 }
 
@@ -97,7 +112,7 @@ fn check<R: Wait + Abort>(
     key: &[u8],
 ) -> Result<(), Memory>
     requires places { places_for keys ≤ LARGEST_PLACE }
-    requires count { (0 < count) × (count ≤ 1001) }
+    requires count { (1 ≤ count) × (count ≤ LARGEST_CALLER) }
 {
     // Nothing is kept near, since each getter would make room for 256 letters.
     let mut sizes = FillSizes::new(keys, 100_000);
@@ -126,17 +141,16 @@ fn key_of(alloc: Global, count: u32) -> Result<Vec<u8>, Memory> {
     Ok(key)
 }
 
-const PLACES: Places = Places {
-    count: 8,
-    seed0: 0,
-    seed1: 0,
-};
-
 // Of 1,001 getters one loads, and the others find its letter in main.
 #[test]
 fn many_getters_share_a_load(rt: HostRuntime) -> Result<(), Fail> {
     let alloc = rt.alloc();
-    check(&rt, alloc, Keys::Hashed(PLACES), 1_001, b"a")?;
+    let places = Places {
+        count: 8,
+        seed0: 0,
+        seed1: 0,
+    };
+    check(&rt, alloc, Keys::Hashed(places), 1_001, b"a")?;
     let keys = DirectoryKeys {
         keys: 8,
         key_bytes: 4,
@@ -151,9 +165,14 @@ fn many_getters_share_a_load(rt: HostRuntime) -> Result<(), Fail> {
 #[test]
 fn key_of_thousands_of_bytes_is_shared(rt: HostRuntime) -> Result<(), Fail> {
     let alloc = rt.alloc();
+    let places = Places {
+        count: 8,
+        seed0: 0,
+        seed1: 0,
+    };
     for count in [0, 251, 5_000, 70_000] {
         let key = key_of(alloc, count)?;
-        check(&rt, alloc, Keys::Hashed(PLACES), 2, key.as_slice())?;
+        check(&rt, alloc, Keys::Hashed(places), 2, key.as_slice())?;
     }
     Ok(())
 }
