@@ -14,7 +14,7 @@ work_name_of Bench = codes "bench"
 
 -- what the rows of the table do, in their order
 abbrev pub works : List Work
-works = Engine (engine.Run false) ∷ Engine (engine.Steps Lines) ∷ Engine engine.Check ∷ Drive ∷ Bench ∷ []
+works = Engine (engine.Run false) ∷ Engine (engine.Steps Lines) ∷ Engine engine.Check ∷ Engine engine.Merge ∷ Drive ∷ Bench ∷ []
 
 -- the words after an engine's name that ask it to show this: lines need none
 abbrev pub options_of : Shown → List (List ℕ)

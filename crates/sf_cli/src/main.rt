@@ -1,6 +1,6 @@
 //! `sfctl`: singleflight with Forget at the command line. `sfctl run` obeys a script of commands, `sfctl steps`
-//! plays a schedule of the step core, `sfctl check` judges a recorded history, and `sfctl drive` gets keys of one fill on
-//! several threads.
+//! plays a schedule of the step core, `sfctl check` judges a recorded history, `sfctl merge` puts logs together into one, and
+//! `sfctl drive` gets keys of one fill on several threads.
 #![tactic(auto)]
 
 mod ends;

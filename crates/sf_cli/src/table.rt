@@ -35,7 +35,7 @@ struct Row {
 }
 
 /// All subcommands, in the order in which help has them.
-const TABLE: [Row; 5] = [
+const TABLE: [Row; 6] = [
     Row {
         name: "run",
         about: "Obeys a script of commands, one a line, from standard input",
@@ -53,6 +53,12 @@ const TABLE: [Row; 5] = [
         about: "Says whether the history recorded in standard input is legal",
         help: CHECK,
         work: Work::Engine(Engine::Check),
+    },
+    Row {
+        name: "merge",
+        about: "Merges the logs of several callers into one history",
+        help: MERGE,
+        work: Work::Engine(Engine::Merge),
     },
     Row {
         name: "drive",
@@ -162,6 +168,19 @@ Example:
 
 Exit status: 0 for a legal history, 1 for an illegal or incomplete one, 2 for
 refused records, usage, want of memory, and a failing read or write.";
+
+const MERGE: &str = "Standard input is one log after another. Each begins with a line that names
+its format, as `sfctl check --help` has it. `./sfctl merge LOG..` reads them
+from files. The events are put together by keys and calls, whatever their
+order was: it is an order in which they are legal, if they fit together. Their
+times stay, and the numbers of events that were lost are added up. What is
+printed is a recording in format 4.
+
+Example:
+  cat first.log second.log | sfctl merge | sfctl check
+
+Exit status: 0 where the logs are merged, 2 for refused records, usage, want of
+memory, and a failing read or write.";
 
 const BENCH: &str =
     "Each NAME is a benchmark; without one all are measured, in about twelve seconds.

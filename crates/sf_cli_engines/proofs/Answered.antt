@@ -12,12 +12,17 @@ use Rattle.sf_steps_text.specs.TraceText as trace_text
 use Rattle.std.specs.Io.KnownBytes.{Appends}
 use Rattle.std.specs.Str.Lines.{lines}
 use Rattle.sf_steps_text.specs.declared.refusal.ScheduleRefusal.TheVariants as schedule
+use Rattle.sf_replay.specs.declared.reading.RecordRefusal.{RecordRefusal}
+use Rattle.sf_replay.specs.declared.reading.RecordRefusal.TheVariants as records
+use Rattle.sf_replay.specs.Logs.{logs_in, IsLogRefusal}
+use Rattle.sf_replay.specs.RecordText as record_text
 use Rattle.sf_cli_engines.specs.declared.checking.Checked.TheVariants as checked
 use Rattle.sf_cli_engines.specs.declared.ending.Ending.{Ending}
 use Rattle.sf_cli_engines.specs.declared.ending.Ending.TheVariants.{Answered, Refused}
 use Rattle.sf_cli_engines.specs.declared.engine.Engine.{Engine}
-use Rattle.sf_cli_engines.specs.declared.engine.Engine.TheVariants.{Run, Steps, Check}
+use Rattle.sf_cli_engines.specs.declared.engine.Engine.TheVariants.{Run, Steps, Check, Merge}
 use Rattle.sf_cli_engines.specs.declared.engine.Shown.TheVariants.{Lines, History, Picture}
+use Rattle.sf_cli_engines.specs.Merging.{IsMergeRefused}
 use Rattle.sf_cli_engines.specs.Engines.{IsAnswerOf, IsWrittenAs, IsScriptRefused, IsScheduleRefused}
 
 -- a script's whole answer is what `sfctl run` writes
@@ -37,6 +42,7 @@ memory_answer (Steps Lines) input = (Refused, (schedule.Memory, tt, refl))
 memory_answer (Steps History) input = (Refused, (schedule.Memory, tt, refl))
 memory_answer (Steps Picture) input = (Refused, (schedule.Memory, tt, refl))
 memory_answer Check input = (Refused, (checked.OutOfMemory, tt, refl, refl))
+memory_answer Merge input = (Refused, (records.Memory, tt, refl))
 
 pub memory_part : {A : Type 0} (r : Result A StreamFault) (fault : StreamFault) (known : Option (List ℕ)) (engine : Engine) (old new : Option (List ℕ))
     → AppendsPart old new (codes "out of memory" ++ codes "\n") → IfErr r (λ f. f ≡ fault → IfSome known (λ input. (text : List ℕ) × IsAnswerOf engine input text × AppendsPart old new text))
@@ -55,6 +61,11 @@ pub schedule_refused : {S : Type 0} (input : List ℕ) (answered : Result S Sche
     → IfErr answered (λ refusal. IsScheduleRefused input (trace_text.refusal_text refusal ++ codes "\n"))
 schedule_refused input (Ok text) due = tt
 schedule_refused input (Err refusal) due = (refusal, due, refl)
+
+pub merge_refused : {S : Type 0} (input : List ℕ) (answered : Result S RecordRefusal) → IfErr answered (λ refusal. IsLogRefusal refusal (logs_in input))
+    → IfErr answered (λ refusal. IsMergeRefused input (record_text.refusal_text refusal ++ codes "\n"))
+merge_refused input (Ok text) due = tt
+merge_refused input (Err refusal) due = (refusal, due, refl)
 
 -- the text that answers or the line of a refusal is what is written
 pub answer_written : {S E : Type 0} (bytes : S → List ℕ) (line_of : E → List ℕ) (IsText IsRefusal : List ℕ → Type 0)

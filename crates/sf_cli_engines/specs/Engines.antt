@@ -9,12 +9,13 @@ use Rattle.sf_steps_text.specs.Played.{IsRefusalOf}
 use Rattle.sf_steps_text.specs.TraceText as trace_texts
 use Rattle.sf_cli_engines.specs.declared.checking.Checked.{Checked}
 use Rattle.sf_cli_engines.specs.Checking.{IsCheckOf, checked_text, ending_of}
+use Rattle.sf_cli_engines.specs.Merging.{IsMergedText, IsMergeRefused}
 use Rattle.sf_cli_engines.specs.Playing.{IsTraceText, HasPicture}
 use Rattle.sf_cli_engines.specs.Recording.{IsScriptRecords, IsScheduleRecords}
 use Rattle.sf_cli_engines.specs.declared.ending.Ending.{Ending}
 use Rattle.sf_cli_engines.specs.declared.ending.Ending.TheVariants.{Answered, Illegal, Incomplete, Refused}
 use Rattle.sf_cli_engines.specs.declared.engine.Engine.{Engine}
-use Rattle.sf_cli_engines.specs.declared.engine.Engine.TheVariants.{Run, Steps, Check}
+use Rattle.sf_cli_engines.specs.declared.engine.Engine.TheVariants.{Run, Steps, Check, Merge}
 use Rattle.sf_cli_engines.specs.declared.engine.Shown.{Shown}
 use Rattle.sf_cli_engines.specs.declared.engine.Shown.TheVariants.{Lines, History, Picture}
 
@@ -23,12 +24,14 @@ abbrev pub name_of : Engine → List ℕ
 name_of (Run history) = codes "run"
 name_of (Steps shown) = codes "steps"
 name_of Check = codes "check"
+name_of Merge = codes "merge"
 
 abbrev pub shown_by : Engine → Shown
 shown_by (Run false) = Lines
 shown_by (Run true) = History
 shown_by (Steps shown) = shown
 shown_by Check = Lines
+shown_by Merge = Lines
 
 -- what is written of a script when it is refused: the one line that says why
 abbrev pub IsScriptRefused : List ℕ → List ℕ → Type 0
@@ -59,6 +62,7 @@ IsWrittenBy (Steps Lines) input = IsWrittenAs (IsTraceText input) (IsScheduleRef
 IsWrittenBy (Steps History) input = IsWrittenAs (IsScheduleRecords input) (IsScheduleRefused input)
 IsWrittenBy (Steps Picture) input = IsWrittenAs (λ text. HasPicture input) (IsScheduleRefused input)
 IsWrittenBy Check input = IsWrittenByCheck input
+IsWrittenBy Merge input = IsWrittenAs (IsMergedText input) (IsMergeRefused input)
 
 -- what an engine writes of an input, however it ends
 abbrev pub IsAnswerOf : Engine → List ℕ → List ℕ → Type 0

@@ -1,5 +1,6 @@
 pub mod Ending
 pub mod Checking
+pub mod Merging
 pub mod Playing
 pub mod Recording
 pub mod Engines

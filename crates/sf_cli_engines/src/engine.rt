@@ -9,6 +9,7 @@ use crate::checking::Checked;
 use crate::ending::Ending;
 use crate::engines::{check, run, write_answer};
 use crate::hints::{Hint, hint_for};
+use crate::merging::merged;
 use crate::playing::{drawn, traced};
 use crate::recording::{schedule_records, script_records};
 use sf_text::{ReadFault, StreamFault, read_all, write_line};
@@ -38,6 +39,8 @@ pub enum Engine {
     Steps(Shown),
     /// Says whether a recorded history is legal.
     Check,
+    /// Merges logs that stand one after another into one recording.
+    Merge,
 }
 
 impl Engine {
@@ -49,6 +52,7 @@ impl Engine {
             Engine::Run { .. } => "run",
             Engine::Steps(_) => "steps",
             Engine::Check => "check",
+            Engine::Merge => "merge",
         }
     }
 
@@ -64,6 +68,7 @@ impl Engine {
             (Engine::Run { .. }, Shown::History) => Some(Engine::Run { history: true }),
             (Engine::Steps(_), shown) => Some(Engine::Steps(shown)),
             (Engine::Check, Shown::Lines) => Some(Engine::Check),
+            (Engine::Merge, Shown::Lines) => Some(Engine::Merge),
             _ => None,
         }
     }
@@ -167,6 +172,7 @@ impl Engine {
                 Shown::Picture => write_answer(writer, drawn(alloc, input)),
             },
             Engine::Check => check(alloc, input, writer),
+            Engine::Merge => write_answer(writer, merged(alloc, input)),
         }
     }
 }

@@ -1,7 +1,7 @@
 //! What helps with a line that is refused. No clause says it.
 
 use crate::engine::Engine;
-use crate::record_hints::record_hint;
+use crate::record_hints::{log_hint, record_hint};
 use crate::turn_hints::turn_hint;
 use sf_model::{ScriptRefusal, run_script};
 use sf_text::lines;
@@ -29,6 +29,7 @@ pub fn hint_for(alloc: Global, engine: Engine, input: &[u8]) -> Option<Hint> {
         Engine::Run { .. } => command_hint(alloc, input),
         Engine::Steps(_) => turn_hint(alloc, input),
         Engine::Check => record_hint(alloc, input),
+        Engine::Merge => log_hint(alloc, input),
     }
 }
 

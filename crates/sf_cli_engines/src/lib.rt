@@ -6,6 +6,7 @@ mod ending;
 mod engine;
 mod engines;
 mod hints;
+mod merging;
 mod playing;
 mod record_hints;
 mod recording;

@@ -2,7 +2,7 @@
 
 use crate::hints::{Hint, index};
 use serde_json::Value;
-use sf_replay::{RecordRefusal, read};
+use sf_replay::{RecordRefusal, read, read_logs};
 use std::alloc::Global;
 
 /// More about the first line that is no record.
@@ -10,6 +10,19 @@ pub(crate) fn record_hint(alloc: Global, input: &[u8]) -> Option<Hint> {
     let Err(RecordRefusal::BadRecord(line)) = read(alloc, input) else {
         return None;
     };
+    line_hint(alloc, input, line, format_of(alloc, input))
+}
+
+/// More about the first line of logs that is no record.
+pub(crate) fn log_hint(alloc: Global, input: &[u8]) -> Option<Hint> {
+    let Err(RecordRefusal::BadRecord(line)) = read_logs(alloc, input) else {
+        return None;
+    };
+    line_hint(alloc, input, line, format_before(alloc, input, line))
+}
+
+/// More about a line that is no record, after a first line of this format.
+fn line_hint(alloc: Global, input: &[u8], line: u64, format: u64) -> Option<Hint> {
     if line == 1 {
         return Some(Hint {
             line,
@@ -19,7 +32,7 @@ pub(crate) fn record_hint(alloc: Global, input: &[u8]) -> Option<Hint> {
     match Value::from_slice(alloc, line_of(input, line)) {
         Ok(record) => Some(Hint {
             line,
-            says: record_says(&record, format_of(alloc, input)),
+            says: record_says(&record, format),
         }),
         Err(error) if error.is_memory() => None,
         Err(_) => Some(Hint {
@@ -43,6 +56,19 @@ fn format_of(alloc: Global, input: &[u8]) -> u64 {
         Ok(first) => first.get("format").and_then(Value::as_u64).unwrap_or(3),
         Err(_) => 3,
     }
+}
+
+/// The format that the last first line of a log names before the line of this number.
+fn format_before(alloc: Global, input: &[u8], line: u64) -> u64 {
+    let mut format = 3;
+    for first in input.split(|byte| *byte == b'\n').take(index(line)) {
+        if let Ok(first) = Value::from_slice(alloc, first) {
+            if let Some(named) = first.get("format").and_then(Value::as_u64) {
+                format = named;
+            }
+        }
+    }
+    format
 }
 
 /// Whether these names, `e` and no others stand in the record, but for the time that a record of format 4 may have.

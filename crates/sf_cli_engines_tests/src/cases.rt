@@ -24,6 +24,7 @@ pub(crate) fn engine_of(rt: &impl Abort, name: &str) -> Engine {
         "steps history" => Engine::Steps(Shown::History),
         "steps picture" => Engine::Steps(Shown::Picture),
         "check" => Engine::Check,
+        "merge" => Engine::Merge,
         _ => panic!(rt; "no engine is called {name}"),
     }
 }

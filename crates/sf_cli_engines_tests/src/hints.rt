@@ -71,6 +71,17 @@ hint: line 2: an operation is dropped only right after a failed exchange
 {"format":9}
 =
 hint: line 1: expected {"format":4,"lost":N}, {"format":3}, {"format":2} or {"format":1}
+# merge
+{"format":1}
+{"format":2}
+{"e":"forgetcall","by":2,"k":"k","c":[1,1],"hit":"missed"}
+=
+hint: line 3: forgetcall needs {"format":3}
+# check
+{"format":4,"lost":0}
+{"e":"handed","by":1,"c":[1,1],"at":[2,1]}
+=
+hint: line 2: expected [FROM,TO] at the name at, two readings of a clock in nanoseconds, the later one last
 # check
 {"format":1}
 {"e":

@@ -14,6 +14,8 @@ mod histories;
 #[cfg(test)]
 mod long_inputs;
 #[cfg(test)]
+mod merges;
+#[cfg(test)]
 mod pictures;
 #[cfg(test)]
 mod recorded;

@@ -15,6 +15,7 @@ fn engines_have_the_names_of_their_subcommands(rt: HostRuntime) {
     has_name(&rt, "run");
     has_name(&rt, "steps");
     has_name(&rt, "check");
+    has_name(&rt, "merge");
 }
 
 /// An engine, what it is to show, and the engine that shows it.
@@ -25,6 +26,8 @@ check, lines: check
 steps, picture: steps picture
 run, picture: none
 check, history: none
+merge, lines: merge
+merge, history: none
 ";
 
 fn shown_of(rt: &impl Abort, word: &str) -> Shown {
@@ -63,6 +66,7 @@ fn has_status(rt: &impl Abort, outcome: Outcome, expected: u8) {
 fn exit_statuses(rt: HostRuntime) {
     has_status(&rt, Outcome::of(Ok(Ending::Answered)), 0);
     has_status(&rt, Outcome::of(Ok(Ending::Illegal)), 1);
+    has_status(&rt, Outcome::of(Ok(Ending::Incomplete)), 1);
     has_status(&rt, Outcome::of(Ok(Ending::Refused)), 2);
     has_status(&rt, Outcome::of(Err(StreamFault::CannotRead)), 2);
     has_status(&rt, Outcome::of(Err(StreamFault::CannotWrite)), 2);

@@ -1,8 +1,15 @@
 -- a name that no subcommand has is no engine's, and no drive's
-use Rattle.std.proofs.Common.{rules, arith, ◌≡◌, ℕ, List, Some, codes, drop, map, slice_get, slice_range, take_all, length, string_bytes, subst, [], ◌∷◌, ◌-◌, ap, refl}
+use Rattle.std.proofs.Common.{rules, arith, ◌≡◌, ◌∙◌, ℕ, List, Some, Result, Err, codes, drop, map, slice_get, slice_index, slice_range, take_all, length, string_bytes, subst, sym, [], ◌∷◌, ◌-◌, ap, refl}
 use Rattle.clap.specs.Words.{fault_of}
 use Rattle.sf_cli_drive.specs.Words.{IsAskedLine, drive_app}
+use Rattle.sf_cli_engines.specs.Engines.{name_of, shown_by}
+use Rattle.sf_cli_engines.specs.declared.engine.Engine as engines
+use Rattle.sf_cli_engines.specs.declared.engine.Engine.TheVariants.{Run, Steps, Check, Merge}
 use Rattle.sf_cli.specs.declared.table.Work.TheVariants.{Engine, Drive}
+use Rattle.sf_cli.specs.declared.usage.Subcommand.{Subcommand}
+use Rattle.sf_cli.specs.declared.usage.Usage.{Usage}
+use Rattle.sf_cli.specs.Usage.{IsAskedBy, IsRefusedBy}
+use Rattle.sf_cli.specs.Work.{options_of}
 use Rattle.sf_cli.proofs.usage.parse.Goals as goal
 
 pub returns-in-None : goal.returns-in-None
@@ -22,4 +29,51 @@ returns-in_ok-line-in-Some-Drive c =
       name,
       subst (λ (w : List (List ℕ)). IsAskedLine w c.in_ok-line-in-Some-Drive.line) own c.in_ok-line-in-Some-Drive.ensures.asked,
       subst (λ (w : List (List ℕ)). fault_of drive_app w ≡ []) own c.in_ok-line-in-Some-Drive.ensures.faultless,
+    )
+
+-- no engine's name begins as that of a drive
+no_drive : (e : engines.Engine) → name_of e ≡ codes "drive" → ⊥
+no_drive (Run history) is = let heads : 114 ≡ 100 = ap (λ name. slice_index name 0) is in omega (arith, heads)
+no_drive (Steps shown) is = let heads : 115 ≡ 100 = ap (λ name. slice_index name 0) is in omega (arith, heads)
+no_drive Check is = let heads : 99 ≡ 100 = ap (λ name. slice_index name 0) is in omega (arith, heads)
+no_drive Merge is = let heads : 109 ≡ 100 = ap (λ name. slice_index name 0) is in omega (arith, heads)
+
+-- the second word, as it is asked for and as it was found
+second_word : (words : List (List ℕ)) (found name : List ℕ) (options : List (List ℕ)) → slice_get words 1 ≡ Some found → drop 1 words ≡ name ∷ options → name ≡ found
+second_word [] found name options is asks = cc
+second_word (first ∷ []) found name options is asks = cc
+second_word (first ∷ second ∷ more) found name options is asks = cc
+
+-- the words after it
+later_words : (words : List (List ℕ)) (name : List ℕ) (options : List (List ℕ)) → drop 1 words ≡ name ∷ options → drop 2 words ≡ options
+later_words [] name options asks = cc
+later_words (first ∷ []) name options asks = cc
+later_words (first ∷ second ∷ more) name options asks = cc
+
+after_second : {X Y : Type 0} (f : X → Y) (xs : List X) → map f (slice_range xs 2 (length xs)) ≡ drop 2 (map f xs)
+after_second f [] = refl
+after_second f (x ∷ []) = refl
+after_second f (x ∷ y ∷ xs) = ap (map f) (take_all (length (x ∷ y ∷ xs) - 2) xs (omega arith))
+
+pub returns-in_err-line-in-Some-Drive : goal.returns-in_err-line-in-Some-Drive
+returns-in_err-line-in-Some-Drive c =
+    let words = map string_bytes c.args.words.now in
+    let name : slice_get words 1 ≡ Some (codes "drive") = search rules in
+    let own : map string_bytes (slice_range c.args.words.now 1 (length c.args.words.now)) ≡ drop 1 words = after_first string_bytes c.args.words.now in
+    let refused = c.in_err-line-in-Some-Drive.ensures.refused in
+    let asked : IsAskedBy words (Err c.in_err-line-in-Some-Drive.field-0.0) = (
+      λ e asks. no_drive e (second_word words (codes "drive") (name_of e) (options_of (shown_by e)) name asks),
+      λ names. subst (λ (w : List (List ℕ)). IsRefusedBy (fault_of drive_app w) c.in_err-line-in-Some-Drive.field-0.0) own refused,
+    ) in
+    let is : c.from_residual.result ≡ Err c.in_err-line-in-Some-Drive.field-0.0 = search rules in
+    subst (λ (asking : Result Subcommand Usage). IsAskedBy words asking) (sym is) asked
+
+pub returns-in-None-showing : goal.returns-in-None-showing
+returns-in-None-showing c =
+    let words = map string_bytes c.args.words.now in
+    let name : slice_get words 1 ≡ Some (name_of c.in-Some-Engine.engine) = search rules in
+    let own : map string_bytes (slice_range c.args.words.now 2 (length c.args.words.now)) ≡ drop 2 words = after_second string_bytes c.args.words.now in (
+      λ e asks. c.in-None-showing.ensures.unknown e (second_word words (name_of c.in-Some-Engine.engine) (name_of e) (options_of (shown_by e)) name asks)
+          (own ∙ later_words words (name_of e) (options_of (shown_by e)) asks),
+      λ names. absurd (no_drive c.in-Some-Engine.engine (search (rules, names, name))),
     )

@@ -1,10 +1,12 @@
 -- an engine writes the text that answers its input, or the line of a refusal
 use Rattle.std.proofs.Common.{string_bytes}
 use Rattle.sf_model.specs.RefusalText as script_text
+use Rattle.sf_replay.specs.RecordText as record_text
+use Rattle.sf_cli_engines.specs.Merging.{IsMergedText, IsMergeRefused}
 use Rattle.sf_cli_engines.specs.Engines.{IsScriptRefused}
 use Rattle.sf_cli_engines.specs.Playing.{IsTraceText, HasPicture}
 use Rattle.sf_cli_engines.specs.Recording.{IsScriptRecords, IsScheduleRecords}
-use Rattle.sf_cli_engines.proofs.Answered.{answer_written, answer_part, schedule_part, script_refused}
+use Rattle.sf_cli_engines.proofs.Answered.{answer_written, answer_part, schedule_part, script_refused, merge_refused}
 use Rattle.sf_cli_engines.proofs.engine.Engine.answer.Goals as goal
 
 pub returns-in-Run-true-clause-written : goal.returns-in-Run-true-clause-written
@@ -44,3 +46,17 @@ returns-in-Picture-clause-part g c =
 
 pub returns-in-Check-clause-written : goal.returns-in-Check-clause-written
 returns-in-Check-clause-written g c = rw c.in-Check.is c.check.ensures.written
+
+pub returns-in-Merge-clause-written : goal.returns-in-Merge-clause-written
+returns-in-Merge-clause-written g c =
+    let refused = merge_refused c.args.input.now c.merged.result c.merged.ensures.refused in
+    rw c.in-Merge.is
+    (answer_written string_bytes record_text.refusal_text (IsMergedText c.args.input.now) (IsMergeRefused c.args.input.now)
+    c.merged.result c.write_answer-in-Merge.result _ _ c.merged.ensures.merged refused c.write_answer-in-Merge.ensures.answered c.write_answer-in-Merge.ensures.refused)
+
+pub returns-in-Merge-clause-part : goal.returns-in-Merge-clause-part
+returns-in-Merge-clause-part g c =
+    let refused = merge_refused c.args.input.now c.merged.result c.merged.ensures.refused in
+    rw c.in-Merge.is
+    (answer_part string_bytes record_text.refusal_text (IsMergedText c.args.input.now) (IsMergeRefused c.args.input.now)
+    c.merged.result _ _ c.merged.ensures.merged refused c.write_answer-in-Merge.ensures.answered_part c.write_answer-in-Merge.ensures.refused_part)
