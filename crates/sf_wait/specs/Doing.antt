@@ -3,9 +3,7 @@ use Rattle.std.specs.Prelude.{◌≡◌, ℕ, ◌⊎◌, Option, Some, None}
 use Rattle.sf_group_rows.specs.Tokens.{CallerValue, FlightValue, TicketValue, LetterValue, SettledValue}
 use Rattle.sf_group_rows.specs.Fitting.{FitOf}
 use Rattle.sf_group_rows.specs.Begins.{HasLed, HasJoined, IsRefusedSpent}
-use Rattle.sf_group_rows.specs.Finishes.{IsDone, IsHeld, IsReady, HasFinished}
-use Rattle.sf_wait.specs.declared.doing.Did.{Did}
-use Rattle.sf_wait.specs.declared.doing.Did.TheVariants as did
+use Rattle.sf_group_rows.specs.Finishes.{IsDone, IsHeld, IsReady}
 use Rattle.sf_wait.specs.declared.doing.DoFault.{DoFault}
 use Rattle.sf_wait.specs.declared.doing.DoFault.TheVariants as fault
 
@@ -43,9 +41,3 @@ module _ {V F : Type 0} where
   abbrev pub HasFailed : (V → Type 0) → CallerValue V → ℕ → F → DoFault V F → Type 0
   HasFailed answers c k load (fault.Spent d f) = IsRefusedSpent c d × (f ≡ load)
   HasFailed answers c k load (fault.Held s) = OwesLoaded answers c k s
-
-  -- it led, with a value that the load answered, or has its load back
-  abbrev pub HasAsked : FitOf V → (V → Type 0) → CallerValue V → ℕ → F → Did V F → Type 0
-  HasAsked fits answers c k load (did.Led r) = (flight : FlightValue V) × (value : V) × answers value × HasLed c k flight × HasFinished fits flight value r
-  HasAsked fits answers c k load (did.Joined t f) = HasJoined c k t × (f ≡ load)
-  HasAsked fits answers c k load (did.Spent d f) = IsRefusedSpent c d × (f ≡ load)

@@ -3,10 +3,10 @@ ghost use Rattle.std.specs.Prelude.{◌≡◌, IfOk, IfErr};
 ghost use Rattle.sf_group_rows.specs.Tokens.{FlightValue};
 ghost use Rattle.sf_group_rows.specs.Same.{IsPlaceOf};
 ghost use Rattle.sf_group_rows.specs.Begins.{HasLed};
-ghost use Rattle.sf_wait.specs.Doing.{HasAsked, HasDoneWith, HasFailed};
+ghost use Rattle.sf_wait.specs.Doing.{HasDoneWith, HasFailed};
 
 use crate::waiting::{begin_wait, wait};
-use sf_group::{Begun, Caller, Finished, Group, Letter, Settled, Ticket};
+use sf_group::{Begun, Caller, Finished, Group, Letter, Settled};
 use sf_group_rows::{Fit, Spent};
 use std::sync::Wait;
 
@@ -37,43 +37,15 @@ pub fn do_with<V: Fit, R: Wait, F: FnOnce() -> V>(
         HasDoneWith V.fits (F.post load) caller place load done.0 done.1 done.2) }
     ensures failed { IfErr result (λ fault. HasFailed (F.post load) caller place load fault) }
 {
-    match ask_with(rt, group, caller, place, load) {
-        Did::Led(Finished::Done(caller, letter)) => Ok((caller, letter, None)),
-        Did::Led(Finished::Held(settled)) => Err(DoFault::Held(settled)),
-        Did::Joined(ticket, load) => {
+    match begin_wait(rt, group, caller, place) {
+        Ok(Begun::Lead(flight)) => match group.finish(flight, load()) {
+            Finished::Done(caller, letter) => Ok((caller, letter, None)),
+            Finished::Held(settled) => Err(DoFault::Held(settled)),
+        },
+        Ok(Begun::Join(ticket)) => {
             let (caller, letter) = wait(rt, group, ticket);
             Ok((caller, letter, Some(load)))
         }
-        Did::Spent(caller, load) => Err(DoFault::Spent(caller, load)),
-    }
-}
-
-// How an asking with a load ended. Who did not lead has its load back.
-enum Did<V: Fit, F> {
-    Led(Finished<V>),
-    Joined(Ticket<V>, F),
-    Spent(Caller<V>, F),
-}
-
-// The load can be neither copied nor dropped here, so it is called only where it does not come back.
-fn ask_with<V: Fit, R: Wait, F: FnOnce() -> V>(
-    rt: &R,
-    group: &Group<V>,
-    caller: Caller<V>,
-    place: u32,
-    load: F,
-) -> Did<V, F>
-    requires own { caller.group ≡ group.now }
-    requires place { IsPlaceOf group.now place }
-    requires callable { (flight : FlightValue V) → HasLed caller place flight → F.pre load }
-    requires fits { (flight : FlightValue V) (value : V) → HasLed caller place flight
-        → F.post load value
-        → V.fits flight.place flight.call value flight.seen }
-    ensures { HasAsked V.fits (F.post load) caller place load result }
-{
-    match begin_wait(rt, group, caller, place) {
-        Ok(Begun::Lead(flight)) => Did::Led(group.finish(flight, load())),
-        Ok(Begun::Join(ticket)) => Did::Joined(ticket, load),
-        Err(Spent { back }) => Did::Spent(back, load),
+        Err(Spent { back }) => Err(DoFault::Spent(back, load)),
     }
 }
