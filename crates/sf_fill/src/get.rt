@@ -101,15 +101,12 @@ impl<'d, D: Naming, N: Naming, O: Origin> Fill<'d, D, N, O> {
             tallies.new.counted ≡ with_counts tallies.old.counted hit_counts) }
         ensures none { result ≡ None → tallies.new ≡ tallies.old }
     {
-        let found = self.store.look(rt, tallies, place, key, caller)?;
-        match found {
-            Ok(letter) => {
-                let mut letter = letter;
-                near.keep(self.store.group(), key.len(), &mut letter);
-                Some(Ok(letter))
-            }
-            Err(refused) => Some(Err(refused)),
+        // The letter is lent where it lies: to take it out and put it in again copies its 144 bytes twice.
+        let mut found = self.store.look(rt, tallies, place, key, caller)?;
+        if let Ok(letter) = &mut found {
+            near.keep(self.store.group(), key.len(), letter);
         }
+        Some(found)
     }
 
     // The current letter of the key at the place that is at hand: one that the getter keeps near, for which no lock is taken unless
