@@ -1,0 +1,2 @@
+mod LaterTimes
+mod Ordered
