@@ -1,12 +1,12 @@
 //! The one table of subcommands: the name, what help says, the options, and what each does.
 
 ghost use Rattle.std.specs.Prelude.{◌≡◌, ◌≢◌, [], ◌∷◌, IfSome, IfNone, Contains, All, map, string_bytes};
-ghost use Rattle.sf_cli_engines.specs.declared.engine.Shown.{Shown};
+ghost use Rattle.sf_cli_engines.specs.declared.engine.Asked.{Asked};
 ghost use Rattle.sf_cli.specs.Work.{work_name_of, works, options_of};
 
 use clap::{Arg, ArgAction, Command};
 use sf_cli_drive::{DRIVE_ABOUT, DRIVE_HELP, switch, with_drive_options};
-use sf_cli_engines::{Engine, Shown};
+use sf_cli_engines::{Asked, Engine, Shown};
 use std::alloc::{AllocError, Global};
 
 /// What a subcommand does.
@@ -52,7 +52,7 @@ const TABLE: [Row; 6] = [
         name: "check",
         about: "Says whether the history recorded in standard input is legal",
         help: CHECK,
-        work: Work::Engine(Engine::Check),
+        work: Work::Engine(Engine::Check { timed: false }),
     },
     Row {
         name: "merge",
@@ -79,20 +79,25 @@ const TABLE: [Row; 6] = [
 struct Flag {
     name: &'static str,
     help: &'static str,
-    shown: Shown,
+    asked: Asked,
 }
 
 /// The options of engines: an engine takes those that name what it can show, and one of them at most.
-const FLAGS: [Flag; 2] = [
+const FLAGS: [Flag; 3] = [
     Flag {
         name: "history",
         help: "Prints the records of what happened, in place of lines",
-        shown: Shown::History,
+        asked: Asked::History,
+    },
+    Flag {
+        name: "timed",
+        help: "Looks for a legal order of the events by their times",
+        asked: Asked::Timed,
     },
     Flag {
         name: "svg",
         help: "Draws a picture, in place of lines",
-        shown: Shown::Picture,
+        asked: Asked::Picture,
     },
 ];
 
@@ -163,11 +168,17 @@ and 2 are read too: they have no forgetcall, and in format 1 a settle has
 too, as \"at\":[FROM,TO] in nanoseconds. A log that lost events is incomplete, and
 never called legal.
 
+With --timed the order of the lines says nothing. An order of the events is
+looked for that is legal, and in which no event comes before one that had ended
+when it began. It prints `legal in time: N events`, `no order: ` with events
+that have none, or `not decided`.
+
 Example:
   sfctl steps --history < schedule | sfctl check
 
-Exit status: 0 for a legal history, 1 for an illegal or incomplete one, 2 for
-refused records, usage, want of memory, and a failing read or write.";
+Exit status: 0 for a legal history, 1 for an illegal or incomplete one and for
+one without an order in time, 2 for refused records, usage, want of memory, and
+a failing read or write.";
 
 const MERGE: &str = "Standard input is one log after another. Each begins with a line that names
 its format, as `sfctl check --help` has it. `./sfctl merge LOG..` reads them
@@ -211,25 +222,26 @@ pub fn named(name: &str) -> Option<Work>
 }
 
 /// What an engine is asked to show by this option.
-fn flagged(option: &str) -> Option<Shown>
-    ensures known { IfSome result (λ shown. option.now ∷ [] ≡ options_of shown) }
-    ensures unknown { IfNone result ((shown : Shown) → option.now ∷ [] ≢ options_of shown) }
+fn flagged(option: &str) -> Option<Asked>
+    ensures known { IfSome result (λ asked. option.now ∷ [] ≡ options_of asked) }
+    ensures unknown { IfNone result ((asked : Asked) → option.now ∷ [] ≢ options_of asked) }
 {
     match option {
-        "--history" => Some(Shown::History),
-        "--svg" => Some(Shown::Picture),
+        "--history" => Some(Asked::History),
+        "--timed" => Some(Asked::Timed),
+        "--svg" => Some(Asked::Picture),
         _ => None,
     }
 }
 
 /// What an engine is asked to show by the words after its name: lines, or what the one option says.
-pub fn shown(options: &[String]) -> Option<Shown>
-    ensures known { IfSome result (λ shown. map string_bytes options.now ≡ options_of shown) }
-    ensures unknown { IfNone result ((shown : Shown)
-        → map string_bytes options.now ≢ options_of shown) }
+pub fn asked(options: &[String]) -> Option<Asked>
+    ensures known { IfSome result (λ asked. map string_bytes options.now ≡ options_of asked) }
+    ensures unknown { IfNone result ((asked : Asked)
+        → map string_bytes options.now ≢ options_of asked) }
 {
     match options {
-        [] => Some(Shown::Lines),
+        [] => Some(Asked::Lines),
         [option] => flagged(option.as_str()),
         _ => None,
     }
@@ -276,7 +288,7 @@ fn with_flags<'a>(
     mut command: Command<'a>,
 ) -> Result<Command<'a>, AllocError> {
     for flag in FLAGS {
-        if engine.showing(flag.shown).is_some() {
+        if engine.showing(flag.asked).is_some() {
             let option: Arg<'a> = option(alloc, flag)?;
             command = command.arg(option)?;
         }

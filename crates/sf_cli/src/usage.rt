@@ -8,7 +8,7 @@ ghost use Rattle.sf_cli.specs.Work.{options_of};
 ghost use Rattle.sf_cli_drive.specs.Words.{IsAskedLine, drive_app};
 ghost use Rattle.sf_cli.specs.Usage.{IsAskedBy, IsRefusedBy, IsUsageOf, IsWantOfMemory};
 
-use crate::table::{Work, named, program, shown};
+use crate::table::{Work, asked, named, program};
 use clap::Error;
 use sf_cli_drive::{DriveLine, drive_line};
 use sf_cli_engines::Engine;
@@ -115,8 +115,8 @@ fn showing(engine: Engine, options: &[String]) -> Option<Engine>
     ensures unknown { IfNone result ((e : engines.Engine) → name_of e ≡ name_of engine
         → map string_bytes options.now ≢ options_of (shown_by e)) }
 {
-    match shown(options) {
-        Some(shown) => engine.showing(shown),
+    match asked(options) {
+        Some(asked) => engine.showing(asked),
         None => None,
     }
 }

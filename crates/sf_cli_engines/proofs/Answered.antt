@@ -17,6 +17,7 @@ use Rattle.sf_replay.specs.declared.reading.RecordRefusal.TheVariants as records
 use Rattle.sf_replay.specs.Logs.{logs_in, IsLogRefusal}
 use Rattle.sf_replay.specs.RecordText as record_text
 use Rattle.sf_cli_engines.specs.declared.checking.Checked.TheVariants as checked
+use Rattle.sf_cli_engines.specs.declared.timing.TimedChecked.TheVariants as timed
 use Rattle.sf_cli_engines.specs.declared.ending.Ending.{Ending}
 use Rattle.sf_cli_engines.specs.declared.ending.Ending.TheVariants.{Answered, Refused}
 use Rattle.sf_cli_engines.specs.declared.engine.Engine.{Engine}
@@ -41,7 +42,8 @@ memory_answer (Run true) input = (Refused, (script.OutOfMemory, tt, refl))
 memory_answer (Steps Lines) input = (Refused, (schedule.Memory, tt, refl))
 memory_answer (Steps History) input = (Refused, (schedule.Memory, tt, refl))
 memory_answer (Steps Picture) input = (Refused, (schedule.Memory, tt, refl))
-memory_answer Check input = (Refused, (checked.OutOfMemory, tt, refl, refl))
+memory_answer (Check false) input = (Refused, (checked.OutOfMemory, tt, refl, refl))
+memory_answer (Check true) input = (Refused, (timed.OutOfMemory, tt, refl, refl))
 memory_answer Merge input = (Refused, (records.Memory, tt, refl))
 
 pub memory_part : {A : Type 0} (r : Result A StreamFault) (fault : StreamFault) (known : Option (List ℕ)) (engine : Engine) (old new : Option (List ℕ))

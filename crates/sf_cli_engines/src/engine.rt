@@ -7,7 +7,7 @@ ghost use Rattle.sf_cli_engines.specs.Engines.{IsWrittenBy, IsAnswerOf, name_of,
 
 use crate::checking::Checked;
 use crate::ending::Ending;
-use crate::engines::{check, run, write_answer};
+use crate::engines::{check, check_in_time, run, write_answer};
 use crate::hints::{Hint, hint_for};
 use crate::merging::merged;
 use crate::playing::{drawn, traced};
@@ -16,7 +16,20 @@ use sf_text::{ReadFault, StreamFault, read_all, write_line};
 use std::alloc::Global;
 use std::io::{Read, Write};
 
-/// What an engine shows of what it does.
+/// What an engine is asked to show.
+#[derive(Clone, Copy, PartialEq, Eq)]
+pub enum Asked {
+    /// Lines of its own.
+    Lines,
+    /// The records of what happened.
+    History,
+    /// What can be said by the times of events.
+    Timed,
+    /// A picture.
+    Picture,
+}
+
+/// What a schedule shows of what it does.
 #[derive(Clone, Copy, PartialEq, Eq)]
 pub enum Shown {
     /// Lines of its own.
@@ -38,7 +51,10 @@ pub enum Engine {
     /// Plays a schedule of the step core, and shows this.
     Steps(Shown),
     /// Says whether a recorded history is legal.
-    Check,
+    Check {
+        /// Whether an order of its events is looked for by their times, in place of the order that they stand in.
+        timed: bool,
+    },
     /// Merges logs that stand one after another into one recording.
     Merge,
 }
@@ -51,24 +67,27 @@ impl Engine {
         match self {
             Engine::Run { .. } => "run",
             Engine::Steps(_) => "steps",
-            Engine::Check => "check",
+            Engine::Check { .. } => "check",
             Engine::Merge => "merge",
         }
     }
 
     /// The engine of the same subcommand that shows this, if there is one.
-    pub fn showing(self, shown: Shown) -> Option<Engine>
+    pub fn showing(self, asked: Asked) -> Option<Engine>
         ensures found { IfSome result (λ engine. (name_of engine ≡ name_of self)
-            × (shown_by engine ≡ shown)) }
+            × (shown_by engine ≡ asked)) }
         ensures none { result ≡ None → (engine : Engine) → name_of engine ≡ name_of self
-            → shown_by engine ≢ shown }
+            → shown_by engine ≢ asked }
     {
-        match (self, shown) {
-            (Engine::Run { .. }, Shown::Lines) => Some(Engine::Run { history: false }),
-            (Engine::Run { .. }, Shown::History) => Some(Engine::Run { history: true }),
-            (Engine::Steps(_), shown) => Some(Engine::Steps(shown)),
-            (Engine::Check, Shown::Lines) => Some(Engine::Check),
-            (Engine::Merge, Shown::Lines) => Some(Engine::Merge),
+        match (self, asked) {
+            (Engine::Run { .. }, Asked::Lines) => Some(Engine::Run { history: false }),
+            (Engine::Run { .. }, Asked::History) => Some(Engine::Run { history: true }),
+            (Engine::Steps(_), Asked::Lines) => Some(Engine::Steps(Shown::Lines)),
+            (Engine::Steps(_), Asked::History) => Some(Engine::Steps(Shown::History)),
+            (Engine::Steps(_), Asked::Picture) => Some(Engine::Steps(Shown::Picture)),
+            (Engine::Check { .. }, Asked::Lines) => Some(Engine::Check { timed: false }),
+            (Engine::Check { .. }, Asked::Timed) => Some(Engine::Check { timed: true }),
+            (Engine::Merge, Asked::Lines) => Some(Engine::Merge),
             _ => None,
         }
     }
@@ -171,7 +190,8 @@ impl Engine {
                 Shown::History => write_answer(writer, schedule_records(alloc, input)),
                 Shown::Picture => write_answer(writer, drawn(alloc, input)),
             },
-            Engine::Check => check(alloc, input, writer),
+            Engine::Check { timed: false } => check(alloc, input, writer),
+            Engine::Check { timed: true } => check_in_time(alloc, input, writer),
             Engine::Merge => write_answer(writer, merged(alloc, input)),
         }
     }

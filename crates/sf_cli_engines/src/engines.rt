@@ -1,6 +1,6 @@
 //! What the engines of the subcommands write for an input.
 
-ghost use Rattle.std.specs.Prelude.{◌≡◌, ◌++◌, List, ℕ, IfOk, IfErr, IfSome, codes, false};
+ghost use Rattle.std.specs.Prelude.{◌≡◌, ◌++◌, List, ℕ, IfOk, IfErr, IfSome, codes, false, true};
 ghost use Rattle.std.specs.Prelude.{string_bytes};
 ghost use Rattle.std.specs.Io.KnownBytes.{Appends};
 ghost use Rattle.sf_text.specs.StreamText.{AppendsPart};
@@ -9,6 +9,7 @@ ghost use Rattle.sf_cli_engines.specs.Engines.{IsWrittenBy, IsAnswerOf};
 use crate::checking::{ending, judge};
 use crate::ending::Ending;
 use crate::engine::Engine;
+use crate::timing::{ending_in_time, judge_times};
 use sf_model::run_script;
 use sf_text::{StreamFault, write_all, write_line};
 use std::alloc::Global;
@@ -69,13 +70,31 @@ pub(crate) fn check<W: Write>(
     writer: &mut W,
 ) -> Result<Ending, StreamFault>
     ensures written { IfOk result (λ ending.
-        (text : List ℕ) × IsWrittenBy Engine.Check input.now ending text
+        (text : List ℕ) × IsWrittenBy (Engine.Check false) input.now ending text
         × Appends (W.contents writer.old) (W.contents writer.new) text) }
     ensures err { IfErr result (λ fault. fault ≡ StreamFault.CannotWrite) }
-    ensures part { (text : List ℕ) × IsAnswerOf Engine.Check input.now text
+    ensures part { (text : List ℕ) × IsAnswerOf (Engine.Check false) input.now text
         × AppendsPart (W.contents writer.old) (W.contents writer.new) text }
 {
     let checked = judge(alloc, input);
     write_line(writer, checked)?;
     Ok(ending(checked))
+}
+
+/// `sfctl check --timed`: writes the one line that says whether the history of records is legal in time.
+pub(crate) fn check_in_time<W: Write>(
+    alloc: Global,
+    input: &[u8],
+    writer: &mut W,
+) -> Result<Ending, StreamFault>
+    ensures written { IfOk result (λ ending.
+        (text : List ℕ) × IsWrittenBy (Engine.Check true) input.now ending text
+        × Appends (W.contents writer.old) (W.contents writer.new) text) }
+    ensures err { IfErr result (λ fault. fault ≡ StreamFault.CannotWrite) }
+    ensures part { (text : List ℕ) × IsAnswerOf (Engine.Check true) input.now text
+        × AppendsPart (W.contents writer.old) (W.contents writer.new) text }
+{
+    let checked = judge_times(alloc, input);
+    write_line(writer, checked)?;
+    Ok(ending_in_time(checked))
 }

@@ -10,9 +10,11 @@ mod merging;
 mod playing;
 mod record_hints;
 mod recording;
+mod timing;
 mod turn_hints;
 
 pub use checking::Checked;
 pub use ending::{Ending, Outcome, exit_status, status};
-pub use engine::{Engine, Shown};
+pub use engine::{Asked, Engine, Shown};
 pub use hints::{Hint, hint_for};
+pub use timing::{Found, TimedChecked};

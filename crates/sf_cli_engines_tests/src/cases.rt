@@ -23,7 +23,8 @@ pub(crate) fn engine_of(rt: &impl Abort, name: &str) -> Engine {
         "steps" => Engine::Steps(Shown::Lines),
         "steps history" => Engine::Steps(Shown::History),
         "steps picture" => Engine::Steps(Shown::Picture),
-        "check" => Engine::Check,
+        "check" => Engine::Check { timed: false },
+        "check timed" => Engine::Check { timed: true },
         "merge" => Engine::Merge,
         _ => panic!(rt; "no engine is called {name}"),
     }
@@ -47,14 +48,14 @@ pub(crate) fn read<'t>(rt: &impl Abort, section: &'t str) -> Case<'t> {
     }
 }
 
-/// How an engine ends that answers so: a refusal begins with `line`, what is illegal with `event`, and what lost events
-/// with `incomplete`.
+/// How an engine ends that answers so: a refusal begins with `line`, what is illegal with `event`, what has no legal order with
+/// `no order`, what lost events with `incomplete`, and what is not decided with `not decided`.
 pub(crate) fn ending_of(answer: &str) -> Ending {
     if answer.starts_with("line ") {
         Ending::Refused
-    } else if answer.starts_with("event ") {
+    } else if answer.starts_with("event ") || answer.starts_with("no order: ") {
         Ending::Illegal
-    } else if answer.starts_with("incomplete: ") {
+    } else if answer.starts_with("incomplete: ") || answer.starts_with("not decided") {
         Ending::Incomplete
     } else {
         Ending::Answered

@@ -131,7 +131,13 @@ fn histories(rt: HostRuntime) -> Result<(), Fail> {
 
 /// Checks records, and compares the line that is said and how it ends.
 fn judges(rt: &impl Abort, alloc: Global, records: &str, line: &str) -> Result<(), Fail> {
-    answers(rt, alloc, Engine::Check, records.as_bytes(), line)
+    answers(
+        rt,
+        alloc,
+        Engine::Check { timed: false },
+        records.as_bytes(),
+        line,
+    )
 }
 
 /// The records that rows call by name.
@@ -418,7 +424,7 @@ fn a_record_that_is_no_text(rt: HostRuntime) -> Result<(), Fail> {
     answers(
         &rt,
         rt.alloc(),
-        Engine::Check,
+        Engine::Check { timed: false },
         b"{\"format\":1}\n{\"e\":\"handed\",\"by\":1,\"c\":[1,1]}\n\xff\n",
         "line 3: not a record\n",
     )

@@ -25,3 +25,5 @@ mod schedules;
 mod scripts;
 #[cfg(test)]
 mod subcommands;
+#[cfg(test)]
+mod timed;

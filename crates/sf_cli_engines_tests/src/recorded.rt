@@ -93,7 +93,7 @@ fn is_recorded(rt: &impl Abort, alloc: Global, section: &str) -> Result<(), Fail
     answers(
         rt,
         alloc,
-        Engine::Check,
+        Engine::Check { timed: false },
         case.answer.as_bytes(),
         legal.as_str(),
     )

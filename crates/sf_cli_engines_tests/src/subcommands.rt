@@ -1,7 +1,7 @@
 //! The engines by their names, and the exit status of every outcome.
 
 use crate::cases::engine_of;
-use sf_cli_engines::{Ending, Outcome, Shown, exit_status, status};
+use sf_cli_engines::{Asked, Ending, Outcome, exit_status, status};
 use sf_text::StreamFault;
 use std::process::Abort;
 
@@ -25,24 +25,31 @@ steps history, lines: steps
 check, lines: check
 steps, picture: steps picture
 run, picture: none
+check, timed: check timed
+check timed, lines: check
 check, history: none
+check, picture: none
+run, timed: none
+steps, timed: none
+merge, timed: none
 merge, lines: merge
 merge, history: none
 ";
 
-fn shown_of(rt: &impl Abort, word: &str) -> Shown {
+fn asked_of(rt: &impl Abort, word: &str) -> Asked {
     match word {
-        "lines" => Shown::Lines,
-        "history" => Shown::History,
-        "picture" => Shown::Picture,
+        "lines" => Asked::Lines,
+        "history" => Asked::History,
+        "timed" => Asked::Timed,
+        "picture" => Asked::Picture,
         _ => panic!(rt; "nothing is called {word}"),
     }
 }
 
 fn is_showing(rt: &impl Abort, row: &str) {
-    let (asked, expected) = row.split_once(": ").unwrap_or((row, ""));
-    let (engine, shown) = asked.split_once(", ").unwrap_or((asked, ""));
-    let showing = engine_of(rt, engine).showing(shown_of(rt, shown));
+    let (question, expected) = row.split_once(": ").unwrap_or((row, ""));
+    let (engine, asked) = question.split_once(", ").unwrap_or((question, ""));
+    let showing = engine_of(rt, engine).showing(asked_of(rt, asked));
     let expected = match expected {
         "none" => None,
         name => Some(engine_of(rt, name)),
