@@ -662,7 +662,12 @@ func TestTableSet(t *testing.T) {
 
 // The values cost no more than the limit together, whatever comes; what they cost is what is told.
 func TestCacheLimit(t *testing.T) {
-	for _, places := range []uint32{1 << 20, 64, 1} {
+	// A ForgetAll makes them all anew, which takes long under the race detector.
+	most := uint32(1 << 20)
+	if testing.Short() {
+		most = 1 << 14
+	}
+	for _, places := range []uint32{most, 64, 1} {
 		var told sync.Map
 		c := newCache(t, 100, number,
 			WithSlots(places), WithCost(func(_ string, v int) int64 { return int64(v) }),
