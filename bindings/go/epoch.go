@@ -105,8 +105,8 @@ func (s *seat) asking() (generation, print uint64) {
 }
 
 // The call that the key's slot names, unless a Forget has closed it. Where another goroutine's
-// Forget has closed it, and is stopped before it clears the slot, the slot names it still. Who
-// knows of a later Forget, which found nothing to close, may not follow it.
+// Forget has closed it, and is stopped before it clears the slot, the slot names it still. A
+// caller that knows of a later Forget, which found nothing to close, may not follow it.
 func (s *seat) current(name string, print uint64) (Call, bool) {
 	call, ok := s.named(name, print)
 	yield()

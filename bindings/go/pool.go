@@ -973,7 +973,7 @@ func (p *pool) settleBy(s *seat, r *Result, k keyed, all, watched bool) (out []*
 		s.owed.Store(0)
 	}
 	var letter letter
-	// One who follows it has its stamp too.
+	// A follower has its stamp too.
 	all = all || s.followed.Load() != 0
 	s.finish(&letter, all, id)
 	if all {
@@ -1004,7 +1004,7 @@ func (p *pool) settlePlain(s *seat, r *Result, k keyed, all bool) {
 		s.owed.Store(0)
 	}
 	var letter letter
-	// One who follows it has its stamp too.
+	// A follower has its stamp too.
 	all = all || s.followed.Load() != 0
 	s.finish(&letter, all, 0)
 	if all {

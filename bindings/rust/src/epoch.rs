@@ -184,8 +184,8 @@ impl<T> Epoch<T> {
     }
 
     /// Which call the key's place names, unless a Forget has closed it. Where another's Forget has
-    /// closed it, and is stopped before it clears the place, the place names it still. Who knows of
-    /// a later Forget, which found nothing to close, may not follow it.
+    /// closed it, and is stopped before it clears the place, the place names it still. A caller that
+    /// knows of a later Forget, which found nothing to close, may not follow it.
     pub(crate) fn current(&self, mut seat: Option<&mut Seat>, key: &[u8]) -> Option<Call> {
         let stamp = self.named(seat.as_deref_mut(), key)?;
         let is_still = self.by(seat, |slot| {
