@@ -311,6 +311,105 @@ static void test_words(void) {
     sflight_cache_close(cache);
 }
 
+/* Whether the reader finds the key among the values that it remembers, by this hash. */
+static bool finds_near(sflight_cache *cache, sflight_reader *reader, uint64_t hash, const char *key) {
+    sflight_value value = {0};
+    bool found = find_near(reader, hash, (const uint8_t *)key, strlen(key), &value);
+    sflight_cache_release(cache, &value);
+    return found;
+}
+
+static uint64_t hash_text(const char *key) { return hash_of((const uint8_t *)key, strlen(key)); }
+
+/* Gets the key until the reader remembers its value. */
+static void get_near(sflight_cache *cache, sflight_reader *reader, const char *key) {
+    get_text(cache, reader, key);
+    for (int i = 0; i < 2; i++)
+        check(get_text(cache, reader, key) == SFLIGHT_CACHE_HIT, "what was loaded is found");
+    check(finds_near(cache, reader, hash_text(key), key), "what was found twice is remembered");
+}
+
+/* What a reader remembers does as the cache does. */
+static void test_near(void) {
+    struct plan plan = {0};
+    sflight_cache *cache = open_cache(4, 100, &plan);
+    sflight_reader *reader = enter(cache), *other = enter(cache);
+    sflight_value value, second;
+    sflight_stamp stamp;
+    char key[16];
+    get_near(cache, reader, "ada");
+    check(sflight_cache_statistics(cache).hits == 2, "a hit is counted once, wherever it is");
+    check(get_text(cache, reader, "ada") == SFLIGHT_CACHE_HIT
+              && sflight_cache_statistics(cache).hits == 3, "and one of what is remembered too");
+    check(!finds_near(cache, reader, hash_text("ada"), "bob"), "another key of one hash is not found");
+    check(!finds_near(cache, reader, hash_text("ada"), "adam"), "nor a longer one");
+    check(!finds_near(cache, other, hash_text("ada"), "ada"), "one reader remembers nothing for another");
+    forget_text(other, "ada");
+    check(live == 0, "what is forgotten is dropped, whoever remembers it");
+    check(get_text(cache, reader, "ada") == SFLIGHT_CACHE_LOADED, "and is loaded again");
+
+    /* The first half of a Forget, before the value leaves. */
+    get_near(cache, reader, "bob");
+    check(sflight_named(&other->slot, (const uint8_t *)"bob", 3, &stamp) == SFLIGHT_DONE
+              && sflight_forget_call(&other->slot, &stamp, SFLIGHT_MOST_TRIES) == SFLIGHT_CLEARED,
+          "its call is forgotten");
+    check(get_text(cache, reader, "bob") == SFLIGHT_CACHE_LOADED, "what is not current is not found");
+
+    /* Room is made, and what leaves is dropped. */
+    get_near(cache, reader, "eve");
+    for (int i = 0; i < 50; i++) {
+        snprintf(key, sizeof key, "key-%d", i);
+        get_text(cache, other, key);
+    }
+    check(live == 4, "what leaves to make room is dropped, whoever remembers it");
+    check(get_text(cache, reader, "eve") == SFLIGHT_CACHE_LOADED, "and is not found");
+
+    /* A key that is read over and over stays. */
+    get_near(cache, reader, "hot");
+    loads = 0;
+    for (int i = 0; i < 50; i++) {
+        snprintf(key, sizeof key, "key-%d", i % 10);
+        get_text(cache, other, key);
+        for (int j = 0; j <= NEAR_HITS; j++)
+            check(get_text(cache, reader, "hot") == SFLIGHT_CACHE_HIT, "a hot key stays");
+    }
+    check(loads > 20, "while others go");
+
+    /* What is in use outlives the Forget and its reader, and is dropped by its last user. */
+    sflight_cache_forget_all(other);
+    get_near(cache, reader, "ada");
+    check(sflight_cache_peek(reader, (const uint8_t *)"ada", 3, &value) && value.near, "one hit in use");
+    check(sflight_cache_peek(reader, (const uint8_t *)"ada", 3, &second) && second.near == value.near, "and another");
+    sflight_cache_forget_all(other);
+    sflight_cache_release(cache, &second);
+    check(live == 1 && ((struct page *)value.at)->mark == LIVE, "a value in use outlives a Forget");
+    get_near(cache, reader, "bob");
+    sflight_cache_leave(reader);
+    check(live == 2 && ((struct page *)value.at)->mark == LIVE, "and its reader");
+    sflight_cache_release(cache, &value);
+    check(live == 1 && !value.near, "its last user drops it");
+
+    /* A value that leaves just before it is remembered. */
+    check(sflight_cache_peek(other, (const uint8_t *)"bob", 3, &value), "the value is found");
+    forget_text(other, "bob");
+    for (int i = 0; i < 2; i++)
+        remember(other, hash_text("bob"), (const uint8_t *)"bob", 3, &stamp, &value);
+    sflight_cache_release(cache, &value);
+    check(live == 0, "is not remembered");
+
+    /* Keys up to 256 bytes. */
+    static uint8_t large[NEAR_KEY + 1];
+    check(hash_of(large, NEAR_KEY) && !hash_of(large, NEAR_KEY + 1), "long keys are not remembered");
+    for (size_t len = NEAR_KEY; len <= NEAR_KEY + 1; len++)
+        for (int i = 0; i < 5; i++)
+            check((get(cache, other, large, len, NULL) == SFLIGHT_CACHE_HIT) == (i > 0), "and are found");
+    check(hash_of(large, 8) != hash_of(large, 9), "a hash is of the length too");
+    sflight_cache_leave(other);
+    check(live == 2, "what a reader remembered stays in the cache");
+    sflight_cache_close(cache);
+    check(live == 0, "until that is closed");
+}
+
 struct asker {
     pthread_t thread;
     sflight_cache *cache;
@@ -432,6 +531,7 @@ int main(void) {
     test_failures();
     test_meanwhile();
     test_words();
+    test_near();
     test_shared(false);
     test_shared(true);
     test_forgets_beside_gets();

@@ -1,8 +1,14 @@
 /* What the library has of a value is a word: an index into a table, and the generation of what lies
  * there. So a word that is read of the cache just as its value leaves it finds nothing, in place of
- * freed memory. */
+ * freed memory.
+ *
+ * A reader remembers values that it found lately, each with a count of its own, so that threads which
+ * read one hot key write to no line of memory in common. The library is asked at each hit whether
+ * the value's call is current, as it is in a look. A value that leaves the cache leaves the readers
+ * that remember it, before its last count goes. */
 #include "sflight_cache.h"
 #include <pthread.h>
+#include <sched.h>
 #include <stdatomic.h>
 #include <stdlib.h>
 #include <string.h>
@@ -11,11 +17,16 @@
 enum {
     STRIPES = 64,
     CHUNK = 1024,
-    LEAST_PLACES = 1024,
-    PLACES_PER_ENTRY = 16,
+    LEAST_PLACES = 16384,
+    COMMON_PLACES = 1048576,
+    PLACES_PER_ENTRY = 64,  /* of a cache with no more than the common number of places, */
+    FEWER_PER_ENTRY = 16,   /* and of one with more */
     ROUNDS = 3,          /* askings that meet another key's call, before a load beside the group */
     KEEPS = 100000,      /* how many values may leave for one that comes */
     LOOKS_FOR_ROOM = 16, /* how often it looks for one that may leave */
+    NEAR = 1024,         /* how many values a reader remembers */
+    NEAR_HITS = 15,      /* how many hits in turn one has there, before one that marks it as used */
+    NEAR_KEY = 256,      /* keys up to this length are remembered */
     MOST_ENTRIES = SFLIGHT_MOST_SETS * SFLIGHT_WAYS
 };
 
@@ -28,6 +39,27 @@ struct entry {
     atomic_ullong state; /* the generation in the upper half, how many use the value in the lower */
     void *value;
     uint32_t next; /* where it is free, the index of the next one, and 1; 0 ends the list */
+    atomic_bool left;   /* whether the value has left the cache */
+    atomic_ullong near; /* the hash by which readers remember the value; 0 where none has */
+};
+
+/* A value that a reader remembers, with one count of its entry. */
+struct sflight_near {
+    _Alignas(64) atomic_uint users; /* the reader while it remembers it, and the hits in use */
+    uint64_t word;
+    void *value;
+    sflight_stamp stamp;
+    struct sflight_near *next; /* of those that are let go together */
+    size_t len;
+    uint8_t key[];
+};
+
+/* Where a reader remembers one value, once it has found that twice with no other in between. */
+struct place {
+    atomic_ullong hash; /* of the key that is remembered; others are passed over without the lock */
+    uint64_t last;      /* the hash that was found last */
+    struct sflight_near *near;
+    unsigned hits; /* how many it may have yet */
 };
 
 struct stripe {
@@ -39,6 +71,8 @@ struct sflight_reader {
     _Alignas(64) sflight_slot slot;
     sflight_cache *cache;
     sflight_reader *next, **before;
+    atomic_flag busy; /* who holds it uses what the reader remembers; taken after the cache's lock */
+    struct place *places;
     /* Written by its thread alone, and read by any. */
     atomic_ullong hits, loads, failures, joins, alone, evictions;
 };
@@ -95,6 +129,8 @@ static uint64_t put(sflight_cache *c, void *value, uint64_t users) {
     pthread_mutex_unlock(&c->table);
     struct entry *e = entry_at(c, index);
     e->value = value;
+    atomic_store_explicit(&e->near, 0, memory_order_relaxed);
+    atomic_store_explicit(&e->left, false, memory_order_relaxed);
     uint64_t generation = atomic_load_explicit(&e->state, memory_order_relaxed) & ~COUNT;
     atomic_store_explicit(&e->state, generation | users, memory_order_release);
     return generation | (index + 1);
@@ -108,7 +144,7 @@ static bool take(sflight_cache *c, uint64_t word, sflight_value *value) {
         if ((state & ~COUNT) != (word & ~COUNT) || !(state & COUNT)) return false;
     } while (!atomic_compare_exchange_weak_explicit(&e->state, &state, state + 1,
                                                     memory_order_acq_rel, memory_order_acquire));
-    *value = (sflight_value){e->value, word};
+    *value = (sflight_value){e->value, word, NULL};
     return true;
 }
 
@@ -125,6 +161,94 @@ static void leave(sflight_cache *c, uint64_t word, uint64_t users) {
     c->free = index + 1;
     pthread_mutex_unlock(&c->table);
     if (c->options.drop) c->options.drop(c->options.context, value);
+}
+
+/* The hash by which readers remember the value of a key; 0 where they do not. Chosen keys can take
+ * each other's place in a reader, and nothing else. */
+static uint64_t hash_of(const uint8_t *key, size_t len) {
+    if (len > NEAR_KEY) return 0;
+    uint64_t hash = len, word;
+    for (;;) {
+        size_t step = len < sizeof word ? len : sizeof word;
+        word = 0;
+        if (step) memcpy(&word, key, step);
+        hash = (hash ^ word) * 0x9e3779b97f4a7c15u;
+        hash ^= hash >> 32;
+        if (len <= sizeof word) return hash | 1;
+        key += step;
+        len -= step;
+    }
+}
+
+static struct place *place_of(sflight_reader *r, uint64_t hash) {
+    return &r->places[(hash >> 8) % NEAR];
+}
+
+/* Nobody waits while it is held, so it is held for some loads and stores, and a lock that sleeps
+ * would cost more than those. Another thread comes only when a value that is remembered leaves. */
+static void hold(sflight_reader *r) {
+    while (atomic_flag_test_and_set_explicit(&r->busy, memory_order_acquire)) sched_yield();
+}
+
+static void let_go(sflight_reader *r) {
+    atomic_flag_clear_explicit(&r->busy, memory_order_release);
+}
+
+/* One uses what a reader has remembered no more. */
+static void leave_near(sflight_cache *c, struct sflight_near *near) {
+    if (atomic_fetch_sub_explicit(&near->users, 1, memory_order_acq_rel) != 1) return;
+    uint64_t word = near->word;
+    free(near);
+    leave(c, word, 1);
+}
+
+/* Lets go a list of what readers remembered. No lock is held, since values may be dropped. */
+static void leave_all(sflight_cache *c, struct sflight_near *list) {
+    while (list) {
+        struct sflight_near *near = list;
+        list = near->next;
+        leave_near(c, near);
+    }
+}
+
+/* Takes out what the place remembers, onto the list. */
+static void unremember(struct place *p, struct sflight_near **list) {
+    if (!p->near) return;
+    p->near->next = *list;
+    *list = p->near;
+    p->near = NULL;
+    atomic_store_explicit(&p->hash, 0, memory_order_relaxed);
+}
+
+/* The value of this word has left the cache. A reader that is about to remember it either is seen
+ * here, or sees that it has left: each writes its mark before it reads the other's. */
+static void leave_cache(sflight_cache *c, uint64_t word) {
+    struct entry *e = entry_of(c, word);
+    atomic_store(&e->left, true);
+    uint64_t hash = atomic_load(&e->near);
+    if (hash) {
+        struct sflight_near *list = NULL;
+        pthread_mutex_lock(&c->lock);
+        for (sflight_reader *r = c->readers; r; r = r->next) {
+            hold(r);
+            struct place *p = place_of(r, hash);
+            if (p->near && p->near->word == word) unremember(p, &list);
+            let_go(r);
+        }
+        pthread_mutex_unlock(&c->lock);
+        leave_all(c, list);
+    }
+    leave(c, word, 1);
+}
+
+/* A load of one key at the place of another ends that one's value, so with few places a cache that
+ * misses often loses what it has. */
+static uint32_t places_for(uint64_t entries) {
+    uint64_t wide = entries * PLACES_PER_ENTRY, fewer = entries * FEWER_PER_ENTRY;
+    uint64_t places = wide > COMMON_PLACES ? COMMON_PLACES : wide;
+    if (places < fewer) places = fewer;
+    if (places < LEAST_PLACES) places = LEAST_PLACES;
+    return places > SFLIGHT_MOST_PLACES ? SFLIGHT_MOST_PLACES : (uint32_t)places;
 }
 
 static bool draw(uint64_t seeds[2]) {
@@ -147,10 +271,7 @@ sflight_cache *sflight_cache_open(const sflight_cache_options *options) {
     /* A quarter more than the entries, since some sets are full before others. */
     c->sets = (options->entries + options->entries / 4) / SFLIGHT_WAYS + 1;
     if (c->sets > SFLIGHT_MOST_SETS) c->sets = SFLIGHT_MOST_SETS;
-    c->places = options->entries > SFLIGHT_MOST_PLACES / PLACES_PER_ENTRY
-                    ? SFLIGHT_MOST_PLACES
-                    : options->entries * PLACES_PER_ENTRY;
-    if (c->places < LEAST_PLACES) c->places = LEAST_PLACES;
+    c->places = places_for(options->entries);
     uint64_t seeds[2];
     if (!draw(seeds)
         || sflight_open(&c->root, c->places, options->readers + 1, seeds[0], seeds[1])
@@ -176,7 +297,7 @@ sflight_cache *sflight_cache_open(const sflight_cache_options *options) {
 static void empty(sflight_cache *c, sflight_slot *slot) {
     uint64_t word;
     for (uint64_t way = 0; way < (uint64_t)c->sets * SFLIGHT_WAYS; way++)
-        if (sflight_empty_way(slot, way, &word) == SFLIGHT_DONE) leave(c, word, 1);
+        if (sflight_empty_way(slot, way, &word) == SFLIGHT_DONE) leave_cache(c, word);
 }
 
 void sflight_cache_close(sflight_cache *c) {
@@ -192,11 +313,22 @@ void sflight_cache_close(sflight_cache *c) {
     free(c);
 }
 
+static void free_reader(sflight_reader *r) {
+    free(r->places);
+    free(r);
+}
+
 sflight_reader *sflight_cache_enter(sflight_cache *c) {
     sflight_reader *r = aligned_alloc(64, (sizeof *r + 63) / 64 * 64);
     if (!r) return NULL;
     memset(r, 0, sizeof *r);
     r->cache = c;
+    atomic_flag_clear(&r->busy);
+    r->places = calloc(NEAR, sizeof *r->places);
+    if (!r->places) {
+        free(r);
+        return NULL;
+    }
     pthread_mutex_lock(&c->lock);
     bool is_split = sflight_split(&c->root, &r->slot) == SFLIGHT_DONE;
     if (is_split) {
@@ -207,7 +339,7 @@ sflight_reader *sflight_cache_enter(sflight_cache *c) {
     }
     pthread_mutex_unlock(&c->lock);
     if (is_split) return r;
-    free(r);
+    free_reader(r);
     return NULL;
 }
 
@@ -229,7 +361,10 @@ void sflight_cache_leave(sflight_reader *r) {
     /* The caller of sflight_open has room for all, so this is refused never. */
     if (sflight_take_back(&c->root, &r->slot) != SFLIGHT_DONE) sflight_close(&r->slot);
     pthread_mutex_unlock(&c->lock);
-    free(r);
+    struct sflight_near *list = NULL;
+    for (int i = 0; i < NEAR; i++) unremember(&r->places[i], &list);
+    leave_all(c, list);
+    free_reader(r);
 }
 
 sflight_cache_stats sflight_cache_statistics(sflight_cache *c) {
@@ -241,17 +376,81 @@ sflight_cache_stats sflight_cache_statistics(sflight_cache *c) {
     return stats;
 }
 
+/* Finds the value of the key among those that the reader remembers, if its call is current. */
+static bool find_near(sflight_reader *r, uint64_t hash, const uint8_t *key, size_t len,
+                      sflight_value *value) {
+    struct place *p = place_of(r, hash);
+    if (!hash || atomic_load_explicit(&p->hash, memory_order_relaxed) != hash) return false;
+    struct sflight_near *old = NULL;
+    bool found = false;
+    hold(r);
+    struct sflight_near *near = p->near;
+    if (near && p->hits && near->len == len && !memcmp(near->key, key, len)) {
+        found = sflight_is_still(&r->slot, &near->stamp);
+        if (found) {
+            p->hits--;
+            atomic_fetch_add_explicit(&near->users, 1, memory_order_relaxed);
+            *value = (sflight_value){near->value, near->word, near};
+        } else {
+            unremember(p, &old);
+        }
+    }
+    let_go(r);
+    leave_all(r->cache, old);
+    return found;
+}
+
+/* Remembers the value that the reader has found of the key, and has in use. */
+static void remember(sflight_reader *r, uint64_t hash, const uint8_t *key, size_t len,
+                     const sflight_stamp *stamp, const sflight_value *value) {
+    if (!hash) return;
+    struct place *p = place_of(r, hash);
+    if (p->last != hash) {
+        p->last = hash;
+        return;
+    }
+    struct entry *e = entry_of(r->cache, value->word);
+    struct sflight_near *near = NULL, *old = NULL;
+    hold(r);
+    if (p->near && p->near->word == value->word)
+        p->hits = NEAR_HITS;
+    else
+        near = aligned_alloc(64, (sizeof *near + len + 63) / 64 * 64);
+    if (near) {
+        unremember(p, &old);
+        near->word = value->word;
+        near->value = value->at;
+        near->stamp = *stamp;
+        near->len = len;
+        if (len) memcpy(near->key, key, len);
+        atomic_init(&near->users, 1);
+        atomic_fetch_add_explicit(&e->state, 1, memory_order_relaxed);
+        p->near = near;
+        p->hits = NEAR_HITS;
+        atomic_store_explicit(&p->hash, hash, memory_order_relaxed);
+        atomic_store(&e->near, hash);
+        if (atomic_load(&e->left)) unremember(p, &old);
+    }
+    let_go(r);
+    leave_all(r->cache, old);
+}
+
 bool sflight_cache_peek(sflight_reader *r, const uint8_t *key, size_t len, sflight_value *value) {
     sflight_answer answer;
+    uint64_t hash = hash_of(key, len);
     *value = (sflight_value){0};
-    if (sflight_look(&r->slot, key, len, &answer) != SFLIGHT_DONE) return false;
-    if (!take(r->cache, answer.value, value)) return false;
+    if (!find_near(r, hash, key, len, value)) {
+        if (sflight_look(&r->slot, key, len, &answer) != SFLIGHT_DONE) return false;
+        if (!take(r->cache, answer.value, value)) return false;
+        remember(r, hash, key, len, &answer.stamp, value);
+    }
     count(&r->hits);
     return true;
 }
 
 void sflight_cache_release(sflight_cache *c, sflight_value *value) {
-    if (value->word) leave(c, value->word, 1);
+    if (value->near) leave_near(c, value->near);
+    else if (value->word) leave(c, value->word, 1);
     *value = (sflight_value){0};
 }
 
@@ -263,11 +462,11 @@ static bool keep(sflight_reader *r, uint64_t weight) {
         case SFLIGHT_DONE: return true;
         case SFLIGHT_REPLACED:
             count(&r->evictions);
-            leave(r->cache, out, 1);
+            leave_cache(r->cache, out);
             return true;
         case SFLIGHT_EVICTED:
             count(&r->evictions);
-            leave(r->cache, out, 1);
+            leave_cache(r->cache, out);
             break;
         case SFLIGHT_BUSY: looked++; break;
         default: return false;
@@ -292,7 +491,7 @@ static int load_alone(sflight_reader *r, const uint8_t *key, size_t len, sflight
         if (c->options.drop) c->options.drop(c->options.context, at);
         return SFLIGHT_CACHE_NO_MEMORY;
     }
-    *value = (sflight_value){at, word};
+    *value = (sflight_value){at, word, NULL};
     return SFLIGHT_CACHE_LOADED;
 }
 
@@ -317,7 +516,7 @@ static int lead(sflight_reader *r, const uint8_t *key, size_t len, uint32_t plac
     }
     if (word) {
         count(&r->loads);
-        *value = (sflight_value){at, word};
+        *value = (sflight_value){at, word, NULL};
         return SFLIGHT_CACHE_LOADED;
     }
     if (!at) {
@@ -367,7 +566,7 @@ int sflight_cache_get(sflight_reader *r, const uint8_t *key, size_t len, sflight
                  * before it. */
                 struct entry *e = entry_of(r->cache, answer.value);
                 (void)atomic_load_explicit(&e->state, memory_order_acquire);
-                *value = (sflight_value){e->value, answer.value};
+                *value = (sflight_value){e->value, answer.value, NULL};
                 return SFLIGHT_CACHE_JOINED;
             }
             /* Another key's, of which this reader has a count. */
@@ -392,7 +591,8 @@ void sflight_cache_forget(sflight_reader *r, const uint8_t *key, size_t len) {
     while (sflight_named(&r->slot, key, len, &stamp) == SFLIGHT_DONE &&
            sflight_forget_call(&r->slot, &stamp, SFLIGHT_MOST_TRIES) == SFLIGHT_BUSY) {
     }
-    if (sflight_take_out(&r->slot, key, len, &word) == SFLIGHT_DONE) leave(r->cache, word, 1);
+    if (sflight_take_out(&r->slot, key, len, &word) == SFLIGHT_DONE)
+        leave_cache(r->cache, word);
 }
 
 void sflight_cache_forget_all(sflight_reader *r) {
