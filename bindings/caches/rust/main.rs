@@ -15,7 +15,8 @@ const PAGE: &str = "<html></html>";
 
 trait Loads: Sync {
     fn name(&self) -> &str;
-    fn get(&self, key: &str, load: &dyn Fn() -> String) -> Arc<String>;
+    /// The length of the key's page.
+    fn get(&self, key: &str, load: &dyn Fn() -> String) -> usize;
 }
 
 struct Ours(Cache<String>);
@@ -25,8 +26,22 @@ impl Loads for Ours {
         "singleflight::Cache"
     }
 
-    fn get(&self, key: &str, load: &dyn Fn() -> String) -> Arc<String> {
-        self.0.get_or_load(key, load)
+    fn get(&self, key: &str, load: &dyn Fn() -> String) -> usize {
+        self.0.get_or_load(key, load).len()
+    }
+}
+
+/// The same cache, by reading in place of counting.
+struct Read(Cache<String>);
+
+impl Loads for Read {
+    fn name(&self) -> &str {
+        "Cache, by read"
+    }
+
+    fn get(&self, key: &str, load: &dyn Fn() -> String) -> usize {
+        let read = self.0.read(key, |page| page.len());
+        read.unwrap_or_else(|| self.0.get_or_load(key, load).len())
     }
 }
 
@@ -40,11 +55,13 @@ impl Loads for Plain {
         "lru, mutex, condvar"
     }
 
-    fn get(&self, key: &str, load: &dyn Fn() -> String) -> Arc<String> {
+    fn get(&self, key: &str, load: &dyn Fn() -> String) -> usize {
         let mut state = self.state.lock().unwrap();
         loop {
             if let Some(value) = state.0.get(key) {
-                return value.clone();
+                let value = value.clone();
+                drop(state);
+                return value.len();
             }
             if state.1.insert(key.to_string()) {
                 break;
@@ -58,7 +75,7 @@ impl Loads for Plain {
         state.1.remove(key);
         drop(state);
         self.loaded.notify_all();
-        value
+        value.len()
     }
 }
 
@@ -66,6 +83,7 @@ fn make(values: usize) -> Vec<Box<dyn Loads>> {
     let plain = (LruCache::new(values), HashSet::new());
     vec![
         Box::new(Ours(Cache::new(values as u64))),
+        Box::new(Read(Cache::new(values as u64))),
         Box::new(Plain { state: Mutex::new(plain), loaded: Condvar::new() }),
     ]
 }
@@ -111,7 +129,7 @@ fn round(cache: &dyn Loads, lists: &[Vec<String>]) -> f64 {
             scope.spawn(move || {
                 begin.wait();
                 for key in keys.iter().cycle().take(GETS) {
-                    assert_eq!(cache.get(key, &|| PAGE.to_string()).len(), PAGE.len());
+                    assert_eq!(cache.get(key, &|| PAGE.to_string()), PAGE.len());
                 }
             });
         }

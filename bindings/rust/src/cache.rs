@@ -4,9 +4,10 @@
 //! A value lies in a shard, which is a map under a lock, beside the stamp of its call. A hit asks
 //! the library whether that call is current still, by the caller of the thread's lane, and so a
 //! Forget makes a value stale before its entry is removed. A lane remembers the values that its
-//! threads found lately, so that a hot key takes no lock that all share; it does not keep them alive. The key that the group knows begins
-//! with the number of the era: `invalidate_all` begins a new one, so a load of an era before is
-//! joined by nobody who asks later.
+//! threads found lately, each with a count of its own, so that a hot key takes no lock and no count
+//! that all share. A value that leaves the cache leaves the lanes too. The key that the group knows
+//! begins with the number of the era: `invalidate_all` begins a new one, so a load of an era before
+//! is joined by nobody who asks later.
 
 use crate::hash::Fingerprints;
 use crate::sync::lock;
@@ -17,21 +18,23 @@ use std::convert::Infallible;
 use std::fmt;
 use std::future::Future;
 use std::hash::{BuildHasherDefault, Hasher};
-use std::sync::atomic::{AtomicU64, AtomicUsize, Ordering};
-use std::sync::{Arc, Mutex, Weak};
+use std::sync::atomic::{AtomicBool, AtomicU64, AtomicUsize, Ordering};
+use std::sync::{Arc, Mutex};
 use std::time::{Duration, Instant};
 
 /// How many shards and lanes there are at most. Both are powers of two.
 const MOST_SHARDS: usize = 256;
 const MOST_LANES: usize = 64;
-/// How many hash slots of the group each entry has, and how many there are at least.
-const SLOTS_PER_ENTRY: u64 = 16;
-const LEAST_SLOTS: u64 = 1024;
+/// How many hash slots of the group each entry has, and how many where that would be more than the
+/// common number; how many there are at least and at most. A load of one key at the slot of another
+/// ends that one's value, so with few slots a cache that misses often loses what it has.
+const SLOTS_PER_ENTRY: u64 = 64;
+const FEWER_PER_ENTRY: u64 = 16;
+const LEAST_SLOTS: u64 = 16_384;
+const COMMON_SLOTS: u64 = 1_048_576;
 const MOST_SLOTS: u64 = 134_217_728;
-/// How many values a lane remembers, and how many hits in turn one has there before the shard is asked
-/// again, which marks the entry as used.
-const NEAR: usize = 512;
-const NEAR_HITS: u8 = 15;
+/// How many values a lane remembers.
+const NEAR: usize = 1024;
 /// How many loads run by the library at a time, where the builder says nothing.
 const LOADS: u32 = 1024;
 
@@ -58,15 +61,35 @@ impl Hasher for Same {
     }
 }
 
+/// What an entry and the lanes that remember it share: the key, and by what they learn of each other.
+/// Of `near` and `left` each writes its own mark before it reads the other's.
+struct Name {
+    key: Box<[u8]>,
+    /// Whether a lane has remembered the entry.
+    near: AtomicBool,
+    /// Whether the entry has left the cache.
+    left: AtomicBool,
+    /// Whether the entry was found since the hand last passed it.
+    used: AtomicBool,
+}
+
+impl Name {
+    /// Marks the entry as found. Most often it is marked already, and then nobody else's copy of this
+    /// line of memory is taken away.
+    fn mark(&self) {
+        if !self.used.load(Ordering::Relaxed) {
+            self.used.store(true, Ordering::Relaxed);
+        }
+    }
+}
+
 struct Entry<V> {
     fingerprint: u64,
-    key: Box<[u8]>,
+    name: Arc<Name>,
     value: Arc<V>,
     stamp: Stamp,
     weight: u64,
     until: Option<Instant>,
-    /// Whether it was found since the hand last passed it.
-    used: bool,
 }
 
 /// A part of the keys, by fingerprint.
@@ -89,37 +112,49 @@ impl<V> Shard<V> {
 
     /// Takes out the next entry that was not found since the hand last passed it.
     fn evict(&mut self) -> Option<Entry<V>> {
-        // Whoever has passed all once finds one, as nobody marks an entry meanwhile.
-        for _ in 0..=self.entries.len() {
+        // Lanes mark entries meanwhile: a caller that has passed all takes the one that comes next.
+        for passed in 0..=self.entries.len() {
             if self.hand >= self.entries.len() {
                 self.hand = 0;
             }
-            let entry = self.entries.get_mut(self.hand)?;
-            if !entry.used {
+            let entry = self.entries.get(self.hand)?;
+            if passed == self.entries.len() || !entry.name.used.load(Ordering::Relaxed) {
                 return Some(self.remove(self.hand));
             }
-            entry.used = false;
+            entry.name.used.store(false, Ordering::Relaxed);
             self.hand += 1;
         }
         None
     }
 }
 
-/// A value that was found lately. It leaves with its entry, since this does not keep it alive.
+/// A value that a lane's threads found lately. It lies in an [`Arc`] whose count no other lane writes
+/// to, and in no line of memory with another's.
+#[repr(align(128))]
 struct Copy<V> {
     fingerprint: u64,
-    key: Box<[u8]>,
-    value: Weak<V>,
+    name: Arc<Name>,
+    value: Arc<V>,
     stamp: Stamp,
     era: u64,
     until: Option<Instant>,
-    hits: u8,
 }
 
 /// Remembers one value, once it was found twice with no other in between.
 struct Near<V> {
     last: u64,
-    copy: Option<Copy<V>>,
+    copy: Option<Arc<Copy<V>>>,
+}
+
+/// What a lane knows of a key.
+enum Known<V, R> {
+    /// Its value, of which this was taken.
+    Hit(R),
+    /// A value whose call is not current. It may be the last of it, which is dropped when the lane's
+    /// lock is free again.
+    Stale { _copy: Arc<Copy<V>> },
+    /// Nothing. This tells whether the key was the last one that was found there.
+    Nothing { again: bool },
 }
 
 /// What a lane has under its lock: a caller of the group, values that were found lately, and counts.
@@ -141,50 +176,76 @@ impl<T: Send + Sync, V> Own<T, V> {
         (fingerprint >> 8) as usize % NEAR
     }
 
-    /// The value of the key, if it is remembered, and whether its call is current. One that is not is handed
-    /// out too: it may be the last of its value, which is dropped when the lane's lock is free again.
-    fn find(&mut self, key: &[u8], fingerprint: u64, era: u64) -> Option<(Arc<V>, bool)> {
-        let copy = self.near[Self::place(fingerprint)].copy.as_mut()?;
-        if copy.fingerprint != fingerprint || copy.era != era || *copy.key != *key {
-            return None;
+    /// What is taken of the key's value, if it is remembered and its call is current.
+    fn find<R>(
+        &mut self,
+        key: &[u8],
+        fingerprint: u64,
+        era: u64,
+        take: impl FnOnce(&Arc<Copy<V>>) -> R,
+    ) -> Known<V, R> {
+        let near = &self.near[Self::place(fingerprint)];
+        let again = near.last == fingerprint;
+        let Some(copy) = near.copy.as_ref() else { return Known::Nothing { again } };
+        if copy.fingerprint != fingerprint || copy.era != era || *copy.name.key != *key {
+            return Known::Nothing { again };
         }
-        if copy.hits == 0 || copy.until.is_some_and(|until| Instant::now() >= until) {
-            return None;
+        if copy.until.is_some_and(|until| Instant::now() >= until) {
+            return Known::Nothing { again };
         }
-        copy.hits -= 1;
-        let (value, stamp) = (copy.value.upgrade()?, copy.stamp);
-        let is_current = self.is_current(stamp);
-        self.hits += u64::from(is_current);
-        Some((value, is_current))
+        copy.name.mark();
+        let stamp = copy.stamp;
+        if !self.is_current(stamp) {
+            return match self.near[Self::place(fingerprint)].copy.take() {
+                Some(_copy) => Known::Stale { _copy },
+                None => Known::Nothing { again },
+            };
+        }
+        self.hits += 1;
+        match &self.near[Self::place(fingerprint)].copy {
+            Some(copy) => Known::Hit(take(copy)),
+            None => Known::Nothing { again },
+        }
     }
 
-    /// Remembers a value that was found in its shard.
-    fn remember(&mut self, key: &[u8], fingerprint: u64, era: u64, found: &Found<V>) {
+    /// Remembers a value that was found in its shard, and hands out what it displaces.
+    fn remember(&mut self, fingerprint: u64, era: u64, found: &Found<V>) -> Option<Arc<Copy<V>>> {
         let near = &mut self.near[Self::place(fingerprint)];
-        if std::mem::replace(&mut near.last, fingerprint) != fingerprint {
-            return;
+        near.last = fingerprint;
+        let name = found.name.as_ref()?;
+        name.near.store(true, Ordering::SeqCst);
+        if name.left.load(Ordering::SeqCst) {
+            return None;
         }
+        let (name, value) = (name.clone(), found.value.clone());
         let (stamp, until) = (found.stamp, found.until);
-        if let Some(copy) = &mut near.copy {
-            if copy.fingerprint == fingerprint && *copy.key == *key {
-                if copy.stamp != stamp {
-                    copy.value = Arc::downgrade(&found.value);
-                }
-                (copy.stamp, copy.era, copy.until, copy.hits) = (stamp, era, until, NEAR_HITS);
-                return;
-            }
-        }
-        let value = Arc::downgrade(&found.value);
-        let key = key.into();
-        near.copy = Some(Copy { fingerprint, key, value, stamp, era, until, hits: NEAR_HITS });
+        near.copy.replace(Arc::new(Copy { fingerprint, name, value, stamp, era, until }))
     }
 }
 
-/// What a shard has of a key.
+/// What a shard has of a key. It has the name where that is to be remembered.
 struct Found<V> {
     value: Arc<V>,
+    name: Option<Arc<Name>>,
     stamp: Stamp,
     until: Option<Instant>,
+}
+
+/// A value that a call of [`Cache::read`] reads.
+enum Held<V> {
+    Near(Arc<Copy<V>>),
+    Far(Arc<V>),
+}
+
+impl<V> std::ops::Deref for Held<V> {
+    type Target = V;
+
+    fn deref(&self) -> &V {
+        match self {
+            Held::Near(copy) => &copy.value,
+            Held::Far(value) => value,
+        }
+    }
 }
 
 /// What the threads of one lane share. No two lanes lie in one line of memory.
@@ -263,9 +324,10 @@ impl<V: Send + Sync, E: Send + Sync> CacheBuilder<V, E> {
         self
     }
 
-    /// How many entries the cache is to have, by which the group gets its hash slots: 16 for each,
-    /// of 8 bytes. Where there are more, a load of one key makes the value of another stale more
-    /// often. Without it, as many as the limit, and 65,536 at most.
+    /// Sets how many entries the cache is to have, by which the group gets its hash slots of 8 bytes:
+    /// 64 for each, in a cache of more than 65,536 entries 16 for each, and 16,384 at least. Where
+    /// there are more entries, a load of one key makes the value of another stale more often. Without
+    /// this, there are as many entries as the limit, and at most 65,536.
     ///
     /// ```
     /// let cache: singleflight::Cache<u32> =
@@ -328,7 +390,8 @@ impl<V: Send + Sync, E: Send + Sync> CacheBuilder<V, E> {
         let lanes = std::thread::available_parallelism().map_or(4, usize::from);
         let lanes = (2 * lanes).next_power_of_two().min(MOST_LANES);
         let entries = self.entries.unwrap_or(self.limit.min(65_536));
-        let slots = entries.saturating_mul(SLOTS_PER_ENTRY).clamp(LEAST_SLOTS, MOST_SLOTS);
+        let wide = entries.saturating_mul(SLOTS_PER_ENTRY).clamp(LEAST_SLOTS, COMMON_SLOTS);
+        let slots = entries.saturating_mul(FEWER_PER_ENTRY).clamp(wide, MOST_SLOTS);
         if self.loads == 0 {
             return Err(Error::Callers(0));
         }
@@ -560,6 +623,24 @@ impl<V: Send + Sync, E: Send + Sync> Cache<V, E> {
         self.find(key, self.fingerprint(key))
     }
 
+    /// Calls `read` with the value of the key, if the cache has it, and returns what that returns.
+    ///
+    /// Threads that get one hot key write to the count of its one [`Arc`], and so slow each other
+    /// down. Those that read it do not. No lock is held meanwhile, so `read` may use the cache.
+    ///
+    /// ```
+    /// let cache = singleflight::Cache::<String>::new(100);
+    /// assert_eq!(cache.read("ada", |page| page.len()), None);
+    /// cache.get_or_load("ada", || "the page of Ada".to_string());
+    /// assert_eq!(cache.read("ada", |page| page.len()), Some(15));
+    /// ```
+    pub fn read<R>(&self, key: impl AsRef<[u8]>, read: impl FnOnce(&V) -> R) -> Option<R> {
+        let key = key.as_ref();
+        let held =
+            self.find_by(key, self.fingerprint(key), |near| Held::Near(near.clone()), Held::Far)?;
+        Some(read(&held))
+    }
+
     /// Puts a value into the cache after it was written to the store: it invalidates the key, and
     /// then keeps the value, unless the key is invalidated again meanwhile, or a load began after the
     /// invalidation, whose value is as new. Where two threads may write one key at one time, each
@@ -614,6 +695,11 @@ impl<V: Send + Sync, E: Send + Sync> Cache<V, E> {
     /// ```
     pub fn invalidate_all(&self) {
         self.era.fetch_add(1, Ordering::SeqCst);
+        self.empty();
+    }
+
+    /// Takes all entries out.
+    fn empty(&self) {
         for shard in &self.shards {
             let mut shard = lock(shard);
             let entries = std::mem::take(&mut shard.entries);
@@ -622,6 +708,7 @@ impl<V: Send + Sync, E: Send + Sync> Cache<V, E> {
             // All weights first: a listener may panic.
             let weight = entries.iter().map(|entry| entry.weight).sum();
             self.weight.fetch_sub(weight, Ordering::SeqCst);
+            entries.iter().for_each(|entry| self.unremember(entry));
             entries.iter().for_each(|entry| self.tell(entry));
         }
     }
@@ -677,7 +764,7 @@ impl<V: Send + Sync, E: Send + Sync> Cache<V, E> {
         let mut shard = lock(self.shard(fingerprint));
         let index = shard.at.get(&fingerprint).copied();
         let entry = match index {
-            Some(index) if *shard.entries[index].key == *key => Some(shard.remove(index)),
+            Some(index) if *shard.entries[index].name.key == *key => Some(shard.remove(index)),
             _ => None,
         };
         drop(shard);
@@ -710,20 +797,35 @@ impl<V: Send + Sync, E: Send + Sync> Cache<V, E> {
     }
 
     fn find(&self, key: &[u8], fingerprint: u64) -> Option<Arc<V>> {
+        self.find_by(key, fingerprint, |near| near.value.clone(), |far| far)
+    }
+
+    /// What is taken of the key's value, where a lane remembers it or else where its shard has it.
+    fn find_by<R>(
+        &self,
+        key: &[u8],
+        fingerprint: u64,
+        near: impl FnOnce(&Arc<Copy<V>>) -> R,
+        far: impl FnOnce(Arc<V>) -> R,
+    ) -> Option<R> {
         let lane = self.lane();
         // Before a value is read: one of an older era is no answer to a call that began later.
         let era = self.era();
-        let near = lock(&lane.0).find(key, fingerprint, era);
-        if let Some((value, true)) = near {
-            return Some(value);
-        }
-        let found = self.find_far(key, fingerprint);
+        let known = lock(&lane.0).find(key, fingerprint, era, near);
+        let again = match known {
+            Known::Hit(taken) => return Some(taken),
+            Known::Stale { .. } => false,
+            Known::Nothing { again } => again,
+        };
+        let found = self.find_far(key, fingerprint, again);
         let mut own = lock(&lane.0);
         match found {
             Some(found) if own.is_current(found.stamp) => {
                 own.hits += 1;
-                own.remember(key, fingerprint, era, &found);
-                Some(found.value)
+                let displaced = own.remember(fingerprint, era, &found);
+                drop(own);
+                drop(displaced);
+                Some(far(found.value))
             }
             _ => {
                 own.misses += 1;
@@ -732,16 +834,17 @@ impl<V: Send + Sync, E: Send + Sync> Cache<V, E> {
         }
     }
 
-    /// What the key's shard has of it, whatever has become of its call.
-    fn find_far(&self, key: &[u8], fingerprint: u64) -> Option<Found<V>> {
-        let mut shard = lock(self.shard(fingerprint));
+    /// What the key's shard has of it, whatever has become of its call; with its name, if it is wanted.
+    fn find_far(&self, key: &[u8], fingerprint: u64, named: bool) -> Option<Found<V>> {
+        let shard = lock(self.shard(fingerprint));
         let index = *shard.at.get(&fingerprint)?;
-        let entry = &mut shard.entries[index];
-        if *entry.key != *key || entry.until.is_some_and(|until| Instant::now() >= until) {
+        let entry = &shard.entries[index];
+        if *entry.name.key != *key || entry.until.is_some_and(|until| Instant::now() >= until) {
             return None;
         }
-        entry.used = true;
-        Some(Found { value: entry.value.clone(), stamp: entry.stamp, until: entry.until })
+        entry.name.mark();
+        let name = named.then(|| entry.name.clone());
+        Some(Found { value: entry.value.clone(), name, stamp: entry.stamp, until: entry.until })
     }
 
     /// Counts what a load gave.
@@ -804,8 +907,9 @@ impl<V: Send + Sync, E: Send + Sync> Cache<V, E> {
         if weight > self.limit || !self.is_current(stamp) || !self.make_room(fingerprint, weight) {
             return;
         }
-        let key = key.into();
-        let entry = Entry { fingerprint, key, value, stamp, weight, until, used: false };
+        let not = || AtomicBool::new(false);
+        let name = Arc::new(Name { key: key.into(), near: not(), left: not(), used: not() });
+        let entry = Entry { fingerprint, name, value, stamp, weight, until };
         let mut shard = lock(self.shard(fingerprint));
         // All was invalidated meanwhile. Whoever begins an era empties this shard later, by its lock.
         if era != self.era() {
@@ -855,22 +959,39 @@ impl<V: Send + Sync, E: Send + Sync> Cache<V, E> {
         take()
     }
 
-    /// An entry has left: its weight is given back, and then it is told.
+    /// An entry has left: its weight is given back, no lane remembers it, and then it is told.
     fn left(&self, entry: Entry<V>) {
         self.weight.fetch_sub(entry.weight, Ordering::SeqCst);
+        self.unremember(&entry);
         self.tell(&entry);
+    }
+
+    /// Takes an entry that has left out of the lanes. The entry has its value still, so none is dropped
+    /// under a lock.
+    fn unremember(&self, entry: &Entry<V>) {
+        entry.name.left.store(true, Ordering::SeqCst);
+        if !entry.name.near.load(Ordering::SeqCst) {
+            return;
+        }
+        for lane in &self.lanes {
+            let mut own = lock(&lane.0);
+            let near = &mut own.near[Own::<Outcome<V, E>, V>::place(entry.fingerprint)];
+            if near.copy.as_ref().is_some_and(|copy| Arc::ptr_eq(&copy.name, &entry.name)) {
+                near.copy = None;
+            }
+        }
     }
 
     fn tell(&self, entry: &Entry<V>) {
         if let Some(listener) = &self.listener {
-            listener(&entry.key, &entry.value);
+            listener(&entry.name.key, &entry.value);
         }
     }
 }
 
 #[cfg(test)]
 mod tests {
-    use super::Cache;
+    use super::{lock, name, Cache, Ordering};
 
     /// The limit of a cache whose keys all have one fingerprint.
     pub(super) const BLIND: u64 = 1_000_003;
@@ -887,5 +1008,46 @@ mod tests {
         assert_eq!((cache.get("first"), cache.stats().entries), (None, 1));
         cache.invalidate("first");
         assert_eq!(cache.get("second").as_deref(), Some(&2));
+    }
+
+    // An invalidation forgets the call, and then takes the entry out: a call that begins between the
+    // two may not get the value, though the entry and its copy in the lane are there still.
+    #[test]
+    fn what_is_remembered_is_not_found_once_its_call_is_forgotten() {
+        let cache: Cache<u32> = Cache::new(1);
+        cache.get_or_load("key", || 1);
+        for _ in 0..5 {
+            assert_eq!(cache.read("key", |read| *read), Some(1));
+        }
+        cache.group.forget(name(cache.era(), b"key"));
+        assert_eq!((cache.get("key"), cache.read("key", |read| *read)), (None, None));
+        assert_eq!(cache.stats().entries, 1);
+    }
+
+    // A call that begins between the two halves of `invalidate_all` may find a value of the era before,
+    // which its lane then remembers. Somebody holds the value, so that it lives on.
+    #[test]
+    fn what_is_remembered_of_an_era_before_leaves_with_it() {
+        let cache: Cache<u32> = Cache::new(1);
+        let held = cache.get_or_load("key", || 1);
+        cache.era.fetch_add(1, Ordering::SeqCst);
+        for _ in 0..5 {
+            cache.get("key");
+        }
+        cache.empty();
+        assert_eq!((cache.get("key"), cache.read("key", |read| *read), *held), (None, None, 1));
+    }
+
+    // An entry may leave between the look into its shard and the lane's lock.
+    #[test]
+    fn an_entry_that_has_left_is_not_remembered() {
+        let cache: Cache<u32> = Cache::new(1);
+        cache.get_or_load("key", || 1);
+        let fingerprint = cache.fingerprint(b"key");
+        let found = cache.find_far(b"key", fingerprint, true).unwrap();
+        cache.invalidate("key");
+        let mut own = lock(&cache.lane().0);
+        assert!(own.remember(fingerprint, cache.era(), &found).is_none());
+        assert!(own.near.iter().all(|near| near.copy.is_none()), "it is remembered");
     }
 }

@@ -168,6 +168,62 @@ fn a_value_is_freed_when_it_has_left() {
     assert!(third.upgrade().is_none(), "a dropped cache holds a value");
 }
 
+#[test]
+fn what_is_remembered_is_freed_when_it_has_left() {
+    let told = Arc::new(AtomicUsize::new(0));
+    let count = told.clone();
+    let cache: Cache<u32> = Cache::builder(1)
+        .on_evict(move |_, value| {
+            assert_eq!(Arc::strong_count(value), 1, "what has left is remembered");
+            count.fetch_add(1, SeqCst);
+        })
+        .build()
+        .unwrap();
+    for round in 0..3 {
+        let value = Arc::downgrade(&cache.get_or_load("key", || round));
+        for _ in 0..5 {
+            assert_eq!(cache.read("key", |read| *read), Some(round));
+        }
+        match round {
+            0 => cache.invalidate("key"),
+            1 => cache.invalidate_all(),
+            _ => drop(cache.get_or_load("other", || 7)),
+        }
+        assert!(value.upgrade().is_none(), "it is held in round {round}");
+        assert_eq!(cache.read("key", |read| *read), None);
+    }
+    assert_eq!(told.load(SeqCst), 3);
+}
+
+#[test]
+fn a_read_may_use_the_cache() {
+    let cache = Cache::<u32>::new(2);
+    assert_eq!(cache.read("key", |_| unreachable!("it is empty")), None::<()>);
+    cache.get_or_load("key", || 1);
+    for round in 0..5 {
+        let read = cache.read("key", |read| {
+            assert_eq!(
+                (cache.get("key").as_deref(), cache.read("key", |read| *read)),
+                (Some(read), Some(1))
+            );
+            cache.get_or_load("other", || round);
+            cache.invalidate("other");
+            *read
+        });
+        assert_eq!(read, Some(1));
+    }
+    // The value lives until the read has ended.
+    let read = cache.read("key", |read| {
+        cache.invalidate("key");
+        (cache.get("key"), *read)
+    });
+    assert_eq!(read, Some((None, 1)));
+    let hits = cache.stats().hits;
+    cache.get_or_load("key", || 2);
+    cache.read("key", |_| ());
+    assert_eq!(cache.stats().hits, hits + 1);
+}
+
 // A key that was found some times in turn is remembered beside the shards. Somebody holds the value,
 // so that it lives whatever becomes of its entry.
 #[test]
