@@ -223,6 +223,26 @@ static void test_weights(void) {
     check(live == 0, "all are dropped");
 }
 
+/* The keys in use are others after a while. The old ones leave, and not the newest. */
+static void test_order(void) {
+    struct plan plan = {0};
+    sflight_cache *cache = open_cache(500, 500, &plan);
+    sflight_reader *reader = enter(cache);
+    char key[16];
+    for (int i = 0; i < 1000; i++) {
+        snprintf(key, sizeof key, "old-%d", i / 2);
+        get_text(cache, reader, key);
+    }
+    loads = 0;
+    for (int i = 0; i < 2500; i++) {
+        snprintf(key, sizeof key, "key-%d", i % 250);
+        get_text(cache, reader, key);
+    }
+    check(loads < 700, "keys that are in use come into a full cache and stay");
+    sflight_cache_leave(reader);
+    sflight_cache_close(cache);
+}
+
 static void test_failures(void) {
     struct plan plan = {.fails = true};
     sflight_cache *cache = open_cache(100, 100, &plan);
@@ -528,6 +548,7 @@ int main(void) {
     test_options();
     test_one_reader();
     test_weights();
+    test_order();
     test_failures();
     test_meanwhile();
     test_words();

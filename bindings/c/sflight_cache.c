@@ -17,6 +17,7 @@
 enum {
     STRIPES = 64,
     CHUNK = 1024,
+    FEW_ENTRIES = 1024,
     LEAST_PLACES = 16384,
     COMMON_PLACES = 1048576,
     PLACES_PER_ENTRY = 64,  /* of a cache with no more than the common number of places, */
@@ -241,6 +242,13 @@ static void leave_cache(sflight_cache *c, uint64_t word) {
     leave(c, word, 1);
 }
 
+/* In a full set new values take the place of one another. With two ways for each value few sets are
+ * full; in a small cache, with four, none is most often. */
+static uint32_t sets_for(uint64_t entries) {
+    uint64_t sets = entries * (entries > FEW_ENTRIES ? 2 : 4) / SFLIGHT_WAYS + 1;
+    return sets > SFLIGHT_MOST_SETS ? SFLIGHT_MOST_SETS : (uint32_t)sets;
+}
+
 /* A load of one key at the place of another ends that one's value, so with few places a cache that
  * misses often loses what it has. */
 static uint32_t places_for(uint64_t entries) {
@@ -260,17 +268,16 @@ sflight_cache *sflight_cache_open(const sflight_cache_options *options) {
         || options->entries > MOST_ENTRIES || !options->readers
         || options->readers >= SFLIGHT_MOST_CALLERS)
         return NULL;
+    uint32_t sets = sets_for(options->entries);
     /* As many values again may be in use after they have left, and a few more. */
-    uint32_t chunks = 2 * (options->entries / CHUNK + 1) + options->readers / CHUNK + 1;
+    uint32_t chunks = 2 * (sets * SFLIGHT_WAYS / CHUNK + 1) + options->readers / CHUNK + 1;
     size_t size = sizeof(sflight_cache) + chunks * sizeof(_Atomic(struct entry *));
     sflight_cache *c = aligned_alloc(64, (size + 63) / 64 * 64);
     if (!c) return NULL;
     memset(c, 0, size);
     c->options = *options;
     c->chunks = chunks;
-    /* A quarter more than the entries, since some sets are full before others. */
-    c->sets = (options->entries + options->entries / 4) / SFLIGHT_WAYS + 1;
-    if (c->sets > SFLIGHT_MOST_SETS) c->sets = SFLIGHT_MOST_SETS;
+    c->sets = sets;
     c->places = places_for(options->entries);
     uint64_t seeds[2];
     if (!draw(seeds)

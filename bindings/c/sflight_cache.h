@@ -42,7 +42,7 @@ typedef void *sflight_cache_load(void *context, const uint8_t *key, size_t len, 
 /* How a cache is made. */
 typedef struct sflight_cache_options {
     uint64_t limit;   /* what all values weigh together at most; not 0 */
-    uint32_t entries; /* how many values at most: rounded up to full sets of 8, to 8,388,608 */
+    uint32_t entries; /* about how many values there will be, 1 to 8,388,608 */
     uint32_t readers; /* how many readers at one time, 1 to 65,534 */
     sflight_cache_load *load;
     void (*drop)(void *context, void *value); /* may be null, where values need not be freed */
@@ -70,8 +70,8 @@ enum sflight_cache_code {
     SFLIGHT_CACHE_WORN = 5       /* the reader has made 4,294,967,295 calls, and so have all others */
 };
 
-/* Opens a cache. It takes at once about 650 bytes per entry, in a cache of more than 16,384 entries
- * fewer, down to about 250.
+/* Opens a cache. It takes at once about 1,000 bytes per entry, in a cache of more than 1,024 entries
+ * fewer, down to about 350.
  * Returns null where an option is out of range, or there is no memory. */
 SFLIGHT_MUST_USE
 sflight_cache *sflight_cache_open(const sflight_cache_options *options);

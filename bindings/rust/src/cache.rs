@@ -119,7 +119,10 @@ impl<V> Shard<V> {
             }
             let entry = self.entries.get(self.hand)?;
             if passed == self.entries.len() || !entry.name.used.load(Ordering::Relaxed) {
-                return Some(self.remove(self.hand));
+                let evicted = self.remove(self.hand);
+                // The newest entry has come into its place, and its turn is when all others had theirs.
+                self.hand += 1;
+                return Some(evicted);
             }
             entry.name.used.store(false, Ordering::Relaxed);
             self.hand += 1;
@@ -136,7 +139,6 @@ struct Copy<V> {
     name: Arc<Name>,
     value: Arc<V>,
     stamp: Stamp,
-    era: u64,
     until: Option<Instant>,
 }
 
@@ -181,13 +183,12 @@ impl<T: Send + Sync, V> Own<T, V> {
         &mut self,
         key: &[u8],
         fingerprint: u64,
-        era: u64,
         take: impl FnOnce(&Arc<Copy<V>>) -> R,
     ) -> Known<V, R> {
         let near = &self.near[Self::place(fingerprint)];
         let again = near.last == fingerprint;
         let Some(copy) = near.copy.as_ref() else { return Known::Nothing { again } };
-        if copy.fingerprint != fingerprint || copy.era != era || *copy.name.key != *key {
+        if copy.fingerprint != fingerprint || *copy.name.key != *key {
             return Known::Nothing { again };
         }
         if copy.until.is_some_and(|until| Instant::now() >= until) {
@@ -209,7 +210,7 @@ impl<T: Send + Sync, V> Own<T, V> {
     }
 
     /// Remembers a value that was found in its shard, and hands out what it displaces.
-    fn remember(&mut self, fingerprint: u64, era: u64, found: &Found<V>) -> Option<Arc<Copy<V>>> {
+    fn remember(&mut self, fingerprint: u64, found: &Found<V>) -> Option<Arc<Copy<V>>> {
         let near = &mut self.near[Self::place(fingerprint)];
         near.last = fingerprint;
         let name = found.name.as_ref()?;
@@ -219,7 +220,7 @@ impl<T: Send + Sync, V> Own<T, V> {
         }
         let (name, value) = (name.clone(), found.value.clone());
         let (stamp, until) = (found.stamp, found.until);
-        near.copy.replace(Arc::new(Copy { fingerprint, name, value, stamp, era, until }))
+        near.copy.replace(Arc::new(Copy { fingerprint, name, value, stamp, until }))
     }
 }
 
@@ -809,9 +810,7 @@ impl<V: Send + Sync, E: Send + Sync> Cache<V, E> {
         far: impl FnOnce(Arc<V>) -> R,
     ) -> Option<R> {
         let lane = self.lane();
-        // Before a value is read: one of an older era is no answer to a call that began later.
-        let era = self.era();
-        let known = lock(&lane.0).find(key, fingerprint, era, near);
+        let known = lock(&lane.0).find(key, fingerprint, near);
         let again = match known {
             Known::Hit(taken) => return Some(taken),
             Known::Stale { .. } => false,
@@ -822,7 +821,7 @@ impl<V: Send + Sync, E: Send + Sync> Cache<V, E> {
         match found {
             Some(found) if own.is_current(found.stamp) => {
                 own.hits += 1;
-                let displaced = own.remember(fingerprint, era, &found);
+                let displaced = own.remember(fingerprint, &found);
                 drop(own);
                 drop(displaced);
                 Some(far(found.value))
@@ -1047,7 +1046,7 @@ mod tests {
         let found = cache.find_far(b"key", fingerprint, true).unwrap();
         cache.invalidate("key");
         let mut own = lock(&cache.lane().0);
-        assert!(own.remember(fingerprint, cache.era(), &found).is_none());
+        assert!(own.remember(fingerprint, &found).is_none());
         assert!(own.near.iter().all(|near| near.copy.is_none()), "it is remembered");
     }
 }

@@ -277,6 +277,25 @@ fn a_hot_key_stays() {
     assert!(loads < 8, "a key that is always in use was loaded {loads} times");
 }
 
+// The keys in use are others after a while. The old ones leave, and not the newest.
+#[test]
+fn older_entries_make_room() {
+    let cache: Cache<u32> = Cache::builder(500).entries(50_000).build().unwrap();
+    for old in 0..500u32 {
+        for _ in 0..2 {
+            cache.get_or_load(old.to_le_bytes(), || 1);
+        }
+    }
+    let before = cache.stats().loads;
+    for _ in 0..10 {
+        for new in 1_000..1_250u32 {
+            cache.get_or_load(new.to_le_bytes(), || 2);
+        }
+    }
+    let loads = cache.stats().loads - before;
+    assert!(loads < 700, "250 keys in turn were loaded {loads} times in a cache of 500");
+}
+
 #[test]
 fn an_invalidation_ends_a_load_that_is_under_way() {
     within_a_minute(|| {
