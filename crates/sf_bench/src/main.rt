@@ -87,7 +87,7 @@ fn failed<D: std::fmt::Display + Drop>(rt: &impl Eprint, why: D) -> ExitCode {
 
 fn main(rt: HostRuntime) -> ExitCode {
     let Ok(words) = words(&rt) else {
-        return failed(&rt, "the arguments are no text");
+        return failed(&rt, "the arguments are not valid UTF-8");
     };
     match parse(rt.alloc(), words.as_slice()) {
         Ok(Ok(asked)) => match serve(&rt, asked) {

@@ -38,25 +38,25 @@ struct Row {
 const TABLE: [Row; 6] = [
     Row {
         name: "run",
-        about: "Obeys a script of commands, one a line, from standard input",
+        about: "Runs a script of commands, one per line, from standard input",
         help: RUN,
         work: Work::Engine(Engine::Run { history: false }),
     },
     Row {
         name: "steps",
-        about: "Plays the turns of a schedule, one line each, from standard input",
+        about: "Plays a schedule of atomic steps, one turn per line, from standard input",
         help: STEPS,
         work: Work::Engine(Engine::Steps(Shown::Lines)),
     },
     Row {
         name: "check",
-        about: "Says whether the history recorded in standard input is legal",
+        about: "Checks whether the history recorded in standard input is legal",
         help: CHECK,
         work: Work::Engine(Engine::Check { timed: false }),
     },
     Row {
         name: "merge",
-        about: "Merges the logs of several callers into one history",
+        about: "Merges the logs of several callers into one recording",
         help: MERGE,
         work: Work::Engine(Engine::Merge),
     },
@@ -68,7 +68,7 @@ const TABLE: [Row; 6] = [
     },
     Row {
         name: "bench",
-        about: "Measures what the calls cost on this machine, and prints a table",
+        about: "Measures the time per call on this machine, and prints a table",
         help: BENCH,
         work: Work::Bench,
     },
@@ -86,23 +86,23 @@ struct Flag {
 const FLAGS: [Flag; 3] = [
     Flag {
         name: "history",
-        help: "Prints the records of what happened, in place of lines",
+        help: "Prints records of what happened instead of replies",
         asked: Asked::History,
     },
     Flag {
         name: "timed",
-        help: "Looks for a legal order of the events by their times",
+        help: "Looks for a legal order of the events that respects their times",
         asked: Asked::Timed,
     },
     Flag {
         name: "svg",
-        help: "Draws a picture, in place of lines",
+        help: "Draws the steps as an SVG picture",
         asked: Asked::Picture,
     },
 ];
 
 /// What the program is.
-const ABOUT: &str = "Singleflight with Forget: scripts, schedules and histories";
+const ABOUT: &str = "Runs, replays and checks calls of singleflight with Forget";
 
 /// The version of the packages that are released with it (`bindings/rust/Cargo.toml`).
 const VERSION: &str = "0.1.0";
@@ -111,94 +111,98 @@ const VERSION: &str = "0.1.0";
 const STATUSES: &str = "Example:
   printf 'ask 1 k\\nsettle 1 ok v\\n' | sfctl run
 
-`sfctl SUBCOMMAND --help` has the forms of its lines and its exit statuses:
-0 where the input is answered, 1 for an illegal or incomplete history, 2 for
-refused input.";
+`sfctl SUBCOMMAND --help` describes the input of a subcommand and its exit
+statuses: 0 if the input was answered, 1 if a history is illegal or incomplete,
+2 if the input was refused.";
 
-const RUN: &str = "Commands, one a line:
-  ask CALLER KEY              leads a call of the key, or joins the open one
-  chan CALLER SECOND KEY      the same with a channel, which SECOND holds
-  settle CALLER ok TEXT       settles the call that the caller leads
-  settle CALLER err TEXT      .. with an error
-  forget CALLER KEY           closes the key's open call
-  forgetcall CALLER KEY CALL  ends this call of the key, and no newer one
-  take CALLER                 takes the letter that the caller waits for
-  current KEY CALL            whether this is the key's current call
-Callers are 1 to 65535, a CALL is CALLER.GENERATION; keys and texts are 1 to 250
-bytes without spaces.
+const RUN: &str = "Commands, one per line:
+  ask CALLER KEY              leads a call of KEY, or joins its open call
+  chan CALLER SECOND KEY      the same, but SECOND takes the result
+  settle CALLER ok TEXT       ends the call that CALLER leads, with a value
+  settle CALLER err TEXT      ends it with an error
+  forget CALLER KEY           ends the current call of KEY
+  forgetcall CALLER KEY CALL  ends CALL of KEY, and no newer call
+  take CALLER                 takes the result that CALLER waits for
+  current KEY CALL            tells whether CALL is the current call of KEY
+A CALLER is a number from 1 to 65535. A CALL is CALLER.GENERATION, such as 1.1.
+A KEY or a TEXT has 1 to 250 printable ASCII characters and no spaces.
 
 Example:
   printf 'ask 1 k\\nask 2 k\\nsettle 1 ok v\\ntake 2\\n' | sfctl run
 
-Exit status: 0 where all commands are obeyed, 2 for a refused script, usage,
-want of memory, and a failing read or write.";
+Exit status: 0 if all commands were obeyed; 2 if the script was refused, the
+arguments are wrong, memory ran out, or a read or write failed.";
 
-const STEPS: &str = "Turns, one line each:
-  do CALLER ask PLACE              begins to ask for the place's key
-  do CALLER chan SECOND PLACE      .. with a channel, which SECOND holds
+const STEPS: &str = "Turns, one per line:
+  do CALLER ask PLACE              begins to ask for the key at PLACE
+  do CALLER chan SECOND PLACE      the same, but SECOND takes the result
   do CALLER settle ok TEXT         begins to settle the call it leads
-  do CALLER settle err TEXT        .. with an error
-  do CALLER forget PLACE           begins to forget the place's key
-  do CALLER forgetcall PLACE CALL  begins to forget this call, and no newer one
-  do CALLER poll                   begins to look for its letter
-  do CALLER current PLACE CALL     begins to ask if a call is current
+  do CALLER settle err TEXT        begins to settle it with an error
+  do CALLER forget PLACE           begins to forget the key at PLACE
+  do CALLER forgetcall PLACE CALL  begins to forget CALL, and no newer call
+  do CALLER poll                   begins to look for its result
+  do CALLER current PLACE CALL     begins to ask whether CALL is current
   do CALLER named PLACE            begins to ask which call the key word names
-  step CALLER [COUNT]              makes 1, or 1 to 1000, atomic steps
-  drop CALLER                      leaves after a failed exchange
-Callers and places are 1 to 64; a CALL is CALLER.GENERATION.
+  step CALLER [COUNT]              makes COUNT atomic steps (1 to 1000), or one
+  drop CALLER                      gives up after a failed exchange
+A PLACE is a hash slot. A CALLER or a PLACE is a number from 1 to 64. A CALL is
+CALLER.GENERATION, such as 1.1. A TEXT has 1 to 250 printable ASCII characters
+and no spaces.
 
 Example:
   printf 'do 1 ask 1\\nstep 1 3\\n' | sfctl steps
 
-Exit status: 0 where all turns are played, 2 for a refused schedule, usage,
-want of memory, and a failing read or write.";
+Exit status: 0 if all turns were played; 2 if the schedule was refused, the
+arguments are wrong, memory ran out, or a read or write failed.";
 
-const CHECK: &str = "Records, one JSON object a line; the first is {\"format\":3}:
+const CHECK: &str = "Records, one JSON object per line, after the line {\"format\":3}:
   {\"e\":\"lead\",\"by\":1,\"k\":\"k\",\"c\":[1,1],\"own\":null}
   {\"e\":\"enter\",\"by\":2,\"k\":\"k\",\"c\":[1,1],\"m\":[2,1]}
   {\"e\":\"forget\",\"by\":3,\"k\":\"k\",\"closed\":[1,1]}
   {\"e\":\"forgetcall\",\"by\":3,\"k\":\"k\",\"c\":[1,1],\"hit\":\"missed\"}
   {\"e\":\"settle\",\"by\":1,\"c\":[1,1],\"ok\":\"v\",\"joiners\":1}
   {\"e\":\"handed\",\"by\":1,\"c\":[1,1]}
-`own` and `closed` may be null, `err` may stand in place of `ok`, and a hit is
-closed, cleared or missed. Calls and members are [CALLER,GENERATION]. Formats 1
-and 2 are read too: they have no forgetcall, and in format 1 a settle has
-`shared`, true or false, in place of `joiners`. Format 4 begins with
-{\"format\":4,\"lost\":N}, where N events were lost. In it a record may have a time
-too, as \"at\":[FROM,TO] in nanoseconds. A log that lost events is incomplete, and
-never called legal.
+Calls and members are [CALLER,GENERATION]. `own` and `closed` can be null. A
+settle has `ok` or `err`. A `hit` is closed, cleared or missed.
 
-With --timed the order of the lines says nothing. An order of the events is
-looked for that is legal, and in which no event comes before one that had ended
-when it began. It prints `legal in time: N events`, `no order: ` with events
-that have none, or `not decided`.
+Format 4 begins with {\"format\":4,\"lost\":N}: N events were lost. Its records
+can have a time, \"at\":[FROM,TO] in nanoseconds. A log that lost events is
+incomplete, and is never called legal. Formats 1 and 2 are read too. They have
+no forgetcall, and a settle of format 1 has `shared`, true or false, instead of
+`joiners`.
+
+With --timed, the order of the lines does not matter. The program looks for an
+order that is legal and respects the times: an event that ended before another
+one began comes first. It prints `legal in time: N events`, `no order: ` with
+the events that rule it out, or `not decided`.
 
 Example:
   sfctl steps --history < schedule | sfctl check
 
-Exit status: 0 for a legal history, 1 for an illegal or incomplete one and for
-one without an order in time, 2 for refused records, usage, want of memory, and
-a failing read or write.";
+Exit status: 0 if the history is legal; 1 if it is illegal or incomplete, or no
+order in time was found; 2 if the records were refused, the arguments are wrong,
+memory ran out, or a read or write failed.";
 
-const MERGE: &str = "Standard input is one log after another. Each begins with a line that names
-its format, as `sfctl check --help` has it. `./sfctl merge LOG..` reads them
-from files. The events are put together by keys and calls, whatever their
-order was: it is an order in which they are legal, if they fit together. Their
-times stay, and the numbers of events that were lost are added up. What is
-printed is a recording in format 4.
+const MERGE: &str = "Standard input is one log after another. Each log begins with the line of its
+format (see `sfctl check --help`). `./sfctl merge LOG...` reads logs from files.
+
+The program orders the events by key and call, not by line or time. It keeps
+their times, and adds up the numbers of lost events. It prints a recording in
+format 4. `sfctl check` tells whether the events fit together.
 
 Example:
   cat first.log second.log | sfctl merge | sfctl check
 
-Exit status: 0 where the logs are merged, 2 for refused records, usage, want of
-memory, and a failing read or write.";
+Exit status: 0 if the logs were merged; 2 if the records were refused, the
+arguments are wrong, memory ran out, or a read or write failed.";
 
-const BENCH: &str =
-    "Each NAME is a benchmark; without one all are measured, in about twelve seconds.
-`sfctl --make bench` proves and builds the program that measures; an unproved
-build measures nothing.
+const BENCH: &str = "Measuring all benchmarks takes about twelve seconds. `./sfctl --make bench`
+proves and builds the program that measures; an unproved build does not measure.
 
-Exit status: 0 where all was measured, 2 where something was not, 3 where there
+Example:
+  ./sfctl bench lookup fill
+
+Exit status: 0 if everything was measured, 2 if something was not, 3 if there
 is no proved program.";
 
 /// The first of these rows that has the name.
@@ -315,6 +319,6 @@ fn with_names<'a>(alloc: Global, command: Command<'a>) -> Result<Command<'a>, Al
     let names = Arg::new(alloc, "names")
         .value_name("NAME")
         .action(ArgAction::Append)
-        .help("What is measured");
+        .help("Benchmarks to measure; all if absent");
     command.arg(list)?.arg(names)
 }

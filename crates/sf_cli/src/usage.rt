@@ -42,12 +42,12 @@ impl fmt::Display for Mistake {
         match self {
             Mistake::Said(error) => error.fmt(f),
             Mistake::Elsewhere => {
-                f.write_str(
-                    "error: `bench` is a program of its own, sf_bench, which ./sfctl runs\n",
-                )
+                f.write_str("error: `bench` runs another program; use `./sfctl bench`\n")
             }
-            Mistake::NotTaken => f.write_str("error: no subcommand takes these words\n"),
-            Mistake::NoText => f.write_str("error: the arguments are no text\n"),
+            Mistake::NotTaken => f.write_str(
+                "error: no subcommand takes these arguments; see `sfctl --help`\n",
+            ),
+            Mistake::NoText => f.write_str("error: the arguments are not valid UTF-8\n"),
         }
     }
 }

@@ -9,18 +9,18 @@ use clap::{Arg, ArgAction, Command, Error};
 use std::alloc::{AllocError, Global};
 
 /// What the program's help says of a drive.
-pub const DRIVE_ABOUT: &str = "Gets keys of one fill on several threads, and checks what happened";
+pub const DRIVE_ABOUT: &str = "Gets keys of one fill on several threads, and checks the history";
 
 /// What a drive's help ends with.
 pub const DRIVE_HELP: &str =
-    "Prints how many gets there were, how many answered the key's value, whether the
-totals agree, and whether the history is legal.
+    "Prints the number of gets, the number of gets that returned their key's value,
+whether the totals agree, and whether the history is legal.
 
 Example:
   sfctl drive --threads 4 --keys 8 --gets 100
 
-Exit status: 0 where all went well, 1 where it did not, 2 for usage, want of
-memory, and a failing write.";
+Exit status: 0 if all of that is well; 1 if it is not; 2 if the arguments are
+wrong, memory ran out, or a write failed.";
 
 /// An option of this name that takes no value.
 pub fn switch<'a>(alloc: Global, name: &'a str, help: &'a str) -> Arg<'a>
@@ -54,11 +54,11 @@ pub fn with_drive_options<'a>(
 ) -> Result<Command<'a>, AllocError>
     ensures { IfOk result (λ with. app_of with ≡ with_drive_rules (app_of command.entry)) }
 {
-    let threads = "Threads, 1 to 64 (4 where it is absent)";
-    let keys = "Keys, 1 to 1000 (8)";
-    let gets = "Gets of each thread, 1 to 100000 (100)";
-    let open = "Places by a hash, 16 a key, in place of a directory";
-    let history = "Prints the records of what happened, in place of the four lines";
+    let threads = "Number of threads, 1 to 64; 4 if absent";
+    let keys = "Number of keys, 1 to 1000; 8 if absent";
+    let gets = "Gets per thread, 1 to 100000; 100 if absent";
+    let open = "Uses hash slots, 16 per key, instead of a directory";
+    let history = "Prints records of what happened instead of the four lines";
     command
         .arg(count(alloc, "threads", threads, MOST_THREADS))?
         .arg(count(alloc, "keys", keys, MOST_KEYS))?

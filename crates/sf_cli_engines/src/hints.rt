@@ -55,19 +55,22 @@ fn command_hint(alloc: Global, input: &[u8]) -> Option<Hint> {
 /// The form of the command that begins with this word.
 fn command_form(word: &str) -> &'static str {
     match word {
-        "ask" => "expected `ask CALLER KEY`; callers are 1 to 65535, keys 1 to 250 bytes",
-        "chan" => "expected `chan CALLER SECOND KEY`; callers are 1 to 65535, keys 1 to 250 bytes",
+        "ask" =>
+            "expected `ask CALLER KEY`, such as `ask 1 k`; callers are 1 to 65535, keys have 1 to 250 bytes",
+        "chan" =>
+            "expected `chan CALLER SECOND KEY`, such as `chan 1 2 k`; callers are 1 to 65535, keys have 1 to 250 bytes",
         "settle" => {
-            "expected `settle CALLER ok TEXT` or `settle CALLER err TEXT`; callers are 1 to 65535, texts 1 to 250 bytes"
+            "expected `settle CALLER ok TEXT` or `settle CALLER err TEXT`, such as `settle 1 ok v`; callers are 1 to 65535, texts have 1 to 250 bytes"
         }
-        "forget" => "expected `forget CALLER KEY`; callers are 1 to 65535, keys 1 to 250 bytes",
+        "forget" =>
+            "expected `forget CALLER KEY`, such as `forget 1 k`; callers are 1 to 65535, keys have 1 to 250 bytes",
         "forgetcall" => {
-            "expected `forgetcall CALLER KEY CALLER.GENERATION`; callers are 1 to 65535, keys 1 to 250 bytes, generations 1 to 4294967295"
+            "expected `forgetcall CALLER KEY CALL`, such as `forgetcall 2 k 1.1`; callers are 1 to 65535, generations 1 to 4294967295, keys have 1 to 250 bytes"
         }
-        "take" => "expected `take CALLER`; callers are 1 to 65535",
+        "take" => "expected `take CALLER`, such as `take 1`; callers are 1 to 65535",
         "current" => {
-            "expected `current KEY CALLER.GENERATION`; callers are 1 to 65535, generations 1 to 4294967295"
+            "expected `current KEY CALL`, such as `current k 1.1`; callers are 1 to 65535, generations 1 to 4294967295, keys have 1 to 250 bytes"
         }
-        _ => "expected ask, chan, settle, forget, forgetcall, take or current",
+        _ => "expected ask, chan, settle, forget, forgetcall, take or current, such as `ask 1 k`",
     }
 }

@@ -37,7 +37,7 @@ fn line_hint(alloc: Global, input: &[u8], line: u64, format: u64) -> Option<Hint
         Err(error) if error.is_memory() => None,
         Err(_) => Some(Hint {
             line,
-            says: "it is no JSON",
+            says: "the line is not JSON; expected an object such as {\"e\":\"handed\",\"by\":1,\"c\":[1,1]}",
         }),
     }
 }
@@ -103,28 +103,30 @@ fn has_bad_time(record: &Value, format: u64) -> bool {
 /// What is wrong with a value that is no record of this format.
 fn record_says(record: &Value, format: u64) -> &'static str {
     if has_bad_time(record, format) {
-        return "expected [FROM,TO] at the name at, two readings of a clock in nanoseconds, the later one last";
+        return "expected `at` to be [FROM,TO], two readings of one clock in nanoseconds, such as [1000,1180]";
     }
     match record.get("e").and_then(Value::as_str) {
         Some("lead") if !has(record, &["by", "k", "c", "own"], format) => {
-            "expected the names e, by, k, c and own"
+            "expected the names e, by, k, c and own, such as {\"e\":\"lead\",\"by\":1,\"k\":\"k\",\"c\":[1,1],\"own\":null}"
         }
         Some("enter") if !has(record, &["by", "k", "c", "m"], format) => {
-            "expected the names e, by, k, c and m"
+            "expected the names e, by, k, c and m, such as {\"e\":\"enter\",\"by\":2,\"k\":\"k\",\"c\":[1,1],\"m\":[2,1]}"
         }
         Some("forget") if !has(record, &["by", "k", "closed"], format) => {
-            "expected the names e, by, k and closed"
+            "expected the names e, by, k and closed, such as {\"e\":\"forget\",\"by\":3,\"k\":\"k\",\"closed\":[1,1]}"
         }
-        Some("forgetcall") if format < 3 => "forgetcall needs {\"format\":3}",
+        Some("forgetcall") if format < 3 =>
+            "forgetcall needs format 3 or 4; the first line is then {\"format\":3}",
         Some("forgetcall") if !has(record, &["by", "k", "c", "hit"], format) => {
-            "expected the names e, by, k, c and hit"
+            "expected the names e, by, k, c and hit, such as {\"e\":\"forgetcall\",\"by\":3,\"k\":\"k\",\"c\":[1,1],\"hit\":\"missed\"}"
         }
         Some("settle") => settle_says(record, format),
-        Some("handed") if !has(record, &["by", "c"], format) => "expected the names e, by and c",
+        Some("handed") if !has(record, &["by", "c"], format) =>
+            "expected the names e, by and c, such as {\"e\":\"handed\",\"by\":1,\"c\":[1,1]}",
         Some("lead") | Some("enter") | Some("forget") | Some("forgetcall") | Some("handed") =>
             VALUES,
-        _ if format < 3 => "expected an object whose e is lead, enter, forget, settle or handed",
-        _ => "expected an object whose e is lead, enter, forget, forgetcall, settle or handed",
+        _ if format < 3 => "expected an object in which e is lead, enter, forget, settle or handed",
+        _ => "expected an object in which e is lead, enter, forget, forgetcall, settle or handed",
     }
 }
 
@@ -136,11 +138,11 @@ fn settle_says(record: &Value, format: u64) -> &'static str {
     {
         VALUES
     } else if format == 1 {
-        "expected the names e, by, c, shared, and one of ok and err"
+        "expected the names e, by, c, shared, and ok or err, such as {\"e\":\"settle\",\"by\":1,\"c\":[1,1],\"ok\":\"v\",\"shared\":true}"
     } else {
-        "expected the names e, by, c, joiners, and one of ok and err"
+        "expected the names e, by, c, joiners, and ok or err, such as {\"e\":\"settle\",\"by\":1,\"c\":[1,1],\"ok\":\"v\",\"joiners\":1}"
     }
 }
 
 const VALUES: &str =
-    "a value has another type or is out of range; callers are 1 to 65535, generations 1 to 4294967295, joiners 0 to 4294967295, hits closed, cleared or missed, keys at most 250 bytes";
+    "a value has the wrong type or is out of range; callers are 1 to 65535, generations 1 to 4294967295, joiners 0 to 4294967295, a hit is closed, cleared or missed, keys have at most 250 bytes";

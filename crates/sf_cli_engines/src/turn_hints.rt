@@ -49,28 +49,28 @@ fn turn_says(alloc: Global, words: &[&str], before: &[&[u8]]) -> Result<&'static
         ["do", caller, ref operation @ ..] => {
             if !is_number(caller, 64) || !is_operation(operation) {
                 return Ok(
-                    "expected `do CALLER` and one of `ask PLACE`, `chan SECOND PLACE`, `settle ok TEXT`, `settle err TEXT`, `forget PLACE`, `forgetcall PLACE CALL`, `poll`, `current PLACE CALL`, `named PLACE`; callers and places are 1 to 64",
+                    "expected `do CALLER`, then `ask PLACE`, `chan SECOND PLACE`, `settle ok TEXT`, `settle err TEXT`, `forget PLACE`, `forgetcall PLACE CALL`, `poll`, `current PLACE CALL` or `named PLACE`, such as `do 1 ask 1`; callers and places are 1 to 64",
                 );
             }
             if may_step(alloc, before, caller)? {
-                return Ok("an operation of this caller has not ended");
+                return Ok("this caller's last operation has not ended; `step CALLER` continues it");
             }
             Ok(condition(operation))
         }
         ["step", caller] if is_number(caller, 64) => Ok(NO_STEP),
         ["step", caller, count] if is_number(caller, 64) && is_number(count, 1_000) => Ok(NO_STEP),
         ["step", ..] => Ok(
-            "expected `step CALLER` or `step CALLER COUNT`; callers are 1 to 64, counts 1 to 1000",
+            "expected `step CALLER` or `step CALLER COUNT`, such as `step 1 3`; callers are 1 to 64, counts 1 to 1000",
         ),
         ["drop", caller] if is_number(caller, 64) => {
-            Ok("an operation is dropped only right after a failed exchange")
+            Ok("a caller can drop an operation only right after a failed exchange")
         }
-        ["drop", ..] => Ok("expected `drop CALLER`; callers are 1 to 64"),
-        _ => Ok("expected do, step or drop"),
+        ["drop", ..] => Ok("expected `drop CALLER`, such as `drop 1`; callers are 1 to 64"),
+        _ => Ok("expected do, step or drop, such as `do 1 ask 1`"),
     }
 }
 
-const NO_STEP: &str = "a step beyond the end of an operation, or with none begun";
+const NO_STEP: &str = "this caller has no operation that can make so many steps; `do` begins one";
 
 /// Whether an operation of the caller can make a step after these lines.
 fn may_step(alloc: Global, before: &[&[u8]], caller: &str) -> Result<bool, AllocError> {
@@ -87,11 +87,13 @@ fn may_step(alloc: Global, before: &[&[u8]], caller: &str) -> Result<bool, Alloc
 /// The condition of an operation.
 fn condition(operation: &[&str]) -> &'static str {
     match *operation {
-        ["settle", ..] => "a settling needs a caller that leads",
-        ["forget", ..] | ["forgetcall", ..] => "a forget needs a free caller",
-        ["poll"] => "a poll needs a caller that holds a ticket",
-        ["current", ..] => "a question needs a free caller, and a call that was led on the place",
-        ["named", ..] => "a question needs a free caller",
-        _ => "an asking needs callers that are free, different and not spent",
+        ["settle", ..] => "`settle` needs a caller that leads a call",
+        ["forget", ..] | ["forgetcall", ..] =>
+            "`forget` and `forgetcall` need a free caller: it leads no call and waits for no result",
+        ["poll"] => "`poll` needs a caller that waits for a result",
+        ["current", ..] => "`current` needs a free caller, and a call that was led at this place",
+        ["named", ..] => "`named` needs a free caller: it leads no call and waits for no result",
+        _ =>
+            "`ask` and `chan` need free callers with generations left; the two of a `chan` are different",
     }
 }
