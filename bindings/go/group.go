@@ -2,9 +2,11 @@ package singleflight
 
 import "context"
 
-// Group is the Group of golang.org/x/sync/singleflight: Do and DoChan are x/sync's, and the other
-// methods are those of Of. So a program changes the import path and nothing else. Its Of has the
-// same calls, and gives deadlines and stamps: group.Of.Do(ctx, key, fn).
+// Group is a drop-in for the Group of golang.org/x/sync/singleflight: Do and DoChan have x/sync's
+// signatures, and the other methods are those of Of. A program changes the import path and nothing
+// else. The embedded Of shares the calls of the Group, with deadlines and stamps:
+//
+//	group.Of.Do(ctx, key, fn)
 //
 // The zero Group is ready for use, and NewGroup makes one with options. It may not be copied once
 // it is used.
@@ -19,10 +21,10 @@ func NewGroup(options ...Option) (*Group, error) {
 	return g, nil
 }
 
-// Do returns what fn returns: of the key's open call, or if there is none, of a new one, for which
-// it calls fn. Where fn panics or ends its goroutine, so do all who have joined. As in x/sync,
-// shared tells whether somebody has joined the call. Unlike in x/sync, it is also true for a call
-// that has waited for an older one of its key, and got the result of that.
+// Do joins the key's open call, or leads a new call and runs fn for it. It returns what the
+// function of that call returned. If fn panics or calls runtime.Goexit, so do all callers that
+// joined. As in x/sync, shared tells whether another caller joined the call. Unlike in x/sync, it
+// is also true for a call that waited for an older one of its key, and got that call's result.
 func (g *Group) Do(key string, fn func() (any, error)) (v any, err error, shared bool) {
 	var r Result
 	p := g.made.Load()
@@ -33,9 +35,9 @@ func (g *Group) Do(key string, fn func() (any, error)) (v any, err error, shared
 	return r.Val, r.Err, r.Shared
 }
 
-// DoChan is Do, whose result comes through a channel. The channel is not closed. The call is open
-// as soon as DoChan returns. As in x/sync, a panic of the function ends the program, and nothing
-// comes if the function ends its goroutine.
+// DoChan is like Do but returns a channel that receives the result. The channel is not closed. The
+// call is open as soon as DoChan returns. As in x/sync, a panic of the function ends the program,
+// and the channel receives nothing if the function calls runtime.Goexit.
 func (g *Group) DoChan(key string, fn func() (any, error)) <-chan Result {
 	return g.Of.DoChan(always, key, func(context.Context) (any, error) { return fn() })
 }

@@ -1,6 +1,6 @@
-// Package otel traces the calls of singleflight's groups with OpenTelemetry. It uses the API for
-// traces alone, which is stable since version 1.0. Keys are not recorded, since they may be private;
-// a span of the caller's own may have them.
+// Package otel traces the calls of singleflight's groups with OpenTelemetry. It uses only the API
+// for traces, which is stable since version 1.0. Keys are not recorded, because they may be
+// private; a span of the caller's own can have them.
 package otel
 
 import (
@@ -30,8 +30,8 @@ const (
 	CallKey    = attribute.Key("singleflight.call")
 )
 
-// Do is that of the Of, in a span DoSpan of the tracer. The function runs in a span LoadSpan. An error
-// is recorded in the spans of all who get it.
+// Do calls Do of the Of in a span DoSpan of the tracer. The function runs in a span LoadSpan. An
+// error is recorded in the spans of all callers that get it.
 func Do[K singleflight.Key, V any](
 	ctx context.Context, tracer trace.Tracer, of *singleflight.Of[K, V], key K,
 	fn func(context.Context) (V, error),
@@ -50,7 +50,7 @@ func Do[K singleflight.Key, V any](
 }
 
 // Load returns the function in a span LoadSpan of the tracer, for a Do or DoChan that is called
-// without this package. The span also ends if the function panics or ends its goroutine.
+// without this package. The span also ends if the function panics or calls runtime.Goexit.
 func Load[V any](
 	tracer trace.Tracer, group string, fn func(context.Context) (V, error),
 ) func(context.Context) (V, error) {

@@ -15,11 +15,11 @@ import (
 // Keys are those that the peers share: the first signs, each of them is accepted.
 type keys [][]byte
 
-// LeastKeyBytes is how long a key of Options.Keys is at least.
+// LeastKeyBytes is the smallest size of a key of Options.Keys.
 const LeastKeyBytes = 16
 
-// MostSkew is how far two peers' clocks may differ: an older or later request is refused, so that a
-// recorded one is of no use after that.
+// MostSkew is the largest difference between two peers' clocks. A request that is older or later
+// than that is refused, so a recorded request is of no use afterwards.
 const MostSkew = 5 * time.Minute
 
 var (

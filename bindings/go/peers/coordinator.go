@@ -12,15 +12,15 @@ import (
 	"time"
 )
 
-// Coordinator says which processes are the pool. Static is a fixed list; package etcd has one that
-// is agreed by all and has leases.
+// Coordinator says which processes are the pool. Static is a fixed list. Package etcd has a list
+// that all peers agree on, with leases.
 type Coordinator interface {
 	// Join makes the process that calls it a member under the name self, with a start that is
 	// greater than after and than that of each earlier process of the name. It blocks until no
-	// earlier process of that name can be a member, and returns an error where the context ends
-	// before that.
+	// earlier process of that name can be a member. It returns an error if the context ends before
+	// that.
 	Join(ctx context.Context, self string, after uint64) (Membership, error)
-	// Close ends what the Coordinator has begun. No membership is used after it.
+	// Close ends what the Coordinator began. No membership is used after Close.
 	Close() error
 }
 
@@ -34,17 +34,17 @@ type Membership interface {
 	Refresh(ctx context.Context) error
 	// Changed returns a channel that receives after Members or Kept have changed.
 	Changed() <-chan struct{}
-	// Until returns when the membership ends unless it is renewed, by this machine's clock; the
-	// zero time where it has no lease.
+	// Until returns the time at which the membership ends unless it is renewed, by this machine's
+	// clock; or the zero time if it has no lease.
 	Until() time.Time
 	// Done returns a channel that is closed when the membership has ended.
 	Done() <-chan struct{}
 	// Keep stores a Forget for the members that have not acknowledged it, under a name of its own.
-	// It returns ErrNotKept where the Coordinator stores nothing.
+	// It returns ErrNotKept if the Coordinator stores nothing.
 	Keep(ctx context.Context, id string, forget []byte) error
-	// Kept returns what is stored.
+	// Kept returns the stored Forgets.
 	Kept() map[string][]byte
-	// Drop removes it.
+	// Drop removes the stored Forget of this id.
 	Drop(ctx context.Context, id string) error
 	// Leave ends the membership at once.
 	Leave(ctx context.Context) error
@@ -53,17 +53,17 @@ type Membership interface {
 // Member is a process that is a member of the pool.
 type Member struct {
 	Name  string `json:"name"`
-	Start uint64 `json:"start,omitempty"` // 0 where the Coordinator does not know it
+	Start uint64 `json:"start,omitempty"` // 0 if the Coordinator does not know it
 }
 
-// ErrNotKept is that of a Coordinator that stores no Forgets.
+// ErrNotKept is returned by a Coordinator that stores no Forgets.
 var ErrNotKept = errors.New("peers: this Coordinator keeps no Forgets")
 
-// Static is the Coordinator of a list that is written into each peer's configuration. It has no
-// leases: while a peer is dead, each Forget returns an *Unanswered that names it.
+// Static is the Coordinator of a list that stands in each peer's configuration. It has no leases:
+// while a peer is dead, each Forget returns an *Unanswered that names it.
 type Static struct {
-	// File keeps the start of the last process between two of them, so that starts grow where the
-	// clock goes back. Without it the others' memory alone is there for that.
+	// File keeps the start of the last process, so that starts grow even if the clock goes back.
+	// Without it only the other peers remember that start.
 	File string
 
 	mu   sync.Mutex
@@ -98,7 +98,7 @@ func (s *Static) names() (names []string) {
 // Close does nothing.
 func (s *Static) Close() error { return nil }
 
-// Join takes the time in nanoseconds as the start, or a later number where that is needed.
+// Join takes the time in nanoseconds as the start, or a later number if that is needed.
 func (s *Static) Join(ctx context.Context, self string, after uint64) (Membership, error) {
 	start := uint64(time.Now().UnixNano())
 	if start <= after {

@@ -7,8 +7,8 @@ import (
 	"time"
 )
 
-// HealthHandler answers 200 while this process is worth keeping, and 503 once it has to be started
-// again: the pool is closed, or another process has this peer's name.
+// HealthHandler responds with 200 while this process is worth keeping. It responds with 503 once
+// the process has to be restarted: the pool is closed, or another process has this peer's name.
 func (p *Pool) HealthHandler() http.Handler {
 	return http.HandlerFunc(func(w http.ResponseWriter, r *http.Request) {
 		err := p.node.session.Load().failure()
@@ -19,8 +19,8 @@ func (p *Pool) HealthHandler() http.Handler {
 	})
 }
 
-// ReadyHandler answers 200 while Gets are served here, and 503 with the reason while they are not:
-// this peer begins, or leaves, or has no lease, or others do not have it on their lists.
+// ReadyHandler responds with 200 while Gets are served here, and with 503 and the reason while they
+// are not: this peer begins, leaves, or has no lease, or others do not have it on their lists.
 func (p *Pool) ReadyHandler() http.Handler {
 	return http.HandlerFunc(func(w http.ResponseWriter, r *http.Request) {
 		ctx, cancel := context.WithTimeout(r.Context(), readyFor)

@@ -7,12 +7,12 @@ import (
 	"time"
 )
 
-// Stats are numbers of this peer since it was made. Those of a cache are groupcache's: see
-// Cache.Group.
+// Stats are the numbers of this peer since it was made. For the numbers of a cache, which are
+// groupcache's, see Cache.Group.
 type Stats struct {
 	Serving    bool          // whether Gets are served now
 	Start      uint64        // the number of this process; it grows whenever the peer joins again
-	Lease      time.Duration // how long the lease runs yet; 0 where there is none
+	Lease      time.Duration // how long the lease still runs; 0 if there is none
 	Forgets    uint64        // Forgets that were asked for here
 	Unanswered uint64        // of these, that returned an error
 	Keys       int           // forgotten keys that are kept now
@@ -23,7 +23,7 @@ type Stats struct {
 	Peers      []PeerStats   // the others, in the order of their names
 }
 
-// PeerStats are numbers of another peer, as this one sees it.
+// PeerStats are the numbers of another peer, as this one sees it.
 type PeerStats struct {
 	Name         string
 	Start        uint64        // the latest process of that name that is known, or 0
@@ -66,7 +66,7 @@ func (f *figures) acknowledged(peer string, took time.Duration) {
 	})
 }
 
-// Stats returns them.
+// Stats returns the numbers of this peer.
 func (p *Pool) Stats() Stats {
 	n := p.node
 	s := Stats{Forgets: n.figures.forgets.Load(), Unanswered: n.figures.unanswered.Load(), Strangers: n.figures.strangers.Load(),

@@ -19,7 +19,7 @@ const (
 	toHeader    = "Peers-To"
 	signHeader  = "Peers-Signature"
 
-	// MostValueBytes is how many bytes a value may have that comes from another peer.
+	// MostValueBytes is the largest size of a value that comes from another peer.
 	MostValueBytes = 64 << 20
 
 	signValue = "peers value"

@@ -1,6 +1,6 @@
-// Package prometheus has the numbers of singleflight's groups for Prometheus: a collector of what a
-// group counts itself, and a recorder of the times of its loads. Keys are no labels, since there may
-// be any number of them.
+// Package prometheus exports the numbers of singleflight's groups to Prometheus: a collector of
+// what a group counts itself, and a recorder of the times of its loads. Keys are no labels, because
+// there can be any number of them.
 package prometheus
 
 import (
@@ -37,7 +37,7 @@ type collector struct {
 }
 
 // NewCollector returns a collector of the source's numbers. The name of the source is the value of
-// the label group, so each source that is registered has a name of its own: a registry takes no two
+// the label group. So each registered source needs a name of its own: a registry does not take two
 // collectors of one name. A collection takes no lock of the group. It has:
 //
 //	singleflight_loads_total{path="library"}  load functions that were called for a proved call
@@ -124,8 +124,8 @@ func (c *collector) Collect(ch chan<- prometheus.Metric) {
 	}
 }
 
-// Recorder is a collector of what singleflight.WithRecorder tells. One may serve any number of
-// groups. It has, with the label group:
+// Recorder is a collector of what singleflight.WithRecorder reports. One Recorder can serve any
+// number of groups. It has, with the label group:
 //
 //	singleflight_load_seconds        how long load functions took
 //	singleflight_load_joiners        how many joined the call of a load function
@@ -135,8 +135,8 @@ type Recorder struct {
 	errors           *prometheus.CounterVec
 }
 
-// NewRecorder makes a Recorder whose times have these buckets, in seconds, or if there are none,
-// prometheus.DefBuckets. It panics if the buckets do not increase, as prometheus.NewHistogram does.
+// NewRecorder makes a Recorder whose times have these buckets, in seconds, or prometheus.DefBuckets
+// if there are none. It panics if the buckets do not increase, as prometheus.NewHistogram does.
 func NewRecorder(buckets ...float64) *Recorder {
 	seconds := prometheus.HistogramOpts{
 		Name:    "singleflight_load_seconds",
@@ -160,7 +160,7 @@ func NewRecorder(buckets ...float64) *Recorder {
 	}
 }
 
-// Record is the argument of singleflight.WithRecorder.
+// Record records one load. Give it to singleflight.WithRecorder.
 func (r *Recorder) Record(load singleflight.Load) {
 	r.seconds.WithLabelValues(load.Group).Observe(load.Took.Seconds())
 	r.joiners.WithLabelValues(load.Group).Observe(float64(load.Joiners))
@@ -170,14 +170,14 @@ func (r *Recorder) Record(load singleflight.Load) {
 	}
 }
 
-// Describe is that of prometheus.Collector.
+// Describe implements prometheus.Collector.
 func (r *Recorder) Describe(ch chan<- *prometheus.Desc) {
 	r.seconds.Describe(ch)
 	r.joiners.Describe(ch)
 	r.errors.Describe(ch)
 }
 
-// Collect is that of prometheus.Collector.
+// Collect implements prometheus.Collector.
 func (r *Recorder) Collect(ch chan<- prometheus.Metric) {
 	r.seconds.Collect(ch)
 	r.joiners.Collect(ch)

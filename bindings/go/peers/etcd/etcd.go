@@ -1,6 +1,6 @@
-// Package etcd is a Coordinator of package peers over etcd: a list of peers that all agree on, a
-// lease for each peer, so that a dead one does not stop Forgets, and a place for Forgets that some
-// peer did not acknowledge.
+// Package etcd is a Coordinator of package peers over etcd. It has a list of peers that all agree
+// on, a lease for each peer, so that a dead peer does not stop Forgets, and a place for Forgets
+// that some peer did not acknowledge.
 //
 // Below a prefix, etcd has a key for each member, which ends with its lease, and one for each such
 // Forget:
@@ -42,7 +42,7 @@ type Coordinator struct {
 type Option func(*Coordinator) error
 
 // WithTTL sets how long a lease runs after it was renewed last: whole seconds, 2 s to 60 s, by
-// default 5 s. A Forget waits for a dead peer for so long, and a peer goes on without etcd for nine
+// default 5 s. A Forget waits that long for a dead peer, and a peer goes on without etcd for nine
 // tenths of it. etcd rounds a TTL up to a little more than its own election timeout.
 func WithTTL(ttl time.Duration) Option {
 	return func(c *Coordinator) error {
@@ -54,9 +54,9 @@ func WithTTL(ttl time.Duration) Option {
 	}
 }
 
-// New returns the Coordinator of the pool that has this prefix: 1 to 255 bytes, of which the last
-// is no slash. The client is the caller's, to be closed after the pool. New returns an error where
-// an option or the prefix is not allowed.
+// New returns the Coordinator of the pool that has this prefix: 1 to 255 bytes, the last of which
+// is not a slash. The client stays the caller's, who closes it after the pool. New returns an error
+// if an option or the prefix is not allowed.
 func New(client *clientv3.Client, prefix string, options ...Option) (*Coordinator, error) {
 	if client == nil {
 		return nil, errors.New("etcd: no client")
@@ -77,7 +77,7 @@ func New(client *clientv3.Client, prefix string, options ...Option) (*Coordinato
 func (c *Coordinator) members() string { return c.prefix + "/members/" }
 func (c *Coordinator) forgets() string { return c.prefix + "/forgets/" }
 
-// Close ends what Join has begun. The leases run out by themselves.
+// Close ends what Join began. The leases run out by themselves.
 func (c *Coordinator) Close() error {
 	c.cancel()
 	return nil
@@ -104,7 +104,7 @@ type member struct {
 	isDone   bool
 }
 
-// Join takes a lease, and the key of the name once no other process has it: an earlier one that
+// Join takes a lease, and the key of the name once no other process has it. An earlier process that
 // ended without Leave has it until its lease runs out.
 func (c *Coordinator) Join(ctx context.Context, self string, after uint64) (peers.Membership, error) {
 	random := make([]byte, 16)

@@ -1,5 +1,5 @@
-// Package metrics is a Prometheus collector of a peer's numbers: those of its pool, of each other
-// peer as this one sees it, and of groupcache's for each cache.
+// Package metrics is a Prometheus collector of a peer's numbers: those of its pool, those of each
+// other peer as this one sees it, and groupcache's for each cache.
 package metrics
 
 import (
@@ -108,7 +108,7 @@ type collector struct {
 }
 
 // New returns the collector of a pool and of some of its caches. Its labels hold the other peers'
-// names, which are their base URLs: serve it where strangers do not read it.
+// names, which are their base URLs: serve it where strangers cannot read it.
 func New(pool *peers.Pool, caches ...*peers.Cache) prometheus.Collector {
 	return &collector{pool, caches}
 }
