@@ -13,9 +13,9 @@ use std::time::Duration;
 /// A caller of a group, for one thread or task at a time. [`Group::caller`](crate::Group::caller)
 /// returns one.
 ///
-/// A [`Group`](crate::Group) has the same methods. A caller saves a call the search for a free
-/// place in the library, and remembers the value that it got last ([`Caller::last_is_current`]).
-/// When it is dropped, its place goes back to the group.
+/// A [`Group`](crate::Group) has the same methods. A caller keeps its place in the library, so its
+/// calls need not look for a free one. It also remembers the value that it got last
+/// ([`Caller::last_is_current`]). When it is dropped, its place goes back to the group.
 ///
 /// ```
 /// let group = singleflight::Group::<u32>::new();
@@ -63,7 +63,7 @@ impl<T: Send + Sync> Caller<T> {
     /// [`Group::get_or_load_timeout`](crate::Group::get_or_load_timeout) does.
     ///
     /// # Errors
-    /// [`Error::TimedOut`] where the load of another caller takes longer than the timeout.
+    /// [`Error::TimedOut`] if the load of another caller takes longer than the timeout.
     ///
     /// ```
     /// # use singleflight::{Error, Group};
@@ -86,9 +86,9 @@ impl<T: Send + Sync> Caller<T> {
     }
 
     /// Returns the value of the key in a task, as
-    /// [`Group::get_or_load_async`](crate::Group::get_or_load_async) does. The future
-    /// borrows the caller. One that is leaked (`mem::forget`) while it loads settles its call when
-    /// the caller is used again or dropped.
+    /// [`Group::get_or_load_async`](crate::Group::get_or_load_async) does. The future borrows the
+    /// caller. If a future that loads is leaked (`mem::forget`), its call is settled when the
+    /// caller is used again or dropped.
     ///
     /// ```
     /// # use std::{future::Future, pin::pin, task::{Context, Poll, Waker}};
@@ -114,8 +114,8 @@ impl<T: Send + Sync> Caller<T> {
     }
 
     /// Joins the key's open call or leads a new one, as
-    /// [`Group::subscribe`](crate::Group::subscribe) does. The job borrows the caller. One that
-    /// is leaked (`mem::forget`) settles its call when the caller is used again or dropped.
+    /// [`Group::subscribe`](crate::Group::subscribe) does. The job borrows the caller. If it is
+    /// leaked (`mem::forget`), its call is settled when the caller is used again or dropped.
     ///
     /// ```
     /// let group = singleflight::Group::<u32>::new();
@@ -175,8 +175,8 @@ impl<T: Send + Sync> Caller<T> {
     }
 
     /// Returns whether a value with this stamp may still be used, as
-    /// [`Group::is_current`](crate::Group::is_current) does. It takes no lock while the caller
-    /// has a place in the library: three loads.
+    /// [`Group::is_current`](crate::Group::is_current) does. It takes no lock while the caller has
+    /// a place in the library: it makes three loads.
     ///
     /// ```
     /// let group = singleflight::Group::<u32>::new();
@@ -190,9 +190,9 @@ impl<T: Send + Sync> Caller<T> {
         self.0.is_current(stamp)
     }
 
-    /// Returns whether the value that this caller got last may still be used. `None` where it has
-    /// none: before its first, after a wait that it left, and after a load beside the library.
-    /// A load that ended without a value changes nothing.
+    /// Returns whether the value that this caller got last may still be used. It returns `None` if
+    /// there is no such value: before the first one, after a wait that the caller left, and after a
+    /// load beside the library. A load that ended without a value changes nothing.
     ///
     /// ```
     /// let group = singleflight::Group::<u32>::new();
@@ -211,7 +211,7 @@ impl<T: Send + Sync> Caller<T> {
     /// Returns a note of what this caller has seen, for [`Caller::learn`].
     ///
     /// # Errors
-    /// [`Error::OutOfMemory`].
+    /// [`Error::OutOfMemory`] if there is no memory.
     ///
     /// ```
     /// let group = singleflight::Group::<u32>::new();
@@ -229,7 +229,7 @@ impl<T: Send + Sync> Caller<T> {
     /// loaded before a Forget that the note's caller had seen.
     ///
     /// # Errors
-    /// [`Error::OtherGroup`] where the note is of another group.
+    /// [`Error::OtherGroup`] if the note is of another group.
     ///
     /// ```
     /// # use singleflight::{Error, Group};

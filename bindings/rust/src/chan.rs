@@ -11,7 +11,7 @@ use std::sync::Arc;
 use std::task::{Context, Poll};
 use std::time::{Duration, Instant};
 
-/// A load that has to be run, by any thread or task. Where it is dropped, its call ends without a
+/// A load that has to be run, by any thread or task. If the job is dropped, its call ends without a
 /// value: its receivers get an error, and callers that joined load themselves.
 #[must_use = "a job that is dropped ends its call without a value"]
 pub struct Job<'a, T> {
@@ -54,7 +54,7 @@ impl<'a, T> Job<'a, T> {
         (receiver, job)
     }
 
-    /// Runs the load, settles the call with its value, and returns that.
+    /// Runs the load, settles the call with its value, and returns that value.
     ///
     /// ```
     /// let group = singleflight::Group::<u32>::new();
@@ -67,8 +67,8 @@ impl<'a, T> Job<'a, T> {
         guard.end(&self.key, load())
     }
 
-    /// Awaits the load, settles the call with its value, and returns that. Where the future is
-    /// dropped before, its call ends without a value, once the load is dropped.
+    /// Awaits the load, settles the call with its value, and returns that value. If the future is
+    /// dropped before, the load is dropped first, and then its call ends without a value.
     ///
     /// ```
     /// # use std::{future::Future, pin::pin, task::{Context, Poll, Waker}};
@@ -105,9 +105,9 @@ enum Source<T> {
     Nothing,
 }
 
-/// Receives the value of a call, once: in a thread by [`Receiver::recv`], in a task by `.await`. It
-/// has no load of its own: where its call ends without a value it gets an error, and may subscribe
-/// again. One that is dropped leaves its call.
+/// Receives the value of a call, once: in a thread with [`Receiver::recv`], in a task with
+/// `.await`. It has no load of its own. If its call ends without a value, it returns an error, and
+/// the program can subscribe again. A receiver that is dropped leaves its call.
 ///
 /// ```
 /// # use std::{future::Future, pin::pin, task::{Context, Poll, Waker}};
@@ -130,8 +130,8 @@ impl<T> Receiver<T> {
     /// Returns the value if it is there.
     ///
     /// # Errors
-    /// `Empty` while the call is open. `Disconnected` where it ended without a value, or the value
-    /// was taken before.
+    /// `Empty` while the call is open. `Disconnected` if it ended without a value, or the value was
+    /// taken before.
     ///
     /// ```
     /// let group = singleflight::Group::<u32>::new();
@@ -150,7 +150,7 @@ impl<T> Receiver<T> {
     /// Blocks until the call has ended, and returns its value.
     ///
     /// # Errors
-    /// An error where it ended without a value, or the value was taken before.
+    /// An error if the call ended without a value, or the value was taken before.
     ///
     /// ```
     /// let group = singleflight::Group::<u32>::new();
@@ -165,11 +165,11 @@ impl<T> Receiver<T> {
         self.read().ok_or(RecvError)
     }
 
-    /// Blocks until the call has ended, no longer than the timeout, and returns its value.
+    /// Blocks until the call has ended, but no longer than the timeout, and returns its value.
     ///
     /// # Errors
-    /// `Timeout` where the call is open still; the receiver may be asked again. `Disconnected`
-    /// where it ended without a value, or the value was taken before.
+    /// `Timeout` if the call is still open; the receiver can be asked again. `Disconnected` if it
+    /// ended without a value, or the value was taken before.
     ///
     /// ```
     /// # use std::{sync::mpsc::RecvTimeoutError, time::Duration};

@@ -1,6 +1,6 @@
-//! Singleflight with Forget. Of the callers that want the value of one key at one time, one loads
-//! it, and the others share its value. After [`Group::forget`] no caller receives a value that was
-//! loaded before.
+//! Singleflight with Forget. If several callers want the value of one key at one time, one of them
+//! loads it, and the others share its value. After [`Group::forget`] no caller receives a value
+//! that was loaded before.
 //!
 //! ```
 //! use singleflight::Group;
@@ -16,8 +16,8 @@
 //! });
 //! ```
 //!
-//! A [`Group`] may be shared between threads by reference, or cloned. A thread or task that asks
-//! often may keep a [`Caller`]. A leader that nobody joins takes no lock on the usual path. A
+//! A [`Group`] can be shared between threads by reference, or cloned. A thread or task that asks
+//! often can keep a [`Caller`]. A leader that nobody joins takes no lock on the usual path. A
 //! joiner sleeps until its leader wakes it.
 //!
 //! # Promises
@@ -26,22 +26,22 @@
 //!    for its own key would wait for itself.
 //! 2. At most one load of a key runs at a time, unless a Forget of the key ended the earlier one.
 //!    So without a Forget values do not go backwards.
-//! 3. Nothing wears out.
+//! 3. A group never wears out.
 //! 4. A Forget always forgets.
 //! 5. A new group is small, and grows with its use.
 //!
-//! Keys are bytes of any length, and any number of them come and go. A group hashes them to slots,
-//! and two keys may share one. The library has one open call per slot. A call that finds another
-//! key's call there, or for which no place in the library is free, goes beside the library: it
-//! joins the key's open call, or loads, under a lock. [`Stats::alone`] counts these loads. They
-//! have no current stamp, so a cache cannot keep their values. A group of [`Group::new`] grows
-//! where they are frequent. Give [`Group::open`] 1,000 slots per call that is open at one time, or
-//! 16 per cached value.
+//! Keys are bytes of any length, and any number of them can come and go. A group hashes them to
+//! slots, and two keys can share one. The library has one open call per slot. If another key's call
+//! is open there, or no caller of the library is free, a call runs beside the library: it joins the
+//! key's open call, or loads, under a lock. [`Stats::alone`] counts these loads. They have no
+//! current stamp, so a cache cannot keep their values. A group of [`Group::new`] grows if they are
+//! frequent. Give [`Group::open`] 1,000 slots per call that is open at one time, or 16 per cached
+//! value.
 //!
 //! # Loads that fail
 //!
-//! The value may be a `Result`: callers then share the error too. A load that panics, or whose
-//! future is dropped, settles nothing: each joiner then asks again, and one of them loads.
+//! The value can be a `Result`: callers then share the error too. If a load panics, or its future
+//! is dropped, its call ends without a value: each joiner then asks again, and one of them loads.
 //!
 //! ```
 //! let group = singleflight::Group::<Result<u16, std::num::ParseIntError>>::new();
@@ -52,9 +52,9 @@
 //! # Values in a cache
 //!
 //! A [`Stamp`] tells whether a value may still be used. Ask [`Group::is_current`] before you put a
-//! value into the cache: the key may have been forgotten while it was loaded. Ask again when you
-//! take it out: a caller that has learned of a Forget then gets `false` for all values loaded
-//! before it.
+//! value into the cache: the key may have been forgotten while the value was loaded. Ask again when
+//! you take the value out: a caller that has learned of a Forget then gets `false` for all values
+//! loaded before it.
 //!
 //! ```
 //! use singleflight::{Group, Stamp};
@@ -88,7 +88,7 @@
 //!
 //! # Features and platforms
 //!
-//! The feature `notes` has [`Caller`]s hand on what they have seen. No program needs it. The
+//! With the feature `notes`, a [`Caller`] can pass on what it has seen. No program needs it. The
 //! library is machine code for Linux on x86-64 (v2).
 
 #![deny(unsafe_op_in_unsafe_fn)]
@@ -146,7 +146,7 @@ const MOST_CALLERS: u32 = 65_534;
 /// After so many calls a caller of the library is spent.
 const CALLS: u32 = u32::MAX - 1;
 
-/// Why a call did nothing.
+/// The reasons why a call did nothing.
 ///
 /// ```
 /// use singleflight::{Error, Group};
@@ -157,9 +157,9 @@ const CALLS: u32 = u32::MAX - 1;
 #[derive(Clone, Copy, Debug, PartialEq, Eq)]
 #[non_exhaustive]
 pub enum Error {
-    /// [`Group::open`] was given so many hash slots.
+    /// [`Group::open`] was called with this number of hash slots, which is out of range.
     Slots(u32),
-    /// [`Group::open`] was given so many callers.
+    /// [`Group::open`] was called with this number of callers, which is out of range.
     Callers(u32),
     /// There is no memory for a group, or for a note.
     OutOfMemory,
@@ -191,7 +191,7 @@ impl fmt::Display for Error {
 
 impl std::error::Error for Error {}
 
-/// Runs one load per key at a time, for all who ask. It is shared between threads by reference or
+/// Runs one load per key at a time, for all callers. It is shared between threads by reference or
 /// by a clone, which is a handle to the same group. A group is freed with the last of its handles,
 /// callers and jobs.
 ///
@@ -210,7 +210,7 @@ pub struct Group<T> {
     pool: Arc<Pool<T>>,
 }
 
-/// What a caller got: the value, and how.
+/// The value that a caller received, and how it was loaded.
 ///
 /// ```
 /// let group = singleflight::Group::<String>::new();
@@ -223,13 +223,13 @@ pub struct Group<T> {
 #[derive(Debug)]
 #[non_exhaustive]
 pub struct Loaded<T> {
-    /// The value, which all members of the call share.
+    /// The value, which all callers of the call share.
     pub value: Arc<T>,
-    /// How many others joined the call. A joiner may know of fewer than the leader does, but of
-    /// one at least: itself. Those that the hash slot brought there from another key are
-    /// counted too.
+    /// The number of other callers that joined the call. A joiner may know of fewer than the leader
+    /// does, but of at least one: itself. Callers of another key of the hash slot may be counted
+    /// too.
     pub joiners: u32,
-    /// Whether this caller loaded it.
+    /// Whether this caller loaded the value.
     pub led: bool,
     call: Option<Call>,
     stamp: Stamp,
@@ -277,7 +277,7 @@ pub struct Stamp([u64; 2]);
 pub enum ForgetOutcome {
     /// The call was open. It takes no more joiners, and its value is not current.
     Closed,
-    /// The call was settled, and its value was current. It is current no more.
+    /// The call was settled, and its value was current. It is no longer current.
     Cleared,
     /// The call was not current, and nothing changed.
     Missed,
@@ -300,8 +300,8 @@ impl<T> Loaded<T> {
         self.joiners > 0
     }
 
-    /// Returns the call that the value came from, for [`Group::forget_call`]. `None` where it was
-    /// loaded beside the library.
+    /// Returns the call that the value came from, for [`Group::forget_call`]; or `None` if the
+    /// value was loaded beside the library.
     ///
     /// ```
     /// let group = singleflight::Group::<u32>::new();
@@ -312,8 +312,8 @@ impl<T> Loaded<T> {
         self.call
     }
 
-    /// Returns the stamp of the value, by which one asks later whether it is current. The stamp of
-    /// a value that was loaded beside the library is the default.
+    /// Returns the stamp of the value, with which [`Group::is_current`] tells later whether it is
+    /// current. A value that was loaded beside the library has the default stamp.
     ///
     /// ```
     /// let group = singleflight::Group::<u32>::new();
@@ -331,7 +331,7 @@ impl<T: Send + Sync> Group<T> {
     /// grows with its use: to 1,048,576 slots and 65,534 callers.
     ///
     /// # Panics
-    /// Where there is no memory.
+    /// Panics if there is no memory.
     ///
     /// ```
     /// let group = singleflight::Group::<u32>::new();
@@ -348,8 +348,8 @@ impl<T: Send + Sync> Group<T> {
     /// beside the library, under a lock.
     ///
     /// # Errors
-    /// [`Error::Slots`] and [`Error::Callers`] where a number is out of range.
-    /// [`Error::OutOfMemory`].
+    /// [`Error::Slots`] and [`Error::Callers`] if a number is out of range; [`Error::OutOfMemory`]
+    /// if there is no memory.
     ///
     /// ```
     /// use singleflight::{Error, Group};
@@ -382,11 +382,11 @@ impl<T: Send + Sync> Group<T> {
         Asker::new(&*self.pool)
     }
 
-    /// Returns the value of the key. Where a call of the key is open, it joins that, and blocks
-    /// until its leader has the value. Else it leads a new call, and runs `load`.
+    /// Returns the value of the key. If a call of the key is open, it joins that call, and blocks
+    /// until the leader has the value. Otherwise it leads a new call, and runs `load`.
     ///
-    /// It never fails, however many callers there are. Where `load` panics the panic goes on, and
-    /// each joiner asks again.
+    /// It never fails, however many callers there are. If `load` panics, the panic continues in
+    /// this caller, and each joiner asks again.
     ///
     /// ```
     /// let group = singleflight::Group::<String>::new();
@@ -398,10 +398,10 @@ impl<T: Send + Sync> Group<T> {
     }
 
     /// Returns the value of the key, and waits no longer than the timeout for the load of another
-    /// caller, which goes on. A load of its own takes as long as it takes.
+    /// caller. That load goes on. The timeout does not bound a load of its own.
     ///
     /// # Errors
-    /// [`Error::TimedOut`] where the load of another caller takes longer.
+    /// [`Error::TimedOut`] if the load of another caller takes longer.
     ///
     /// ```
     /// use singleflight::{Error, Group};
@@ -427,10 +427,10 @@ impl<T: Send + Sync> Group<T> {
     /// future runs under any executor, keeps the group alive, and does nothing before its first
     /// poll.
     ///
-    /// It is cancellation safe. One that is dropped while it waits leaves the call. One that is
-    /// dropped while it loads drops the load first, and then each joiner asks again. So a
-    /// timeout is one of the executor's, around it. Do not leak one (`mem::forget`) that loads:
-    /// its call would stay open until the key is forgotten.
+    /// The future is cancellation safe. If it is dropped while it waits, it leaves the call. If it
+    /// is dropped while it loads, it drops the load first, and then each joiner asks again. So a
+    /// timeout of the executor around it is enough. Do not leak a future that loads
+    /// (`mem::forget`): its call would stay open until the key is forgotten.
     ///
     /// ```
     /// # use std::{future::Future, pin::pin, task::{Context, Poll, Waker}};
@@ -453,10 +453,10 @@ impl<T: Send + Sync> Group<T> {
         async move { Asker::new(pool).get_async(key.as_ref(), load).await }
     }
 
-    /// Joins the key's open call, or leads a new one: returns a receiver of its value; and where a
-    /// new call was led, the job that loads it, which any thread or task may run.
+    /// Joins the key's open call, or leads a new one. Returns a receiver of its value and, if it
+    /// leads a new call, the job that loads the value. Any thread or task can run the job.
     ///
-    /// A receiver that came with a job does not count as a joiner of that. Do not leak a job
+    /// A receiver that came with a job does not count as a joiner of its call. Do not leak a job
     /// (`mem::forget`): its call would stay open until the key is forgotten.
     ///
     /// ```
@@ -475,7 +475,7 @@ impl<T: Send + Sync> Group<T> {
     }
 
     /// Forgets the key: a caller that asks from now on never receives a value whose load began
-    /// before. Those who have joined the open call still get its value. Returns whether a call
+    /// before. Callers that have joined the open call still get its value. Returns whether a call
     /// was open.
     ///
     /// ```
@@ -490,8 +490,8 @@ impl<T: Send + Sync> Group<T> {
         self.asker().forget(key.as_ref())
     }
 
-    /// Forgets this call of the key alone, and leaves a newer one as it is: of two callers that
-    /// reload one stale value, the later does not end the call that the first made. Returns
+    /// Forgets this call of the key alone, and leaves a newer one as it is. So if two callers
+    /// reload one stale value, the later one does not end the call that the first one made. Returns
     /// what it found.
     ///
     /// ```
@@ -520,8 +520,8 @@ impl<T: Send + Sync> Group<T> {
 
     /// Returns whether the call of the stamp is the current one of its hash slot: no Forget of a
     /// key of that slot has ended it, and no newer call was led there. `true` is right for any
-    /// stamp of the group, whichever caller got it. `false` may come too early, when another key
-    /// uses the same slot or the group has grown.
+    /// stamp of the group, whichever caller got it. `false` can come too early, if another key uses
+    /// the same slot or the group has grown.
     ///
     /// ```
     /// let group = singleflight::Group::<u32>::new();
@@ -534,8 +534,8 @@ impl<T: Send + Sync> Group<T> {
         self.pool.is_current_by_any(stamp)
     }
 
-    /// Returns a caller, for one thread or task at a time. There is always one: those for which the
-    /// library has no place ask beside it.
+    /// Returns a caller, for one thread or task at a time. It always returns one. A caller for
+    /// which the library has no room runs its calls beside the library.
     ///
     /// ```
     /// let group = singleflight::Group::<u32>::new();
@@ -547,7 +547,7 @@ impl<T: Send + Sync> Group<T> {
         Caller::of(self.pool.clone())
     }
 
-    /// Returns the numbers of the group's calls. It costs a look at each caller that was made.
+    /// Returns the numbers of the group's calls. It looks at each caller that was made.
     ///
     /// ```
     /// let group = singleflight::Group::<u32>::new();

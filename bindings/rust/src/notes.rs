@@ -7,11 +7,11 @@ use std::fmt;
 use std::ops::Deref;
 use std::sync::Arc;
 
-/// What a caller has seen, for a caller in another thread to learn.
+/// A note of what a caller has seen, for a caller in another thread to learn.
 /// [`Caller::note`](crate::Caller::note) returns one.
 ///
-/// A program whose threads hand on keys or values by channels, locks or atomics needs none: what
-/// orders the threads orders what they have seen. A note says it in the words of the library's
+/// A program whose threads pass on keys or values through channels, locks or atomics needs none:
+/// what orders the threads also orders what they have seen. A note expresses this for the library's
 /// proof.
 pub struct Note<T> {
     note: raw::Note,

@@ -149,7 +149,7 @@ pub struct Stats {
     pub leads: u64,
     /// Calls that were joined, including those that the joiner left.
     pub joins: u64,
-    /// Loads beside the library: no place in it was free, or another key's call was open at the
+    /// Loads beside the library: no caller of it was free, or another key's call was open at the
     /// key's hash slot.
     pub alone: u64,
     /// Forgets that ended an open call.
@@ -158,8 +158,8 @@ pub struct Stats {
     pub idle: u64,
     /// Callers of the library that were made.
     pub made: u32,
-    /// Those of them that are in use: by a caller, by a call under way, or waiting for the value
-    /// of a call that was left.
+    /// Those of them that are in use: by a caller, by a running call, or waiting for the value of a
+    /// call that was left.
     pub in_use: u32,
 }
 
