@@ -20,7 +20,7 @@ func value(v any) func() (any, error) {
 func until(t *testing.T, what string, holds func() bool) {
 	t.Helper()
 	for from := time.Now(); !holds(); time.Sleep(time.Millisecond) {
-		if time.Since(from) > 20*time.Second {
+		if time.Since(from) > time.Minute {
 			t.Fatal(what)
 		}
 	}
