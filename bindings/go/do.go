@@ -15,7 +15,7 @@ func (p *pool) do(r *Result, key string, fn func() (any, error), all bool) {
 	e := p.now.Load()
 	k := p.keyed(key)
 	alert := p.alertOf(k.print)
-	if e != nil && alert.Load() == 0 {
+	if e != nil && alert.Load() == 0 && p.recorder.Load() == nil {
 		if s := e.takeHot(); s != nil {
 			yield()
 			asked := uint64(codeBusy)
@@ -115,14 +115,20 @@ func (p *pool) lead(
 			p.adopts.Add(1)
 			returned, adopted = true, true
 			r.Joiners = 0
+			a.take(a.seat)
 			return
 		case left:
+			a.followed(false)
 			// Nobody waits for it any more.
 			r.Err = context.Canceled
 			returned = true
 			return
 		}
+		a.followed(false)
 		p.confirm(a, a.seat, k, true)
+	}
+	if rec := a.own(); rec != nil {
+		rec.ran, rec.led = true, now()
 	}
 	if p.record != nil {
 		begun = time.Now()

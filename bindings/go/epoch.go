@@ -30,12 +30,14 @@ type seat struct {
 	epoch    *epoch
 	mu       sync.Mutex // protects waits, and what the wait says
 	waits    *wait
-	joiners  atomic.Uint32 // how many have joined its call, once that is told; until all have their answers
-	lone     atomic.Uint32 // the generation of its last call that was forgotten as one that nobody has joined
-	hits     atomic.Uint64 // looks of a cache by it that found a value
-	misses   atomic.Uint64 // and those that found none
-	closes   atomic.Uint64 // Forgets by it that closed a call
-	idles    atomic.Uint64 // and those that closed none
+	rec      callRecordPointer // of its call, if that is recorded
+	spare    *callRecord       // for its next asking
+	joiners  atomic.Uint32     // how many have joined its call, once that is told; until all have their answers
+	lone     atomic.Uint32     // the generation of its last call that was forgotten as one that nobody has joined
+	hits     atomic.Uint64     // looks of a cache by it that found a value
+	misses   atomic.Uint64     // and those that found none
+	closes   atomic.Uint64     // Forgets by it that closed a call
+	idles    atomic.Uint64     // and those that closed none
 }
 
 // A seat that fills whole cache lines, so that two goroutines do not wait for one another's stores.
@@ -110,7 +112,7 @@ func (s *seat) asking() (generation, print uint64) {
 func (s *seat) current(name string, print uint64) (Call, bool) {
 	call, ok := s.named(name, print)
 	yield()
-	return call, ok && s.isStill(Stamp{Place: uint64(call.place), Call: wordOf(call)})
+	return call, ok && s.isStill(Stamp{Place: call.mark, Call: wordOf(call)})
 }
 
 // Whether it was free, and is the caller's now.

@@ -157,6 +157,7 @@ func (p *pool) settleWith(k keyed, it *item, last *atomic.Uint64, number uint64)
 	if !isFirst {
 		// It found a run beside the library, or a call of an older epoch.
 		a.wait.leave(false, nil)
+		a.followed(false)
 	}
 	yield()
 	if isFirst && last.Load() == number {

@@ -148,9 +148,9 @@ func (s *slot) isStill(stamp Stamp) bool { return cIsStill(s, stamp.Place, stamp
 
 // Forgets the call, which named told.
 func (s *slot) forgetCall(call Call) uint32 {
-	code := cForgetCall(s, uint64(call.place), wordOf(call), tries)
+	code := cForgetCall(s, call.mark, wordOf(call), tries)
 	for code == codeBusy {
-		code = cForgetCall(s, uint64(call.place), wordOf(call), tries)
+		code = cForgetCall(s, call.mark, wordOf(call), tries)
 	}
 	return code
 }

@@ -88,7 +88,7 @@ func same(t *testing.T, seed int64) {
 		case states[i] == free && did == 5:
 			call, ok := s.named(key, 7)
 			call2, ok2 := p.named(key, 7)
-			call.place, call2.place = 0, 0 // by two hashes
+			call.mark, call2.mark = 0, 0 // by two hashes
 			got, want = fmt.Sprint("named ", call, ok), fmt.Sprint("named ", call2, ok2)
 		case states[i] == free && did == 6 && len(calls) > 0:
 			call := calls[len(calls)-1-r.Intn(min(3, len(calls)))]
@@ -121,4 +121,16 @@ func min(a, b int) int {
 		return a
 	}
 	return b
+}
+
+// Forgets the call, if it is the one that the key's slot names.
+func forgetNamed(by interface {
+	named(string, uint64) (Call, bool)
+	forgetCall(Call) uint32
+}, name string, print uint64, call Call) uint32 {
+	named, ok := by.named(name, print)
+	if !ok || wordOf(named) != wordOf(call) {
+		return codeNothing
+	}
+	return by.forgetCall(named)
 }

@@ -21,3 +21,13 @@ type seatPointer struct{ at unsafe.Pointer }
 
 func (p *seatPointer) Load() *seat    { return (*seat)(atomic.LoadPointer(&p.at)) }
 func (p *seatPointer) Store(to *seat) { atomic.StorePointer(&p.at, unsafe.Pointer(to)) }
+
+type recorderPointer struct{ at unsafe.Pointer }
+
+func (p *recorderPointer) Load() *recorder    { return (*recorder)(atomic.LoadPointer(&p.at)) }
+func (p *recorderPointer) Store(to *recorder) { atomic.StorePointer(&p.at, unsafe.Pointer(to)) }
+
+type callRecordPointer struct{ at unsafe.Pointer }
+
+func (p *callRecordPointer) Load() *callRecord    { return (*callRecord)(atomic.LoadPointer(&p.at)) }
+func (p *callRecordPointer) Store(to *callRecord) { atomic.StorePointer(&p.at, unsafe.Pointer(to)) }

@@ -36,6 +36,7 @@ import (
 // result of, and one that took it before is closed. A Forget leaves open calls of other keys alone.
 type pool struct {
 	now      epochPointer // none where the group is closed, or there is no memory
+	recorder recorderPointer
 	record   func(Load)
 	seed     maphash.Seed
 	alert    [alerts]atomic.Int32 // by fingerprint: how many runs, open calls of old epochs, strangers and replacements there are to look for
@@ -53,17 +54,18 @@ type pool struct {
 	missed   atomic.Uint64 // looks of a cache that no seat has counted
 	replaced atomic.Uint32 // whether there are tables
 
-	mu       sync.Mutex // protects the rest
-	runs     map[string]*wait
-	draining []*epoch // those that were replaced and have calls still, the oldest first
-	size     sizes
-	number   uint64
-	past     tally    // of epochs that are gone
-	tables   []*table // of a cache: those of epochs that were replaced, whose values have not left
-	closing  int      // how many of these were taken, and are not empty yet
-	shut     bool
-	label    string
-	onPanic  func(value any, stack []byte)
+	mu         sync.Mutex // protects the rest
+	runs       map[string]*wait
+	draining   []*epoch // those that were replaced and have calls still, the oldest first
+	size       sizes
+	number     uint64
+	past       tally    // of epochs that are gone
+	tables     []*table // of a cache: those of epochs that were replaced, whose values have not left
+	closing    int      // how many of these were taken, and are not empty yet
+	shut       bool
+	label      string
+	recordings uint16 // how often a recording has begun
+	onPanic    func(value any, stack []byte)
 }
 
 // What Stats reads without the lock. Each epoch is among these, or among those that are gone.
@@ -183,6 +185,7 @@ type asking struct {
 	call   Call
 	wait   *wait // without a seat: the run that it leads, or the call that it follows; of a leader, the call whose result it takes
 	leads  bool
+	noted
 }
 
 // Asks for the key until it leads or waits. One who may leave follows a call sooner than join it by a caller, since that
@@ -193,6 +196,10 @@ func (p *pool) ask(a *asking, k keyed, leaves bool) {
 }
 
 func (p *pool) try(a *asking, k keyed, leaves bool) bool {
+	a.noted = noted{}
+	if r := p.recorder.Load(); r != nil {
+		a.noted = noted{by: r, from: now()}
+	}
 	e := p.now.Load()
 	if e == nil {
 		return p.askBeside(a, k, nil, false)
@@ -208,8 +215,14 @@ func (p *pool) try(a *asking, k keyed, leaves bool) bool {
 	if s == nil {
 		return p.askBeside(a, k, e, true)
 	}
+	if a.by != nil {
+		a.attach(s, k)
+	}
 	yield()
 	code, call := p.askBy(s, k)
+	if a.by != nil && code != codeLed {
+		s.detach()
+	}
 	return p.asked(a, s, code, call, k)
 }
 
@@ -220,7 +233,7 @@ func (p *pool) asked(a *asking, s *seat, code uint8, call Call, k keyed) bool {
 	case codeLed:
 		yield()
 		if p.now.Load() == e && p.alertOf(k.print).Load() == 0 {
-			*a = asking{seat: s, leads: true}
+			*a = asking{seat: s, leads: true, noted: a.noted}
 			return true
 		}
 		return p.confirm(a, s, k, false)
@@ -233,7 +246,7 @@ func (p *pool) asked(a *asking, s *seat, code uint8, call Call, k keyed) bool {
 		leader := e.numbered(call.caller)
 		if atomic.LoadUint64(&leader.print) == k.print {
 			call.epoch = e.number
-			*a = asking{seat: s, leader: leader, call: call}
+			*a = asking{seat: s, leader: leader, call: call, noted: a.noted}
 			return true
 		}
 		// To wait for the load of another key might be to wait for oneself.
@@ -330,7 +343,10 @@ func (p *pool) follow(a *asking, it found, k keyed) bool {
 	w := s.wait()
 	w.waiting++
 	w.followers++
-	*a = asking{wait: w, call: it.call}
+	*a = asking{wait: w, call: it.call, noted: a.noted}
+	if a.by != nil {
+		a.follow(s.rec.Load())
+	}
 	return true
 }
 
@@ -361,18 +377,21 @@ func (p *pool) confirm(a *asking, s *seat, k keyed, confirmed bool) bool {
 		p.giveUp(s, k)
 		return false
 	}
-	*a = asking{seat: s, leads: true, wait: p.runOf(k, s.epoch.number)}
+	wait, rec := p.runOf(k, s.epoch.number, a.by)
+	*a = asking{seat: s, leads: true, wait: wait, noted: noted{a.by, a.from, rec}}
 	p.mu.Unlock()
 	return true
 }
 
 // Joins the key's run beside the library, or its open call in an epoch older than this number. None where there is none.
-// The lock is held.
-func (p *pool) runOf(k keyed, before uint64) *wait {
+// In its record, if it and the asking are recorded, the asking has a part then. The lock is held.
+func (p *pool) runOf(k keyed, before uint64, by *recorder) (*wait, *callRecord) {
+	a := asking{noted: noted{by: by}}
 	if w := p.runs[k.key]; w != nil {
 		w.waiting++
 		w.followers++
-		return w
+		a.follow(w.rec)
+		return w, a.rec
 	}
 	for _, e := range p.draining {
 		if e.number >= before {
@@ -381,12 +400,11 @@ func (p *pool) runOf(k keyed, before uint64) *wait {
 		if e.forgotten {
 			continue
 		}
-		var a asking
 		if it := p.lookBy(e, e.root, k); it.seat != nil && p.follow(&a, it, k) {
-			return a.wait
+			return a.wait, a.rec
 		}
 	}
-	return nil
+	return nil, nil
 }
 
 // Asks where the library cannot have the call: it follows a call that is open, or runs beside the library; or one asks
@@ -400,8 +418,8 @@ func (p *pool) askBeside(a *asking, k keyed, e *epoch, wants bool) bool {
 	if e == nil && !p.shut && p.alone.Load()%besideTries == besideTries-1 && p.replace(p.size, true) {
 		return false
 	}
-	if w := p.runOf(k, 1<<63); w != nil {
-		*a = asking{wait: w}
+	if w, rec := p.runOf(k, 1<<63, a.by); w != nil {
+		*a = asking{wait: w, noted: noted{a.by, a.from, rec}}
 		return p.counted()
 	}
 	p.alertOf(k.print).Add(1)
@@ -425,7 +443,10 @@ func (p *pool) askBeside(a *asking, k keyed, e *epoch, wants bool) bool {
 	p.runs[k.key] = w
 	p.alone.Add(1)
 	p.open.Add(1)
-	*a = asking{wait: w, leads: true}
+	if a.by != nil {
+		w.rec = a.by.record(k, a.from)
+	}
+	*a = asking{wait: w, leads: true, noted: a.noted}
 	return true
 }
 
@@ -572,15 +593,19 @@ func (p *pool) told(closed bool) {
 func (p *pool) forget(key string) {
 	k := p.keyed(key)
 	closed := false
+	var f *forgetting
+	if p.recorder.Load() != nil {
+		f = p.forgetting(false)
+	}
 	for {
 		e := p.now.Load()
 		if p.alertOf(k.print).Load() != 0 {
-			closed = p.forgetBeside(k) || closed
+			closed = p.forgetBeside(k, f) || closed
 		}
 		yield()
 		if e != nil {
 			if s := e.takeHot(); s != nil {
-				closed = p.forgetBy(e, s, k) || closed
+				closed = p.forgetBy(e, s, k, f) || closed
 				yield()
 				// A leader of a newer epoch may have taken the result of a run before that was dropped.
 				ends := p.now.Load() == e
@@ -589,25 +614,28 @@ func (p *pool) forget(key string) {
 				}
 				p.putHot(e, s)
 				if ends {
-					return
+					break
 				}
 				continue
 			}
 		}
-		if p.forgetByAny(e, k, &closed) {
-			return
+		if p.forgetByAny(e, k, &closed, f) {
+			break
 		}
+	}
+	if f != nil {
+		f.end(key, !closed)
 	}
 }
 
 // The same where no seat is near, once. Whether the epoch is the present one still.
-func (p *pool) forgetByAny(e *epoch, k keyed, closed *bool) (ends bool) {
+func (p *pool) forgetByAny(e *epoch, k keyed, closed *bool, f *forgetting) (ends bool) {
 	var s *seat
 	if e != nil {
 		s = p.any(e)
 	}
 	if s != nil {
-		*closed = p.forgetBy(e, s, k) || *closed
+		*closed = p.forgetBy(e, s, k, f) || *closed
 	}
 	yield()
 	ends = p.now.Load() == e
@@ -624,33 +652,37 @@ func (p *pool) forgetByAny(e *epoch, k keyed, closed *bool) (ends bool) {
 
 // Nobody who asks from now on joins the key's run beside the library, or its open call in an epoch that drains. Whether
 // there was one.
-func (p *pool) forgetBeside(k keyed) bool {
+func (p *pool) forgetBeside(k keyed, f *forgetting) bool {
 	p.lock()
 	defer p.mu.Unlock()
-	closed := p.dropRun(p.runs[k.key], k)
+	closed := p.forgetRun(p.runs[k.key], k, f)
 	for _, e := range p.draining {
-		closed = p.forgetBy(e, e.root, k) || closed
+		closed = p.forgetBy(e, e.root, k, f) || closed
 	}
 	return closed
 }
 
 // Forgets the key in the epoch, by a seat that is free: the call that its slot names, unless that is open and of another
 // key. A call that was led meanwhile is newer than this Forget. Whether that closed a call.
-func (p *pool) forgetBy(e *epoch, by *seat, k keyed) bool {
+func (p *pool) forgetBy(e *epoch, by *seat, k keyed, f *forgetting) bool {
 	var digest [16]byte
 	name := k.key
 	if len(name) > longestKey {
 		name = p.name(k, &digest)
 	}
 	place, word := by.namedWords(name, k.print)
-	return word != 0 && e.forgetNamed(by, callAt(place, word), k.print)
+	return word != 0 && e.forgetNamed(by, callAt(place, word), k.print, f)
 }
 
-func (e *epoch) forgetNamed(by *seat, call Call, print uint64) bool {
+func (e *epoch) forgetNamed(by *seat, call Call, print uint64, f *forgetting) bool {
 	yield()
-	generation, other := e.numbered(call.caller).asking()
+	leader := e.numbered(call.caller)
+	generation, other := leader.asking()
 	if uint32(generation) == call.generation && other != print {
 		return false
+	}
+	if leader.rec.Load() != nil {
+		return f.forgetCall(by, leader, call) == codeDone
 	}
 	return by.forgetCall(call) == codeDone
 }
@@ -658,13 +690,20 @@ func (e *epoch) forgetNamed(by *seat, call Call, print uint64) bool {
 // Forgets the key as forget does, unless somebody has joined its open call: then alone is false, and
 // nothing has changed. Whether that closed a call.
 func (p *pool) forgetUnshared(key string) (alone, closed bool) {
-	k := p.keyed(key)
+	f := p.forgetting(false)
+	alone, closed = p.forgetUnsharedAs(p.keyed(key), f)
+	f.end(key, alone && !closed)
+	return alone, closed
+}
+
+// The same for one that is recorded, or none.
+func (p *pool) forgetUnsharedAs(k keyed, f *forgetting) (alone, closed bool) {
 	var digest [16]byte
 	name := p.name(k, &digest)
 	for {
 		e := p.now.Load()
 		if p.alertOf(k.print).Load() != 0 {
-			return p.forgetUnsharedBeside(k, name)
+			return p.forgetUnsharedBeside(k, name, f)
 		}
 		yield()
 		if e != nil {
@@ -675,7 +714,7 @@ func (p *pool) forgetUnshared(key string) (alone, closed bool) {
 			if s != nil {
 				it, shared := p.sole(e, s, name, k)
 				if !shared {
-					closed = it.forget()
+					closed = it.forget(f)
 				}
 				p.putAny(s)
 				if shared || closed {
@@ -694,14 +733,14 @@ func (p *pool) forgetUnshared(key string) (alone, closed bool) {
 // there is a run, a call of the library is about to look for it, or was closed when it began. Of two
 // calls of the library one is about to be given up, or to take the result of the other: so none is
 // forgotten before both are known to be alone.
-func (p *pool) forgetUnsharedBeside(k keyed, name string) (alone, closed bool) {
+func (p *pool) forgetUnsharedBeside(k keyed, name string, f *forgetting) (alone, closed bool) {
 	p.lock()
 	defer p.mu.Unlock()
 	if w := p.runs[k.key]; w != nil {
 		if w.followers > 0 {
 			return false, false
 		}
-		return true, p.dropRun(w, k)
+		return true, p.forgetRun(w, k, f)
 	}
 	var all []sole
 	for _, e := range append(p.draining[:len(p.draining):len(p.draining)], p.now.Load()) {
@@ -718,7 +757,7 @@ func (p *pool) forgetUnsharedBeside(k keyed, name string) (alone, closed bool) {
 		all = append(all, it)
 	}
 	for _, it := range all {
-		closed = it.forget() || closed
+		closed = it.forget(f) || closed
 	}
 	return true, closed
 }
@@ -769,7 +808,7 @@ func (it sole) unlock() {
 // before: so whoever has joined it sees that. Where this does not close the call, others may have
 // its result already, and lone is what it was: so the leader is never told that nobody has joined
 // while somebody has the result.
-func (it sole) forget() (closed bool) {
+func (it sole) forget(f *forgetting) (closed bool) {
 	s := it.leader
 	if s == nil {
 		return false
@@ -780,7 +819,7 @@ func (it sole) forget() (closed bool) {
 		s.lone.Store(it.call.generation)
 		yield()
 	}
-	if closed = it.by.forgetCall(it.call) == codeDone; !closed {
+	if closed = f.forgetCall(it.by, s, it.call) == codeDone; !closed {
 		s.lone.Store(before)
 	}
 	return closed
@@ -801,6 +840,15 @@ func (p *pool) endStamp(e *epoch, k keyed) {
 	}
 }
 
+// The same of a Forget.
+func (p *pool) forgetRun(w *wait, k keyed, f *forgetting) bool {
+	has := p.dropRun(w, k)
+	if has && w.rec != nil && w.rec.take() {
+		f.closes(w.rec)
+	}
+	return has
+}
+
 // The run stands in runs no longer. Whether it did. The lock is held.
 func (p *pool) dropRun(w *wait, k keyed) bool {
 	if w == nil || p.runs[k.key] != w {
@@ -816,47 +864,52 @@ func (p *pool) forgetCall(key string, call Call) Hit {
 	if call == (Call{}) {
 		return Missed
 	}
-	k := p.keyed(key)
+	f := p.forgetting(true)
+	hit := p.forgetCallAs(p.keyed(key), call, f)
+	f.end(key, false)
+	return hit
+}
+
+// The same for one that is recorded, or none.
+func (p *pool) forgetCallAs(k keyed, call Call, f *forgetting) Hit {
 	var digest [16]byte
 	name := p.name(k, &digest)
 	e := p.now.Load()
 	if e == nil || call.epoch != e.number {
-		return p.forgetOld(k, call)
+		return p.forgetOld(k, call, f)
 	}
 	s := p.any(e)
 	if s == nil {
-		return p.forgetOld(k, call)
+		return p.forgetOld(k, call, f)
 	}
-	code := forgetNamed(s, name, k.print, call)
+	code := e.forgetOne(s, name, k.print, call, f)
 	p.putAny(s)
 	switch code {
 	case codeDone:
 		return Closed
 	case codeCleared:
+		f.cleared(k, e.numbered(call.caller), call.mark)
 		return Cleared
 	}
 	return Missed
 }
 
 // Forgets the call, if it is the one that the key's slot names. One that is not has nothing to forget: it is not current.
-func forgetNamed(by interface {
-	named(string, uint64) (Call, bool)
-	forgetCall(Call) uint32
-}, name string, print uint64, call Call) uint32 {
+func (e *epoch) forgetOne(by *seat, name string, print uint64, call Call, f *forgetting) uint32 {
 	named, ok := by.named(name, print)
 	if !ok || wordOf(named) != wordOf(call) {
 		return codeNothing
 	}
-	return by.forgetCall(named)
+	return f.forgetCall(by, e.numbered(call.caller), named)
 }
 
 // The same for a call of an epoch that was replaced. Its result is not current any more, but it may be open.
-func (p *pool) forgetOld(k keyed, call Call) Hit {
+func (p *pool) forgetOld(k keyed, call Call, f *forgetting) Hit {
 	p.lock()
 	defer p.mu.Unlock()
 	var digest [16]byte
 	for _, e := range p.draining {
-		if e.number == call.epoch && forgetNamed(e.root, p.name(k, &digest), k.print, call) == codeDone {
+		if e.number == call.epoch && e.forgetOne(e.root, p.name(k, &digest), k.print, call, f) == codeDone {
 			return Closed
 		}
 	}
@@ -948,6 +1001,9 @@ func (p *pool) settle(a *asking, r *Result, k keyed, watched *wait) (out []*item
 }
 
 func (p *pool) settleRun(w *wait, r *Result, k keyed) {
+	if w.rec != nil {
+		w.rec.settles, w.rec.err = now(), r.Err
+	}
 	p.lock()
 	p.dropRun(w, k)
 	r.Joiners, r.Shared = w.followers, w.followers > 0
@@ -955,6 +1011,10 @@ func (p *pool) settleRun(w *wait, r *Result, k keyed) {
 	p.mu.Unlock()
 	p.open.Add(-1)
 	close(w.done)
+	if w.rec != nil {
+		w.rec.settled = now()
+		w.rec.leave()
+	}
 }
 
 func (p *pool) settleBy(s *seat, r *Result, k keyed, all, watched bool) (out []*item) {
@@ -975,9 +1035,19 @@ func (p *pool) settleBy(s *seat, r *Result, k keyed, all, watched bool) (out []*
 	var letter letter
 	// A follower has its stamp too.
 	all = all || s.followed.Load() != 0
+	rec := s.rec.Load()
+	if rec != nil {
+		rec.settles, rec.err = now(), r.Err
+	}
 	s.finish(&letter, all, id)
 	if all {
 		e.tell(r, &letter)
+	}
+	if rec != nil {
+		rec.settled = now()
+		if all {
+			r.Call.mark = rec.mark()
+		}
 	}
 	yield()
 	if kept != nil {
@@ -1028,6 +1098,9 @@ func (p *pool) clear(s *seat) {
 		s.key = ""
 	}
 	s.void = false
+	if rec := s.rec.Load(); rec != nil {
+		s.complete(rec)
+	}
 	p.put(s)
 }
 
@@ -1131,7 +1204,7 @@ func askedOf(asked uint64) (uint8, Call) {
 // The same of a call that a place names.
 func callAt(place, word uint64) Call {
 	call := callOf(word)
-	call.place = uint32(place)
+	call.mark = place
 	return call
 }
 
@@ -1145,6 +1218,7 @@ func (p *pool) join(
 		if how = a.wait.join(r, k.key, stop); how == again && a.wait.void {
 			p.parted.Add(1)
 		}
+		a.followed(how == left || how == settled)
 		return how
 	}
 	s, led := a.seat, a.leader
@@ -1169,6 +1243,10 @@ func (p *pool) join(
 		w.joined++
 		led.mu.Unlock()
 		if !await(w.done, stop) {
+			if a.by != nil {
+				// When it has left, the leader's next call may come.
+				a.join(led)
+			}
 			if how := w.leave(false, s); how != settled {
 				return how
 			}
@@ -1189,6 +1267,10 @@ func (p *pool) join(
 		how = again
 	default:
 		letter.stamp.Place |= s.epoch.number << placeBits
+		if rec := led.rec.Load(); rec != nil {
+			a.call.mark = rec.mark()
+			a.join(led)
+		}
 		*r = Result{Val: led.val, Err: led.err, Shared: true, Call: a.call, Stamp: letter.stamp}
 		if all {
 			r.Joiners = led.joined(int(letter.joiners))

@@ -176,7 +176,7 @@ func (s *plainSlot) isStill(stamp Stamp) bool {
 // Forgets the call, which named told. A Forget that closes the call clears its place after that: in
 // the library others may come between, and so they may here where schedules are tried.
 func (s *plainSlot) forgetCall(call Call) uint32 {
-	w, place, word := s.words, uint64(call.place), wordOf(call)
+	w, place, word := s.words, call.mark, wordOf(call)
 	w.mu.Lock()
 	defer w.mu.Unlock()
 	if w.current[place-1] != word || w.closed[place] == word {

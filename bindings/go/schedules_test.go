@@ -3,6 +3,7 @@
 package singleflight
 
 import (
+	"bytes"
 	"context"
 	"errors"
 	"fmt"
@@ -382,7 +383,10 @@ func (w *world) act(depth, least int) {
 	}
 }
 
-func playWorld(t *testing.T, seed int64) {
+func playWorld(t *testing.T, seed int64) { playRecorded(t, seed, nil) }
+
+// Plays a world, whose group is recorded to the log, if there is one.
+func playRecorded(t *testing.T, seed int64, log *bytes.Buffer) {
 	w := &world{t: t, seed: seed, random: rand.New(rand.NewSource(seed)), back: make(chan struct{}), now: 1}
 	s := sizes{places: uint32(1 + w.random.Intn(3)), callers: uint32(1 + w.random.Intn(3)), fixed: true, generations: uint64(2 + w.random.Intn(6)), onPanic: func(any, []byte) {}}
 	s.fixedCallers = w.random.Intn(2) == 0
@@ -396,6 +400,13 @@ func playWorld(t *testing.T, seed int64) {
 	p := newPool(s)
 	w.group = &Group{}
 	w.group.made.Store(p)
+	var recording *Recording
+	if log != nil {
+		var err error
+		if recording, err = w.group.Record(log); err != nil {
+			t.Fatal(err)
+		}
+	}
 	schedule = w
 	for i := 2 + w.random.Intn(5); i > 0; i-- {
 		w.spawn(func() {
@@ -408,9 +419,24 @@ func playWorld(t *testing.T, seed int64) {
 	w.running = w.workers[0]
 	ended := w.play()
 	schedule = nil
+	if recording != nil {
+		if n, err := recording.Stop(); err != nil || n.Lost != 0 {
+			w.problem("the recording: %v %v", n, err)
+		}
+		all, _, err := readRecords(log.Bytes())
+		if err == nil {
+			err = judge(all)
+		}
+		if err != nil {
+			w.problem("what was recorded is not legal in time: %v", err)
+		}
+	}
 	if !ended {
 		w.problem("nobody can go on")
 	} else {
+		if late := p.late(recording); late != 0 {
+			w.problem("%d records are late", late)
+		}
 		for i := range p.alert {
 			if n := p.alert[i].Load(); n != 0 {
 				w.problem("alert is raised: %d", n)
@@ -433,6 +459,19 @@ func playWorld(t *testing.T, seed int64) {
 
 // Random schedules of random calls keep the promises. SFLIGHT_SCHEDULES says how many, and SFLIGHT_SEED with which one to begin.
 func TestSchedules(t *testing.T) { eachSchedule(t, playWorld) }
+
+// Random schedules of random calls are recorded as histories that are legal in time.
+func TestRecordedSchedules(t *testing.T) {
+	eachSchedule(t, func(t *testing.T, seed int64) { playRecorded(t, seed, new(bytes.Buffer)) })
+}
+
+// How many records of calls are not complete that their seats have left.
+func (p *pool) late(r *Recording) int64 {
+	if r == nil {
+		return 0
+	}
+	return r.r.late.Load()
+}
 
 func eachSchedule(t *testing.T, play func(t *testing.T, seed int64)) {
 	count, from := 2000, int64(1)

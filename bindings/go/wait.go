@@ -21,10 +21,11 @@ type wait struct {
 	alone     bool          // whether the leader has left
 	told      chan struct{} // for the leader, where the load has a goroutine of its own: closed when it has the result
 	leaders   Result
-	run       bool   // whether the call runs beside the library
-	key       string // of the call, once it is settled; of a run from its beginning
-	got       Result // what it was settled with
-	void      bool   // whether it was given up before its load: those who wait ask again
+	run       bool        // whether the call runs beside the library
+	rec       *callRecord // of a call that runs beside the library, if it is recorded
+	key       string      // of the call, once it is settled; of a run from its beginning
+	got       Result      // what it was settled with
+	void      bool        // whether it was given up before its load: those who wait ask again
 }
 
 // One who waits leaves. It is settled where the call is; else it has left, and was perhaps the last, so that the load is
