@@ -314,8 +314,10 @@ func TestRecordingOfAForgottenCall(t *testing.T) {
 		came(t, first)
 	})
 	all := isLegal(t, log)
-	if len(all) != 7 || !strings.Contains(shape(log), `{"e":"forgetcall","k":"key","c":B,"hit":"closed"}`) {
-		t.Errorf("two calls, one of which was closed: %s", shape(log))
+	// Either call may be written first.
+	closed := shape(log)
+	if len(all) != 7 || !strings.Contains(closed, `"hit":"closed"}`) || !strings.Contains(closed, `{"e":"forgetcall","k":"key","c":`) {
+		t.Errorf("two calls, one of which was closed: %s", closed)
 	}
 }
 
