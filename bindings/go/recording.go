@@ -224,13 +224,15 @@ func (rec *callRecord) complete() {
 	}
 }
 
-// How many events it has. Those members go that took its result, and asked when it had ended.
+// How many events it has. Those members go that had left before its load began: the leader may have
+// waited for an older call until then, which a Forget closed, and so its Lead may be as late as that.
+// So do those that took its result with their leader, and asked when it had ended.
 func (rec *callRecord) events() int {
 	n := 3
 	var kept *memberRecord
 	for it := rec.members.Load(); it != nil; {
 		next := it.next
-		if !it.taken || it.from <= rec.settled {
+		if it.to >= rec.led && (!it.taken || it.from <= rec.settled) {
 			it.next, kept = kept, it
 			n++
 		}
