@@ -2,8 +2,8 @@
 use Rattle.std.specs.Prelude.{◌≡◌, ◌≢◌, ℕ, List, [], ◌∷◌, codes, map, Contains}
 use Rattle.sf_bench.specs.Names.{all, name_of}
 use Rattle.sf_bench.specs.declared.benchmark.Benchmark.{Benchmark}
-use Rattle.sf_bench.specs.declared.asked.Asked.{Asked}
-use Rattle.sf_bench.specs.declared.asked.Asked.TheVariants.{Names, Benchmarks}
+use Rattle.sf_bench.specs.declared.request.Request.{Request}
+use Rattle.sf_bench.specs.declared.request.Request.TheVariants.{Names, Benchmarks}
 
 -- the benchmarks that the words name, or all where there are no words
 abbrev pub Chooses : List (List ℕ) → List Benchmark → Type 0
@@ -11,7 +11,7 @@ Chooses [] chosen = chosen ≡ all
 Chooses (word ∷ words) chosen = map name_of chosen ≡ word ∷ words
 
 -- the word for the names alone, or a choice
-abbrev pub AsksFor : List (List ℕ) → Asked → Type 0
+abbrev pub AsksFor : List (List ℕ) → Request → Type 0
 AsksFor words Names = words ≡ codes "--list" ∷ []
 AsksFor words (Benchmarks chosen) = Chooses words chosen.items
 

@@ -2,7 +2,6 @@
 //! prints a table. Its words are names of benchmarks, `--list` for the names, or none for all.
 #![tactic(auto)]
 
-mod asked;
 mod asking;
 mod benchmark;
 mod fault;
@@ -10,13 +9,14 @@ mod filling;
 mod keys;
 mod looking;
 mod order;
+mod request;
 mod rounds;
 mod table;
 mod times;
 
-use crate::asked::{Asked, parse};
 use crate::benchmark::{Benchmark, write_names};
 use crate::fault::Fault;
+use crate::request::{Request, parse};
 use crate::table::Table;
 use std::process::ExitCode;
 use std::rt::Env;
@@ -69,13 +69,13 @@ where
 }
 
 // Does what the words ask for.
-fn serve<R>(rt: &R, asked: Asked) -> Result<(), Fault>
+fn serve<R>(rt: &R, asked: Request) -> Result<(), Fault>
 where
     R: AllocGlobal + Print + Wait + Threads + Clock + Sync,
 {
     match asked {
-        Asked::Names => Ok(write_names(&mut io::writer(rt))?),
-        Asked::Benchmarks(benchmarks) => run_all(rt, benchmarks.as_slice()),
+        Request::Names => Ok(write_names(&mut io::writer(rt))?),
+        Request::Benchmarks(benchmarks) => run_all(rt, benchmarks.as_slice()),
     }
 }
 

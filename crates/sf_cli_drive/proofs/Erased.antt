@@ -11,7 +11,7 @@ use Rattle.sf_fill_values.specs.declared.fault.LoadFault.{LoadFault}
 use Rattle.sf_fill_store.specs.declared.forget.Forgot.{Forgot}
 use Rattle.sf_fill_open.specs.Opened.{IsNewGetter, IsOfThreads, without_loaders}
 use Rattle.sf_cli_drive.specs.declared.found.Found.{Found}
-use Rattle.sf_cli_drive.specs.declared.jobs.Ended.{Ended}
+use Rattle.sf_cli_drive.specs.declared.jobs.ThreadEnd.{ThreadEnd}
 use Rattle.sf_cli_drive.specs.declared.line.DriveLine.{DriveLine}
 use Rattle.sf_cli_drive.specs.Found.{IsFound, IsFoundBy}
 use Rattle.sf_cli_drive.specs.Jobs.{HasReloadedWhere, HasSettled, HasTakenTurns, IsGetOf, IsJob, IsJobOf, IsTurn, turn_key, reloads_at}
@@ -82,7 +82,7 @@ module _ {L : Type 0} where
     settled a b done was = record { logs = record { added = was.logs.added; adds = was.logs.adds; logged = was.logs.logged }; rest = ap erased was.rest; done = was.done }
 
     -- what came of a thread's job
-    pub job_of : (group : GroupValue) (keys gets thread : ℕ) (a b : GetterValue L) (part : Ended) → IsNewGetter group (8 * gets) a → IsJob space keys gets thread a b part
+    pub job_of : (group : GroupValue) (keys gets thread : ℕ) (a b : GetterValue L) (part : ThreadEnd) → IsNewGetter group (8 * gets) a → IsJob space keys gets thread a b part
         → IsJobOf space group keys gets thread (erased b) part
     job_of group keys gets thread a b part is_new job = record {
       old = erased a;

@@ -25,7 +25,7 @@ use Rattle.sf_fill_store.specs.Logs.{LogValue, logged_by}
 use Rattle.sf_fill.specs.Owing.{HasSettledUp}
 use Rattle.sf_fill.specs.Reloads.{HasReloaded}
 use Rattle.sf_fill_store.proofs.Logging.{logged_append}
-use Rattle.sf_cli_drive.specs.declared.jobs.Ended.{Ended}
+use Rattle.sf_cli_drive.specs.declared.jobs.ThreadEnd.{ThreadEnd}
 use Rattle.sf_cli_drive.specs.Jobs.{IsJob, IsLogOf, HasLoggedAll, HasReloadedWhere, IsGetOf, IsTurn, HasTakenTurns, key_name, turn_key, reloads_at}
 
 abbrev Seen : Type 0
@@ -136,11 +136,11 @@ module _ {L : Type 0} where
     turns_on keys thread turn next a b c before now right is was last count =
         subst (λ (n : ℕ). HasTakenTurns space keys thread n a c now) (sym is) (b, before, right, was, last, count)
 
-    pub job_counts : (keys gets thread : ℕ) (a b : GetterValue L) (part : Ended) → IsJob space keys gets thread a b part → b.counted.gets ≡ a.counted.gets + gets
+    pub job_counts : (keys gets thread : ℕ) (a b : GetterValue L) (part : ThreadEnd) → IsJob space keys gets thread a b part → b.counted.gets ≡ a.counted.gets + gets
     job_counts keys gets thread a b part job =
         ap (λ (x : GetterValue L). x.counted.gets) job.emptied ∙ (ap (λ (x : GetterValue L). x.counted.gets) job.settled.rest ∙ turns_count keys thread gets a job.turned part.answers job.turns)
 
-    pub job_logs : (keys gets thread : ℕ) (a b : GetterValue L) (part : Ended) → IsJob space keys gets thread a b part → IsLogOf a b part.log.items
+    pub job_logs : (keys gets thread : ℕ) (a b : GetterValue L) (part : ThreadEnd) → IsJob space keys gets thread a b part → IsLogOf a b part.log.items
     job_logs keys gets thread a b part job =
         let all = logs_again a job.turned job.done (turns_log keys thread gets a job.turned part.answers job.turns) job.settled.logs in
         record {

@@ -9,7 +9,7 @@ use Rattle.sf_replay.specs.Record.{TextEvent}
 use Rattle.sf_replay.specs.TextKeys.{with_text_keys}
 use Rattle.sf_replay.specs.Written.{history_text}
 use Rattle.sf_fill_keys.specs.Spaces.{SpaceId}
-use Rattle.sf_cli_drive.specs.declared.jobs.Ended.{Ended}
+use Rattle.sf_cli_drive.specs.declared.jobs.ThreadEnd.{ThreadEnd}
 use Rattle.sf_cli_drive.specs.declared.line.DriveLine.{DriveLine}
 use Rattle.sf_cli_drive.specs.declared.report.Report.{Report}
 use Rattle.sf_cli_drive.specs.Jobs.{IsPartOf}
@@ -21,7 +21,7 @@ DriveEvent = Event ℕ (Unit {0})
 
 -- What a drive of so many threads found, so many gets each, that did this: the gets of all, their right answers, and the verdict on the history, in which
 -- each event of each log stands once, and nothing else. No thread owes anything.
-pub record IsFoundBy (threads gets : ℕ) (parts : List Ended) (report : Report) (history : List DriveEvent) : Type 0 where
+pub record IsFoundBy (threads gets : ℕ) (parts : List ThreadEnd) (report : Report) (history : List DriveEvent) : Type 0 where
   pub each : length parts ≡ threads
   pub made : report.gets ≡ threads * gets
   pub answers : report.answers ≡ sum_by (λ part. part.answers) parts
@@ -32,7 +32,7 @@ pub record IsFoundBy (threads gets : ℕ) (parts : List Ended) (report : Report)
 -- what a drive found: each part, in the order of the threads, is what came of its thread's job, over one key space and in one group, and this is what it found by them
 abbrev pub IsFound : DriveLine → Report → List DriveEvent → Type 0
 IsFound line report history =
-    (space : SpaceId) × (group : GroupValue) × (parts : List Ended) × All (λ at. IsPartOf space group line.keys line.gets at.0 at.1) (enumerate_from 0 parts)
+    (space : SpaceId) × (group : GroupValue) × (parts : List ThreadEnd) × All (λ at. IsPartOf space group line.keys line.gets at.0 at.1) (enumerate_from 0 parts)
     × IsFoundBy line.threads line.gets parts report history
 
 -- in records each call of a drive is settled with the empty text

@@ -14,7 +14,7 @@ use Rattle.sf_fill_store.specs.Standings.{is_owing}
 use Rattle.sf_fill_store.specs.Logs.{logged_by, empty_log}
 use Rattle.sf_fill.specs.Reloads.{HasReloaded}
 use Rattle.sf_fill_open.specs.Opened.{IsNewGetter}
-use Rattle.sf_cli_drive.specs.declared.jobs.Ended.{Ended}
+use Rattle.sf_cli_drive.specs.declared.jobs.ThreadEnd.{ThreadEnd}
 use Rattle.sf_cli_drive.specs.declared.jobs.Entry.{Entry}
 use Rattle.sf_cli_drive.specs.Values.{value_of}
 
@@ -93,7 +93,7 @@ module _ {L : Type 0} where
     pub logged : log ≡ (logged_by old.log added).events
 
 -- what a thread of a drive does: its turns, then it settles up, and gives its log
-pub record IsJob {L : Type 0} (space : SpaceId) (keys gets thread : ℕ) (old new : GetterValue L) (part : Ended) : Type 0 where
+pub record IsJob {L : Type 0} (space : SpaceId) (keys gets thread : ℕ) (old new : GetterValue L) (part : ThreadEnd) : Type 0 where
   pub turned : GetterValue L
   pub turns : HasTakenTurns space keys thread gets old turned part.answers
   pub done : GetterValue L
@@ -102,11 +102,11 @@ pub record IsJob {L : Type 0} (space : SpaceId) (keys gets thread : ℕ) (old ne
   pub emptied : new ≡ record done { log = empty_log 0 }
 
 -- what came of the job of this thread, which a new getter of the group did that has room to log eight events a get: this getter and this part. Which loaders the getter has is not said.
-pub record IsJobOf (space : SpaceId) (group : GroupValue) (keys gets thread : ℕ) (getter : GetterValue (Unit {0})) (part : Ended) : Type 0 where
+pub record IsJobOf (space : SpaceId) (group : GroupValue) (keys gets thread : ℕ) (getter : GetterValue (Unit {0})) (part : ThreadEnd) : Type 0 where
   pub old : GetterValue (Unit {0})
   pub is_new : IsNewGetter group (8 * gets) old
   pub job : IsJob space keys gets thread old getter part
 
 -- the same of some getter
-abbrev pub IsPartOf : SpaceId → GroupValue → ℕ → ℕ → ℕ → Ended → Type 0
+abbrev pub IsPartOf : SpaceId → GroupValue → ℕ → ℕ → ℕ → ThreadEnd → Type 0
 IsPartOf space group keys gets thread part = (getter : GetterValue (Unit {0})) × IsJobOf space group keys gets thread getter part

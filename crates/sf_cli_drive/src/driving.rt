@@ -12,13 +12,13 @@ ghost use Rattle.sf_fill_open.specs.Opened.{EachThread, IsNewGetter, places_for,
 ghost use Rattle.sf_cli_drive.specs.Values.{StatesValues};
 
 use crate::found::{Found, said};
-use crate::jobs::{Crew, Ended, Entry};
+use crate::jobs::{Crew, Entry, ThreadEnd};
 use crate::line::DriveLine;
 use crate::loaders::{AnyKey, OddPicker, ThirdFails};
 use crate::report::{DriveEnding, Report};
 use sf_dir::LONGEST_KEY;
 use sf_fill::{Fill, Getter, Naming};
-use sf_fill_open::{DirectoryKeys, FillSizes, Keys, Places, Sizes, Team, with_team};
+use sf_fill_open::{DirectoryKeys, FillSizes, Keeps, Keys, Places, Team, with_team};
 use sf_group::Memory;
 use sf_loaders::scripted::RoundChance;
 use sf_loaders::{LoadPath, Loaders, Origin};
@@ -55,7 +55,7 @@ fn entries(alloc: Global, keys: u32) -> Result<Vec<Entry>, Memory>
 }
 
 impl<'a, R: Wait + Clock + Eprint> Team for Crew<'a, R> {
-    type Part = Ended;
+    type Part = ThreadEnd;
 
     type Answer = Result<Found, Memory>;
 
@@ -79,7 +79,7 @@ impl<'a, R: Wait + Clock + Eprint> Team for Crew<'a, R> {
         fill: &Fill<'d, D, N, O>,
         getter: &mut Getter<'d, D, N, O, L>,
         index: u32,
-    ) -> Ended
+    ) -> ThreadEnd
         requires wants { (N.getters ≡ self.now.line.threads)
             × AreEntries self.now.line.keys self.now.entries.now × StatesValues O.loaded }
         requires new { IsNewGetter N.group (8 * self.now.line.gets) getter.old }
@@ -93,7 +93,7 @@ impl<'a, R: Wait + Clock + Eprint> Team for Crew<'a, R> {
         &self,
         fill: &Fill<'d, D, N, O>,
         getters: Vec<Getter<'d, D, N, O, L>>,
-        parts: Vec<Ended>,
+        parts: Vec<ThreadEnd>,
     ) -> Result<Found, Memory>
         requires wants { (N.getters ≡ self.now.line.threads)
             × AreEntries self.now.line.keys self.now.entries.now × StatesValues O.loaded }
@@ -113,7 +113,7 @@ impl<'a, R: Wait + Clock + Eprint> Team for Crew<'a, R> {
 // What the threads found.
 fn found(
     alloc: Global,
-    parts: Vec<Ended>,
+    parts: Vec<ThreadEnd>,
     totals_equal: bool,
     line: DriveLine,
 ) -> Result<Found, Memory>
@@ -124,7 +124,7 @@ fn found(
     let mut logs = Vec::with_capacity(alloc, parts.len())?;
     let mut answers: u64 = 0;
     for part in parts {
-        let Ended {
+        let ThreadEnd {
             answers: right,
             settled,
             log,
@@ -198,7 +198,7 @@ fn report<R: Wait + Threads + Clock + Eprint + Sync>(
     let sizes = FillSizes {
         keys: keys_of(line),
         // A get adds three events at most, and one for each call of another key that it met; a reload adds one.
-        keeps: Sizes {
+        keeps: Keeps {
             limit: LIMIT,
             log: 8 * line.gets as usize,
             near: 0,

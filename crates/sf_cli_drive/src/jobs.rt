@@ -24,7 +24,7 @@ pub(crate) struct Entry {
 
 /// What one thread did.
 #[derive(Drop)]
-pub(crate) struct Ended {
+pub(crate) struct ThreadEnd {
     /// How many of its gets answered the key's value.
     pub(crate) answers: u32,
     /// Whether it owes nothing.
@@ -115,7 +115,7 @@ impl<'a, R: Wait + Clock + Eprint> Crew<'a, R> {
         fill: &Fill<'d, D, N, O>,
         getter: &mut Getter<'d, D, N, O, L>,
         thread: u32,
-    ) -> Ended
+    ) -> ThreadEnd
         requires entries { AreEntries self.now.line.keys self.now.entries.now }
         requires values { StatesValues O.loaded }
         ensures job { getter.old.counted.gets + self.now.line.gets < 2 ^ 64
@@ -143,7 +143,7 @@ impl<'a, R: Wait + Clock + Eprint> Crew<'a, R> {
         }
         let settled = settle_up_often(fill, getter);
         let log = getter.take_log();
-        Ended {
+        ThreadEnd {
             answers,
             settled,
             log,

@@ -42,7 +42,7 @@ use Rattle.sf_fill_counters.specs.declared.totals.Totals.{Totals}
 use Rattle.sf_fill.specs.Counted.{has_asking, is_asking, askings_in, IsCounted}
 use Rattle.sf_fill_values.specs.FillValue.{Filled, FitsFill, fill_lasts}
 use Rattle.sf_fill_counters.specs.GetCounts.{get_alone}
-use Rattle.sf_fill_store.specs.Found.{Found, Kept, Uncopied, Unmade, Spent, Joined, Led, HasFound, HasFoundFrom, HasMissed, HasRun, IsMiss, IsSource}
+use Rattle.sf_fill_store.specs.Found.{Found, FromCache, Uncopied, Unmade, Spent, Joined, Led, HasFound, HasFoundFrom, HasMissed, HasRun, IsMiss, IsSource}
 use Rattle.sf_fill.specs.Fresh.{HasAdded, handed_by, delivered_by, IsFresh, IsAsking, IsAnswer, IsMissedEnter, AreMissed, IsUnanswered, IsOutdated, IsFreshGet, ForgetsOnce, IsReloading}
 use Rattle.sf_fill_store.specs.Forgets.{forgot_by}
 use Rattle.sf_fill_values.specs.Answers.{GetAnswer, refusal_of, answer_by}
@@ -500,10 +500,10 @@ module _ {L : Type 0} (path : CallId → L → LoadAnswer → L → Type 0) (dra
 
   found_from : (p : Spot) (u : CallerValue Filled) (old new : L) (found : Found) → HasFoundFrom space key path draws p u old new found
       → Asked space key u (spot_place p) (reply_of found) ⊎ Quiet u (reply_of found)
-  found_from p u old new (Kept e m) h =
+  found_from p u old new (FromCache e m) h =
       let l = h.1.0 in let row = h.1.1 in let lent = h.1.2 in let w = row.current in
       let fresh = fresh_at (spot_place p) u.seen w.moment e.seen l row.nothing.adds.lawful.legal w.within w.begins w.current row.kept.place_is row.kept.fits row.kept.settled (starts_again l.seen w.moment e.seen w.shows w.within) in
-      inl (unasking p u (reply_of (Kept e m)) m.call (nothing_moved u e row.nothing)
+      inl (unasking p u (reply_of (FromCache e m)) m.call (nothing_moved u e row.nothing)
       (answered (spot_place p) m.call u.seen e.seen [] m m.value.result refl refl (fresh_lent (spot_place p) u.seen e.seen l m lent fresh))
       (record { gets = refl; loads = λ e. cc; hits = λ _ _. (refl, refl) }))
   found_from p u old new (Uncopied e) h = inl (unasking p u (reply_of (Uncopied e)) (call_of u) (nothing_moved u e h.1.1.nothing) tt (record { gets = refl; loads = λ e. cc; hits = λ _ _. (refl, refl) }))

@@ -17,7 +17,7 @@ use Rattle.sf_fill_counters.specs.declared.totals.GetCounts.{GetCounts}
 use Rattle.sf_fill_counters.specs.declared.totals.Totals.{Totals}
 use Rattle.sf_fill.specs.Counted.{IsCounted}
 use Rattle.sf_fill_values.specs.FillValue.{Filled}
-use Rattle.sf_fill_store.specs.Found.{Found, Kept, Uncopied, Unmade, Spent, Joined, Led, HasFoundFrom, HasRun, bytes_in}
+use Rattle.sf_fill_store.specs.Found.{Found, FromCache, Uncopied, Unmade, Spent, Joined, Led, HasFoundFrom, HasRun, bytes_in}
 use Rattle.sf_fill.specs.Fresh.{IsFreshGet}
 use Rattle.sf_fill_values.specs.Answers.{GetAnswer, answer_by}
 use Rattle.sf_fill.specs.Gets.{GetsFrom, HasGot}
@@ -70,7 +70,7 @@ module _ (key bytes : List ℕ) (draws : KnownBytes → KnownBytes → Type 0) (
 
   own_found : (p : Spot) (u : CallerValue Filled) (old new : KnownBytes) (found : Found) → old ≡ record { key = key; bytes = Some bytes } → new.bytes ≡ None
       → HasFoundFrom space key (GivesKnown key) draws p u old new found → OwnIn bytes (reply_of found).2
-  own_found p u old new (Kept c l) had none h = unused bytes old new _ (ap (λ (k : KnownBytes). k.bytes) had) none h.0
+  own_found p u old new (FromCache c l) had none h = unused bytes old new _ (ap (λ (k : KnownBytes). k.bytes) had) none h.0
   own_found p u old new (Uncopied c) had none h = unused bytes old new _ (ap (λ (k : KnownBytes). k.bytes) had) none h.0
   own_found p u old new (Unmade c) had none h = unused bytes old new _ (ap (λ (k : KnownBytes). k.bytes) had) none h.1
   own_found p u old new (Spent c) had none h = unused bytes old new _ (ap (λ (k : KnownBytes). k.bytes) had) none h.3.1

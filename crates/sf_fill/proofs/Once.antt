@@ -18,7 +18,7 @@ use Rattle.sf_fill_store.specs.declared.standing.Standing.{Standing}
 use Rattle.sf_fill_store.specs.declared.standing.Standing.TheVariants.{Free, Owing}
 use Rattle.sf_fill_values.specs.FillValue.{Filled}
 use Rattle.sf_fill_counters.specs.GetCounts.{get_alone, hit_counts}
-use Rattle.sf_fill_store.specs.Found.{Found, HasFoundFrom, Kept, Uncopied}
+use Rattle.sf_fill_store.specs.Found.{Found, HasFoundFrom, FromCache, Uncopied}
 use Rattle.sf_fill.specs.Fresh.{IsFreshGet, delivered_by}
 use Rattle.sf_fill_values.specs.Answers.{GetAnswer, answer_in, refusal_of}
 use Rattle.sf_fill.specs.Gets.{GetsFrom, GetsOnce, HasAsked, HasGot, IsFoundGet, LooksFrom}
@@ -96,7 +96,7 @@ module _ {L : Type 0} (path : CallId → L → LoadAnswer → L → Type 0) (dra
     hit_once m h = hits s t h
       where
         hits : (s t : Standing Filled) → LooksFrom {E = E} s (spot_place spot) (Some (Ok m)) t → GetsFrom path draws space key s desk after loaders loaders (t, hit_counts, answer_in m)
-        hits (Free c) (Free d) h = (seeing, inr (record { spot = spot; resolved = resolved; found = Kept d m; found_so = (h.0, h.1, (refl, h.2)); reply_is = refl }))
+        hits (Free c) (Free d) h = (seeing, inr (record { spot = spot; resolved = resolved; found = FromCache d m; found_so = (h.0, h.1, (refl, h.2)); reply_is = refl }))
         hits (Free c) (Owing o) h = elim h [ ]
         hits (Owing o) t h = let no : Some (Ok m) ≡ None = h.0 in cc
 

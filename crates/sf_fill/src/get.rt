@@ -30,7 +30,7 @@ use bytes::Bytes;
 use sf_fill_counters::{GetCounts, NO_RUN, Naming, Tallies};
 use sf_fill_keys::KeyPlace;
 use sf_fill_near::Near;
-use sf_fill_store::Asked;
+use sf_fill_store::FillAsked;
 use sf_fill_values::{FillValue, GetRefusal, LoadFault, View, of_key, show};
 use sf_group::{Caller, Finished, Letter, Memory};
 use sf_loaders::{LoadPath, Origin};
@@ -51,7 +51,7 @@ type Reply<'d, D, O> = (
 
 // What a get answers whose asking came to this.
 fn reply<'d, D: Naming, O: Origin>(
-    asked: Asked<FillValue<'d, D, O>>,
+    asked: FillAsked<FillValue<'d, D, O>>,
     at: &mut KeyPlace<'d>,
     key: &[u8],
 ) -> Reply<'d, D, O>
@@ -66,13 +66,13 @@ fn reply<'d, D: Naming, O: Origin>(
     ensures loaded { IfOk result.1 (IsLoadedFor O.loaded (spot_key (spot_at key.now at.old))) }
 {
     match asked {
-        Asked::Unmade(caller) => (Chair::Free(caller), Err(LoadFault::Memory)),
-        Asked::Spent(caller) => (
+        FillAsked::Unmade(caller) => (Chair::Free(caller), Err(LoadFault::Memory)),
+        FillAsked::Spent(caller) => (
             Chair::Free(caller),
             Err(LoadFault::Refused(GetRefusal::Spent)),
         ),
-        Asked::Joined(caller, letter) => (Chair::Free(caller), show(letter, at, key)),
-        Asked::Led(finished, _) => match finished {
+        FillAsked::Joined(caller, letter) => (Chair::Free(caller), show(letter, at, key)),
+        FillAsked::Led(finished, _) => match finished {
             Finished::Done(caller, letter) => (Chair::Free(caller), show(letter, at, key)),
             Finished::Held(settled) => (Chair::Owing(settled), Err(LoadFault::Memory)),
         },

@@ -12,13 +12,13 @@ ghost use Rattle.sf_fill_counters.specs.Totals.{names_of};
 use crate::chair::Chair;
 use crate::fill::Fill;
 use crate::getter::Getter;
+use crate::keeps::Keeps;
 use crate::seat::Seat;
-use crate::sizes::Sizes;
 use sf_fill_counters::{Accounts, AllParts, Ledgers, Naming};
 use sf_fill_keys::{KeyDesk, KeySpace};
 use sf_fill_near::Near;
 use sf_fill_store::{Log, Store};
-use sf_fill_values::{FillValue, Kept};
+use sf_fill_values::{CachedLetters, FillValue};
 use sf_group::{Caller, Group, Memory};
 use sf_loaders::Origin;
 use std::alloc::Global;
@@ -49,7 +49,7 @@ pub struct RefusedParts<L> {
 
 /// All memory that a fill takes when it is made.
 struct Rooms<'d, D: Naming, N: Naming, O: Origin, L> {
-    kept: Kept<'d, D, N, O>,
+    kept: CachedLetters<'d, D, N, O>,
     getters: Vec<Getter<'d, D, N, O, L>>,
     logs: Vec<Log>,
 }
@@ -84,7 +84,7 @@ fn reserve<'d, D: Naming, N: Naming, O: Origin, L>(
     ensures logs { IfOk result (λ r. (vec_len r.logs ≡ getters)
         × All (λ empty. empty ≡ empty_log log) r.logs.items) }
 {
-    let kept = Kept::new(alloc, limit, places)?;
+    let kept = CachedLetters::new(alloc, limit, places)?;
     let logs = logs_with_room(alloc, getters, log)?;
     let Ok(list) = Vec::with_capacity(alloc, getters) else {
         return Err(Memory);
@@ -100,7 +100,7 @@ fn reserve<'d, D: Naming, N: Naming, O: Origin, L>(
 // part of what all count. They are put into the list, which has room for them.
 fn getters_of<'d, D: Naming, N: Naming, O: Origin, L: Drop>(
     alloc: Global,
-    sizes: Sizes,
+    sizes: Keeps,
     desks: Vec<KeyDesk>,
     callers: Vec<Caller<FillValue<'d, D, O>>>,
     loaders: Vec<L>,
@@ -194,7 +194,7 @@ impl<'d, D: Naming, N: Naming, O: Origin> Fill<'d, D, N, O> {
         alloc: Global,
         space: KeySpace<'d>,
         parts: FillParts<'d, D, O, L>,
-        sizes: Sizes,
+        sizes: Keeps,
     ) -> Result<(Fill<'d, D, N, O>, Vec<Getter<'d, D, N, O, L>>), FillParts<'d, D, O, L>>
         requires space { (space_of space ≡ N.space) × (D.space ≡ N.space) }
         requires parts { AreParts N.space N.group N.getters N.ledgers parts }

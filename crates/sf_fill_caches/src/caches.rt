@@ -7,7 +7,7 @@ ghost use Rattle.sf_fill_caches.specs.LendingBoth.{LendsFrom};
 ghost use Rattle.sf_fill_caches.specs.Looks.{item_at};
 ghost use Rattle.sf_fill_caches.specs.Weights.{weight_of};
 
-use crate::shelf::{CacheStats, Kept, Shelf};
+use crate::shelf::{CacheEntry, CacheStats, Shelf};
 use std::alloc::{AllocError, Global};
 use std::marker::Model;
 use std::num::NonZeroUsize;
@@ -144,7 +144,7 @@ impl<T: Drop> Caches<T> {
         if self.limit == 0 {
             return Ok(());
         }
-        let kept = Kept {
+        let kept = CacheEntry {
             key_len,
             value_len,
             item,

@@ -9,5 +9,5 @@ mod caches;
 mod shelf;
 
 pub use caches::{Caches, Which};
-pub use shelf::{CacheStats, Kept};
+pub use shelf::{CacheEntry, CacheStats};
 pub use std::alloc::AllocError as Memory;

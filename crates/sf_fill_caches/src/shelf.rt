@@ -17,7 +17,7 @@ use std::num::NonZeroUsize;
 
 /// What is kept of a place.
 #[derive(Drop)]
-pub struct Kept<T> {
+pub struct CacheEntry<T> {
     /// The length of its key, in bytes.
     pub key_len: usize,
     /// The length of its value, in bytes.
@@ -26,7 +26,7 @@ pub struct Kept<T> {
     pub item: T,
 }
 
-impl<T> Kept<T> {
+impl<T> CacheEntry<T> {
     // The item, to write to.
     fn item_mut(&mut self) -> &mut T
         ensures* writes_back { sem 𝓛 (LendsItsItem T.row self.entry result) }
@@ -50,7 +50,7 @@ pub struct CacheStats {
 // One cache, what its entries weigh together, and how many were dropped by the limit.
 #[derive(Drop)]
 pub(crate) struct Shelf<T> {
-    entries: LruCache<u32, Kept<T>>,
+    entries: LruCache<u32, CacheEntry<T>>,
     bytes: u128,
     evictions: u64,
 }
@@ -58,11 +58,11 @@ pub(crate) struct Shelf<T> {
 impl<T> Model for Shelf<T> {
     ghost use Rattle.std.specs.Prelude.{◌≡◌};
     ghost use Rattle.lru.specs.LruCache.{LruCache as Entries};
-    ghost use Rattle.sf_fill_caches.specs.declared.shelf.Kept.{Kept};
+    ghost use Rattle.sf_fill_caches.specs.declared.shelf.CacheEntry.{CacheEntry};
     ghost use Rattle.sf_fill_caches.specs.Weights.{weight_of, FitsIn};
     ghost use Rattle.std.specs.Prelude.{ℕ};
 
-    ghost Value = { Entries ℕ (Kept T) };
+    ghost Value = { Entries ℕ (CacheEntry T) };
 
     ghost view = { λ s. s.entries };
 
@@ -134,7 +134,7 @@ impl<T: Drop> Shelf<T> {
         }
     }
 
-    pub(crate) fn put(&mut self, place: u32, kept: Kept<T>) -> Result<(), AllocError>
+    pub(crate) fn put(&mut self, place: u32, kept: CacheEntry<T>) -> Result<(), AllocError>
         requires place { (1 ≤ place) × (place ≤ self.old.cap) }
         requires room { weight_of self.old.entries < 2 ^ 64 }
         ensures put { OnOk result

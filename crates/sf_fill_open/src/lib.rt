@@ -12,7 +12,7 @@ mod team;
 
 pub use body::Body;
 pub use door::with_fill;
-pub use sf_fill::Sizes;
+pub use sf_fill::Keeps;
 pub use sf_keys_places::Places;
 pub use sizes::{DirectoryKeys, FillSizes, Keys, NEAR, NEAR_BYTES};
 pub use team::{Team, with_team};

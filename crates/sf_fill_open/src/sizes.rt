@@ -2,7 +2,7 @@
 ghost use Rattle.std.specs.Prelude.{◌≡◌, ◌≤◌, ◌<ℤ◌, ◌≤ℤ◌, pos};
 ghost use Rattle.sf_words.specs.declared.limits.TheConstants.{LARGEST_PLACE, LONGEST_KEY};
 
-use sf_fill::Sizes;
+use sf_fill::Keeps;
 use sf_keys_places::Places;
 use sf_words::{LARGEST_PLACE, LONGEST_KEY};
 
@@ -42,7 +42,7 @@ pub struct FillSizes {
     /// Where its keys have their places.
     pub keys: Keys,
     /// How much its caches and its getters keep.
-    pub keeps: Sizes,
+    pub keeps: Keeps,
     /// The generation of each getter's first asking, from 1 on; a getter has those up to 4,294,967,295.
     pub first_generation: u32,
     ghost first: { 1 ≤ first_generation },
@@ -59,7 +59,7 @@ impl FillSizes {
         ensures none { limit ≤ℤ pos 0 → (result.keeps.near ≡ 0) × (result.keeps.near_limit ≡ 0) }
         ensures first { result.first_generation ≡ 1 }
     {
-        let mut keeps = Sizes::new(limit, 0);
+        let mut keeps = Keeps::new(limit, 0);
         if limit > 0 {
             keeps.near = NEAR;
             keeps.near_limit = NEAR_BYTES;

@@ -4,21 +4,19 @@ ghost use Rattle.std.specs.Prelude.{vec_len, vec_capacity};
 ghost use Rattle.std.specs.List.{enumerate_from};
 ghost use Rattle.sf_history.specs.declared.call.CallId.{CallId};
 ghost use Rattle.sf_words.specs.declared.limits.TheConstants.{LARGEST_PLACE, LARGEST_CALLER};
-ghost use Rattle.sf_group_rows.specs.Making.{IsNewCaller};
 ghost use Rattle.sf_group_rows.specs.Tokens.{GroupValue};
-ghost use Rattle.sf_fill_keys.specs.Spaces.{SpaceId, AreDesksOf, places_in, space_of};
+ghost use Rattle.sf_fill_keys.specs.Spaces.{SpaceId};
 ghost use Rattle.sf_fill.specs.GetterValue.{GetterValue};
-ghost use Rattle.sf_fill.specs.Made.{AreParts};
 ghost use Rattle.sf_fill_open.specs.Opened.{EachThread, IsNewGetter, IsOfThreads};
 ghost use Rattle.sf_fill_open.specs.Opened.{places_for, without_loaders};
 
-use crate::sizes::{FillSizes, Keys};
-use sf_fill::{Fill, FillParts, Getter, Naming, Sizes};
-use sf_fill_keys::{KeyDesk, KeySpace, hash_desks, open_directory};
+use crate::body::Body;
+use crate::door::with_fill;
+use crate::sizes::FillSizes;
+use sf_fill::{Fill, Getter, Naming};
 use sf_group::Memory;
 use sf_loaders::{LoadPath, Origin};
 use std::alloc::Global;
-use std::marker::Brand;
 use std::sync::Wait;
 use std::thread::{Threads, map_vec};
 
@@ -85,92 +83,52 @@ pub fn with_team<
     ensures { IfOk result
         (IsOfThreads (T.gives team.now) (T.ends team.now) (vec_len loaders)) }
 {
-    let getters = loaders.len() as u32;
-    match sizes.keys {
-        Keys::Directory(of) => {
-            let (directory, desks) = open_directory(
-                alloc,
-                of.keys,
-                of.key_bytes,
-                getters,
-                of.seed0,
-                of.seed1,
-            )?;
-            let space = KeySpace::Directory(&directory);
-            with_space::<Brand, O, L, R, T>(rt, alloc, space, desks, sizes, loaders, team)
-        }
-        Keys::Hashed(places) => {
-            let desks = hash_desks(alloc, places, getters)?;
-            let space = KeySpace::Hashed(places);
-            with_space::<Brand, O, L, R, T>(rt, alloc, space, desks, sizes, loaders, team)
-        }
+    let body = Threaded {
+        rt,
+        alloc,
+        team,
+        getters: loaders.len() as u32,
+    };
+    with_fill(alloc, sizes, loaders, body)?
+}
+
+// A team as a body: its threads work, and then it finishes.
+#[derive(Drop)]
+struct Threaded<'a, R, T> {
+    rt: &'a R,
+    alloc: Global,
+    team: &'a T,
+    getters: u32,
+}
+
+impl<'a, R: Wait + Threads + Sync, T: Team + Sync> Body for Threaded<'a, R, T> {
+    ghost use Rattle.std.specs.Prelude.{◌≡◌, ◌≤◌, IfOk};
+    ghost use Rattle.sf_words.specs.declared.limits.TheConstants.{LARGEST_CALLER};
+    ghost use Rattle.sf_fill_open.specs.Opened.{IsOfThreads};
+
+    type Answer = Result<T::Answer, Memory>;
+
+    ghost wants = { λ body getters loaded. (getters ≡ body.getters) × (getters ≤ LARGEST_CALLER)
+        × T.wants body.team.now getters loaded };
+
+    ghost room = { λ body. T.room body.team.now };
+
+    ghost ends = { λ body answer. IfOk answer
+        (IsOfThreads (T.gives body.team.now) (T.ends body.team.now) body.getters) };
+
+    fn run<
+        'd,
+        D: Naming + Send + Sync,
+        N: Naming + Send + Sync,
+        O: Origin + Send + Sync,
+        L: LoadPath<Origin = O> + Send + Drop,
+    >(self, fill: &Fill<'d, D, N, O>, getters: Vec<Getter<'d, D, N, O, L>>) -> Self::Answer {
+        work_and_finish(self.rt, self.alloc, fill, getters, self.team)
     }
 }
 
-// The key space is named here, and the group made.
-fn with_space<
-    'd,
-    D: Naming + Send + Sync,
-    O: Origin + Send + Sync,
-    L: LoadPath<Origin = O> + Send + Drop,
-    R: Wait + Threads + Sync,
-    T: Team + Sync,
->(
-    rt: &R,
-    alloc: Global,
-    space: KeySpace<'d>,
-    desks: Vec<KeyDesk>,
-    sizes: FillSizes,
-    loaders: Vec<L>,
-    team: &T,
-) -> Result<T::Answer, Memory>
-    requires space { (space_of space ≡ D.space) × (places_in D.space ≤ LARGEST_PLACE) }
-    requires getters { (1 ≤ vec_len loaders) × (vec_len loaders ≤ LARGEST_CALLER) }
-    requires desks { (vec_len desks ≡ vec_len loaders) × AreDesksOf D.space desks.items }
-    requires wants { T.wants team.now (vec_len loaders) O.loaded }
-    requires room { sizes.keeps.log ≡ T.room team.now }
-    ensures { IfOk result
-        (IsOfThreads (T.gives team.now) (T.ends team.now) (vec_len loaders)) }
-{
-    let Ok(parts) = FillParts::new(alloc, space, desks, loaders, sizes.first_generation) else {
-        return Err(Memory);
-    };
-    with_all::<D, Brand, O, L, R, T>(rt, alloc, space, parts, sizes.keeps, team)
-}
-
-// All is named here.
-fn with_all<
-    'd,
-    D: Naming + Send + Sync,
-    N: Naming + Send + Sync,
-    O: Origin + Send + Sync,
-    L: LoadPath<Origin = O> + Send + Drop,
-    R: Wait + Threads + Sync,
-    T: Team + Sync,
->(
-    rt: &R,
-    alloc: Global,
-    space: KeySpace<'d>,
-    parts: FillParts<'d, D, O, L>,
-    keeps: Sizes,
-    team: &T,
-) -> Result<T::Answer, Memory>
-    requires space { (space_of space ≡ N.space) × (D.space ≡ N.space) }
-    requires parts { AreParts N.space N.group N.getters N.ledgers parts }
-    requires limit { keeps.limit ≡ N.limit }
-    requires callers { All (IsNewCaller N.group) parts.callers.items }
-    requires wants { T.wants team.now N.getters O.loaded }
-    requires room { keeps.log ≡ T.room team.now }
-    ensures { IfOk result (IsOfThreads (T.gives team.now) (T.ends team.now) N.getters) }
-{
-    let Ok((fill, getters)) = Fill::<'d, D, N, O>::new(alloc, space, parts, keeps) else {
-        return Err(Memory);
-    };
-    work_and_finish(rt, alloc, &fill, getters, team)
-}
-
 /// A getter whose thread is to work.
-struct Job<'a, 'd, D: Naming, N: Naming, O: Origin, L, T: Team> {
+struct GetterJob<'a, 'd, D: Naming, N: Naming, O: Origin, L, T: Team> {
     fill: &'a Fill<'d, D, N, O>,
     team: &'a T,
     getter: Getter<'d, D, N, O, L>,
@@ -179,9 +137,9 @@ struct Job<'a, 'd, D: Naming, N: Naming, O: Origin, L, T: Team> {
 }
 
 impl<'a, 'd, D: Naming, N: Naming, O: Origin, L: Drop, T: Team> Drop
-    for Job<'a, 'd, D, N, O, L, T> {
+    for GetterJob<'a, 'd, D, N, O, L, T> {
     fn drop(self) {
-        let Job {
+        let GetterJob {
             fill: _,
             team: _,
             getter,
@@ -192,28 +150,29 @@ impl<'a, 'd, D: Naming, N: Naming, O: Origin, L: Drop, T: Team> Drop
 }
 
 /// A getter whose thread has worked, and what came of that.
-struct Ended<'d, D: Naming, N: Naming, O: Origin, L, P> {
+struct WorkedGetter<'d, D: Naming, N: Naming, O: Origin, L, P> {
     getter: Getter<'d, D, N, O, L>,
     part: P,
 }
 
-impl<'d, D: Naming, N: Naming, O: Origin, L: Drop, P: Drop> Drop for Ended<'d, D, N, O, L, P> {
+impl<'d, D: Naming, N: Naming, O: Origin, L: Drop, P: Drop> Drop
+    for WorkedGetter<'d, D, N, O, L, P> {
     fn drop(self) {
-        let Ended { getter, part: _ } = self;
+        let WorkedGetter { getter, part: _ } = self;
         getter.abandon();
     }
 }
 
-impl<'d, D: Naming, N: Naming, O: Origin, L, P> Ended<'d, D, N, O, L, P> {
+impl<'d, D: Naming, N: Naming, O: Origin, L, P> WorkedGetter<'d, D, N, O, L, P> {
     fn into_parts(self) -> (Getter<'d, D, N, O, L>, P)
         ensures { (result.0 ≡ self.entry.getter) × (result.1 ≡ self.entry.part) }
     {
-        let Ended { getter, part } = self;
+        let WorkedGetter { getter, part } = self;
         (getter, part)
     }
 }
 
-impl<'a, 'd, D: Naming, N: Naming, O: Origin, L: LoadPath<Origin = O> + Drop, T: Team> Job<
+impl<'a, 'd, D: Naming, N: Naming, O: Origin, L: LoadPath<Origin = O> + Drop, T: Team> GetterJob<
     'a,
     'd,
     D,
@@ -223,21 +182,21 @@ impl<'a, 'd, D: Naming, N: Naming, O: Origin, L: LoadPath<Origin = O> + Drop, T:
     T,
 > {
     // Works, in its thread.
-    fn run(self) -> Ended<'d, D, N, O, L, T::Part>
+    fn run(self) -> WorkedGetter<'d, D, N, O, L, T::Part>
         requires wants { T.wants self.team.now N.getters O.loaded }
         requires new { IsNewGetter N.group (T.room self.team.now) self.getter }
         requires index { self.index < N.getters }
         ensures { T.gives self.entry.team.now N.space N.group self.entry.index
             (without_loaders result.getter) result.part }
     {
-        let Job {
+        let GetterJob {
             fill,
             team,
             mut getter,
             index,
         } = self;
         let part = team.work(fill, &mut getter, index);
-        Ended { getter, part }
+        WorkedGetter { getter, part }
     }
 }
 
@@ -252,7 +211,7 @@ fn abandon_all<'d, D: Naming, N: Naming, O: Origin, L: Drop>(getters: Vec<Getter
 
 /// The jobs of the threads, and the list in which their getters were, which has room for them still.
 type HandedOut<'a, 'd, D, N, O, L, T> = (
-    Vec<Job<'a, 'd, D, N, O, L, T>>,
+    Vec<GetterJob<'a, 'd, D, N, O, L, T>>,
     Vec<Getter<'d, D, N, O, L>>,
 );
 
@@ -276,7 +235,7 @@ fn hand_out<'a, 'd, D: Naming, N: Naming, O: Origin, L: Drop, T: Team>(
         return Err(Memory);
     };
     'hand: while let Some(getter) = getters.pop() {
-        jobs.push_reserved(Job {
+        jobs.push_reserved(GetterJob {
             fill,
             team,
             getter,
@@ -288,7 +247,7 @@ fn hand_out<'a, 'd, D: Naming, N: Naming, O: Origin, L: Drop, T: Team>(
 
 // Takes the getters and the parts back, in the order of the loaders.
 fn take_back<'d, D: Naming, N: Naming, O: Origin, L: Drop, P: Drop>(
-    ended: Vec<Ended<'d, D, N, O, L, P>>,
+    ended: Vec<WorkedGetter<'d, D, N, O, L, P>>,
     getters: Vec<Getter<'d, D, N, O, L>>,
     parts: Vec<P>,
 ) -> (Vec<Getter<'d, D, N, O, L>>, Vec<P>)
@@ -337,7 +296,7 @@ fn work_and_finish<
     let Ok(ended) = map_vec(
         rt,
         jobs,
-        &|job: Job<D, N, O, L, T>|
+        &|job: GetterJob<D, N, O, L, T>|
             requires { T.wants job.team.now N.getters O.loaded
                 × IsNewGetter N.group (T.room job.team.now) job.getter × (job.index < N.getters) }
             ensures { T.gives job.entry.team.now N.space N.group job.entry.index

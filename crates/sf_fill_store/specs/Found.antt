@@ -15,8 +15,8 @@ use Rattle.sf_loaders.specs.LoadPath.{LoadAnswer}
 use Rattle.sf_loaders.specs.declared.counts.Source.{Source}
 use Rattle.sf_loaders.specs.declared.counts.Source.TheVariants.{Peer, Local}
 use Rattle.sf_loaders.specs.declared.faults.LocalFault.{LocalFault}
-use Rattle.sf_fill_store.specs.declared.ask.Asked.{Asked}
-use Rattle.sf_fill_store.specs.declared.ask.Asked.TheVariants as asked
+use Rattle.sf_fill_store.specs.declared.ask.FillAsked.{FillAsked}
+use Rattle.sf_fill_store.specs.declared.ask.FillAsked.TheVariants as asked
 use Rattle.sf_fill_counters.specs.declared.totals.GetCounts.{GetCounts}
 use Rattle.sf_fill_counters.specs.GetCounts.{load_counts, second_look_counts}
 use Rattle.sf_fill_values.specs.FillValue.{Filled, FitsFill}
@@ -24,14 +24,14 @@ use Rattle.sf_fill_values.specs.Settled.{HasOnlyLooked, IsCurrentLetter, IsFollo
 
 -- what a get of a free caller comes to: a cache's letter, or one whose copy was refused memory; or what an asking comes to
 pub data Found : Type 0 where
-  Kept : CallerValue Filled → LetterValue Filled → Found
+  FromCache : CallerValue Filled → LetterValue Filled → Found
   Uncopied : CallerValue Filled → Found
   Unmade : CallerValue Filled → Found
   Spent : CallerValue Filled → Found
   Joined : CallerValue Filled → LetterValue Filled → Found
   Led : Finished (CallerValue Filled) (LetterValue Filled) (SettledValue Filled) → GetCounts → Found
 
-abbrev pub found_by : Asked Filled → Found
+abbrev pub found_by : FillAsked Filled → Found
 found_by (asked.Unmade c) = Unmade c
 found_by (asked.Spent c) = Spent c
 found_by (asked.Joined c l) = Joined c l
@@ -128,7 +128,7 @@ module _ (s : SpaceId) (key : List ℕ) {L : Type 0} (path : CallId → L → Lo
   -- a cache had a current letter; memory for the key was refused; a joiner has the open call's letter; who has no generation left
   -- did nothing more
   abbrev pub HasFoundFrom : Spot → CallerValue Filled → L → L → Found → Type 0
-  HasFoundFrom p c old new (Kept d m) = (new ≡ old) × ((l : LetterValue Filled) × IsCurrentLetter c (spot_place p) l d × HasLent l m)
+  HasFoundFrom p c old new (FromCache d m) = (new ≡ old) × ((l : LetterValue Filled) × IsCurrentLetter c (spot_place p) l d × HasLent l m)
   HasFoundFrom p c old new (Uncopied d) = (new ≡ old) × ((l : LetterValue Filled) × IsCurrentLetter c (spot_place p) l d)
   HasFoundFrom p c old new (Unmade d) = (d ≡ c) × (new ≡ old)
   HasFoundFrom p c old new (Spent d) = AfterMisses s key (spot_place p) c (λ u. IsRefusedSpent u d × (new ≡ old))

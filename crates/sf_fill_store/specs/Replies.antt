@@ -10,14 +10,14 @@ use Rattle.sf_fill_counters.specs.declared.totals.GetCounts.{GetCounts}
 use Rattle.sf_fill_counters.specs.GetCounts.{hit_counts, load_counts, get_alone, no_run}
 use Rattle.sf_fill_store.specs.declared.standing.Standing.{Standing}
 use Rattle.sf_fill_store.specs.declared.standing.Standing.TheVariants.{Free, Owing}
-use Rattle.sf_fill_store.specs.Found.{Found, Kept, Uncopied, Unmade, Spent, Joined, Led}
+use Rattle.sf_fill_store.specs.Found.{Found, FromCache, Uncopied, Unmade, Spent, Joined, Led}
 
 -- where the caller then stands, what is counted, and what is answered
 abbrev pub Reply : Type 0
 Reply = Standing Filled × GetCounts × GetAnswer
 
 abbrev pub reply_of : Found → Reply
-reply_of (Kept c l) = (Free c, hit_counts, answer_in l)
+reply_of (FromCache c l) = (Free c, hit_counts, answer_in l)
 reply_of (Uncopied c) = (Free c, hit_counts, Err fault.Memory)
 reply_of (Unmade c) = (Free c, get_alone, Err fault.Memory)
 reply_of (Spent c) = (Free c, load_counts no_run, Err (fault.Refused refused.Spent))
@@ -31,7 +31,7 @@ counts_of found = (reply_of found).1
 
 -- a letter that was found is of the place
 abbrev pub IsOfPlace : ℕ → Found → Type 0
-IsOfPlace k (Kept c l) = l.place ≡ k
+IsOfPlace k (FromCache c l) = l.place ≡ k
 IsOfPlace k (Uncopied c) = Unit {0}
 IsOfPlace k (Unmade c) = Unit {0}
 IsOfPlace k (Spent c) = Unit {0}
@@ -41,7 +41,7 @@ IsOfPlace k (Led (Held s) n) = Unit {0}
 
 -- and its value may be of the key
 abbrev pub IsOfKey : List ℕ → Found → Type 0
-IsOfKey key (Kept c l) = MayBe l.value.spot key
+IsOfKey key (FromCache c l) = MayBe l.value.spot key
 IsOfKey key (Uncopied c) = Unit {0}
 IsOfKey key (Unmade c) = Unit {0}
 IsOfKey key (Spent c) = Unit {0}

@@ -32,7 +32,7 @@ const LOAD: GetCounts = GetCounts {
 };
 
 /// What it comes to that a free caller asks the group.
-pub enum Asked<V: Fit> {
+pub enum FillAsked<V: Fit> {
     /// Memory for the key was refused, and nothing was asked.
     Unmade(Caller<V>),
     /// The caller has no generation left to ask with.
@@ -55,7 +55,7 @@ impl<'d, D: Naming, N: Naming, O: Origin> Store<'d, D, N, O> {
         loaders: &mut L,
         log: &mut Log,
         tallies: &mut Tallies<N>,
-    ) -> Asked<FillValue<'d, D, O>>
+    ) -> FillAsked<FillValue<'d, D, O>>
     where
         L: LoadPath<Origin = O>,
         requires caller { caller.group ≡ N.group }
@@ -81,20 +81,20 @@ impl<'d, D: Naming, N: Naming, O: Origin> Store<'d, D, N, O> {
                     let (finished, counts) = self.lead(
                         rt, flight, spot, key, loaders, log, tallies,
                     );
-                    return Asked::Led(finished, counts);
+                    return FillAsked::Led(finished, counts);
                 }
                 Ok(Begun::Join(ticket)) => {
                     log.add_enter(number, &ticket);
                     let (caller, letter) = wait(rt, &self.group, ticket);
                     if letter.value().is_of(key) {
                         self.count(rt, tallies, LOAD);
-                        return Asked::Joined(caller, letter);
+                        return FillAsked::Joined(caller, letter);
                     }
                     asking = caller;
                 }
                 Err(Spent { back }) => {
                     self.count(rt, tallies, LOAD);
-                    return Asked::Spent(back);
+                    return FillAsked::Spent(back);
                 }
             }
         }

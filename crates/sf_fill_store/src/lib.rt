@@ -11,7 +11,7 @@ mod look;
 mod standing;
 mod store;
 
-pub use ask::Asked;
+pub use ask::FillAsked;
 pub use forget::Forgot;
 pub use log::Log;
 pub use standing::Standing;

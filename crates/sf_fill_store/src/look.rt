@@ -11,7 +11,7 @@ ghost use Rattle.sf_fill_keys.specs.Spots.{MayBe};
 use crate::store::Store;
 use sf_fill_caches::Which;
 use sf_fill_counters::{Naming, Tallies};
-use sf_fill_values::{FillValue, InCache, Kept, Missed};
+use sf_fill_values::{CachedLetters, FillValue, InCache, Missed};
 use sf_group::{Caller, Flight, Letter, Memory};
 use sf_loaders::Origin;
 use std::sync::Wait;
@@ -60,7 +60,7 @@ impl<'d, D: Naming, N: Naming, O: Origin> Store<'d, D, N, O> {
             IfOk found.copy (λ letter. MayBe letter.value.spot key.now)) }
         ensures call { IfErr result (λ missed. missed.call ≡ flight.now.call) }
     {
-        let call = Kept::<'d, D, N, O>::to_find(self.limit, flight)?;
+        let call = CachedLetters::<'d, D, N, O>::to_find(self.limit, flight)?;
         let mut locked = self.locked.lock(rt);
         locked.kept.look_again(&self.group, flight, key, call)
     }

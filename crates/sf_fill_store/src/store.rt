@@ -7,7 +7,7 @@ ghost use Rattle.sf_fill_counters.specs.Totals.{IsOfOneGet, with_counts};
 
 use sf_fill_caches::{CacheStats, Which};
 use sf_fill_counters::{Accounts, AllParts, GetCounts, Naming, Tallies, Totals};
-use sf_fill_values::{FillValue, Kept};
+use sf_fill_values::{CachedLetters, FillValue};
 use sf_group::Group;
 use sf_loaders::Origin;
 use std::marker::Model;
@@ -19,7 +19,7 @@ const MOST_PENDING: u64 = 64;
 /// What lies under the lock: the letters that are kept, and what all getters have counted.
 #[derive(Drop)]
 pub(crate) struct Locked<'d, D: Naming, N: Naming, O: Origin> {
-    pub(crate) kept: Kept<'d, D, N, O>,
+    pub(crate) kept: CachedLetters<'d, D, N, O>,
     pub(crate) accounts: Accounts<N>,
 }
 
@@ -47,7 +47,7 @@ impl<'d, D: Naming, N: Naming, O: Origin> Store<'d, D, N, O> {
     /// Over this group, these caches, whose limit in bytes of keys and values this is, and these accounts.
     pub fn new(
         group: Group<FillValue<'d, D, O>>,
-        kept: Kept<'d, D, N, O>,
+        kept: CachedLetters<'d, D, N, O>,
         limit: i64,
         accounts: Accounts<N>,
     ) -> Store<'d, D, N, O>

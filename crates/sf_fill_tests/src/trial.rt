@@ -41,7 +41,7 @@ use crate::loaders::{Flags, TestLoaders, TestLocal};
 use crate::steps::{Steps, run};
 use bytes::{ByteStr, Bytes};
 use sf_fill::{Fill, Getter, Naming, Totals};
-use sf_fill_open::{DirectoryKeys, FillSizes, Keys, Places, Sizes, Team, with_team};
+use sf_fill_open::{DirectoryKeys, FillSizes, Keeps, Keys, Places, Team, with_team};
 use sf_group::Memory;
 use sf_loaders::scripted::{Answer, FixedPicker, RoundChance, Script};
 use sf_loaders::{LoadPath, Loaders, Origin};
@@ -392,7 +392,7 @@ fn sizes_of(rt: &impl Abort, script: &str) -> FillSizes
 {
     FillSizes {
         keys: keys(rt, script),
-        keeps: Sizes {
+        keeps: Keeps {
             limit: limit(rt, script),
             log: number(rt, script, "log", 64) as usize,
             near: number(rt, script, "near", 0),

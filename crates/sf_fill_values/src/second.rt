@@ -6,7 +6,7 @@ ghost use Rattle.sf_fill_keys.specs.Spots.{MayBe};
 ghost use Rattle.sf_fill_values.specs.Keeping.{LooksAgain};
 ghost use Rattle.sf_fill_values.specs.Settled.{CopiesFollowed};
 
-use crate::kept::Kept;
+use crate::cached::CachedLetters;
 use crate::value::FillValue;
 use sf_fill_caches::Which;
 use sf_fill_counters::Naming;
@@ -37,7 +37,7 @@ impl Missed {
     }
 }
 
-impl<'d, D: Naming, N: Naming, O: Origin> Kept<'d, D, N, O> {
+impl<'d, D: Naming, N: Naming, O: Origin> CachedLetters<'d, D, N, O> {
     /// The call whose letter a leader looks for, which its own follows. There is none where the flight's follows none, or where
     /// the limit keeps nothing.
     pub fn to_find(limit: i64, flight: &Flight<FillValue<'d, D, O>>) -> Result<CallId, Missed>

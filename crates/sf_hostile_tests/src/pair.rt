@@ -11,7 +11,7 @@ use crate::meeting::{Flags, PairLoaders, loaders};
 use crate::spare::{Spare, take_letter};
 use crate::tried::{PairGetter, Tried};
 use sf_dir::Directory;
-use sf_fill::{Fill, FillParts, Naming, RefusedParts, Sizes};
+use sf_fill::{Fill, FillParts, Keeps, Naming, RefusedParts};
 use sf_fill_keys::{KeyDesk, KeySpace, open_directory};
 use sf_group::Memory;
 use sf_loaders::scripted::AnyValue;
@@ -22,7 +22,7 @@ use std::sync::Wait;
 use std::test::Fail;
 use std::thread::{Threads, join};
 
-const SIZES: Sizes = Sizes {
+const SIZES: Keeps = Keeps {
     limit: 100,
     log: 64,
     near: 0,

@@ -28,7 +28,7 @@ ghost use Rattle.sf_fill_open.specs.Opened.{IsNewGetter, places_for};
 
 use bytes::{ByteStr, Bytes};
 use sf_fill::{Fill, Getter, LoadFault, Naming, Totals, View};
-use sf_fill_open::{Body, DirectoryKeys, FillSizes, Keys, Sizes, with_fill};
+use sf_fill_open::{Body, DirectoryKeys, FillSizes, Keeps, Keys, with_fill};
 use sf_group::Memory;
 use sf_loaders::scripted::{Answer, FixedPicker, RoundChance, Script};
 use sf_loaders::{LoadPath, Loaders, Origin};
@@ -83,7 +83,7 @@ fn sizes_of(rt: &impl Abort, script: &str) -> FillSizes
             seed0: 0,
             seed1: 0,
         }),
-        keeps: Sizes::new(number(rt, script, "limit", 100) as i64, 0),
+        keeps: Keeps::new(number(rt, script, "limit", 100) as i64, 0),
         first_generation,
     }
 }

@@ -1,5 +1,5 @@
 -- how a do by key ends, from how its askings did
-use Rattle.std.proofs.Common.{◌≡◌, ◌≢◌, ℕ, zero, suc, ◌+◌, List, [], ◌∷◌, ◌++◌, Some, None, inl, inr, refl, sym, ap, ◌∙◌, subst, append_assoc, add-one}
+use Rattle.std.proofs.Common.{◌≡◌, ◌≢◌, ℕ, zero, suc, ◌+◌, List, [], ◌∷◌, ◌++◌, Option, Some, None, inl, inr, refl, sym, ap, ◌∙◌, subst, append_assoc, add-one}
 use Rattle.std.proofs.lemmas.List.{append-nil}
 use Rattle.sf_history.specs.declared.call.CallId.{CallId}
 use Rattle.sf_history.specs.declared.event.Event.{Event}
@@ -11,8 +11,11 @@ use Rattle.sf_group_rows.specs.Same.{call_of}
 use Rattle.sf_group_rows.specs.Begins.{HasLed, IsRefusedSpent}
 use Rattle.sf_group_rows.specs.Finishes.{IsDone, IsLetter}
 use Rattle.sf_group_rows.proofs.AddsAgain.{starts_again}
-use Rattle.sf_wait.specs.Doing.{HasLoaded, HasWaited, OwesLoaded}
-use Rattle.sf_keys.specs.Answers.{IsFresh, HasMissed, HasLetter, IsAlone, IsSpentAsking, OwesLetters}
+use Rattle.sf_wait.specs.Doing.{HasLoaded, HasWaited, HasDoneWith, OwesLoaded}
+use Rattle.sf_wait.specs.Doing as doing
+use Rattle.sf_wait.specs.declared.doing.DoFault.{DoFault}
+use Rattle.sf_wait.specs.declared.doing.DoFault.TheVariants as fault
+use Rattle.sf_keys.specs.Answers.{IsFresh, HasMissed, HasLetter, HasFailed, IsAlone, IsSpentAsking, OwesLetters}
 use Rattle.sf_group_rows.proofs.Moments.{first_added, led_current, entered_current, stands_more}
 use Rattle.sf_keys.proofs.Newer.{newer}
 
@@ -171,3 +174,20 @@ module _ {V : Type 0} (fits : FitOf V) (key_of : V → List ℕ) (k : ℕ) (key 
         answered = given;
         key_is = keyed v given;
       }
+
+module _ {V F : Type 0} (fits : FitOf V) (answers : V → Type 0) (c : CallerValue V) (k : ℕ) (load : F) (d : CallerValue V) (l : LetterValue V) where
+  -- a do that does not have its load back led, and one that has it waited
+  pub led_without : (back : Option F) → back ≡ None → HasDoneWith fits answers c k load d l back → HasLoaded fits answers c k d l
+  led_without back none (inl led) = led.0
+  led_without back none (inr waited) = let clash : None ≡ Some load = sym none ∙ waited.1 in cc
+
+  pub waited_with : (back : Option F) (left : F) → back ≡ Some left → HasDoneWith fits answers c k load d l back → HasWaited fits c k d l × (left ≡ load)
+  waited_with back left some (inl led) = let clash : Some left ≡ None = sym some ∙ led.1 in cc
+  waited_with back left some (inr waited) = (waited.0, let is : Some left ≡ Some load = sym some ∙ waited.1 in cc)
+
+module _ {V F : Type 0} (fits : FitOf V) (key_of : V → List ℕ) (k : ℕ) (key : List ℕ) where
+  -- a do that failed, with what is left of the load, at the key's place
+  pub failed_by : (post : F → V → Type 0) (load kept : F) (p : ℕ) → kept ≡ load → p ≡ k → (n : ℕ) (c u : CallerValue V) → HasMissed fits key_of k key n c u → (why : DoFault V F)
+      → doing.HasFailed (post kept) u p kept why → HasFailed fits key_of k key (post load) c load why
+  failed_by post load kept p kept_is p_is n c u before (fault.Spent d f) spent = spent_by fits key_of k key load kept f kept_is n c u d before spent.0 spent.1
+  failed_by post load kept p kept_is p_is n c u before (fault.Held s) owes = owes_by fits key_of k key post load kept p kept_is p_is n c u s before owes

@@ -9,11 +9,9 @@ use Rattle.sf_group_rows.specs.Seen.{StartsWith, Stands}
 use Rattle.sf_group_rows.specs.Unforgotten.{forgets}
 use Rattle.sf_group_rows.specs.Fitting.{FitOf}
 use Rattle.sf_group_rows.specs.Begins.{HasLed, IsRefusedSpent}
-use Rattle.sf_wait.specs.Doing.{HasLoaded, HasWaited, HasDone, OwesLoaded}
+use Rattle.sf_wait.specs.Doing.{HasWaited, HasDone, OwesLoaded}
 use Rattle.sf_wait.specs.declared.doing.DoFault.{DoFault}
 use Rattle.sf_wait.specs.declared.doing.DoFault.TheVariants as fault
-use Rattle.sf_keys.specs.declared.doing.Asked.{Asked}
-use Rattle.sf_keys.specs.declared.doing.Asked.TheVariants as asked
 use Rattle.sf_keys.specs.declared.doing.KeyAnswer.{KeyAnswer}
 use Rattle.sf_keys.specs.declared.doing.KeyAnswer.TheVariants as answer
 
@@ -89,11 +87,3 @@ module _ {V : Type 0} (fits : FitOf V) (key_of : V → List ℕ) (k : ℕ) (key 
   abbrev pub HasFailed : {F : Type 0} → (V → Type 0) → CallerValue V → F → DoFault V F → Type 0
   HasFailed answers c load (fault.Spent d f) = IsSpentAsking c d load f
   HasFailed answers c load (fault.Held s) = OwesLetters answers c s
-
-module _ {V F : Type 0} (fits : FitOf V) where
-  -- one asking: it led, with a value that the load answered, or has its load back
-  abbrev pub HasAskedOnce : (V → Type 0) → CallerValue V → ℕ → F → Asked V F → Type 0
-  HasAskedOnce answers c k load (asked.Led d l) = HasLoaded fits answers c k d l
-  HasAskedOnce answers c k load (asked.Held s) = OwesLoaded answers c k s
-  HasAskedOnce answers c k load (asked.Joined d l f) = HasWaited fits c k d l × (f ≡ load)
-  HasAskedOnce answers c k load (asked.Spent d f) = IsRefusedSpent c d × (f ≡ load)
