@@ -4,19 +4,21 @@ ghost use Rattle.std.specs.Prelude.{vec_len, vec_capacity};
 ghost use Rattle.std.specs.List.{enumerate_from};
 ghost use Rattle.sf_history.specs.declared.call.CallId.{CallId};
 ghost use Rattle.sf_words.specs.declared.limits.TheConstants.{LARGEST_PLACE, LARGEST_CALLER};
+ghost use Rattle.sf_group_rows.specs.Making.{IsNewCaller};
 ghost use Rattle.sf_group_rows.specs.Tokens.{GroupValue};
-ghost use Rattle.sf_fill_keys.specs.Spaces.{SpaceId};
+ghost use Rattle.sf_fill_keys.specs.Spaces.{SpaceId, AreDesksOf, places_in, space_of};
 ghost use Rattle.sf_fill.specs.GetterValue.{GetterValue};
+ghost use Rattle.sf_fill.specs.Made.{AreParts};
 ghost use Rattle.sf_fill_open.specs.Opened.{EachThread, IsNewGetter, IsOfThreads};
 ghost use Rattle.sf_fill_open.specs.Opened.{places_for, without_loaders};
 
-use crate::body::Body;
-use crate::door::with_fill;
-use crate::sizes::FillSizes;
-use sf_fill::{Fill, Getter, Naming};
+use crate::sizes::{FillSizes, Keys};
+use sf_fill::{Fill, FillParts, Getter, Keeps, Naming};
+use sf_fill_keys::{KeyDesk, KeySpace, hash_desks, open_directory};
 use sf_group::Memory;
 use sf_loaders::{LoadPath, Origin};
 use std::alloc::Global;
+use std::marker::Brand;
 use std::sync::Wait;
 use std::thread::{Threads, map_vec};
 
@@ -83,48 +85,88 @@ pub fn with_team<
     ensures { IfOk result
         (IsOfThreads (T.gives team.now) (T.ends team.now) (vec_len loaders)) }
 {
-    let body = Threaded {
-        rt,
-        alloc,
-        team,
-        getters: loaders.len() as u32,
-    };
-    with_fill(alloc, sizes, loaders, body)?
-}
-
-// A team as a body: its threads work, and then it finishes.
-#[derive(Drop)]
-struct Threaded<'a, R, T> {
-    rt: &'a R,
-    alloc: Global,
-    team: &'a T,
-    getters: u32,
-}
-
-impl<'a, R: Wait + Threads + Sync, T: Team + Sync> Body for Threaded<'a, R, T> {
-    ghost use Rattle.std.specs.Prelude.{◌≡◌, ◌≤◌, IfOk};
-    ghost use Rattle.sf_words.specs.declared.limits.TheConstants.{LARGEST_CALLER};
-    ghost use Rattle.sf_fill_open.specs.Opened.{IsOfThreads};
-
-    type Answer = Result<T::Answer, Memory>;
-
-    ghost wants = { λ body getters loaded. (getters ≡ body.getters) × (getters ≤ LARGEST_CALLER)
-        × T.wants body.team.now getters loaded };
-
-    ghost room = { λ body. T.room body.team.now };
-
-    ghost ends = { λ body answer. IfOk answer
-        (IsOfThreads (T.gives body.team.now) (T.ends body.team.now) body.getters) };
-
-    fn run<
-        'd,
-        D: Naming + Send + Sync,
-        N: Naming + Send + Sync,
-        O: Origin + Send + Sync,
-        L: LoadPath<Origin = O> + Send + Drop,
-    >(self, fill: &Fill<'d, D, N, O>, getters: Vec<Getter<'d, D, N, O, L>>) -> Self::Answer {
-        work_and_finish(self.rt, self.alloc, fill, getters, self.team)
+    let getters = loaders.len() as u32;
+    match sizes.keys {
+        Keys::Directory(of) => {
+            let (directory, desks) = open_directory(
+                alloc,
+                of.keys,
+                of.key_bytes,
+                getters,
+                of.seed0,
+                of.seed1,
+            )?;
+            let space = KeySpace::Directory(&directory);
+            with_space::<Brand, O, L, R, T>(rt, alloc, space, desks, sizes, loaders, team)
+        }
+        Keys::Hashed(places) => {
+            let desks = hash_desks(alloc, places, getters)?;
+            let space = KeySpace::Hashed(places);
+            with_space::<Brand, O, L, R, T>(rt, alloc, space, desks, sizes, loaders, team)
+        }
     }
+}
+
+// The key space is named here, and the group made.
+fn with_space<
+    'd,
+    D: Naming + Send + Sync,
+    O: Origin + Send + Sync,
+    L: LoadPath<Origin = O> + Send + Drop,
+    R: Wait + Threads + Sync,
+    T: Team + Sync,
+>(
+    rt: &R,
+    alloc: Global,
+    space: KeySpace<'d>,
+    desks: Vec<KeyDesk>,
+    sizes: FillSizes,
+    loaders: Vec<L>,
+    team: &T,
+) -> Result<T::Answer, Memory>
+    requires space { (space_of space ≡ D.space) × (places_in D.space ≤ LARGEST_PLACE) }
+    requires getters { (1 ≤ vec_len loaders) × (vec_len loaders ≤ LARGEST_CALLER) }
+    requires desks { (vec_len desks ≡ vec_len loaders) × AreDesksOf D.space desks.items }
+    requires wants { T.wants team.now (vec_len loaders) O.loaded }
+    requires room { sizes.keeps.log ≡ T.room team.now }
+    ensures { IfOk result
+        (IsOfThreads (T.gives team.now) (T.ends team.now) (vec_len loaders)) }
+{
+    let Ok(parts) = FillParts::new(alloc, space, desks, loaders, sizes.first_generation) else {
+        return Err(Memory);
+    };
+    with_all::<D, Brand, O, L, R, T>(rt, alloc, space, parts, sizes.keeps, team)
+}
+
+// All is named here.
+fn with_all<
+    'd,
+    D: Naming + Send + Sync,
+    N: Naming + Send + Sync,
+    O: Origin + Send + Sync,
+    L: LoadPath<Origin = O> + Send + Drop,
+    R: Wait + Threads + Sync,
+    T: Team + Sync,
+>(
+    rt: &R,
+    alloc: Global,
+    space: KeySpace<'d>,
+    parts: FillParts<'d, D, O, L>,
+    keeps: Keeps,
+    team: &T,
+) -> Result<T::Answer, Memory>
+    requires space { (space_of space ≡ N.space) × (D.space ≡ N.space) }
+    requires parts { AreParts N.space N.group N.getters N.ledgers parts }
+    requires limit { keeps.limit ≡ N.limit }
+    requires callers { All (IsNewCaller N.group) parts.callers.items }
+    requires wants { T.wants team.now N.getters O.loaded }
+    requires room { keeps.log ≡ T.room team.now }
+    ensures { IfOk result (IsOfThreads (T.gives team.now) (T.ends team.now) N.getters) }
+{
+    let Ok((fill, getters)) = Fill::<'d, D, N, O>::new(alloc, space, parts, keeps) else {
+        return Err(Memory);
+    };
+    work_and_finish(rt, alloc, &fill, getters, team)
 }
 
 /// A getter whose thread is to work.
