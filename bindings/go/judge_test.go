@@ -8,6 +8,7 @@ import (
 	"os"
 	"os/exec"
 	"path/filepath"
+	"sort"
 	"strings"
 	"testing"
 )
@@ -178,15 +179,25 @@ func judge(all []record) error {
 		keys[c.key] = append(keys[c.key], it)
 	}
 	for key, of := range keys {
+		forgets := idle[key]
+		sort.Slice(of, func(i, j int) bool { return of[i].opens < of[j].opens })
+		sort.Slice(forgets, func(i, j int) bool { return forgets[i].At[0] < forgets[j].At[0] })
 		for i, a := range of {
-			for _, b := range of[:i] {
-				if a.closes > b.opens && b.closes > a.opens {
+			for _, b := range of[i+1:] {
+				if a.closes <= b.opens {
+					break
+				}
+				if b.closes > a.opens {
 					return fmt.Errorf("%q: two calls were open at once: %v from %+v to %+v and %v from %+v to %+v",
 						key, a.name, a.first, a.last, b.name, b.first, b.last)
 				}
 			}
-			for _, f := range idle[key] {
-				if f.At[0] > a.opens && f.At[1] < a.closes {
+			first := sort.Search(len(forgets), func(i int) bool { return forgets[i].At[0] > a.opens })
+			for _, f := range forgets[first:] {
+				if f.At[0] >= a.closes {
+					break
+				}
+				if f.At[1] < a.closes {
 					return fmt.Errorf("%q: %+v found no open call, between %+v and %+v of %v", key, f, a.first, a.last, a.name)
 				}
 			}
@@ -235,4 +246,24 @@ func saysOf(program string, log []byte) string {
 		return fmt.Sprint(string(said), err)
 	}
 	return string(said)
+}
+
+// Judges the log that SFLIGHT_RECORDS names.
+func TestJudgeALog(t *testing.T) {
+	name := os.Getenv("SFLIGHT_RECORDS")
+	if name == "" {
+		t.Skip("SFLIGHT_RECORDS names no log")
+	}
+	log, err := os.ReadFile(name)
+	if err != nil {
+		t.Fatal(err)
+	}
+	all, lost, err := readRecords(log)
+	if err == nil {
+		err = judge(all)
+	}
+	if err != nil {
+		t.Fatal(err)
+	}
+	t.Logf("legal in time: %d events, %d lost", len(all), lost)
 }

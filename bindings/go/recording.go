@@ -224,9 +224,8 @@ func (rec *callRecord) complete() {
 	}
 }
 
-// How many events it has. Those members go that had left before its load began: the leader may have
-// waited for an older call until then, which a Forget closed, and so its Lead may be as late as that.
-// So do those that took its result with their leader, and asked when it had ended.
+// How many events it has. Those members go that took its result, and asked when it had ended; and
+// those that had left before its load began: its leader may have waited for an older call until then.
 func (rec *callRecord) events() int {
 	n := 3
 	var kept *memberRecord
@@ -239,8 +238,12 @@ func (rec *callRecord) events() int {
 		it = next
 	}
 	rec.members.Store(kept)
-	if rec.closing.Load() != nil {
+	if f := rec.closing.Load(); f != nil {
 		n++
+		if f.to < rec.led {
+			// It closed the call before that began: then it took effect when that did.
+			f.to = rec.led
+		}
 	}
 	return n
 }

@@ -314,10 +314,8 @@ func TestRecordingOfAForgottenCall(t *testing.T) {
 		came(t, first)
 	})
 	all := isLegal(t, log)
-	// Either call may be written first.
-	closed := shape(log)
-	if len(all) != 7 || !strings.Contains(closed, `"hit":"closed"}`) || !strings.Contains(closed, `{"e":"forgetcall","k":"key","c":`) {
-		t.Errorf("two calls, one of which was closed: %s", closed)
+	if len(all) != 7 || !strings.Contains(shape(log), `"hit":"closed"`) {
+		t.Errorf("two calls, one of which was closed: %s", shape(log))
 	}
 }
 
