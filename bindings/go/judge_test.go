@@ -22,6 +22,7 @@ type record struct {
 	M       *[2]uint32 `json:"m"`
 	Closed  *[2]uint32 `json:"closed"`
 	Hit     string     `json:"hit"`
+	Own     json.RawMessage
 	Ok, Err *string
 	Joiners uint32   `json:"joiners"`
 	At      [2]int64 `json:"at"`
@@ -41,22 +42,19 @@ func readRecords(log []byte) (all []record, lost uint64, err error) {
 			Format int
 			Lost   *uint64
 		}
-		if json.Unmarshal(line, &format) == nil && format.Format == 4 && format.Lost != nil {
+		if bytes.HasPrefix(line, []byte(`{"format"`)) {
+			if json.Unmarshal(line, &format) != nil || format.Format != 4 || format.Lost == nil {
+				return nil, 0, fmt.Errorf("line %d: not a format: %s", i+1, line)
+			}
 			lost += *format.Lost
 			continue
 		}
 		decode := json.NewDecoder(bytes.NewReader(line))
 		decode.DisallowUnknownFields()
 		var it record
-		var own struct{ Own json.RawMessage }
-		if i == 0 || json.Unmarshal(line, &own) != nil {
-			return nil, 0, fmt.Errorf("line %d: not a record: %s", i+1, line)
-		}
-		line = bytes.Replace(line, []byte(`,"own":null`), nil, 1)
-		decode = json.NewDecoder(bytes.NewReader(line))
-		decode.DisallowUnknownFields()
-		if err := decode.Decode(&it); err != nil || it.By < 1 || it.By > 65535 || it.At[0] > it.At[1] ||
-			(it.E == "lead") != (own.Own != nil) || it.K != nil && len(*it.K) > 250 {
+		err := decode.Decode(&it)
+		if i == 0 || err != nil || it.By < 1 || it.By > 65535 || it.At[0] > it.At[1] ||
+			(it.E == "lead") != (string(it.Own) == "null") || it.K != nil && len(*it.K) > 250 {
 			return nil, 0, fmt.Errorf("line %d: not a record: %s: %v", i+1, line, err)
 		}
 		all = append(all, it)

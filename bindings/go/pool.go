@@ -593,19 +593,20 @@ func (p *pool) told(closed bool) {
 func (p *pool) forget(key string) {
 	k := p.keyed(key)
 	closed := false
-	var f *forgetting
 	if p.recorder.Load() != nil {
-		f = p.forgetting(false)
+		f := p.forgetting(false)
+		f.end(key, !p.forgetAs(k, f))
+		return
 	}
 	for {
 		e := p.now.Load()
 		if p.alertOf(k.print).Load() != 0 {
-			closed = p.forgetBeside(k, f) || closed
+			closed = p.forgetBeside(k, nil) || closed
 		}
 		yield()
 		if e != nil {
 			if s := e.takeHot(); s != nil {
-				closed = p.forgetBy(e, s, k, f) || closed
+				closed = p.forgetBy(e, s, k, nil) || closed
 				yield()
 				// A leader of a newer epoch may have taken the result of a run before that was dropped.
 				ends := p.now.Load() == e
@@ -614,18 +615,28 @@ func (p *pool) forget(key string) {
 				}
 				p.putHot(e, s)
 				if ends {
-					break
+					return
 				}
 				continue
 			}
 		}
-		if p.forgetByAny(e, k, &closed, f) {
-			break
+		if p.forgetByAny(e, k, &closed, nil) {
+			return
 		}
 	}
-	if f != nil {
-		f.end(key, !closed)
+}
+
+// The same for one that is recorded. Whether it closed a call.
+func (p *pool) forgetAs(k keyed, f *forgetting) (closed bool) {
+	for ends := false; !ends; {
+		e := p.now.Load()
+		if p.alertOf(k.print).Load() != 0 {
+			closed = p.forgetBeside(k, f) || closed
+		}
+		yield()
+		ends = p.forgetByAny(e, k, &closed, f)
 	}
+	return closed
 }
 
 // The same where no seat is near, once. Whether the epoch is the present one still.

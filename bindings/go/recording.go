@@ -238,7 +238,10 @@ func (rec *callRecord) events() int {
 		it = next
 	}
 	rec.members.Store(kept)
-	if f := rec.closing.Load(); f != nil {
+	if f := rec.closing.Load(); f != nil && f.from >= rec.settles {
+		// It began when the call was about to be settled. From then on the key may have a newer call.
+		rec.closing.Store(nil)
+	} else if f != nil {
 		n++
 		if f.to < rec.led {
 			// It closed the call before that began: then it took effect when that did.

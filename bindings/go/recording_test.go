@@ -71,7 +71,16 @@ func TestRecordingOfAStress(t *testing.T) {
 					t.Error("no event is a", kind, kinds)
 				}
 			}
-			t.Log(len(all), kinds, g.Stats())
+			st := g.Stats()
+			// A call whose callers have all left while it waited for an older one has no run.
+			if leads := uint64(kinds["lead"]); leads > st.Leads+st.Alone || leads < (st.Leads+st.Alone)/10*9 {
+				t.Error("calls are left out, or told twice", kinds, st)
+			}
+			// Those are left out that left before the load began, or that asked again.
+			if enters := uint64(kinds["enter"]); name == "wide" && (enters > st.Joins || enters < st.Joins/2) {
+				t.Error("members are left out, or told twice", kinds, st)
+			}
+			t.Log(len(all), kinds, st)
 		})
 	}
 }
