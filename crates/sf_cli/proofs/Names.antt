@@ -11,7 +11,7 @@ use Rattle.sf_cli.specs.Work.{work_name_of, works}
 pub unlike : (name : List ℕ) → All (λ n. n ≢ name) (map work_name_of works) → (work : Work) → name ≢ work_name_of work
 unlike name others (Engine (Run history)) = λ is. others 0 [] (omega arith) (sym is)
 unlike name others (Engine (Steps shown)) = λ is. others 1 [] (omega arith) (sym is)
-unlike name others (Engine (Check timed)) = λ is. others 2 [] (omega arith) (sym is)
+unlike name others (Engine (Check judged)) = λ is. others 2 [] (omega arith) (sym is)
 unlike name others (Engine Merge) = λ is. others 3 [] (omega arith) (sym is)
 unlike name others Drive = λ is. others 4 [] (omega arith) (sym is)
 unlike name others Bench = λ is. others 5 [] (omega arith) (sym is)

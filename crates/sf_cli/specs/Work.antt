@@ -2,6 +2,7 @@
 use Rattle.std.specs.Prelude.{ℕ, false, List, [], ◌∷◌, codes}
 use Rattle.sf_cli_engines.specs.Engines.{name_of}
 use Rattle.sf_cli_engines.specs.declared.engine.Engine.TheVariants as engine
+use Rattle.sf_cli_engines.specs.declared.engine.Judged.TheVariants as judged
 use Rattle.sf_cli_engines.specs.declared.engine.Shown.TheVariants as shown
 use Rattle.sf_cli_engines.specs.declared.engine.Asked.{Asked}
 use Rattle.sf_cli_engines.specs.declared.engine.Asked.TheVariants.{Lines, History, Timed, Picture}
@@ -15,7 +16,7 @@ work_name_of Bench = codes "bench"
 
 -- what the rows of the table do, in their order
 abbrev pub works : List Work
-works = Engine (engine.Run false) ∷ Engine (engine.Steps shown.Lines) ∷ Engine (engine.Check false) ∷ Engine engine.Merge ∷ Drive ∷ Bench ∷ []
+works = Engine (engine.Run false) ∷ Engine (engine.Steps shown.Lines) ∷ Engine (engine.Check judged.AsItStands) ∷ Engine engine.Merge ∷ Drive ∷ Bench ∷ []
 
 -- the words after an engine's name that ask it to show this: lines need none
 abbrev pub options_of : Asked → List (List ℕ)

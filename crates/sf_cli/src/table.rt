@@ -6,7 +6,7 @@ ghost use Rattle.sf_cli.specs.Work.{work_name_of, works, options_of};
 
 use clap::{Arg, ArgAction, Command};
 use sf_cli_drive::{DRIVE_ABOUT, DRIVE_HELP, switch, with_drive_options};
-use sf_cli_engines::{Asked, Engine, Shown};
+use sf_cli_engines::{Asked, Engine, Judged, Shown};
 use std::alloc::{AllocError, Global};
 
 /// What a subcommand does.
@@ -52,7 +52,7 @@ const TABLE: [Row; 6] = [
         name: "check",
         about: "Checks whether the history recorded in standard input is legal",
         help: CHECK,
-        work: Work::Engine(Engine::Check { timed: false }),
+        work: Work::Engine(Engine::Check(Judged::AsItStands)),
     },
     Row {
         name: "merge",
@@ -96,7 +96,7 @@ const FLAGS: [Flag; 3] = [
     },
     Flag {
         name: "svg",
-        help: "Draws the steps as an SVG picture",
+        help: "Draws an SVG picture instead of lines",
         asked: Asked::Picture,
     },
 ];
@@ -175,6 +175,9 @@ With --timed, the order of the lines does not matter. The program looks for an
 order that is legal and respects the times: an event that ended before another
 one began comes first. It prints `legal in time: N events`, `no order: ` with
 the events that rule it out, or `not decided`.
+
+--svg does the same. If there is no order, it prints a picture instead of that
+line: a lane for each caller, a bar for each event, and time to the right.
 
 Example:
   sfctl steps --history < schedule | sfctl check

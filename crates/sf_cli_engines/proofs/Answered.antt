@@ -22,6 +22,7 @@ use Rattle.sf_cli_engines.specs.declared.ending.Ending.{Ending}
 use Rattle.sf_cli_engines.specs.declared.ending.Ending.TheVariants.{Answered, Refused}
 use Rattle.sf_cli_engines.specs.declared.engine.Engine.{Engine}
 use Rattle.sf_cli_engines.specs.declared.engine.Engine.TheVariants.{Run, Steps, Check, Merge}
+use Rattle.sf_cli_engines.specs.declared.engine.Judged.TheVariants.{AsItStands, InTime, Drawn}
 use Rattle.sf_cli_engines.specs.declared.engine.Shown.TheVariants.{Lines, History, Picture}
 use Rattle.sf_cli_engines.specs.Merging.{IsMergeRefused}
 use Rattle.sf_cli_engines.specs.Engines.{IsAnswerOf, IsWrittenAs, IsScriptRefused, IsScheduleRefused}
@@ -42,8 +43,9 @@ memory_answer (Run true) input = (Refused, (script.OutOfMemory, tt, refl))
 memory_answer (Steps Lines) input = (Refused, (schedule.Memory, tt, refl))
 memory_answer (Steps History) input = (Refused, (schedule.Memory, tt, refl))
 memory_answer (Steps Picture) input = (Refused, (schedule.Memory, tt, refl))
-memory_answer (Check false) input = (Refused, (checked.OutOfMemory, tt, refl, refl))
-memory_answer (Check true) input = (Refused, (timed.OutOfMemory, tt, refl, refl))
+memory_answer (Check AsItStands) input = (Refused, (checked.OutOfMemory, tt, refl, refl))
+memory_answer (Check InTime) input = (Refused, (timed.OutOfMemory, tt, refl, refl))
+memory_answer (Check Drawn) input = (Refused, (timed.OutOfMemory, tt, refl, refl))
 memory_answer Merge input = (Refused, (records.Memory, tt, refl))
 
 pub memory_part : {A : Type 0} (r : Result A StreamFault) (fault : StreamFault) (known : Option (List ℕ)) (engine : Engine) (old new : Option (List ℕ))

@@ -11,6 +11,7 @@ use Rattle.sf_cli_engines.specs.declared.checking.Checked.{Checked}
 use Rattle.sf_cli_engines.specs.Checking.{IsCheckOf, checked_text, ending_of}
 use Rattle.sf_cli_engines.specs.declared.timing.TimedChecked.{TimedChecked}
 use Rattle.sf_cli_engines.specs.Timing.{IsTimedCheckOf, timed_text, timed_ending_of}
+use Rattle.sf_cli_engines.specs.Drawing.{IsShownAs}
 use Rattle.sf_cli_engines.specs.Merging.{IsMergedText, IsMergeRefused}
 use Rattle.sf_cli_engines.specs.Playing.{IsTraceText, HasPicture}
 use Rattle.sf_cli_engines.specs.Recording.{IsScriptRecords, IsScheduleRecords}
@@ -20,13 +21,14 @@ use Rattle.sf_cli_engines.specs.declared.engine.Engine.{Engine}
 use Rattle.sf_cli_engines.specs.declared.engine.Engine.TheVariants.{Run, Steps, Check, Merge}
 use Rattle.sf_cli_engines.specs.declared.engine.Asked.{Asked}
 use Rattle.sf_cli_engines.specs.declared.engine.Asked.TheVariants as asked
+use Rattle.sf_cli_engines.specs.declared.engine.Judged.TheVariants.{AsItStands, InTime, Drawn}
 use Rattle.sf_cli_engines.specs.declared.engine.Shown.TheVariants.{Lines, History, Picture}
 
 -- the name of its subcommand
 abbrev pub name_of : Engine → List ℕ
 name_of (Run history) = codes "run"
 name_of (Steps shown) = codes "steps"
-name_of (Check timed) = codes "check"
+name_of (Check judged) = codes "check"
 name_of Merge = codes "merge"
 
 abbrev pub shown_by : Engine → Asked
@@ -35,8 +37,9 @@ shown_by (Run true) = asked.History
 shown_by (Steps Lines) = asked.Lines
 shown_by (Steps History) = asked.History
 shown_by (Steps Picture) = asked.Picture
-shown_by (Check false) = asked.Lines
-shown_by (Check true) = asked.Timed
+shown_by (Check AsItStands) = asked.Lines
+shown_by (Check InTime) = asked.Timed
+shown_by (Check Drawn) = asked.Picture
 shown_by Merge = asked.Lines
 
 -- what is written of a script when it is refused: the one line that says why
@@ -65,6 +68,11 @@ abbrev pub IsWrittenByTimedCheck : List ℕ → Ending → List ℕ → Type 0
 IsWrittenByTimedCheck input ending text = (checked : TimedChecked) × IsTimedCheckOf input checked
     × (ending ≡ timed_ending_of checked) × (text ≡ timed_text checked ++ codes "\n")
 
+-- the same of `sfctl check --svg`: it says what `check --timed` says, or draws it
+abbrev pub IsWrittenByDrawnCheck : List ℕ → Ending → List ℕ → Type 0
+IsWrittenByDrawnCheck input ending text = (checked : TimedChecked) × IsTimedCheckOf input checked
+    × (ending ≡ timed_ending_of checked) × IsShownAs checked text
+
 -- the same of an engine
 abbrev pub IsWrittenBy : Engine → List ℕ → Ending → List ℕ → Type 0
 IsWrittenBy (Run false) input = IsWrittenAs (IsReplyText input) (IsScriptRefused input)
@@ -72,8 +80,9 @@ IsWrittenBy (Run true) input = IsWrittenAs (IsScriptRecords input) (IsScriptRefu
 IsWrittenBy (Steps Lines) input = IsWrittenAs (IsTraceText input) (IsScheduleRefused input)
 IsWrittenBy (Steps History) input = IsWrittenAs (IsScheduleRecords input) (IsScheduleRefused input)
 IsWrittenBy (Steps Picture) input = IsWrittenAs (λ text. HasPicture input) (IsScheduleRefused input)
-IsWrittenBy (Check false) input = IsWrittenByCheck input
-IsWrittenBy (Check true) input = IsWrittenByTimedCheck input
+IsWrittenBy (Check AsItStands) input = IsWrittenByCheck input
+IsWrittenBy (Check InTime) input = IsWrittenByTimedCheck input
+IsWrittenBy (Check Drawn) input = IsWrittenByDrawnCheck input
 IsWrittenBy Merge input = IsWrittenAs (IsMergedText input) (IsMergeRefused input)
 
 -- what an engine writes of an input, however it ends

@@ -7,7 +7,7 @@ ghost use Rattle.sf_cli_engines.specs.Engines.{IsWrittenBy, IsAnswerOf, name_of,
 
 use crate::checking::Checked;
 use crate::ending::Ending;
-use crate::engines::{check, check_in_time, run, write_answer};
+use crate::engines::{check, check_in_time, draw_in_time, run, write_answer};
 use crate::hints::{Hint, hint_for};
 use crate::merging::merged;
 use crate::playing::{drawn, traced};
@@ -40,6 +40,17 @@ pub enum Shown {
     Picture,
 }
 
+/// How a history is judged, and what is shown of it.
+#[derive(Clone, Copy, PartialEq, Eq)]
+pub enum Judged {
+    /// By the order that its events stand in.
+    AsItStands,
+    /// By the times of its events: an order that they allow is looked for.
+    InTime,
+    /// By the times of its events, and the events that have no order are drawn.
+    Drawn,
+}
+
 /// An engine of `sfctl`, and what it shows.
 #[derive(Clone, Copy, PartialEq, Eq)]
 pub enum Engine {
@@ -50,11 +61,8 @@ pub enum Engine {
     },
     /// Plays a schedule of the step core, and shows this.
     Steps(Shown),
-    /// Says whether a recorded history is legal.
-    Check {
-        /// Whether an order of its events is looked for by their times, in place of the order that they stand in.
-        timed: bool,
-    },
+    /// Says whether a recorded history is legal, judged so.
+    Check(Judged),
     /// Merges logs that stand one after another into one recording.
     Merge,
 }
@@ -67,7 +75,7 @@ impl Engine {
         match self {
             Engine::Run { .. } => "run",
             Engine::Steps(_) => "steps",
-            Engine::Check { .. } => "check",
+            Engine::Check(_) => "check",
             Engine::Merge => "merge",
         }
     }
@@ -85,8 +93,9 @@ impl Engine {
             (Engine::Steps(_), Asked::Lines) => Some(Engine::Steps(Shown::Lines)),
             (Engine::Steps(_), Asked::History) => Some(Engine::Steps(Shown::History)),
             (Engine::Steps(_), Asked::Picture) => Some(Engine::Steps(Shown::Picture)),
-            (Engine::Check { .. }, Asked::Lines) => Some(Engine::Check { timed: false }),
-            (Engine::Check { .. }, Asked::Timed) => Some(Engine::Check { timed: true }),
+            (Engine::Check(_), Asked::Lines) => Some(Engine::Check(Judged::AsItStands)),
+            (Engine::Check(_), Asked::Timed) => Some(Engine::Check(Judged::InTime)),
+            (Engine::Check(_), Asked::Picture) => Some(Engine::Check(Judged::Drawn)),
             (Engine::Merge, Asked::Lines) => Some(Engine::Merge),
             _ => None,
         }
@@ -190,8 +199,11 @@ impl Engine {
                 Shown::History => write_answer(writer, schedule_records(alloc, input)),
                 Shown::Picture => write_answer(writer, drawn(alloc, input)),
             },
-            Engine::Check { timed: false } => check(alloc, input, writer),
-            Engine::Check { timed: true } => check_in_time(alloc, input, writer),
+            Engine::Check(judged) => match judged {
+                Judged::AsItStands => check(alloc, input, writer),
+                Judged::InTime => check_in_time(alloc, input, writer),
+                Judged::Drawn => draw_in_time(alloc, input, writer),
+            },
             Engine::Merge => write_answer(writer, merged(alloc, input)),
         }
     }

@@ -7,8 +7,9 @@ ghost use Rattle.sf_text.specs.StreamText.{AppendsPart};
 ghost use Rattle.sf_cli_engines.specs.Engines.{IsWrittenBy, IsAnswerOf};
 
 use crate::checking::{ending, judge};
+use crate::drawing::{Drawn, draw_times};
 use crate::ending::Ending;
-use crate::engine::Engine;
+use crate::engine::{Engine, Judged};
 use crate::timing::{ending_in_time, judge_times};
 use sf_model::run_script;
 use sf_text::{StreamFault, write_all, write_line};
@@ -70,10 +71,10 @@ pub(crate) fn check<W: Write>(
     writer: &mut W,
 ) -> Result<Ending, StreamFault>
     ensures written { IfOk result (λ ending.
-        (text : List ℕ) × IsWrittenBy (Engine.Check false) input.now ending text
+        (text : List ℕ) × IsWrittenBy (Engine.Check Judged.AsItStands) input.now ending text
         × Appends (W.contents writer.old) (W.contents writer.new) text) }
     ensures err { IfErr result (λ fault. fault ≡ StreamFault.CannotWrite) }
-    ensures part { (text : List ℕ) × IsAnswerOf (Engine.Check false) input.now text
+    ensures part { (text : List ℕ) × IsAnswerOf (Engine.Check Judged.AsItStands) input.now text
         × AppendsPart (W.contents writer.old) (W.contents writer.new) text }
 {
     let checked = judge(alloc, input);
@@ -88,13 +89,38 @@ pub(crate) fn check_in_time<W: Write>(
     writer: &mut W,
 ) -> Result<Ending, StreamFault>
     ensures written { IfOk result (λ ending.
-        (text : List ℕ) × IsWrittenBy (Engine.Check true) input.now ending text
+        (text : List ℕ) × IsWrittenBy (Engine.Check Judged.InTime) input.now ending text
         × Appends (W.contents writer.old) (W.contents writer.new) text) }
     ensures err { IfErr result (λ fault. fault ≡ StreamFault.CannotWrite) }
-    ensures part { (text : List ℕ) × IsAnswerOf (Engine.Check true) input.now text
+    ensures part { (text : List ℕ) × IsAnswerOf (Engine.Check Judged.InTime) input.now text
         × AppendsPart (W.contents writer.old) (W.contents writer.new) text }
 {
     let checked = judge_times(alloc, input);
     write_line(writer, checked)?;
     Ok(ending_in_time(checked))
+}
+
+/// `sfctl check --svg`: draws the events that have no order, and else writes the one line of `sfctl check --timed`.
+pub(crate) fn draw_in_time<W: Write>(
+    alloc: Global,
+    input: &[u8],
+    writer: &mut W,
+) -> Result<Ending, StreamFault>
+    ensures written { IfOk result (λ ending.
+        (text : List ℕ) × IsWrittenBy (Engine.Check Judged.Drawn) input.now ending text
+        × Appends (W.contents writer.old) (W.contents writer.new) text) }
+    ensures err { IfErr result (λ fault. fault ≡ StreamFault.CannotWrite) }
+    ensures part { (text : List ℕ) × IsAnswerOf (Engine.Check Judged.Drawn) input.now text
+        × AppendsPart (W.contents writer.old) (W.contents writer.new) text }
+{
+    match draw_times(alloc, input) {
+        Drawn::Picture(checked, picture) => {
+            write_all(writer, picture.as_str())?;
+            Ok(ending_in_time(checked))
+        }
+        Drawn::Line(checked) => {
+            write_line(writer, checked)?;
+            Ok(ending_in_time(checked))
+        }
+    }
 }

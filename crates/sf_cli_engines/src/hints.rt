@@ -28,7 +28,7 @@ pub fn hint_for(alloc: Global, engine: Engine, input: &[u8]) -> Option<Hint> {
     match engine {
         Engine::Run { .. } => command_hint(alloc, input),
         Engine::Steps(_) => turn_hint(alloc, input),
-        Engine::Check { .. } => record_hint(alloc, input),
+        Engine::Check(_) => record_hint(alloc, input),
         Engine::Merge => log_hint(alloc, input),
     }
 }

@@ -1,6 +1,6 @@
 //! Cases: inputs of the engines, and what is answered to each.
 
-use sf_cli_engines::{Ending, Engine, Shown};
+use sf_cli_engines::{Ending, Engine, Judged, Shown};
 use std::alloc::Global;
 use std::process::Abort;
 use std::str::Split;
@@ -23,8 +23,9 @@ pub(crate) fn engine_of(rt: &impl Abort, name: &str) -> Engine {
         "steps" => Engine::Steps(Shown::Lines),
         "steps history" => Engine::Steps(Shown::History),
         "steps picture" => Engine::Steps(Shown::Picture),
-        "check" => Engine::Check { timed: false },
-        "check timed" => Engine::Check { timed: true },
+        "check" => Engine::Check(Judged::AsItStands),
+        "check picture" => Engine::Check(Judged::Drawn),
+        "check timed" => Engine::Check(Judged::InTime),
         "merge" => Engine::Merge,
         _ => panic!(rt; "no engine is called {name}"),
     }

@@ -2,7 +2,7 @@
 
 use crate::cases::{all_answer, answers, sections};
 use crate::long_inputs::times;
-use sf_cli_engines::Engine;
+use sf_cli_engines::{Engine, Judged};
 use std::alloc::{AllocError, Global};
 use std::process::Abort;
 use std::test::Fail;
@@ -134,7 +134,7 @@ fn judges(rt: &impl Abort, alloc: Global, records: &str, line: &str) -> Result<(
     answers(
         rt,
         alloc,
-        Engine::Check { timed: false },
+        Engine::Check(Judged::AsItStands),
         records.as_bytes(),
         line,
     )
@@ -424,7 +424,7 @@ fn a_record_that_is_no_text(rt: HostRuntime) -> Result<(), Fail> {
     answers(
         &rt,
         rt.alloc(),
-        Engine::Check { timed: false },
+        Engine::Check(Judged::AsItStands),
         b"{\"format\":1}\n{\"e\":\"handed\",\"by\":1,\"c\":[1,1]}\n\xff\n",
         "line 3: not a record\n",
     )

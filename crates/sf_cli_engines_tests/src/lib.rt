@@ -18,6 +18,8 @@ mod merges;
 #[cfg(test)]
 mod pictures;
 #[cfg(test)]
+mod race_pictures;
+#[cfg(test)]
 mod recorded;
 #[cfg(test)]
 mod schedules;

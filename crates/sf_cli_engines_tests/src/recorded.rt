@@ -1,7 +1,7 @@
 //! What scripts and schedules did, as records.
 
 use crate::cases::{all_answer, answers, read, sections};
-use sf_cli_engines::Engine;
+use sf_cli_engines::{Engine, Judged};
 use std::alloc::Global;
 use std::process::Abort;
 use std::test::Fail;
@@ -93,7 +93,7 @@ fn is_recorded(rt: &impl Abort, alloc: Global, section: &str) -> Result<(), Fail
     answers(
         rt,
         alloc,
-        Engine::Check { timed: false },
+        Engine::Check(Judged::AsItStands),
         case.answer.as_bytes(),
         legal.as_str(),
     )

@@ -28,7 +28,10 @@ run, picture: none
 check, timed: check timed
 check timed, lines: check
 check, history: none
-check, picture: none
+check, picture: check picture
+check picture, lines: check
+check picture, history: none
+merge, picture: none
 run, timed: none
 steps, timed: none
 merge, timed: none

@@ -1,7 +1,7 @@
 //! Histories that are judged by the times of their events.
 
 use crate::cases::{all_answer, answers};
-use sf_cli_engines::Engine;
+use sf_cli_engines::{Engine, Judged};
 use std::test::Fail;
 
 /// Recordings, and what is said of them: legal ones, each kind of witness, and what is not decided.
@@ -156,7 +156,7 @@ fn times_are_not_looked_at_unasked(rt: HostRuntime) -> Result<(), Fail> {
 {\"e\":\"lead\",\"by\":1,\"k\":\"k\",\"c\":[1,1],\"own\":null,\"at\":[5,6]}
 {\"e\":\"settle\",\"by\":1,\"c\":[1,1],\"ok\":\"v\",\"joiners\":0,\"at\":[0,4]}
 ";
-    let engine = Engine::Check { timed: false };
+    let engine = Engine::Check(Judged::AsItStands);
     answers(
         &rt,
         rt.alloc(),

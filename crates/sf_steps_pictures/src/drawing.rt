@@ -2,10 +2,11 @@
 
 use crate::arrows::{Arrow, arrows, exchange};
 use crate::layout::{Layout, middle};
-use crate::marks::{Kind, path, step_box, text};
+use crate::marks::{Kind, step_box};
 use sf_history::Memory;
 use sf_steps::{Act, Step};
 use sf_steps_text::{Trace, step_text};
+use sf_svg::{begin, end, path, text};
 use sf_text::Outcome;
 use std::alloc::Global;
 
@@ -54,15 +55,7 @@ pub fn draw(alloc: Global, trace: &Trace) -> Result<String, Memory> {
     let layout = Layout::new(alloc, steps, texts.as_slice())?;
     let mut svg = String::new(alloc);
     let (width, height) = (layout.whole_width(), layout.whole_height());
-    writeln!(
-        svg,
-        "<svg xmlns=\"http://www.w3.org/2000/svg\" width=\"{width}\" height=\"{height}\" viewBox=\"0 0 {width} {height}\">"
-    )?;
-    svg.push_str(STYLE)?;
-    writeln!(
-        svg,
-        "<rect class=\"paper\" width=\"{width}\" height=\"{height}\"/>"
-    )?;
+    begin(&mut svg, width, height, STYLE)?;
     columns(alloc, &mut svg, &layout)?;
     for arrow in arrows(alloc, steps)?.as_slice() {
         draw_arrow(alloc, &mut svg, &layout, steps, *arrow)?;
@@ -72,7 +65,7 @@ pub fn draw(alloc: Global, trace: &Trace) -> Result<String, Memory> {
         draw_step(alloc, &mut svg, &layout, row, step, says)?;
     }
     legend(alloc, &mut svg, layout.bottom())?;
-    svg.push_str("</svg>\n")?;
+    end(&mut svg)?;
     Ok(svg)
 }
 

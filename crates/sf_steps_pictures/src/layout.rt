@@ -2,11 +2,10 @@
 
 use sf_history::Memory;
 use sf_steps::Step;
+use sf_svg::text_width;
 use sf_text::Outcome;
 use std::alloc::Global;
 
-/// The width of a character.
-const CHARACTER: usize = 8;
 /// The height of a step's row.
 const ROW: usize = 44;
 /// What lies between two columns; arrows go down there.
@@ -124,7 +123,7 @@ fn widths(texts: &[String]) -> (usize, usize) {
     let mut side = 0;
     for text in texts {
         for (line, says) in text.as_str().split('\n').enumerate() {
-            let wide = says.len().saturating_mul(CHARACTER);
+            let wide = text_width(says);
             if line == 0 {
                 width = wide.max(width);
             } else {

@@ -1,6 +1,7 @@
-//! The marks that a picture is made of, written as SVG.
+//! The box of a step.
 
 use sf_history::Memory;
+use sf_svg::{path, rect, text};
 use std::alloc::Global;
 
 /// What a box shows of its step.
@@ -14,38 +15,6 @@ pub(crate) enum Kind {
     Exchange,
     /// An exchange that failed.
     Failed,
-}
-
-/// A text with `&`, `<` and `>` as SVG has them.
-pub(crate) fn escaped(svg: &mut String, text: &str) -> Result<(), Memory> {
-    for character in text.chars() {
-        match character {
-            '&' => svg.push_str("&amp;")?,
-            '<' => svg.push_str("&lt;")?,
-            '>' => svg.push_str("&gt;")?,
-            _ => svg.push(character)?,
-        }
-    }
-    Ok(())
-}
-
-/// A text that begins, has its middle or ends at `x`, as its class says.
-pub(crate) fn text(
-    svg: &mut String,
-    class: &str,
-    x: usize,
-    y: usize,
-    says: &str,
-) -> Result<(), Memory> {
-    write!(svg, "<text class=\"{class}\" x=\"{x}\" y=\"{y}\">")?;
-    escaped(svg, says)?;
-    svg.push_str("</text>\n")?;
-    Ok(())
-}
-
-/// A path of straight lines.
-pub(crate) fn path(svg: &mut String, class: &str, way: &str) -> Result<(), Memory> {
-    writeln!(svg, "<path class=\"{class}\" d=\"{way}\"/>")
 }
 
 /// A box with its text. A load is round, a store plain, an exchange thick; one that failed is dashed, and crossed.
@@ -65,10 +34,7 @@ pub(crate) fn step_box(
         Kind::Failed => ("failed", 0),
     };
     let top = middle.saturating_sub(13);
-    writeln!(
-        svg,
-        "<rect class=\"{class}\" x=\"{left}\" y=\"{top}\" width=\"{width}\" height=\"26\" rx=\"{round}\"/>"
-    )?;
+    rect(svg, class, (left, top), (width, 26), round)?;
     if kind == Kind::Failed {
         let from = left.saturating_add(width).saturating_sub(18);
         let high = middle.saturating_sub(5);

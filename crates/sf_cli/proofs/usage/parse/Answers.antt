@@ -35,7 +35,7 @@ returns-in_ok-line-in-Some-Drive c =
 no_drive : (e : engines.Engine) → name_of e ≡ codes "drive" → ⊥
 no_drive (Run history) is = let heads : 114 ≡ 100 = ap (λ name. slice_index name 0) is in omega (arith, heads)
 no_drive (Steps shown) is = let heads : 115 ≡ 100 = ap (λ name. slice_index name 0) is in omega (arith, heads)
-no_drive (Check timed) is = let heads : 99 ≡ 100 = ap (λ name. slice_index name 0) is in omega (arith, heads)
+no_drive (Check judged) is = let heads : 99 ≡ 100 = ap (λ name. slice_index name 0) is in omega (arith, heads)
 no_drive Merge is = let heads : 109 ≡ 100 = ap (λ name. slice_index name 0) is in omega (arith, heads)
 
 -- the second word, as it is asked for and as it was found

@@ -44,12 +44,6 @@ returns-in-Picture-clause-part g c =
     (schedule_part string_bytes (λ text. HasPicture c.args.input.now) c.args.input.now c.drawn.result _ _
     c.drawn.ensures.played c.drawn.ensures.refused wrote.answered_part wrote.refused_part)
 
-pub returns-in-Check-false-clause-written : goal.returns-in-Check-false-clause-written
-returns-in-Check-false-clause-written g c = rw (c.in-Check-false.is, c.in-Check-false.timed-test) c.check.ensures.written
-
-pub returns-in-Check-true-clause-written : goal.returns-in-Check-true-clause-written
-returns-in-Check-true-clause-written g c = rw (c.in-Check-true.is, c.in-Check-true.timed-test) c.check_in_time.ensures.written
-
 pub returns-in-Merge-clause-written : goal.returns-in-Merge-clause-written
 returns-in-Merge-clause-written g c =
     let refused = merge_refused c.args.input.now c.merged.result c.merged.ensures.refused in
