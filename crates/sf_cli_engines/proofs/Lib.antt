@@ -1,3 +1,4 @@
 mod Answered
 mod Recorded
 mod ReadTimes
+mod Drawings
