@@ -417,10 +417,7 @@ fn of_many_events_those_around_the_witness_are_drawn(rt: HostRuntime) -> Result<
     has(&rt, drawn, ">299: enter 1.1 298.1</text>");
     has(&rt, drawn, ">250: enter 1.1 249.1</text>");
     has(&rt, drawn, ">251: enter 1.1 250.1</text>");
-    assert!(rt;
-        !drawn.contains("other") && !drawn.contains(">2: "),
-        "another key is drawn"
-    );
+    assert!(rt; !drawn.contains(">2: "), "another key is drawn");
     Ok(())
 }
 
