@@ -65,6 +65,8 @@ impl Hasher for Same {
 /// Of `near` and `left` each writes its own mark before it reads the other's.
 struct Name {
     key: Box<[u8]>,
+    /// The era of its call. The calls of an era before stay current, so none of its values is found.
+    era: u64,
     /// Whether a lane has remembered the entry.
     near: AtomicBool,
     /// Whether the entry has left the cache.
@@ -183,12 +185,13 @@ impl<T: Send + Sync, V> Own<T, V> {
         &mut self,
         key: &[u8],
         fingerprint: u64,
+        era: u64,
         take: impl FnOnce(&Arc<Copy<V>>) -> R,
     ) -> Known<V, R> {
         let near = &self.near[Self::place(fingerprint)];
         let again = near.last == fingerprint;
         let Some(copy) = near.copy.as_ref() else { return Known::Nothing { again } };
-        if copy.fingerprint != fingerprint || *copy.name.key != *key {
+        if copy.fingerprint != fingerprint || copy.name.era != era || *copy.name.key != *key {
             return Known::Nothing { again };
         }
         if copy.until.is_some_and(|until| Instant::now() >= until) {
@@ -810,13 +813,15 @@ impl<V: Send + Sync, E: Send + Sync> Cache<V, E> {
         far: impl FnOnce(Arc<V>) -> R,
     ) -> Option<R> {
         let lane = self.lane();
-        let known = lock(&lane.0).find(key, fingerprint, near);
+        // Before a value is read: one of an older era is no answer to a call that began later.
+        let era = self.era();
+        let known = lock(&lane.0).find(key, fingerprint, era, near);
         let again = match known {
             Known::Hit(taken) => return Some(taken),
             Known::Stale { .. } => false,
             Known::Nothing { again } => again,
         };
-        let found = self.find_far(key, fingerprint, again);
+        let found = self.find_far(key, fingerprint, era, again);
         let mut own = lock(&lane.0);
         match found {
             Some(found) if own.is_current(found.stamp) => {
@@ -834,11 +839,14 @@ impl<V: Send + Sync, E: Send + Sync> Cache<V, E> {
     }
 
     /// What the key's shard has of it, whatever has become of its call; with its name, if it is wanted.
-    fn find_far(&self, key: &[u8], fingerprint: u64, named: bool) -> Option<Found<V>> {
+    fn find_far(&self, key: &[u8], fingerprint: u64, era: u64, named: bool) -> Option<Found<V>> {
         let shard = lock(self.shard(fingerprint));
         let index = *shard.at.get(&fingerprint)?;
         let entry = &shard.entries[index];
-        if *entry.name.key != *key || entry.until.is_some_and(|until| Instant::now() >= until) {
+        if *entry.name.key != *key || entry.name.era != era {
+            return None;
+        }
+        if entry.until.is_some_and(|until| Instant::now() >= until) {
             return None;
         }
         entry.name.mark();
@@ -907,7 +915,8 @@ impl<V: Send + Sync, E: Send + Sync> Cache<V, E> {
             return;
         }
         let not = || AtomicBool::new(false);
-        let name = Arc::new(Name { key: key.into(), near: not(), left: not(), used: not() });
+        let key = key.into();
+        let name = Arc::new(Name { key, era, near: not(), left: not(), used: not() });
         let entry = Entry { fingerprint, name, value, stamp, weight, until };
         let mut shard = lock(self.shard(fingerprint));
         // All was invalidated meanwhile. Whoever begins an era empties this shard later, by its lock.
@@ -1023,18 +1032,23 @@ mod tests {
         assert_eq!(cache.stats().entries, 1);
     }
 
-    // A call that begins between the two halves of `invalidate_all` may find a value of the era before,
-    // which its lane then remembers. Somebody holds the value, so that it lives on.
+    // `invalidate_all` begins an era, and then takes the entries out. Another thread may have replaced
+    // an entry meanwhile, and not yet let go what lanes remember of it. Its call is current still.
     #[test]
-    fn what_is_remembered_of_an_era_before_leaves_with_it() {
-        let cache: Cache<u32> = Cache::new(1);
-        let held = cache.get_or_load("key", || 1);
-        cache.era.fetch_add(1, Ordering::SeqCst);
+    fn nothing_of_an_era_before_is_found() {
+        let cache: Cache<u32> = Cache::new(2);
+        cache.get_or_load("near", || 1);
+        cache.get_or_load("far", || 1);
         for _ in 0..5 {
-            cache.get("key");
+            assert_eq!(cache.get("near").as_deref(), Some(&1));
         }
+        cache.era.fetch_add(1, Ordering::SeqCst);
+        for key in ["near", "far"] {
+            assert_eq!((cache.get(key), cache.read(key, |read| *read)), (None, None));
+        }
+        assert_eq!(cache.stats().entries, 2);
         cache.empty();
-        assert_eq!((cache.get("key"), cache.read("key", |read| *read), *held), (None, None, 1));
+        assert_eq!(cache.stats().entries, 0);
     }
 
     // An entry may leave between the look into its shard and the lane's lock.
@@ -1043,7 +1057,7 @@ mod tests {
         let cache: Cache<u32> = Cache::new(1);
         cache.get_or_load("key", || 1);
         let fingerprint = cache.fingerprint(b"key");
-        let found = cache.find_far(b"key", fingerprint, true).unwrap();
+        let found = cache.find_far(b"key", fingerprint, cache.era(), true).unwrap();
         cache.invalidate("key");
         let mut own = lock(&cache.lane().0);
         assert!(own.remember(fingerprint, &found).is_none());
