@@ -293,8 +293,11 @@ func TestJoiners(t *testing.T) {
 				t.Error("joiners", callers, i, r)
 			}
 		}
-		if r := receive(t, g.DoChan("key", value(4))); r.Shared || r.Joiners != 0 {
-			t.Error("one alone", callers, r)
+		// By whichever caller, also the one that led.
+		for i := 0; i < 100; i++ {
+			if r := receive(t, g.DoChan("key", value(4))); r.Shared || r.Joiners != 0 {
+				t.Fatal("one alone", callers, r)
+			}
 		}
 	}
 }
