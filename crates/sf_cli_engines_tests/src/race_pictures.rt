@@ -40,12 +40,11 @@ fn number_after(rt: &impl Abort, line: &str, name: &str) -> u64 {
 
 /// The lines of an event's bar and of its label; the bar stands before the label.
 fn lines_of<'t>(rt: &impl Abort, drawn: &'t str, label: &str) -> (&'t str, &'t str) {
-    let mut before = "";
-    for line in drawn.lines() {
+    for (at, line) in drawn.lines().enumerate() {
         if line.contains(label) {
-            return (before, line);
+            let bar = drawn.lines().nth(at.saturating_sub(1)).unwrap_or("");
+            return (bar, line);
         }
-        before = line;
     }
     panic!(rt; "no bar is labelled {label} in {drawn}")
 }
