@@ -72,7 +72,7 @@ struct sflight_reader {
     _Alignas(64) sflight_slot slot;
     sflight_cache *cache;
     sflight_reader *next, **before;
-    atomic_flag busy; /* who holds it uses what the reader remembers; taken after the cache's lock */
+    atomic_flag busy; /* guards what the reader remembers; taken after the cache's lock */
     struct place *places;
     /* Written by its thread alone, and read by any. */
     atomic_ullong hits, loads, failures, joins, alone, evictions;
@@ -185,8 +185,8 @@ static struct place *place_of(sflight_reader *r, uint64_t hash) {
     return &r->places[(hash >> 8) % NEAR];
 }
 
-/* Nobody waits while it is held, so it is held for some loads and stores, and a lock that sleeps
- * would cost more than those. Another thread comes only when a value that is remembered leaves. */
+/* The flag is held for a few loads and stores, so a lock that sleeps would cost more than they do.
+ * Another thread takes it only when a remembered value leaves the cache. */
 static void hold(sflight_reader *r) {
     while (atomic_flag_test_and_set_explicit(&r->busy, memory_order_acquire)) sched_yield();
 }

@@ -32,7 +32,7 @@ type Recorded struct {
 // "sfctl check --timed" judges whether the calls have kept the promises. It fails with ErrRecording
 // if the group is recorded already. Stop has to be called.
 //
-// A call that ran a load function is recorded when it has ended and all who joined have the result:
+// A call that ran a load function is recorded when it has ended and every joiner has the result:
 // its Lead, an Enter of each that joined, the Forget or ForgetCall that closed it, its Settle and
 // its Handed. A Forget that found no open call, and a ForgetCall that cleared one, are recorded when
 // they have ended. A call that began before Record is not in the recording, nor is one that had not
@@ -89,19 +89,19 @@ func (p *pool) endRecording(r *recorder) {
 
 // How the recorder sees calls.
 //
-// A call of a recording is a run of a load function. It has one record, which all add to who have a
-// part in it: the seat that leads, or the run beside the library; those who follow it; a Forget that
-// closes it. When nobody has a part any more, the record is complete and goes to a lane. So a
-// recording has whole calls alone. A legal history stays legal if all events of a call are taken out
-// of it, so it does not matter which calls are left out at the begin and at the end.
+// A call of a recording is a run of a load function. It has one record. The seat that leads it, or
+// the run beside the library, has a part in the record and adds to it; so do the callers that follow
+// the call and a Forget that closes it. When the last part is given up, the record is complete and
+// goes to a lane. So a recording has whole calls only. A legal history stays legal without all events
+// of one call, so it does not matter which calls are left out at the beginning and at the end.
 //
-// The record of a seat's call is made before the seat asks: one who closes or joins the call finds
-// it. It has the generation of that asking, which tells it from those before.
+// The record of a seat's call is made before the seat asks, so that a caller that closes or joins the
+// call finds it. Its generation is that of the asking, and tells it from the records before.
 //
-// What a call of the library came to is known later than who joined it. One that is given up before
-// its load has no run: nobody was in it. One that takes the result of an older call gives its members
-// to that, but for those who asked after the older had ended, which are left out; and the Forget that
-// closed it is none of the older call's.
+// The members of a library call are known before its outcome. A call that is given up before its load
+// has no run, and no members. A call that takes the result of an older call gives its members to the
+// older one. Members that asked after the older call had ended are left out. The Forget that closed
+// the newer call does not belong to the older one.
 //
 // The times of an event are wide. A Forget's are those of the whole Forget, and it may close several
 // calls. A Lead's begin with the asking and end where the load begins. An Enter's begin with the
@@ -194,7 +194,7 @@ func (rec *callRecord) leave() {
 	}
 }
 
-// The seat's call has ended, and all who joined by a caller have the result.
+// The seat's call has ended, and each caller that joined it in the library has the result.
 func (s *seat) complete(rec *callRecord) {
 	if rec.parts.CompareAndSwap(1, 0) {
 		rec.complete()
@@ -281,7 +281,7 @@ func (n *noted) enter(rec *callRecord) {
 	rec.add(&memberRecord{name: n.by.name(), from: n.from, to: now()})
 }
 
-// One who followed the call has no part in it any more. Whether it was in the call.
+// The follower gives up its part in the record. isMember tells whether it was in the call.
 func (n *noted) followed(isMember bool) {
 	if n.rec == nil {
 		return
@@ -316,7 +316,7 @@ func (a *asking) own() *callRecord {
 }
 
 // How results name a recorded call, for ForgetCall: the recording, the caller, the generation, and a
-// part of the fingerprint, since who forgets a call may name another key.
+// part of the fingerprint, since a ForgetCall may name another key.
 func (rec *callRecord) mark() uint64 {
 	if rec.took != nil {
 		return 0
@@ -410,9 +410,9 @@ func (f *forgetting) cleared(key keyed, leader *seat, mark uint64) {
 	f.by.push(entry{events: 1, key: key.key, caller: f.by.caller(), from: f.from, to: now(), name: name})
 }
 
-// A recorder takes what has happened from lanes, and writes it. Who records something takes the
-// lock of a lane that is free, so nobody waits; the writer's goroutine takes a lane's entries all at
-// once.
+// A recorder takes entries from lanes and writes them. A goroutine that records something takes the
+// lock of a lane that is free, so it never waits. The writer's goroutine takes all entries of a lane
+// at once.
 type recorder struct {
 	number uint16 // of the recording
 	out    io.Writer

@@ -12,7 +12,7 @@ import (
 	ours "sf.example/singleflight"
 )
 
-// A cache loads a key's value when it has none, once for all who ask at that time, and forgets it.
+// A cache loads a missing key's value once for all callers that ask at that time, and forgets keys.
 // The load function is called with the context of a Get that waits for it.
 type cache interface {
 	get(ctx context.Context, key string) (string, error)

@@ -6,8 +6,8 @@
 //! Forget makes a value stale before its entry is removed. A lane remembers the values that its
 //! threads found lately, each with a count of its own, so that a hot key takes no lock and no count
 //! that all share. A value that leaves the cache leaves the lanes too. The key that the group knows
-//! begins with the number of the era: `invalidate_all` begins a new one, so a load of an era before
-//! is joined by nobody who asks later.
+//! begins with the number of the era. `invalidate_all` begins a new era, so no later call joins a load
+//! of an era before.
 
 use crate::hash::Fingerprints;
 use crate::sync::lock;
