@@ -1,4 +1,4 @@
--- A note handle and its loose box own what a box at the same types owns.
+-- A handle and its loose box own what a box at the same types owns.
 use mir.Syntax.{impl, tnil, dnil}
 use mathlib.Core.List.{[]}
 use denote.Signature.{Slot, plain}
@@ -7,12 +7,12 @@ use Rattle.std_heap.specs.contracts.Global as Heap
 use Rattle.std_heap.specs.contracts.GlobalAllocator.TheImpl.{ghosts, dict}
 use Rattle.std_heap.proofs.Global.TheLaws as heap
 use Rattle.sf_c_slots.specs.contracts.note_state.NoteState as State
-use Rattle.sf_c_slots.proofs.note_state.NoteState.TheLaws as state
+use Rattle.sf_c_slots.proofs.note_state.NoteState.TheLaws as note
 use Rattle.sf_c.specs.contracts.loose.Loose as Loose
 use Rattle.sf_c.specs.contracts.note_handle.NoteHandle as Handle
 
 abbrev pub E : Bx
-E = record { row = State.the_row; laws = state.the_row_laws; al = record { row = Heap.the_row; laws = heap.the_row_laws; g = ghosts; d = dict; drops = impl [] tnil dnil } }
+E = record { row = State.the_row; laws = note.the_row_laws; al = record { row = Heap.the_row; laws = heap.the_row_laws; g = ghosts; d = dict; drops = impl [] tnil dnil } }
 
 abbrev pub FromLoose : Slot 0
 FromLoose = plain (λ _. Loose.the_row State.the_row Heap.the_row ghosts)

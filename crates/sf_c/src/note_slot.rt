@@ -1,4 +1,4 @@
-// What crosses to C: a note, or none where all is zero.
+// What crosses to C: a handle, and whether it holds anything. All zeros is a slot that is not open.
 ghost use Rattle.std.specs.Prelude.{◌≡◌, true, false, IfSome};
 ghost use Rattle.std.specs.Option.{IfNone};
 
@@ -15,7 +15,7 @@ pub struct NoteSlot {
 }
 
 impl NoteSlot {
-    // The note, where there is one. There is none then.
+    // The note, where the slot is open. It is open no more.
     pub(crate) fn take(&mut self, alloc: Global) -> Option<Box<NoteState, Global>>
         ensures note { IfSome result (λ note.
             (self.old.live ≡ true) × (note.value ≡ self.old.handle.note)) }

@@ -12,12 +12,12 @@ use Rattle.std_alloc.proofs.SendSync.{quiet, lies}
 use Rattle.std_heap.proofs.Global.TheSendSync as handle
 use Rattle.sf_c.specs.Owned.{note_owns}
 use Rattle.sf_c_slots.specs.contracts.note_state.NoteState as State
-use Rattle.sf_c_slots.proofs.note_state.NoteState.TheSendSync.{the_send as state}
+use Rattle.sf_c_slots.proofs.note_state.NoteState.TheSendSync.{the_send as note}
 use Rattle.sf_c.specs.contracts.note_handle.NoteHandle.{the_row, the_type}
 
 -- what a handle owns is a note, which may go to another thread, and the right to free its block; or nothing
 held : (b : Bool) (alloc : Global) (p : Ptr) (s : State.the_row.Denot) → Keyless (note_owns b alloc p s)
-held true alloc p s = (lies State.the_row state p s, heap.frees.frees alloc (raw (lone State.the_row.mir)) p)
+held true alloc p s = (lies State.the_row note p s, heap.frees.frees alloc (raw (lone State.the_row.mir)) p)
 held false alloc p s = tt
 
 pub send : IsSend the_row
