@@ -1,5 +1,6 @@
 -- what the texts of strangers are in a picture
-use Rattle.std.specs.Prelude.{ℕ, ◌+◌, Bool, List, if◌then◌else◌, ◌==◌, ◌&&◌, ◌||◌, nat_lt, nat_le, codes, chars, encode_utf8}
+use Rattle.std.specs.Prelude.{ℕ, ◌+◌, Bool, List, if◌then◌else◌, ◌==◌, ◌&&◌, ◌||◌, nat_lt, nat_le, codes, chars, encode_utf8, length, ◌++◌}
+use Rattle.std.specs.Fmt.{take_chars}
 use Rattle.std.specs.List.{flat_map}
 
 abbrev pub is_between : ℕ → ℕ → ℕ → Bool
@@ -23,3 +24,7 @@ escaped_chars cs = flat_map char_text cs
 -- the bytes of a text in a picture
 abbrev pub escaped_text : List ℕ → List ℕ
 escaped_text bs = escaped_chars (chars bs)
+
+-- a text, of which so many characters and the ellipsis are left where there are more
+abbrev pub cut_text : ℕ → List ℕ → List ℕ
+cut_text most bs = if nat_lt most (length (chars bs)) then take_chars most bs ++ encode_utf8 0x2026 else bs

@@ -6,7 +6,7 @@ ghost use Rattle.sf_svg.specs.Marks.{head_text, opening_text, paper_text, before
 use crate::escaping::escaped;
 use sf_history::Memory;
 
-/// The first line of a picture of this size.
+// The first line of a picture of this size.
 fn opening(svg: &mut String, width: usize, height: usize) -> Result<(), Memory>
     ensures { OnOk result
         (string_bytes svg.new ≡ string_bytes svg.old ++ opening_text width height) }
@@ -17,7 +17,7 @@ fn opening(svg: &mut String, width: usize, height: usize) -> Result<(), Memory>
     )
 }
 
-/// White paper of this size.
+// White paper of this size.
 fn paper(svg: &mut String, width: usize, height: usize) -> Result<(), Memory>
     ensures { OnOk result
         (string_bytes svg.new ≡ string_bytes svg.old ++ paper_text width height) }
@@ -46,7 +46,7 @@ pub fn end(svg: &mut String) -> Result<(), Memory>
     Ok(())
 }
 
-/// What stands before the characters of a text.
+// What stands before the characters of a text.
 fn begin_text(svg: &mut String, class: &str, x: usize, y: usize) -> Result<(), Memory>
     ensures { OnOk result
         (string_bytes svg.new ≡ string_bytes svg.old ++ before_text class.now x y) }
