@@ -4,8 +4,8 @@ use Rattle.sf_cli_engines.specs.Engines.{name_of}
 use Rattle.sf_cli_engines.specs.declared.engine.Engine.TheVariants as engine
 use Rattle.sf_cli_engines.specs.declared.engine.Judged.TheVariants as judged
 use Rattle.sf_cli_engines.specs.declared.engine.Shown.TheVariants as shown
-use Rattle.sf_cli_engines.specs.declared.engine.Asked.{Asked}
-use Rattle.sf_cli_engines.specs.declared.engine.Asked.TheVariants.{Lines, History, Timed, Picture}
+use Rattle.sf_cli_engines.specs.declared.engine.Form.{Form}
+use Rattle.sf_cli_engines.specs.declared.engine.Form.TheVariants.{Lines, History, Timed, Picture}
 use Rattle.sf_cli.specs.declared.table.Work.{Work}
 use Rattle.sf_cli.specs.declared.table.Work.TheVariants.{Engine, Drive, Bench}
 
@@ -19,7 +19,7 @@ abbrev pub works : List Work
 works = Engine (engine.Run false) ∷ Engine (engine.Steps shown.Lines) ∷ Engine (engine.Check judged.AsItStands) ∷ Engine engine.Merge ∷ Drive ∷ Bench ∷ []
 
 -- the words after an engine's name that ask it to show this: lines need none
-abbrev pub options_of : Asked → List (List ℕ)
+abbrev pub options_of : Form → List (List ℕ)
 options_of Lines = []
 options_of History = codes "--history" ∷ []
 options_of Timed = codes "--timed" ∷ []

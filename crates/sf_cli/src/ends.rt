@@ -17,7 +17,7 @@ pub fn misused<D: Display + Drop>(rt: &impl Eprint, said: D) -> u8
     exit_status(Outcome::Usage)
 }
 
-/// Says on standard error that a stream failed, and answers the exit status.
+// Says on standard error that a stream failed, and answers the exit status.
 fn failed(rt: &impl Eprint, fault: StreamFault) -> u8
     ensures { result ≡ exit_status_of (Outcome.Failed fault) }
 {

@@ -27,7 +27,7 @@ use std::thread::Threads;
 use std::time::Clock;
 use std::{env, io};
 
-/// The words of the command line; the program's name comes first, and is `sfctl` wherever the file lies.
+// The words of the command line; the program's name comes first, and is `sfctl` wherever the file lies.
 fn words(rt: &(impl Env + AllocGlobal)) -> io::Result<Vec<String>> {
     let mut words = Vec::new(rt.alloc());
     words.push(String::from_str(rt.alloc(), "sfctl")?)?;
@@ -37,7 +37,7 @@ fn words(rt: &(impl Env + AllocGlobal)) -> io::Result<Vec<String>> {
     Ok(words)
 }
 
-/// Starts an engine on these streams, says a hint on standard error where it leaves one, and answers the exit status.
+// Starts an engine on these streams, says a hint on standard error where it leaves one, and answers the exit status.
 fn answer<I: Read, O: Write>(
     rt: &(impl AllocGlobal + Eprint),
     engine: Engine,
@@ -57,8 +57,8 @@ fn answer<I: Read, O: Write>(
     ended(rt, answered)
 }
 
-/// Does what these words ask for on these streams, and answers the exit status. Where standard error is a terminal, a drive
-/// says there how far it is.
+// Does what these words ask for on these streams, and answers the exit status. Where standard error is a terminal, a drive
+// says there how far it is.
 fn obey<R, I: Read, O: Write>(
     rt: &R,
     words: &[String],
@@ -84,7 +84,8 @@ where
     }
 }
 
-/// Does what the command line asks for on these streams, as `obey` does; words that are no text are usage.
+// Does what the command line asks for on these streams, as `obey` does; words that are no text, or for which there is no memory,
+// are usage.
 fn serve<R, I: Read, O: Write>(rt: &R, reader: &mut I, writer: &mut O, on_terminal: bool) -> u8
 where
     R: Env + AllocGlobal + Eprint + Wait + Threads + Clock + Sync,
@@ -94,7 +95,7 @@ where
 {
     match words(rt) {
         Ok(words) => obey(rt, words.as_slice(), reader, writer, on_terminal),
-        Err(_) => misused(rt, Mistake::NoText),
+        Err(error) => misused(rt, Mistake::of_words(error)),
     }
 }
 

@@ -1,12 +1,12 @@
 //! The one table of subcommands: the name, what help says, the options, and what each does.
 
 ghost use Rattle.std.specs.Prelude.{◌≡◌, ◌≢◌, [], ◌∷◌, IfSome, IfNone, Contains, All, map, string_bytes};
-ghost use Rattle.sf_cli_engines.specs.declared.engine.Asked.{Asked};
+ghost use Rattle.sf_cli_engines.specs.declared.engine.Form.{Form};
 ghost use Rattle.sf_cli.specs.Work.{work_name_of, works, options_of};
 
 use clap::{Arg, ArgAction, Command};
 use sf_cli_drive::{DRIVE_ABOUT, DRIVE_HELP, switch, with_drive_options};
-use sf_cli_engines::{Asked, Engine, Judged, Shown};
+use sf_cli_engines::{Engine, Form, Judged, Shown};
 use std::alloc::{AllocError, Global};
 
 /// What a subcommand does.
@@ -20,7 +20,7 @@ pub enum Work {
     Bench,
 }
 
-/// A subcommand.
+// A subcommand.
 #[derive(Clone, Copy)]
 struct Row {
     /// The word that asks for it.
@@ -34,7 +34,7 @@ struct Row {
     ghost named: { name.now ≡ work_name_of work },
 }
 
-/// All subcommands, in the order in which help has them.
+// All subcommands, in the order in which help has them.
 const TABLE: [Row; 6] = [
     Row {
         name: "run",
@@ -74,40 +74,40 @@ const TABLE: [Row; 6] = [
     },
 ];
 
-/// An option of engines.
+// An option of engines.
 #[derive(Clone, Copy)]
 struct Flag {
     name: &'static str,
     help: &'static str,
-    asked: Asked,
+    asked: Form,
 }
 
-/// The options of engines: an engine takes those that name what it can show, and one of them at most.
+// The options of engines: an engine takes those that name what it can show, and one of them at most.
 const FLAGS: [Flag; 3] = [
     Flag {
         name: "history",
         help: "Prints records of what happened instead of replies",
-        asked: Asked::History,
+        asked: Form::History,
     },
     Flag {
         name: "timed",
         help: "Looks for a legal order of the events that respects their times",
-        asked: Asked::Timed,
+        asked: Form::Timed,
     },
     Flag {
         name: "svg",
         help: "Draws an SVG picture instead of lines",
-        asked: Asked::Picture,
+        asked: Form::Picture,
     },
 ];
 
-/// What the program is.
+// What the program is.
 const ABOUT: &str = "Runs, replays and checks calls of singleflight with Forget";
 
-/// The version of the packages that are released with it (`bindings/rust/Cargo.toml`).
+// The version of the packages that are released with it (`bindings/rust/Cargo.toml`).
 const VERSION: &str = "0.1.0";
 
-/// What stands at the end of the program's help.
+// What stands at the end of the program's help.
 const STATUSES: &str = "Example:
   printf 'ask 1 k\\nsettle 1 ok v\\n' | sfctl run
 
@@ -208,7 +208,7 @@ Example:
 Exit status: 0 if everything was measured, 2 if something was not, 3 if there
 is no proved program.";
 
-/// The first of these rows that has the name.
+// The first of these rows that has the name.
 fn row_of(rows: &[Row], name: &str) -> Option<Row>
     ensures known { IfSome result (λ row. Contains rows.now row × (row.name.now ≡ name.now)) }
     ensures unknown { IfNone result
@@ -228,27 +228,27 @@ pub fn named(name: &str) -> Option<Work>
     }
 }
 
-/// What an engine is asked to show by this option.
-fn flagged(option: &str) -> Option<Asked>
+// What an engine is asked to show by this option.
+fn flagged(option: &str) -> Option<Form>
     ensures known { IfSome result (λ asked. option.now ∷ [] ≡ options_of asked) }
-    ensures unknown { IfNone result ((asked : Asked) → option.now ∷ [] ≢ options_of asked) }
+    ensures unknown { IfNone result ((asked : Form) → option.now ∷ [] ≢ options_of asked) }
 {
     match option {
-        "--history" => Some(Asked::History),
-        "--timed" => Some(Asked::Timed),
-        "--svg" => Some(Asked::Picture),
+        "--history" => Some(Form::History),
+        "--timed" => Some(Form::Timed),
+        "--svg" => Some(Form::Picture),
         _ => None,
     }
 }
 
 /// What an engine is asked to show by the words after its name: lines, or what the one option says.
-pub fn asked(options: &[String]) -> Option<Asked>
+pub fn asked(options: &[String]) -> Option<Form>
     ensures known { IfSome result (λ asked. map string_bytes options.now ≡ options_of asked) }
-    ensures unknown { IfNone result ((asked : Asked)
+    ensures unknown { IfNone result ((asked : Form)
         → map string_bytes options.now ≢ options_of asked) }
 {
     match options {
-        [] => Some(Asked::Lines),
+        [] => Some(Form::Lines),
         [option] => flagged(option.as_str()),
         _ => None,
     }
@@ -268,14 +268,14 @@ pub fn program<'a>(alloc: Global) -> Result<Command<'a>, AllocError> {
     Ok(program)
 }
 
-/// The command of a subcommand.
+// The command of a subcommand.
 fn command<'a>(alloc: Global, row: Row) -> Result<Command<'a>, AllocError> {
     let (name, about, help): (&'a str, &'a str, &'a str) = (row.name, row.about, row.help);
     let command: Command<'a> = Command::new(alloc, name).about(about).after_help(help);
     with_options(alloc, row.work, command)
 }
 
-/// The command with the options of its subcommand.
+// The command with the options of its subcommand.
 fn with_options<'a>(
     alloc: Global,
     work: Work,
@@ -288,7 +288,7 @@ fn with_options<'a>(
     }
 }
 
-/// The command with the options of what the engine can show, of which no two go together.
+// The command with the options of what the engine can show, of which no two go together.
 fn with_flags<'a>(
     alloc: Global,
     engine: Engine,
@@ -303,7 +303,7 @@ fn with_flags<'a>(
     Ok(command)
 }
 
-/// The option, which goes with no other.
+// The option, which goes with no other.
 fn option<'a>(alloc: Global, flag: Flag) -> Result<Arg<'a>, AllocError> {
     let (name, help): (&'a str, &'a str) = (flag.name, flag.help);
     let mut option = switch(alloc, name, help);
@@ -316,7 +316,7 @@ fn option<'a>(alloc: Global, flag: Flag) -> Result<Arg<'a>, AllocError> {
     Ok(option)
 }
 
-/// The command with the words of `bench`.
+// The command with the words of `bench`.
 fn with_names<'a>(alloc: Global, command: Command<'a>) -> Result<Command<'a>, AllocError> {
     let list = switch(alloc, "list", "Prints the names of the benchmarks");
     let names = Arg::new(alloc, "names")

@@ -13,7 +13,7 @@ use clap::Error;
 use sf_cli_drive::{DriveLine, drive_line};
 use sf_cli_engines::Engine;
 use std::alloc::{AllocError, Global};
-use std::fmt;
+use std::{fmt, io};
 
 /// What `sfctl` is asked to do.
 #[derive(Clone, Copy)]
@@ -35,6 +35,17 @@ pub enum Mistake {
     NotTaken,
     /// They are no text.
     NoText,
+}
+
+impl Mistake {
+    /// Why the words could not be read: there is no memory for them, or they are no text.
+    pub fn of_words(error: io::Error) -> Mistake {
+        if error.kind() == io::ErrorKind::OutOfMemory {
+            Mistake::Said(Error::from(AllocError))
+        } else {
+            Mistake::NoText
+        }
+    }
 }
 
 impl fmt::Display for Mistake {
@@ -62,7 +73,7 @@ pub enum Usage {
 }
 
 impl Usage {
-    /// What clap answers in place of matches.
+    // What clap answers in place of matches.
     fn said(alloc: Global, error: Error) -> Usage
         ensures { IsUsageOf (kind_of error) result }
     {
@@ -84,7 +95,7 @@ impl From<AllocError> for Usage {
     }
 }
 
-/// What is said of words that ask for nothing; this, where clap has nothing to say.
+// What is said of words that ask for nothing; this, where clap has nothing to say.
 fn refused(alloc: Global, words: &[String], otherwise: Mistake) -> Usage {
     match program(alloc) {
         Ok(program) => match program.try_get_matches_from(words) {
@@ -95,7 +106,7 @@ fn refused(alloc: Global, words: &[String], otherwise: Mistake) -> Usage {
     }
 }
 
-/// How much the words, the name of `drive` first, ask for.
+// How much the words, the name of `drive` first, ask for.
 fn line(alloc: Global, words: &[String]) -> Result<DriveLine, Usage>
     ensures asked { IfOk result (IsAskedLine (map string_bytes words.now)) }
     ensures faultless { IfOk result (λ _. fault_of drive_app (map string_bytes words.now) ≡ []) }
@@ -108,7 +119,7 @@ fn line(alloc: Global, words: &[String]) -> Result<DriveLine, Usage>
     }
 }
 
-/// The engine of the same subcommand that shows what the words after its name ask for.
+// The engine of the same subcommand that shows what the words after its name ask for.
 fn showing(engine: Engine, options: &[String]) -> Option<Engine>
     ensures known { IfSome result (λ e. (name_of e ≡ name_of engine)
         × (map string_bytes options.now ≡ options_of (shown_by e))) }
