@@ -25,7 +25,7 @@ use std::thread::Threads;
 use std::time::Clock;
 use std::{env, io};
 
-/// The exit status where nothing, or not all, could be measured.
+// The exit status where nothing, or not all, could be measured.
 const FAILED: u8 = 2;
 
 // The words of the command line, without the program's name.
@@ -86,8 +86,10 @@ fn failed<D: std::fmt::Display + Drop>(rt: &impl Eprint, why: D) -> ExitCode {
 }
 
 fn main(rt: HostRuntime) -> ExitCode {
-    let Ok(words) = words(&rt) else {
-        return failed(&rt, "the arguments are not valid UTF-8");
+    let words = match words(&rt) {
+        Ok(words) => words,
+        Err(error) if error.kind() == io::ErrorKind::OutOfMemory => return failed(&rt, Fault::Memory),
+        Err(_) => return failed(&rt, "the arguments are not valid UTF-8"),
     };
     match parse(rt.alloc(), words.as_slice()) {
         Ok(Ok(asked)) => match serve(&rt, asked) {
