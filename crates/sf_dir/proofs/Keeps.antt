@@ -11,7 +11,7 @@ use Rattle.std.proofs.lemmas.List.{append-nil, length-set, set-get_or, get_or-se
 use Rattle.std.proofs.lemmas.List.Elements.{Contains-append_cases}
 use Rattle.atomic_table.specs.Table.{State, Me, step, keeps, Allows}
 use Rattle.atomic_table.proofs.Lists.{at_set}
-use Rattle.sf_dir.specs.declared.rule.Sizes.{Sizes}
+use Rattle.sf_dir.specs.declared.rule.DirectorySizes.{DirectorySizes}
 use Rattle.sf_dir.specs.declared.rule.Entry.{Entry}
 use Rattle.sf_dir.specs.declared.rule.Spare.{Spare}
 use Rattle.sf_dir.specs.declared.rule.View.{View}
@@ -25,7 +25,7 @@ use Rattle.sf_lists.specs.Functions.{put}
 use Rattle.sf_lists.proofs.Functions.{put_here, put_else}
 
 -- what a step changes of the words, names and holders, as the seat k sees it
-pub record Spares (z : Sizes) (added : List Entry) (ws ws' : List ℕ) (drawn : ℕ) (o o' : Holders) (k : ℕ) : Type 0 where
+pub record Spares (z : DirectorySizes) (added : List Entry) (ws ws' : List ℕ) (drawn : ℕ) (o o' : Holders) (k : ℕ) : Type 0 where
   pub quiet : (d : ℕ) → o.seat_of d ≡ k → own_names d added ≡ []
   pub desks : (d : ℕ) → o.seat_of d ≡ k → (o'.seat_of d ≡ k) × (o'.has_spare d ≡ o.has_spare d)
   pub keeps_row : (r : ℕ) → o.keeper_of r ≡ k → r < drawn → o'.keeper_of r ≡ k
@@ -33,7 +33,7 @@ pub record Spares (z : Sizes) (added : List Entry) (ws ws' : List ℕ) (drawn : 
   pub words : (r : ℕ) → o.keeper_of r ≡ k → r < drawn → (i : ℕ) → i < row_width z → slice_index ws' (row_at z r + i) ≡ slice_index ws (row_at z r + i)
 
 -- what is true of a seat that makes no step lasts
-lasts : (z : Sizes) (h h' added : List Entry) (ws ws' : List ℕ) (drawn drawn' : ℕ) (o o' : Holders) (k : ℕ) (u : View) → h' ≡ h ++ added → drawn ≤ drawn'
+lasts : (z : DirectorySizes) (h h' added : List Entry) (ws ws' : List ℕ) (drawn drawn' : ℕ) (o o' : Holders) (k : ℕ) (u : View) → h' ≡ h ++ added → drawn ≤ drawn'
     → Spares z added ws ws' drawn o o' k → IsView z h ws drawn o k u → IsView z h' ws' drawn' o' k u
 lasts z h h' added ws ws' drawn drawn' o o' k u e le p m = record {
   sizes = m.sizes;
@@ -53,7 +53,7 @@ lasts z h h' added ws ws' drawn drawn' o o' k u e le p m = record {
 }
 
 -- the seats after a step of the seat id
-pub seats_on : (z : Sizes) (h h' added : List Entry) (ws ws' : List ℕ) (drawn drawn' : ℕ) (o o' : Holders) (id : ℕ) (w : View) (views : List View) → h' ≡ h ++ added → drawn ≤ drawn'
+pub seats_on : (z : DirectorySizes) (h h' added : List Entry) (ws ws' : List ℕ) (drawn drawn' : ℕ) (o o' : Holders) (id : ℕ) (w : View) (views : List View) → h' ≡ h ++ added → drawn ≤ drawn'
     → ((k : ℕ) → k ≢ id → Spares z added ws ws' drawn o o' k) → ((k : ℕ) (u : View) → get_elem? views k ≡ some u → IsView z h ws drawn o k u) → IsView z h' ws' drawn' o' id w
     → (k : ℕ) (u : View) → get_elem? (set views id w) k ≡ some u → IsView z h' ws' drawn' o' k u
 seats_on z h h' added ws ws' drawn drawn' o o' id w views e le p m mine k u q = ⊎_elim
@@ -62,7 +62,7 @@ seats_on z h h' added ws ws' drawn drawn' o o' id w views e le p m mine k u q = 
     (at_set views id k w u q)
 
 -- a step that changes nothing but the seat's view
-nothing : (z : Sizes) (ws : List ℕ) (drawn : ℕ) (o : Holders) (k : ℕ) → Spares z [] ws ws drawn o o k
+nothing : (z : DirectorySizes) (ws : List ℕ) (drawn : ℕ) (o : Holders) (k : ℕ) → Spares z [] ws ws drawn o o k
 nothing z ws drawn o k = record {
   quiet = λ d e. refl;
   desks = λ d e. (e, refl);
@@ -76,7 +76,7 @@ abbrev pub seen_all : View → List Entry → View
 seen_all v h = record { sizes = v.sizes; from = v.from; to = v.to; seen = h; spare = v.spare; told = [] }
 
 -- the seat's own view after a step by which it sees all, and keeps its spare row
-pub own_view : (z : Sizes) (h : List Entry) (ws : List ℕ) (drawn : ℕ) (o : Holders) (id : ℕ) (v : View) → IsView z h ws drawn o id v → IsView z h ws drawn o id (seen_all v h)
+pub own_view : (z : DirectorySizes) (h : List Entry) (ws : List ℕ) (drawn : ℕ) (o : Holders) (id : ℕ) (v : View) → IsView z h ws drawn o id v → IsView z h ws drawn o id (seen_all v h)
 own_view z h ws drawn o id v m = record {
   sizes = m.sizes;
   rest = [];
@@ -87,7 +87,7 @@ own_view z h ws drawn o id v m = record {
   spare = λ s is. let a = m.spare s is in record { is_drawn = a.is_drawn; kept = a.kept; alone = a.alone; unnamed = a.unnamed; short = a.short; written = a.written };
 }
 
-pub sees_all : (z : Sizes) (h : List Entry) (ws : List ℕ) (drawn : ℕ) (o : Holders) (id : ℕ) (v w : View) → IsView z h ws drawn o id v → IsSound z h → w.sizes ≡ v.sizes → w.from ≡ v.from → w.to ≡ v.to → w.told ≡ [] → w.seen ≡ h → Grows v w []
+pub sees_all : (z : DirectorySizes) (h : List Entry) (ws : List ℕ) (drawn : ℕ) (o : Holders) (id : ℕ) (v w : View) → IsView z h ws drawn o id v → IsSound z h → w.sizes ≡ v.sizes → w.from ≡ v.from → w.to ≡ v.to → w.told ≡ [] → w.seen ≡ h → Grows v w []
 sees_all z h ws drawn o id v w m sound a b c d e = record {
   sizes = a;
   from = b;
@@ -101,7 +101,7 @@ sees_all z h ws drawn o id v w m sound a b c d e = record {
 }
 
 -- a load keeps the rule, and so does an exchange that fails
-pub loaded : (z : Sizes) (t : State ℕ View) (h : List Entry) (sh : Shows z h t) (id : ℕ) (v : View) → get_elem? t.views id ≡ some v → Shows z h (record { words = t.words; homes = t.homes; views = set t.views id (seen_all v h) })
+pub loaded : (z : DirectorySizes) (t : State ℕ View) (h : List Entry) (sh : Shows z h t) (id : ℕ) (v : View) → get_elem? t.views id ≡ some v → Shows z h (record { words = t.words; homes = t.homes; views = set t.views id (seen_all v h) })
 loaded z t h sh id v is = record {
   size = sh.size;
   sound = sh.sound;
@@ -115,13 +115,13 @@ loaded z t h sh id v is = record {
   seats = seats_on z h h [] t.words t.words sh.drawn sh.drawn sh.holders sh.holders id (seen_all v h) t.views (sym (append-nil h)) (omega arith) (λ k d. nothing z t.words sh.drawn sh.holders k) sh.seats (own_view z h t.words sh.drawn sh.holders id v (sh.seats id v is));
 }
 
-reads : (z : Sizes) (t : State ℕ View) (h : List Entry) → Shows z h t → (i : ℕ) → IsWord z h i (slice_index t.words i)
+reads : (z : DirectorySizes) (t : State ℕ View) (h : List Entry) → Shows z h t → (i : ℕ) → IsWord z h i (slice_index t.words i)
 reads z t h sh i = record {
   place = sh.places i;
   row = λ e c j lt is. ap (slice_index t.words) is ∙ sh.rows e c j lt;
 }
 
-pub look_allows : (z : Sizes) (slots id i : ℕ) (me : Me ℕ View) → Allows (Holds z) slots id me i (λ n. n) (looks (step slots i 0 0 none) me)
+pub look_allows : (z : DirectorySizes) (slots id i : ℕ) (me : Me ℕ View) → Allows (Holds z) slots id me i (λ n. n) (looks (step slots i 0 0 none) me)
 look_allows z slots id i me t hold len is fits =
     let h = hold.0 in
     let sh = hold.1 in
@@ -142,7 +142,7 @@ alone_is v d e s = let a = s.0 in let b = s.1 in omega arith
 pub stands_alone : (v : View) → v.to ≡ v.from + 1 → StandsFor v v.from
 stands_alone v e = (omega arith, omega arith)
 
-pub drawn_most : (z : Sizes) (h : List Entry) (t : State ℕ View) (sh : Shows z h t) → sh.drawn ≤ row_count z
+pub drawn_most : (z : DirectorySizes) (h : List Entry) (t : State ℕ View) (sh : Shows z h t) → sh.drawn ≤ row_count z
 drawn_most z h t sh = let a = count_to_le (is_named h) z.keys in let b = count_to_le sh.holders.has_spare z.desks in let c = sh.counts in omega arith
 
 -- a row is drawn
@@ -152,7 +152,7 @@ drawn_holders o row id desk = record { seat_of = o.seat_of; keeper_of = put o.ke
 drawn_view : View → List Entry → ℕ → View
 drawn_view v h row = record { sizes = v.sizes; from = v.from; to = v.to; seen = h; spare = Some (record { row = row; words = [] }); told = [] }
 
-drawn_shows : (z : Sizes) (t : State ℕ View) (h : List Entry) (sh : Shows z h t) (id : ℕ) (v : View) → get_elem? t.views id ≡ some v → v.to ≡ v.from + 1 → v.spare ≡ None
+drawn_shows : (z : DirectorySizes) (t : State ℕ View) (h : List Entry) (sh : Shows z h t) (id : ℕ) (v : View) → get_elem? t.views id ≡ some v → v.to ≡ v.from + 1 → v.spare ≡ None
     → Shows z h (record { words = set t.words (counter_at z) (sh.drawn + 1); homes = t.homes; views = set t.views id (drawn_view v h sh.drawn) })
 unfolding drawn_holders drawn_view
 drawn_shows z t h sh id v is one free =
@@ -207,7 +207,7 @@ drawn_shows z t h sh id v is one free =
           });
     }
 
-pub draw_allows : (z : Sizes) (slots id i : ℕ) (me : Me ℕ View) → IsWithinLimits z → i ≡ counter_at z → me.0.to ≡ me.0.from + 1 → me.0.spare ≡ None → Allows (Holds z) slots id me i (λ n. (n + 1) % 18446744073709551616) (draws (step slots i 1 0 none) me)
+pub draw_allows : (z : DirectorySizes) (slots id i : ℕ) (me : Me ℕ View) → IsWithinLimits z → i ≡ counter_at z → me.0.to ≡ me.0.from + 1 → me.0.spare ≡ None → Allows (Holds z) slots id me i (λ n. (n + 1) % 18446744073709551616) (draws (step slots i 1 0 none) me)
 unfolding drawn_view
 draw_allows z slots id i me limits at one free t hold len is fits =
     let h = hold.0 in
@@ -236,10 +236,10 @@ draw_allows z slots id i me limits at one free t hold len is fits =
 written_view : View → List Entry → Spare → ℕ → ℕ → View
 written_view v h s j x = record { sizes = v.sizes; from = v.from; to = v.to; seen = h; spare = Some (record { row = s.row; words = take j s.words ++ x ∷ [] }); told = [] }
 
-row_here : (z : Sizes) (t : State ℕ View) (h : List Entry) (sh : Shows z h t) (row j : ℕ) → row < sh.drawn → j < row_width z → row_at z row + j < length t.words
+row_here : (z : DirectorySizes) (t : State ℕ View) (h : List Entry) (sh : Shows z h t) (row j : ℕ) → row < sh.drawn → j < row_width z → row_at z row + j < length t.words
 row_here z t h sh row j lt w = let most = drawn_most z h t sh in let size = sh.size in let inside = row_within z row j (omega arith) w in omega arith
 
-written_shows : (z : Sizes) (t : State ℕ View) (h : List Entry) (sh : Shows z h t) (id : ℕ) (v : View) (s : Spare) (j x : ℕ) → get_elem? t.views id ≡ some v → v.spare ≡ Some s → j < row_width z → j ≤ length s.words
+written_shows : (z : DirectorySizes) (t : State ℕ View) (h : List Entry) (sh : Shows z h t) (id : ℕ) (v : View) (s : Spare) (j x : ℕ) → get_elem? t.views id ≡ some v → v.spare ≡ Some s → j < row_width z → j ≤ length s.words
     → Shows z h (record { words = set t.words (row_at z s.row + j) x; homes = t.homes; views = set t.views id (written_view v h s j x) })
 unfolding written_view
 written_shows z t h sh id v s j x is has within le =
@@ -295,7 +295,7 @@ written_shows z t h sh id v s j x is has within le =
     }
 
 -- which word of a row this is
-which_word : (z : Sizes) (r i j w : ℕ) → w ≡ row_at z r + i → w ≡ row_at z r + j → i ≡ j
+which_word : (z : DirectorySizes) (r i j w : ℕ) → w ≡ row_at z r + i → w ≡ row_at z r + j → i ≡ j
 which_word z r i j w a b = omega arith
 
 -- the spare row with its first words, and one more behind them
@@ -303,12 +303,12 @@ abbrev pub spare_with : Spare → ℕ → ℕ → Spare
 spare_with s j x = record { row = s.row; words = take j s.words ++ x ∷ [] }
 
 -- what is written at a word of the spare row, by the word's place in the row
-written_same : (z : Sizes) (s u : Spare) (i j k x : ℕ) → s ≡ u → i ≡ row_at z s.row + j → i ≡ row_at z u.row + k → Some (spare_with s j x) ≡ Some (spare_with u k x)
+written_same : (z : DirectorySizes) (s u : Spare) (i j k x : ℕ) → s ≡ u → i ≡ row_at z s.row + j → i ≡ row_at z u.row + k → Some (spare_with s j x) ≡ Some (spare_with u k x)
 written_same z s u i j k x same at at' =
     let one : j ≡ k = which_word z s.row j k i at (at' ∙ ap (λ (q : Spare). row_at z q.row + k) (sym same)) in
     ap (λ (q : Spare). Some (spare_with q j x)) same ∙ ap (λ n. Some (spare_with u n x)) one
 
-pub write_allows : (z : Sizes) (slots id i x : ℕ) (me : Me ℕ View) → (s : Spare) × (j : ℕ) × (me.0.spare ≡ Some s) × (i ≡ row_at z s.row + j) × (j < row_width z) × (j ≤ length s.words)
+pub write_allows : (z : DirectorySizes) (slots id i x : ℕ) (me : Me ℕ View) → (s : Spare) × (j : ℕ) × (me.0.spare ≡ Some s) × (i ≡ row_at z s.row + j) × (j < row_width z) × (j ≤ length s.words)
     → Allows (Holds z) slots id me i (λ _. x) (λ _. writes (step slots i x 0 none) me x)
 unfolding written_view
 write_allows z slots id i x me may t hold len is fits =

@@ -5,7 +5,7 @@ use native.Mathlib.Decide.{ℕ_discrete}
 use Rattle.std.specs.List.{Contains}
 use Rattle.std.proofs.lemmas.List.{append-nil}
 use Rattle.atomic_table.specs.Seated.{TableId}
-use Rattle.sf_dir.specs.declared.rule.Sizes.{Sizes}
+use Rattle.sf_dir.specs.declared.rule.DirectorySizes.{DirectorySizes}
 use Rattle.sf_dir.specs.declared.rule.Entry.{Entry}
 use Rattle.sf_dir.specs.declared.rule.View.{View}
 use Rattle.sf_dir.specs.Names.{Name, BeginsWith, AddsNone, Finds, IsFullFor, names_by}
@@ -17,7 +17,7 @@ use Rattle.sf_dir.proofs.Elements.{Contains-map, names_append, own_append, named
 use Rattle.sf_dir.proofs.Publishing.{one_key}
 
 -- a seat of this directory
-pub same_directory : (s t : TableId) (y z : Sizes) → directory_of s y ≡ directory_of t z → (s ≡ t) × (y ≡ z)
+pub same_directory : (s t : TableId) (y z : DirectorySizes) → directory_of s y ≡ directory_of t z → (s ≡ t) × (y ≡ z)
 same_directory s t y z e = (ap (λ (d : DirectoryId). d.table) e, ap (λ (d : DirectoryId). record { keys = d.keys; key_bytes = d.key_bytes; desks = d.desks; seed0 = d.seed0; seed1 = d.seed1 }) e)
 
 own_same : (n : ℕ) (v w : View) → v.from ≡ n → v.to ≡ n + 1 → (added : List Name) → Grows v w added → names_by n (names_of w.seen) ≡ names_by n (names_of v.seen) ++ added
@@ -69,13 +69,13 @@ first_at (e ∷ h) place n = dite (ℕ_discrete e.place place)
     (λ d. let f = first_at h place (named_rest e h place n d) in let lt = f.1.1 in (f.0, (suc (f.1.0), omega arith, f.1.2), f.2, ap (λ b. cond b e.key (key_at h place)) (ne_eqb e.place place d) ∙ f.3))
 
 -- of a sound list, it is the key of each entry there
-pub key_at_is : (z : Sizes) (h : List Entry) (e : Entry) (place : ℕ) → IsSound z h → Contains h e → e.place ≡ place → key_at h place ≡ e.key
+pub key_at_is : (z : DirectorySizes) (h : List Entry) (e : Entry) (place : ℕ) → IsSound z h → Contains h e → e.place ≡ place → key_at h place ≡ e.key
 key_at_is z h e place sound c is = let f = first_at h place (e, c, is) in f.3 ∙ one_key z h (f.0) e sound f.1 c (f.2 ∙ sym is)
 
-pub resolves_sound : (z : Sizes) (v w : View) (place : ℕ) (key : List ℕ) → v.sizes ≡ Some z → Resolves v w place key → IsSound z w.seen
+pub resolves_sound : (z : DirectorySizes) (v w : View) (place : ℕ) (key : List ℕ) → v.sizes ≡ Some z → Resolves v w place key → IsSound z w.seen
 resolves_sound z v w place key sizes r = ⊎_elim (λ (g : Grows v w []). g.sound z sizes) (λ (g : (r.entry.by ≡ v.from) × Grows v w (name_of r.entry ∷ [])). g.1.sound z sizes) r.grows
 
-pub resolved_key : (z : Sizes) (v w : View) (place number : ℕ) (key : List ℕ) → v.sizes ≡ Some z → Resolves v w place key → number ≡ place → key_at w.seen number ≡ key
+pub resolved_key : (z : DirectorySizes) (v w : View) (place number : ℕ) (key : List ℕ) → v.sizes ≡ Some z → Resolves v w place key → number ≡ place → key_at w.seen number ≡ key
 resolved_key z v w place number key sizes r is = key_at_is z w.seen r.entry number (resolves_sound z v w place key sizes r) r.stands (r.place_is ∙ sym is) ∙ r.key_is
 
 -- a desk that was told what another had seen, after its look

@@ -12,7 +12,7 @@ use Rattle.std.proofs.lemmas.List.Elements.{Contains-append_left, Contains-push,
 use Rattle.std.proofs.lemmas.List.Quantifiers.{all_pairs_push}
 use Rattle.atomic_table.specs.Table.{State, Me, Act, step, keeps, Allows, Valid, stepped, carried_after}
 use Rattle.atomic_table.proofs.Lists.{exchanged}
-use Rattle.sf_dir.specs.declared.rule.Sizes.{Sizes}
+use Rattle.sf_dir.specs.declared.rule.DirectorySizes.{DirectorySizes}
 use Rattle.sf_dir.specs.declared.rule.Entry.{Entry}
 use Rattle.sf_dir.specs.declared.rule.Spare.{Spare}
 use Rattle.sf_dir.specs.declared.rule.View.{View}
@@ -30,11 +30,11 @@ use Rattle.sf_lists.proofs.Functions.{put_here, put_else}
 use Rattle.sf_lists.proofs.Ends.{sides}
 
 -- two entries of a sound list at one place are of one key
-pub one_key : (z : Sizes) (h : List Entry) (e f : Entry) → IsSound z h → Contains h e → Contains h f → e.place ≡ f.place → e.key ≡ f.key
+pub one_key : (z : DirectorySizes) (h : List Entry) (e f : Entry) → IsSound z h → Contains h e → Contains h f → e.place ≡ f.place → e.key ≡ f.key
 one_key z h e f sound he hf same = ap (λ (n : Name). n.key) (pairs_one (λ (n : Name). n.place) (names_of h) (name_of e) (name_of f) (sound.names.distinct_places) (Contains-map name_of h e he) (Contains-map name_of h f hf) same)
 
 -- where the desk has seen another key at each place of the walk before this one, and this one is empty, the key has no name
-pub unnamed_key : (z : Sizes) (h seen rest : List Entry) (key : List ℕ) (passed : ℕ) → h ≡ seen ++ rest → IsSound z h → ¬ (IsNamed h (place_after z key passed))
+pub unnamed_key : (z : DirectorySizes) (h seen rest : List Entry) (key : List ℕ) (passed : ℕ) → h ≡ seen ++ rest → IsSound z h → ¬ (IsNamed h (place_after z key passed))
     → ((k : ℕ) → k < passed → IsTaken seen (place_after z key k) key) → (f : Entry) → Contains h f → f.key ≢ key
 unnamed_key z h seen rest key passed splits sound empty before f hf is =
     let walk = sound.walks f hf in
@@ -49,7 +49,7 @@ unnamed_key z h seen rest key passed splits sound empty before f hf is =
     (sides (walk.0) passed d))
 
 -- a list with one more name is sound
-pub sound_push : (z : Sizes) (h : List Entry) (e : Entry) → IsSound z h → (1 ≤ e.place) × (e.place ≤ z.keys) × (1 ≤ e.by) × (e.by ≤ z.desks) → ¬ (IsNamed h e.place) → ((f : Entry) → Contains h f → f.key ≢ e.key)
+pub sound_push : (z : DirectorySizes) (h : List Entry) (e : Entry) → IsSound z h → (1 ≤ e.place) × (e.place ≤ z.keys) × (1 ≤ e.by) × (e.by ≤ z.desks) → ¬ (IsNamed h e.place) → ((f : Entry) → Contains h f → f.key ≢ e.key)
     → IsKey z e.key → e.row < row_count z → IsOnWalk z h e → IsSound z (h ++ e ∷ [])
 sound_push z h e sound within empty fresh key row walk = record {
   names = subst (IsNameList z.keys z.desks) (sym (names_append h (e ∷ []))) (record {
@@ -89,7 +89,7 @@ empty_place h p n e (inr w) = let is = w.3 in absurd (omega arith)
 pub place_within : (keys n : ℕ) → 0 < keys → (1 ≤ n % keys + 1) × (n % keys + 1 ≤ keys)
 place_within keys n some_key = let lt : n % keys < keys = mod-lt n some_key in (omega arith, omega arith)
 
-published_shows : (z : Sizes) (t : State ℕ View) (h : List Entry) (sh : Shows z h t) (id : ℕ) (v : View) (place row : ℕ) (key : List ℕ) → get_elem? t.views id ≡ some v → (may : MayPublish z v place row key) → slice_index t.words place ≡ 0
+published_shows : (z : DirectorySizes) (t : State ℕ View) (h : List Entry) (sh : Shows z h t) (id : ℕ) (v : View) (place row : ℕ) (key : List ℕ) → get_elem? t.views id ≡ some v → (may : MayPublish z v place row key) → slice_index t.words place ≡ 0
     → Shows z (h ++ new_entry v place row key ∷ []) (record { words = set t.words place (row + 1); homes = t.homes; views = set t.views id (published_view v (h ++ new_entry v place row key ∷ [])) })
 unfolding published_view published_holders new_entry
 published_shows z t h sh id v place row key is may zero_there =
@@ -157,10 +157,10 @@ published_shows z t h sh id v place row key is may zero_there =
     only e x c = ⊎_elim (λ (old : Contains [] x). let lt = old.1 in absurd (omega arith)) (λ (new : e ≡ x). sym new) (Contains-push_cases [] e x c)
 
 -- what the table and the desk are after a publish that makes the place word x
-abbrev pub Outcome : (z : Sizes) (slots id place row : ℕ) (me : Me ℕ View) (t : State ℕ View) → ℕ → Type 0
+abbrev pub Outcome : (z : DirectorySizes) (slots id place row : ℕ) (me : Me ℕ View) (t : State ℕ View) → ℕ → Type 0
 Outcome z slots id place row me t x = (w : View) × (a : Act ℕ) × Valid t.homes me.1 a × Holds z (stepped t place x id me.1 w a) × publishes (step slots place 0 (row + 1) none) me (slice_index t.words place) (w, carried_after me.1 a)
 
-publish_won : (z : Sizes) (slots id place row : ℕ) (key : List ℕ) (me : Me ℕ View) → MayPublish z me.0 place row key → (t : State ℕ View) → Holds z t → get_elem? t.views id ≡ some me.0 → slice_index t.words place ≡ 0 → Outcome z slots id place row me t (row + 1)
+publish_won : (z : DirectorySizes) (slots id place row : ℕ) (key : List ℕ) (me : Me ℕ View) → MayPublish z me.0 place row key → (t : State ℕ View) → Holds z t → get_elem? t.views id ≡ some me.0 → slice_index t.words place ≡ 0 → Outcome z slots id place row me t (row + 1)
 unfolding published_view new_entry
 publish_won z slots id place row key me may t hold is zero_there =
     let h = hold.0 in
@@ -205,7 +205,7 @@ publish_won z slots id place row key me may t hold is zero_there =
           subst (λ x. Tried x place v (slice_index t.words place) w) (sym (m.sizes y q)) told,
     )
 
-publish_lost : (z : Sizes) (slots id place row : ℕ) (key : List ℕ) (me : Me ℕ View) → MayPublish z me.0 place row key → (t : State ℕ View) → Holds z t → get_elem? t.views id ≡ some me.0 → slice_index t.words place ≢ 0 → Outcome z slots id place row me t (slice_index t.words place)
+publish_lost : (z : DirectorySizes) (slots id place row : ℕ) (key : List ℕ) (me : Me ℕ View) → MayPublish z me.0 place row key → (t : State ℕ View) → Holds z t → get_elem? t.views id ≡ some me.0 → slice_index t.words place ≢ 0 → Outcome z slots id place row me t (slice_index t.words place)
 publish_lost z slots id place row key me may t hold is other =
     let h = hold.0 in
     let sh = hold.1 in
@@ -225,10 +225,10 @@ publish_lost z slots id place row key me may t hold is other =
           subst (λ x. Tried x place v (slice_index t.words place) w) (sym (m.sizes y q)) told,
     )
 
-pub publish_allows : (z : Sizes) (slots id place row : ℕ) (key : List ℕ) (me : Me ℕ View) → MayPublish z me.0 place row key
+pub publish_allows : (z : DirectorySizes) (slots id place row : ℕ) (key : List ℕ) (me : Me ℕ View) → MayPublish z me.0 place row key
     → Allows (Holds z) slots id me place (λ n. either (eqb n 0) (row + 1) n) (publishes (step slots place 0 (row + 1) none) me)
 publish_allows z slots id place row key me may t hold len is fits =
     exchanged (slice_index t.words place) 0 (row + 1) (Outcome z slots id place row me t) (publish_won z slots id place row key me may t hold is) (publish_lost z slots id place row key me may t hold is)
 
-pub may_within : (z : Sizes) (v : View) (place row : ℕ) (key : List ℕ) → MayPublish z v place row key → (1 ≤ place) × (place ≤ z.keys)
+pub may_within : (z : DirectorySizes) (v : View) (place row : ℕ) (key : List ℕ) → MayPublish z v place row key → (1 ≤ place) × (place ≤ z.keys)
 may_within z v place row key may = subst (λ p. (1 ≤ p) × (p ≤ z.keys)) (sym may.reached.place_is) (place_within z.keys _ (let lt = may.reached.within in omega arith))

@@ -7,7 +7,7 @@ use Rattle.std.specs.List.{Contains}
 use Rattle.std.proofs.lemmas.List.{append-nil, length-replicate, get_or-replicate}
 use Rattle.atomic_table.specs.Table.{opening, Splits, Joins}
 use Rattle.atomic_table.proofs.Lists.{at_set, set_else}
-use Rattle.sf_dir.specs.declared.rule.Sizes.{Sizes}
+use Rattle.sf_dir.specs.declared.rule.DirectorySizes.{DirectorySizes}
 use Rattle.sf_dir.specs.declared.rule.Entry.{Entry}
 use Rattle.sf_dir.specs.declared.rule.View.{View}
 use Rattle.sf_dir.specs.Rule.{first_view, without_first, first_alone, note_of, both_of, blank, is_named, count_to, Holders, IsView, Holds}
@@ -25,7 +25,7 @@ count_none f zero none = refl
 count_none f (suc n) none = ap (λ b. cond {A = ℕ} b 1 0 + count_to f n) (none (suc n)) ∙ (let rest = count_none f n none in omega arith)
 
 -- no names: all words are 0
-pub opens : (z : Sizes) (words : List ℕ) → words ≡ replicate (word_total z) 0 → Holds z (opening {S = ℕ} words [] (first_view z))
+pub opens : (z : DirectorySizes) (words : List ℕ) → words ≡ replicate (word_total z) 0 → Holds z (opening {S = ℕ} words [] (first_view z))
 opens z words zeros = (
   [],
   record {
@@ -68,7 +68,7 @@ at_same : {A : Type 0} (l : List A) (i j : ℕ) (a b : A) → get_elem? l i ≡ 
 at_same l i j a b is e = ⊎_elim (λ (p : (j ≡ i) × (a ≡ b)). ap (get_elem? l) p.0 ∙ (is ∙ ap some p.1)) (λ (p : (j ≢ i) × (get_elem? l j ≡ some b)). p.1) (at_set l i j a b e)
 
 -- a seat that stands for nobody, and has seen a beginning of the names
-note_view : (z : Sizes) (h : List Entry) (ws : List ℕ) (drawn : ℕ) (o : Holders) (k seat : ℕ) (v : View) → IsView z h ws drawn o seat v → IsView z h ws drawn o k (note_of v)
+note_view : (z : DirectorySizes) (h : List Entry) (ws : List ℕ) (drawn : ℕ) (o : Holders) (k seat : ℕ) (v : View) → IsView z h ws drawn o seat v → IsView z h ws drawn o k (note_of v)
 note_view z h ws drawn o k seat v m = record {
   sizes = m.sizes;
   rest = m.rest;
@@ -79,7 +79,7 @@ note_view z h ws drawn o k seat v m = record {
   spare = λ s q. cc;
 }
 
-pub shows_split : (z : Sizes) (id : ℕ) (v : View) → Splits {S = ℕ} (Holds z) id v v (note_of v)
+pub shows_split : (z : DirectorySizes) (id : ℕ) (v : View) → Splits {S = ℕ} (Holds z) id v v (note_of v)
 shows_split z id v t hold is =
     let h = hold.0 in
     let sh = hold.1 in (
@@ -102,7 +102,7 @@ shows_split z id v t hold is =
     )
 
 -- the first desk of a seat that deals them out
-pub deals_split : (z : Sizes) (id : ℕ) (v : View) → v.from < v.to → v.spare ≡ None → Splits {S = ℕ} (Holds z) id v (without_first v) (first_alone v)
+pub deals_split : (z : DirectorySizes) (id : ℕ) (v : View) → v.from < v.to → v.spare ≡ None → Splits {S = ℕ} (Holds z) id v (without_first v) (first_alone v)
 deals_split z id v some_desk free t hold is =
     let h = hold.0 in
     let sh = hold.1 in
@@ -157,7 +157,7 @@ deals_split z id v some_desk free t hold is =
     )
 
 -- a seat that takes in another, and is told what that had seen
-pub shows_join : (z : Sizes) (id other : ℕ) (v w : View) → Joins {S = ℕ} (Holds z) id v other w (both_of v w) blank
+pub shows_join : (z : DirectorySizes) (id other : ℕ) (v w : View) → Joins {S = ℕ} (Holds z) id v other w (both_of v w) blank
 shows_join z id other v w t hold is apart there =
     let h = hold.0 in
     let sh = hold.1 in

@@ -1,7 +1,7 @@
 -- What contracts see of directories, desks and places.
 use Rattle.std.specs.Prelude.{◌≡◌, ℕ, ◌+◌, ◌==◌, List, [], ◌∷◌, cond, Option, Some, unwrap_or, map}
 use Rattle.atomic_table.specs.Seated.{TableId}
-use Rattle.sf_dir.specs.declared.rule.Sizes.{Sizes}
+use Rattle.sf_dir.specs.declared.rule.DirectorySizes.{DirectorySizes}
 use Rattle.sf_dir.specs.declared.rule.Entry.{Entry}
 use Rattle.sf_dir.specs.declared.rule.View.{View}
 use Rattle.sf_dir.specs.Names.{Name, IsNameList, AddsNone, BeginsWith}
@@ -27,10 +27,10 @@ pub record PlaceState : Type 0 where
   pub number : ℕ
   pub key : List ℕ
 
-abbrev pub directory_of : TableId → Sizes → DirectoryId
+abbrev pub directory_of : TableId → DirectorySizes → DirectoryId
 directory_of t z = record { table = t; keys = z.keys; key_bytes = z.key_bytes; desks = z.desks; seed0 = z.seed0; seed1 = z.seed1 }
 
-abbrev pub sizes_of : View → Sizes
+abbrev pub sizes_of : View → DirectorySizes
 sizes_of v = unwrap_or v.sizes (record { keys = 0; key_bytes = 0; desks = 0; seed0 = 0; seed1 = 0 })
 
 -- a desk's seat between its calls: it stands for that desk alone

@@ -4,7 +4,7 @@ use Rattle.std.specs.List.{list_any}
 use mathlib.Core.Option.{some}
 use lib.ListN.{get_elem?}
 use Rattle.atomic_table.specs.Table.{State}
-use Rattle.sf_dir.specs.declared.rule.Sizes.{Sizes}
+use Rattle.sf_dir.specs.declared.rule.DirectorySizes.{DirectorySizes}
 use Rattle.sf_dir.specs.declared.rule.Entry.{Entry}
 use Rattle.sf_dir.specs.declared.rule.Spare.{Spare}
 use Rattle.sf_dir.specs.declared.rule.View.{View}
@@ -13,7 +13,7 @@ use Rattle.sf_dir.specs.KeyRow.{row_word, place_after}
 use Rattle.sf_dir.specs.WordIndex.{row_width, row_count, counter_at, row_at, word_total}
 
 -- the view of the seat that deals the desks out
-abbrev pub first_view : Sizes → View
+abbrev pub first_view : DirectorySizes → View
 first_view z = record { sizes = Some z; from = 1; to = z.desks + 1; seen = []; spare = None; told = [] }
 
 -- what is left of it when a desk is dealt, and the desk's own
@@ -61,15 +61,15 @@ IsPlaceWord h place n = ((n ≡ 0) × ¬ (IsNamed h place))
     ⊎ ((e : Entry) × Contains h e × (e.place ≡ place) × (n ≡ e.row + 1))
 
 -- the entry's place is on its key's walk, and each place before it there is named
-abbrev pub IsOnWalk : Sizes → List Entry → Entry → Type 0
+abbrev pub IsOnWalk : DirectorySizes → List Entry → Entry → Type 0
 IsOnWalk z h e = (passed : ℕ) × (passed < z.keys) × (e.place ≡ place_after z e.key passed)
     × ((k : ℕ) → k < passed → IsNamed h (place_after z e.key k))
 
-abbrev pub IsKey : Sizes → List ℕ → Type 0
+abbrev pub IsKey : DirectorySizes → List ℕ → Type 0
 IsKey z key = (length key ≤ z.key_bytes) × ((i : ℕ) → slice_index key i < 256)
 
 -- a list that desks may have published: a list of names, each with a key that fits, in a row of the table, on its key's walk
-pub record IsSound (z : Sizes) (h : List Entry) : Type 0 where
+pub record IsSound (z : DirectorySizes) (h : List Entry) : Type 0 where
   pub names : IsNameList z.keys z.desks (names_of h)
   pub keys : (e : Entry) → Contains h e → IsKey z e.key × (e.row < row_count z)
   pub walks : (e : Entry) → Contains h e → IsOnWalk z h e
@@ -98,7 +98,7 @@ pub record Holders : Type 0 where
   pub has_spare : ℕ → Bool
 
 -- what is true of a seat's spare row
-pub record IsSpare (z : Sizes) (h : List Entry) (words : List ℕ) (drawn : ℕ) (o : Holders) (seat : ℕ) (v : View) (s : Spare)
+pub record IsSpare (z : DirectorySizes) (h : List Entry) (words : List ℕ) (drawn : ℕ) (o : Holders) (seat : ℕ) (v : View) (s : Spare)
     : Type 0 where
   pub is_drawn : s.row < drawn
   pub kept : o.keeper_of s.row ≡ seat
@@ -109,8 +109,8 @@ pub record IsSpare (z : Sizes) (h : List Entry) (words : List ℕ) (drawn : ℕ)
       → slice_index words (row_at z s.row + i) ≡ slice_index s.words i
 
 -- what is true of a seat's view
-pub record IsView (z : Sizes) (h : List Entry) (words : List ℕ) (drawn : ℕ) (o : Holders) (seat : ℕ) (v : View) : Type 0 where
-  pub sizes : (y : Sizes) → v.sizes ≡ Some y → y ≡ z
+pub record IsView (z : DirectorySizes) (h : List Entry) (words : List ℕ) (drawn : ℕ) (o : Holders) (seat : ℕ) (v : View) : Type 0 where
+  pub sizes : (y : DirectorySizes) → v.sizes ≡ Some y → y ≡ z
   pub rest : List Entry
   pub splits : h ≡ v.seen ++ rest
   pub others : (desk : ℕ) → StandsFor v desk → own_names desk rest ≡ []
@@ -120,7 +120,7 @@ pub record IsView (z : Sizes) (h : List Entry) (words : List ℕ) (drawn : ℕ) 
   pub spare : (s : Spare) → v.spare ≡ Some s → IsSpare z h words drawn o seat v s
 
 -- the table's words and views are those of this list
-pub record Shows (z : Sizes) (h : List Entry) (t : State ℕ View) : Type 0 where
+pub record Shows (z : DirectorySizes) (h : List Entry) (t : State ℕ View) : Type 0 where
   pub size : length t.words ≡ word_total z
   pub sound : IsSound z h
   pub places : (place : ℕ) → 1 ≤ place → place ≤ z.keys → IsPlaceWord h place (slice_index t.words place)
@@ -133,5 +133,5 @@ pub record Shows (z : Sizes) (h : List Entry) (t : State ℕ View) : Type 0 wher
   pub counts : drawn ≡ count_to (is_named h) z.keys + count_to holders.has_spare z.desks
   pub seats : (seat : ℕ) (v : View) → get_elem? t.views seat ≡ some v → IsView z h t.words drawn holders seat v
 
-abbrev pub Holds : Sizes → State ℕ View → Type 0
+abbrev pub Holds : DirectorySizes → State ℕ View → Type 0
 Holds z t = (h : List Entry) × Shows z h t

@@ -4,7 +4,7 @@ use Rattle.atomic_table.specs.Seated.{TableId}
 use Rattle.atomic_table.specs.declared.shared.Shared.{Shared}
 use Rattle.atomic_table.specs.declared.shared.Seat.{Seat}
 use Rattle.sf_dir.specs.declared.rule.Law.{Law}
-use Rattle.sf_dir.specs.declared.rule.Sizes.{Sizes}
+use Rattle.sf_dir.specs.declared.rule.DirectorySizes.{DirectorySizes}
 use Rattle.sf_dir.specs.declared.rule.Entry.{Entry}
 use Rattle.sf_dir.specs.declared.rule.Spare.{Spare}
 use Rattle.sf_dir.specs.declared.rule.View.{View}
@@ -14,15 +14,15 @@ use Rattle.sf_dir.specs.WordIndex.{IsWithinLimits, row_at, row_width, row_count,
 use Rattle.sf_dir.specs.Plays.{Grows}
 
 -- the seat is of this table, and knows its sizes
-abbrev pub IsOwnSeat : Shared ℕ View Sizes Law → Seat ℕ View → Type 0
+abbrev pub IsOwnSeat : Shared ℕ View DirectorySizes Law → Seat ℕ View → Type 0
 IsOwnSeat words seat = (seat.table_id ≡ words.table_id) × (seat.me.0.sizes ≡ Some words.key)
 
 -- the table has the words that these sizes ask for
-abbrev pub IsLaidOut : Sizes → TableId → Sizes → Type 0
+abbrev pub IsLaidOut : DirectorySizes → TableId → DirectorySizes → Type 0
 IsLaidOut z table sizes = (z ≡ sizes) × (table.words ≡ word_total z) × IsWithinLimits z
 
 -- the seat stands for one desk, between two steps of it
-abbrev pub IsOneDesk : Sizes → View → Type 0
+abbrev pub IsOneDesk : DirectorySizes → View → Type 0
 IsOneDesk z v = (v.to ≡ v.from + 1) × (v.told ≡ []) × IsSound z v.seen
 
 abbrev pub spare_row : Option Spare → Option ℕ
@@ -30,7 +30,7 @@ spare_row None = None
 spare_row (Some s) = Some s.row
 
 -- the desk holds the number of its spare row, if it has one
-pub record HoldsSpare (z : Sizes) (v : View) (row : Option ℕ) : Type 0 where
+pub record HoldsSpare (z : DirectorySizes) (v : View) (row : Option ℕ) : Type 0 where
   pub row_is : spare_row v.spare ≡ row
   pub within : (s : Spare) → v.spare ≡ Some s → s.row < row_count z
 
@@ -43,14 +43,14 @@ pub record IsWritten (v : View) (row : ℕ) (key : List ℕ) (n : ℕ) : Type 0 
   pub words : (i : ℕ) → i < n → slice_index spare.words i ≡ row_word key i
 
 -- the place is on the key's walk, and the desk has seen another key at each place before it
-pub record IsReached (z : Sizes) (v : View) (place : ℕ) (key : List ℕ) : Type 0 where
+pub record IsReached (z : DirectorySizes) (v : View) (place : ℕ) (key : List ℕ) : Type 0 where
   pub passed : ℕ
   pub within : passed < z.keys
   pub place_is : place ≡ place_after z key passed
   pub before : (k : ℕ) → k < passed → IsTaken v.seen (place_after z key k) key
 
 -- the words that may be written: the spare row's, up to the first that is not written yet
-abbrev pub MayWrite : Sizes → View → ℕ → Type 0
+abbrev pub MayWrite : DirectorySizes → View → ℕ → Type 0
 MayWrite z v word = (s : Spare) × (i : ℕ) × (v.spare ≡ Some s)
     × (word ≡ row_at z s.row + i) × (i < row_width z) × (i ≤ length s.words)
 
@@ -62,7 +62,7 @@ abbrev pub IsRowOfAnother : List Entry → ℕ → List ℕ → Type 0
 IsRowOfAnother h row key = (e : Entry) → Contains h e → e.row ≡ row → e.key ≢ key
 
 -- the desk may publish its row as the key's at this place
-pub record MayPublish (z : Sizes) (v : View) (place row : ℕ) (key : List ℕ) : Type 0 where
+pub record MayPublish (z : DirectorySizes) (v : View) (place row : ℕ) (key : List ℕ) : Type 0 where
   pub written : IsWritten v row key (row_width z)
   pub reached : IsReached z v place key
   pub is_key : IsKey z key

@@ -9,7 +9,7 @@ ghost use Rattle.sf_dir.specs.Known.{IsNewDesk, numbers_of, IsSameDesk, Learns, 
 use crate::desk::Desk;
 use crate::place::Place;
 use crate::refusal::Refusal;
-use crate::rule::{Deals, Law, Shows, Sizes, View};
+use crate::rule::{Deals, DirectorySizes, Law, Shows, View};
 use crate::steps::{DeskSeat, Words, look};
 use crate::walk::find;
 use crate::word_index::{NO_PLACE, word_total_of};
@@ -27,8 +27,8 @@ pub const MOST_DESKS: u32 = LARGEST_CALLER;
 /// Places for keys: each key that is resolved gets one for good. Clauses see which directory it is, and its sizes.
 #[derive(Drop)]
 pub struct Directory {
-    pub(crate) table: Table<u8, View, Sizes, Law, Global>,
-    pub(crate) sizes: Sizes,
+    pub(crate) table: Table<u8, View, DirectorySizes, Law, Global>,
+    pub(crate) sizes: DirectorySizes,
 }
 
 impl Model for Directory {
@@ -80,7 +80,7 @@ impl Directory {
         ensures desks { IfOk result (λ made. All (IsNewDesk made.0) made.1.items) }
         ensures numbers { IfOk result (λ made. numbers_of made.1.items ≡ range_with_len 1 desks) }
     {
-        let sizes = Sizes {
+        let sizes = DirectorySizes {
             keys: keys as u64,
             key_bytes: key_bytes as u64,
             desks: desks as u64,
@@ -89,7 +89,7 @@ impl Directory {
         };
         let words = Vec::from_elem(alloc, 0u64, word_total_of(sizes))?;
         let mut list = Vec::with_capacity(alloc, desks as usize)?;
-        let (table, mut first) = Table::<u8, View, Sizes, Law, Global>::of_words(
+        let (table, mut first) = Table::<u8, View, DirectorySizes, Law, Global>::of_words(
             alloc,
             words.as_slice(),
             &sizes,

@@ -6,7 +6,7 @@ ghost use Rattle.sf_dir.specs.WordIndex.{row_width, row_count};
 ghost use Rattle.sf_dir.specs.Plays.{Grows};
 ghost use Rattle.sf_dir.specs.Walk.{IsOwnSeat, IsLaidOut, IsRowOf, IsRowOfAnother, HoldsSpare, IsWritten};
 
-use crate::rule::Sizes;
+use crate::rule::DirectorySizes;
 use crate::steps::{DeskSeat, Words, look, write};
 use crate::word_index::{start_of_row, width_of};
 
@@ -60,7 +60,7 @@ pub(crate) fn word_count(len: usize) -> usize
 pub(crate) fn has_key(
     words: &Words,
     seat: &mut DeskSeat,
-    sizes: Sizes,
+    sizes: DirectorySizes,
     row: u64,
     key: &[u8],
 ) -> bool
@@ -87,7 +87,13 @@ pub(crate) fn has_key(
 }
 
 /// Writes a key into the desk's spare row, zeros behind it.
-pub(crate) fn write_key(words: &Words, seat: &mut DeskSeat, sizes: Sizes, row: u64, key: &[u8])
+pub(crate) fn write_key(
+    words: &Words,
+    seat: &mut DeskSeat,
+    sizes: DirectorySizes,
+    row: u64,
+    key: &[u8],
+)
     requires own { IsOwnSeat words.now seat.old }
     requires limits { IsLaidOut words.now.key words.now.table_id sizes }
     requires spare { HoldsSpare words.now.key seat.old.me.0 (Some row) }

@@ -1,11 +1,11 @@
 //! The rule of the directory's table: what its words say, and what each seat knows. No value of these types but
-//! `Sizes` is made.
+//! `DirectorySizes` is made.
 use atomic_table::{Join, Play, Split, TableRule};
 use std::collections::LinkedList;
 
 /// How many places there are, how long keys may be, how many desks there are, and the seed of the hash.
 #[derive(Clone, Copy)]
-pub struct Sizes {
+pub struct DirectorySizes {
     pub keys: u64,
     pub key_bytes: u64,
     pub desks: u64,
@@ -30,7 +30,7 @@ pub struct Spare {
 /// What a seat knows: the desks that it stands for, `from` up to but not `to`, the names that it has seen, and its
 /// spare row. `told` is what joined seats brought, until the next step.
 pub struct View {
-    pub sizes: Option<Sizes>,
+    pub sizes: Option<DirectorySizes>,
     pub from: u64,
     pub to: u64,
     pub seen: LinkedList<Entry>,
@@ -40,7 +40,7 @@ pub struct View {
 
 pub struct Law;
 
-impl TableRule<u8, View, Sizes> for Law {
+impl TableRule<u8, View, DirectorySizes> for Law {
     ghost use Rattle.sf_dir.specs.Rule.{Holds, first_view};
 
     ghost holds = { Holds };

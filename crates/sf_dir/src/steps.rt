@@ -5,14 +5,14 @@ ghost use Rattle.sf_dir.specs.WordIndex.{counter_at, row_count};
 ghost use Rattle.sf_dir.specs.Plays.{Looked, Drew, Wrote, Tried};
 ghost use Rattle.sf_dir.specs.Walk.{IsOwnSeat, IsLaidOut, MayWrite, MayPublish};
 
-use crate::rule::{Draws, Law, Looks, Publishes, Sizes, View, Writes};
+use crate::rule::{DirectorySizes, Draws, Law, Looks, Publishes, View, Writes};
 use crate::word_index::EMPTY;
 use atomic_table::{Seat, Shared};
 
-/// How far a draw moves the counter.
+// How far a draw moves the counter.
 const ONE_ROW: u64 = 1;
 
-pub(crate) type Words = Shared<u8, View, Sizes, Law>;
+pub(crate) type Words = Shared<u8, View, DirectorySizes, Law>;
 
 pub(crate) type DeskSeat = Seat<u8, View>;
 

@@ -11,12 +11,12 @@ ghost use Rattle.sf_words.specs.declared.limits.TheConstants.{LARGEST_PLACE};
 
 use crate::key_hash::hash;
 use crate::key_row::{has_key, write_key};
-use crate::rule::Sizes;
+use crate::rule::DirectorySizes;
 use crate::steps::{DeskSeat, Words, draw, look, publish};
 use crate::word_index::{EMPTY, counter_of};
 
 // The index of the place at which the key's walk begins: the hash's upper half, scaled down to the places.
-fn start_of(sizes: Sizes, key: &[u8]) -> u64
+fn start_of(sizes: DirectorySizes, key: &[u8]) -> u64
     requires { (1 ≤ sizes.keys) × (sizes.keys ≤ LARGEST_PLACE) }
     ensures is { result ≡ first_index (hash_of sizes key.now) sizes.keys }
     ensures within { result < sizes.keys }
@@ -38,7 +38,12 @@ fn place_of(start: u64, passed: u64, keys: u64) -> u64
 }
 
 // The desk's spare row, drawn now if it has none.
-fn spare_of(words: &Words, seat: &mut DeskSeat, sizes: Sizes, spare: &mut Option<u64>) -> u64
+fn spare_of(
+    words: &Words,
+    seat: &mut DeskSeat,
+    sizes: DirectorySizes,
+    spare: &mut Option<u64>,
+) -> u64
     requires own { IsOwnSeat words.now seat.old }
     requires limits { IsLaidOut words.now.key words.now.table_id sizes }
     requires desk { IsOneDesk words.now.key seat.old.me.0 }
@@ -59,7 +64,7 @@ fn spare_of(words: &Words, seat: &mut DeskSeat, sizes: Sizes, spare: &mut Option
 fn claim(
     words: &Words,
     seat: &mut DeskSeat,
-    sizes: Sizes,
+    sizes: DirectorySizes,
     spare: &mut Option<u64>,
     place: u64,
     key: &[u8],
@@ -89,7 +94,7 @@ fn claim(
 fn occupant(
     words: &Words,
     seat: &mut DeskSeat,
-    sizes: Sizes,
+    sizes: DirectorySizes,
     spare: &mut Option<u64>,
     place: u64,
     key: &[u8],
@@ -117,7 +122,7 @@ fn occupant(
 fn visit(
     words: &Words,
     seat: &mut DeskSeat,
-    sizes: Sizes,
+    sizes: DirectorySizes,
     spare: &mut Option<u64>,
     place: u64,
     key: &[u8],
@@ -144,7 +149,7 @@ fn visit(
 pub(crate) fn find(
     words: &Words,
     seat: &mut DeskSeat,
-    sizes: Sizes,
+    sizes: DirectorySizes,
     spare: &mut Option<u64>,
     key: &[u8],
 ) -> Option<u64>

@@ -4,7 +4,7 @@
 ghost use Rattle.std.specs.Prelude.{◌≡◌, ◌<◌};
 ghost use Rattle.sf_dir.specs.WordIndex.{IsWithinLimits, counter_at, row_at, row_width, row_count, word_total};
 
-use crate::rule::Sizes;
+use crate::rule::DirectorySizes;
 
 /// The word that is no place's: a load of it says nothing but what joined seats brought.
 pub(crate) const NO_PLACE: u64 = 0;
@@ -12,12 +12,12 @@ pub(crate) const NO_PLACE: u64 = 0;
 /// What stands in the word of a place that no desk has published a row at.
 pub(crate) const EMPTY: u64 = 0;
 
-/// How far the counter lies behind the last place, and the first row behind the counter: 128 bytes, so that whoever
-/// draws or writes a row takes no line of place words from those who look.
+// How far the counter lies behind the last place, and the first row behind the counter: 128 bytes, so that whoever
+// draws or writes a row takes no line of place words from those who look.
 const GAP: u64 = 16;
 
 /// How many words a row has: a length, and eight bytes a word.
-pub(crate) fn width_of(sizes: Sizes) -> u64
+pub(crate) fn width_of(sizes: DirectorySizes) -> u64
     requires { IsWithinLimits sizes }
     ensures { result ≡ row_width sizes }
 {
@@ -25,7 +25,7 @@ pub(crate) fn width_of(sizes: Sizes) -> u64
 }
 
 /// The word that draws rows.
-pub(crate) fn counter_of(sizes: Sizes) -> u64
+pub(crate) fn counter_of(sizes: DirectorySizes) -> u64
     requires { IsWithinLimits sizes }
     ensures { result ≡ counter_at sizes }
 {
@@ -33,7 +33,7 @@ pub(crate) fn counter_of(sizes: Sizes) -> u64
 }
 
 /// A row's first word.
-pub(crate) fn start_of_row(sizes: Sizes, row: u64) -> u64
+pub(crate) fn start_of_row(sizes: DirectorySizes, row: u64) -> u64
     requires { IsWithinLimits sizes × (row < row_count sizes) }
     ensures { result ≡ row_at sizes row }
 {
@@ -41,7 +41,7 @@ pub(crate) fn start_of_row(sizes: Sizes, row: u64) -> u64
 }
 
 /// How many words the table has: as many rows as places and desks together.
-pub(crate) fn word_total_of(sizes: Sizes) -> usize
+pub(crate) fn word_total_of(sizes: DirectorySizes) -> usize
     requires { IsWithinLimits sizes }
     ensures { result ≡ word_total sizes }
 {
