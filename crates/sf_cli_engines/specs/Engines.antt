@@ -19,8 +19,8 @@ use Rattle.sf_cli_engines.specs.declared.ending.Ending.{Ending}
 use Rattle.sf_cli_engines.specs.declared.ending.Ending.TheVariants.{Answered, Illegal, Incomplete, Refused}
 use Rattle.sf_cli_engines.specs.declared.engine.Engine.{Engine}
 use Rattle.sf_cli_engines.specs.declared.engine.Engine.TheVariants.{Run, Steps, Check, Merge}
-use Rattle.sf_cli_engines.specs.declared.engine.Asked.{Asked}
-use Rattle.sf_cli_engines.specs.declared.engine.Asked.TheVariants as asked
+use Rattle.sf_cli_engines.specs.declared.engine.Form.{Form}
+use Rattle.sf_cli_engines.specs.declared.engine.Form.TheVariants as asked
 use Rattle.sf_cli_engines.specs.declared.engine.Judged.TheVariants.{AsItStands, InTime, Drawn}
 use Rattle.sf_cli_engines.specs.declared.engine.Shown.TheVariants.{Lines, History, Picture}
 
@@ -31,7 +31,7 @@ name_of (Steps shown) = codes "steps"
 name_of (Check judged) = codes "check"
 name_of Merge = codes "merge"
 
-abbrev pub shown_by : Engine → Asked
+abbrev pub shown_by : Engine → Form
 shown_by (Run false) = asked.Lines
 shown_by (Run true) = asked.History
 shown_by (Steps Lines) = asked.Lines

@@ -20,7 +20,7 @@ pub(crate) enum Drawn {
     Line(TimedChecked),
 }
 
-/// The events that are said to have no order.
+// The events that are said to have no order.
 fn witness_of(checked: TimedChecked) -> Option<Witness>
     ensures found { IsSome result → (text : List ℕ) → IsPictureOf (timed_text checked) text
         → IsShownAs checked text }
@@ -33,7 +33,7 @@ fn witness_of(checked: TimedChecked) -> Option<Witness>
     }
 }
 
-/// The picture of what is said of an input; none where memory is refused.
+// The picture of what is said of an input; none where memory is refused.
 fn picture_of(
     alloc: Global,
     input: &[u8],

@@ -16,9 +16,9 @@ use sf_text::{ReadFault, StreamFault, read_all, write_line};
 use std::alloc::Global;
 use std::io::{Read, Write};
 
-/// What an engine is asked to show.
+/// The form in which an engine is to answer.
 #[derive(Clone, Copy, PartialEq, Eq)]
-pub enum Asked {
+pub enum Form {
     /// Lines of its own.
     Lines,
     /// The records of what happened.
@@ -81,22 +81,22 @@ impl Engine {
     }
 
     /// The engine of the same subcommand that shows this, if there is one.
-    pub fn showing(self, asked: Asked) -> Option<Engine>
+    pub fn showing(self, asked: Form) -> Option<Engine>
         ensures found { IfSome result (λ engine. (name_of engine ≡ name_of self)
             × (shown_by engine ≡ asked)) }
         ensures none { result ≡ None → (engine : Engine) → name_of engine ≡ name_of self
             → shown_by engine ≢ asked }
     {
         match (self, asked) {
-            (Engine::Run { .. }, Asked::Lines) => Some(Engine::Run { history: false }),
-            (Engine::Run { .. }, Asked::History) => Some(Engine::Run { history: true }),
-            (Engine::Steps(_), Asked::Lines) => Some(Engine::Steps(Shown::Lines)),
-            (Engine::Steps(_), Asked::History) => Some(Engine::Steps(Shown::History)),
-            (Engine::Steps(_), Asked::Picture) => Some(Engine::Steps(Shown::Picture)),
-            (Engine::Check(_), Asked::Lines) => Some(Engine::Check(Judged::AsItStands)),
-            (Engine::Check(_), Asked::Timed) => Some(Engine::Check(Judged::InTime)),
-            (Engine::Check(_), Asked::Picture) => Some(Engine::Check(Judged::Drawn)),
-            (Engine::Merge, Asked::Lines) => Some(Engine::Merge),
+            (Engine::Run { .. }, Form::Lines) => Some(Engine::Run { history: false }),
+            (Engine::Run { .. }, Form::History) => Some(Engine::Run { history: true }),
+            (Engine::Steps(_), Form::Lines) => Some(Engine::Steps(Shown::Lines)),
+            (Engine::Steps(_), Form::History) => Some(Engine::Steps(Shown::History)),
+            (Engine::Steps(_), Form::Picture) => Some(Engine::Steps(Shown::Picture)),
+            (Engine::Check(_), Form::Lines) => Some(Engine::Check(Judged::AsItStands)),
+            (Engine::Check(_), Form::Timed) => Some(Engine::Check(Judged::InTime)),
+            (Engine::Check(_), Form::Picture) => Some(Engine::Check(Judged::Drawn)),
+            (Engine::Merge, Form::Lines) => Some(Engine::Merge),
             _ => None,
         }
     }
@@ -147,7 +147,7 @@ impl Engine {
         Ok(ending)
     }
 
-    /// Reads its input to the end, and writes the answer. The input comes back, where there was memory for it.
+    // Reads its input to the end, and writes the answer. The input comes back, where there was memory for it.
     fn answer_reader<R: Read, W: Write>(
         self,
         alloc: Global,
@@ -177,7 +177,7 @@ impl Engine {
         }
     }
 
-    /// Writes what it answers to an input.
+    // Writes what it answers to an input.
     fn answer<W: Write>(
         self,
         alloc: Global,

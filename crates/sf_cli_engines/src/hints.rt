@@ -52,7 +52,7 @@ fn command_hint(alloc: Global, input: &[u8]) -> Option<Hint> {
     Some(Hint { line, says })
 }
 
-/// The form of the command that begins with this word.
+// The form of the command that begins with this word.
 fn command_form(word: &str) -> &'static str {
     match word {
         "ask" =>

@@ -16,6 +16,6 @@ mod turn_hints;
 
 pub use checking::Checked;
 pub use ending::{Ending, Outcome, exit_status, status};
-pub use engine::{Asked, Engine, Judged, Shown};
+pub use engine::{Engine, Form, Judged, Shown};
 pub use hints::{Hint, hint_for};
 pub use timing::{Found, TimedChecked};

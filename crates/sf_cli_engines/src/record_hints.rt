@@ -21,7 +21,7 @@ pub(crate) fn log_hint(alloc: Global, input: &[u8]) -> Option<Hint> {
     line_hint(alloc, input, line, format_before(alloc, input, line))
 }
 
-/// More about a line that is no record, after a first line of this format.
+// More about a line that is no record, after a first line of this format.
 fn line_hint(alloc: Global, input: &[u8], line: u64, format: u64) -> Option<Hint> {
     if line == 1 {
         return Some(Hint {
@@ -42,7 +42,7 @@ fn line_hint(alloc: Global, input: &[u8], line: u64, format: u64) -> Option<Hint
     }
 }
 
-/// The line of this number, from 1.
+// The line of this number, from 1.
 fn line_of(input: &[u8], line: u64) -> &[u8] {
     input
         .split(|byte| *byte == b'\n')
@@ -50,7 +50,7 @@ fn line_of(input: &[u8], line: u64) -> &[u8] {
         .unwrap_or_default()
 }
 
-/// The format that the input's first line names.
+// The format that the input's first line names.
 fn format_of(alloc: Global, input: &[u8]) -> u64 {
     match Value::from_slice(alloc, line_of(input, 1)) {
         Ok(first) => first.get("format").and_then(Value::as_u64).unwrap_or(3),
@@ -58,7 +58,7 @@ fn format_of(alloc: Global, input: &[u8]) -> u64 {
     }
 }
 
-/// The format that the last first line of a log names before the line of this number.
+// The format that the last first line of a log names before the line of this number.
 fn format_before(alloc: Global, input: &[u8], line: u64) -> u64 {
     let mut format = 3;
     for first in input.split(|byte| *byte == b'\n').take(index(line)) {
@@ -71,7 +71,7 @@ fn format_before(alloc: Global, input: &[u8], line: u64) -> u64 {
     format
 }
 
-/// Whether these names, `e` and no others stand in the record, but for the time that a record of format 4 may have.
+// Whether these names, `e` and no others stand in the record, but for the time that a record of format 4 may have.
 fn has(record: &Value, names: &[&str], format: u64) -> bool {
     let time = usize::from(format == 4 && record.get("at").is_some());
     match record.as_object() {
@@ -83,7 +83,7 @@ fn has(record: &Value, names: &[&str], format: u64) -> bool {
     }
 }
 
-/// Whether the time of a record of format 4 is no pair of readings.
+// Whether the time of a record of format 4 is no pair of readings.
 fn has_bad_time(record: &Value, format: u64) -> bool {
     if format != 4 {
         return false;
@@ -100,7 +100,7 @@ fn has_bad_time(record: &Value, format: u64) -> bool {
     }
 }
 
-/// What is wrong with a value that is no record of this format.
+// What is wrong with a value that is no record of this format.
 fn record_says(record: &Value, format: u64) -> &'static str {
     if has_bad_time(record, format) {
         return "expected `at` to be [FROM,TO], two readings of one clock in nanoseconds, such as [1000,1180]";
@@ -130,7 +130,7 @@ fn record_says(record: &Value, format: u64) -> &'static str {
     }
 }
 
-/// What is wrong with a settle that is no record of this format.
+// What is wrong with a settle that is no record of this format.
 fn settle_says(record: &Value, format: u64) -> &'static str {
     let joiners = if format == 1 { "shared" } else { "joiners" };
     if has(record, &["by", "c", "ok", joiners], format)

@@ -36,7 +36,7 @@ pub(crate) fn schedule_records(alloc: Global, schedule: &[u8]) -> Result<String,
     Ok(write(alloc, &history)?)
 }
 
-/// The events that the steps added, in their order.
+// The events that the steps added, in their order.
 fn events(alloc: Global, steps: Vec<Step<Outcome>>) -> Result<Vec<Event<PlaceNo, Outcome>>, Memory>
     ensures { IfOk result (λ events. events.items ≡ flat_map (λ s. s.events.items) steps.items) }
 {

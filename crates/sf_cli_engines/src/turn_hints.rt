@@ -29,7 +29,7 @@ fn is_number(word: &str, greatest: u32) -> bool {
     number(word, greatest).is_some()
 }
 
-/// Whether the words say an operation.
+// Whether the words say an operation.
 fn is_operation(words: &[&str]) -> bool {
     match *words {
         ["ask", place] | ["forget", place] | ["named", place] => is_number(place, 64),
@@ -43,7 +43,7 @@ fn is_operation(words: &[&str]) -> bool {
     }
 }
 
-/// What is wrong with the words after these lines.
+// What is wrong with the words after these lines.
 fn turn_says(alloc: Global, words: &[&str], before: &[&[u8]]) -> Result<&'static str, AllocError> {
     match *words {
         ["do", caller, ref operation @ ..] => {
@@ -72,7 +72,7 @@ fn turn_says(alloc: Global, words: &[&str], before: &[&[u8]]) -> Result<&'static
 
 const NO_STEP: &str = "this caller has no operation that can make so many steps; `do` begins one";
 
-/// Whether an operation of the caller can make a step after these lines.
+// Whether an operation of the caller can make a step after these lines.
 fn may_step(alloc: Global, before: &[&[u8]], caller: &str) -> Result<bool, AllocError> {
     let mut schedule: Vec<u8> = Vec::new(alloc);
     for line in before {
@@ -84,7 +84,7 @@ fn may_step(alloc: Global, before: &[&[u8]], caller: &str) -> Result<bool, Alloc
     Ok(play(alloc, schedule.as_slice()).is_ok())
 }
 
-/// The condition of an operation.
+// The condition of an operation.
 fn condition(operation: &[&str]) -> &'static str {
     match *operation {
         ["settle", ..] => "`settle` needs a caller that leads a call",

@@ -8,7 +8,7 @@ use std::io::{Error, ErrorKind, Read, Result as IoResult, Write};
 use std::process::Abort;
 use std::test::Fail;
 
-/// Inputs that three reads of a third hand out, and a fourth meets their end.
+// Inputs that three reads of a third hand out, and a fourth meets their end.
 const ANSWERED: &str = "# run
 ask 1 key=
 1 lead 1.1
@@ -32,7 +32,7 @@ line 1: not a turn of this schedule
 line 1: not a record
 ";
 
-/// A reader of a text that hands out so many bytes a call, and fails at its n-th read alone.
+// A reader of a text that hands out so many bytes a call, and fails at its n-th read alone.
 #[derive(Drop)]
 struct FailingReader<'t> {
     text: &'t [u8],
@@ -54,7 +54,7 @@ impl Read for FailingReader<'_> {
     }
 }
 
-/// Starts an engine on a reader whose read of this number fails: that is said, and where no read fails all is answered.
+// Starts an engine on a reader whose read of this number fails: that is said, and where no read fails all is answered.
 fn is_read(rt: &impl Abort, alloc: Global, case: Case<'_>, fails_at: u32) {
     let mut written: Vec<u8> = Vec::new(alloc);
     let mut reader = FailingReader {
@@ -88,7 +88,7 @@ fn failing_reads(rt: HostRuntime) {
     }
 }
 
-/// A writer that takes three bytes a call, and fails at its n-th write alone, or where it is to hand on what it has.
+// A writer that takes three bytes a call, and fails at its n-th write alone, or where it is to hand on what it has.
 #[derive(Drop)]
 struct FailingWriter {
     written: Vec<u8>,
@@ -130,7 +130,7 @@ impl Write for FailingWriter {
     }
 }
 
-/// Writes the answer to a writer that fails at this call: a beginning of it is written, and all of it where no call fails.
+// Writes the answer to a writer that fails at this call: a beginning of it is written, and all of it where no call fails.
 fn is_written(rt: &impl Abort, alloc: Global, case: Case<'_>, fails_at: u32) {
     let mut writer = FailingWriter::new(alloc, fails_at, false);
     let ended = case
@@ -174,7 +174,7 @@ fn failing_writes_of_a_refusal(rt: HostRuntime) {
     all_written(&rt, rt.alloc(), REFUSED);
 }
 
-/// An answer that cannot be handed on is not said to be written.
+// An answer that cannot be handed on is not said to be written.
 fn is_not_flushed(rt: &impl Abort, alloc: Global, case: Case<'_>) {
     let mut writer = FailingWriter::new(alloc, 0, true);
     let ended = case
@@ -195,7 +195,7 @@ fn failing_flushes(rt: HostRuntime) {
     }
 }
 
-/// A reader that hands out one byte a call and never ends, and counts its calls.
+// A reader that hands out one byte a call and never ends, and counts its calls.
 #[derive(Drop)]
 struct EndlessReader {
     reads: u32,

@@ -6,7 +6,7 @@ use std::alloc::Global;
 use std::process::Abort;
 use std::test::Fail;
 
-/// Refused inputs, and the hint for each in place of an answer.
+// Refused inputs, and the hint for each in place of an answer.
 const HINTS: &str = r#"# run
 ask 1 k
 ask 2
@@ -134,7 +134,7 @@ hint: line 2: expected the names e, by, c, joiners, and ok or err, such as {"e":
 hint: line 2: a value has the wrong type or is out of range; callers are 1 to 65535, generations 1 to 4294967295, joiners 0 to 4294967295, a hit is closed, cleared or missed, keys have at most 250 bytes
 "#;
 
-/// Compares the hint for an input.
+// Compares the hint for an input.
 fn is_hint(
     rt: &impl Abort,
     alloc: Global,
@@ -173,7 +173,7 @@ fn refused_lines_have_hints(rt: HostRuntime) -> Result<(), Fail> {
     )
 }
 
-/// Inputs that leave a hint, or none.
+// Inputs that leave a hint, or none.
 const HINTED: &str = "# run: no hint
 ask 1 k
 =
@@ -195,7 +195,7 @@ line 1: not a turn of this schedule
 line 1: not a record
 ";
 
-/// Starts a case's engine: how it ends, and what is left.
+// Starts a case's engine: how it ends, and what is left.
 fn left(
     alloc: Global,
     case: Case<'_>,
@@ -214,7 +214,7 @@ fn left(
     Ok((ended, left))
 }
 
-/// Compares the answer, and whether a hint is left.
+// Compares the answer, and whether a hint is left.
 fn leaves_hint(rt: &impl Abort, alloc: Global, case: Case<'_>) -> Result<(), Fail> {
     let mut written: Vec<u8> = Vec::new(alloc);
     let (ended, left) = left(alloc, case, &mut written)?;

@@ -48,7 +48,7 @@ event 3: forget names another call
 legal: 4 events
 "#;
 
-/// Format 4: a log with times, and logs that lost events or whose times are no times.
+// Format 4: a log with times, and logs that lost events or whose times are no times.
 const TIMED: &str = r#"# check: an_event_may_have_a_time
 {"format":4,"lost":0}
 {"e":"lead","by":1,"k":"k","c":[1,1],"own":null,"at":[1000,1180]}
@@ -129,7 +129,7 @@ fn histories(rt: HostRuntime) -> Result<(), Fail> {
     all_answer(&rt, rt.alloc(), HISTORIES)
 }
 
-/// Checks records, and compares the line that is said and how it ends.
+// Checks records, and compares the line that is said and how it ends.
 fn judges(rt: &impl Abort, alloc: Global, records: &str, line: &str) -> Result<(), Fail> {
     answers(
         rt,
@@ -140,7 +140,7 @@ fn judges(rt: &impl Abort, alloc: Global, records: &str, line: &str) -> Result<(
     )
 }
 
-/// The records that rows call by name.
+// The records that rows call by name.
 const RECORDS: &str = r#"lead {"e":"lead","by":1,"k":"k","c":[1,1],"own":null}
 enter {"e":"enter","by":2,"k":"k","c":[1,1],"m":[2,1]}
 enter_too {"e":"enter","by":3,"k":"k","c":[1,1],"m":[3,1]}
@@ -158,7 +158,7 @@ enter_aside {"e":"enter","by":5,"k":"j","c":[4,1],"m":[5,1]}
 enter_aside_too {"e":"enter","by":6,"k":"j","c":[4,1],"m":[6,1]}
 "#;
 
-/// The record of this name.
+// The record of this name.
 fn record(rt: &impl Abort, name: &str) -> &'static str {
     for row in RECORDS.lines() {
         let (called, record) = row.split_once(' ').unwrap_or((row, ""));
@@ -169,7 +169,7 @@ fn record(rt: &impl Abort, name: &str) -> &'static str {
     panic!(rt; "no record is called {name}")
 }
 
-/// Adds the record that a word names; a word in quotes is a settle of the call 1.1 that says its joiners so.
+// Adds the record that a word names; a word in quotes is a settle of the call 1.1 that says its joiners so.
 fn push_record(rt: &impl Abort, records: &mut String, word: &str) -> Result<(), AllocError> {
     if word.starts_with('"') {
         records.push_str("{\"e\":\"settle\",\"by\":1,\"c\":[1,1],\"ok\":\"v\",")?;
@@ -181,8 +181,8 @@ fn push_record(rt: &impl Abort, records: &mut String, word: &str) -> Result<(), 
     }
 }
 
-/// Checks the records that a row names, in this format: `lead closed: legal: 2 events`. A row that begins with `#` is a
-/// remark.
+// Checks the records that a row names, in this format: `lead closed: legal: 2 events`. A row that begins with `#` is a
+// remark.
 fn says(rt: &impl Abort, alloc: Global, format: u32, row: &str) -> Result<(), Fail> {
     if row.starts_with('#') {
         return Ok(());
@@ -195,7 +195,7 @@ fn says(rt: &impl Abort, alloc: Global, format: u32, row: &str) -> Result<(), Fa
     judges(rt, alloc, records.as_str(), line)
 }
 
-/// Checks the records of each row, in this format.
+// Checks the records of each row, in this format.
 fn all_say(rt: &impl Abort, alloc: Global, format: u32, rows: &str) -> Result<(), Fail> {
     for row in rows.split_inclusive('\n') {
         says(rt, alloc, format, row)?;
@@ -220,7 +220,7 @@ lead "shared":false: line 3: not a record
 lead "joiners":0,"shared":false: line 3: not a record
 "#;
 
-/// The number of joiners is that of the enters on the call.
+// The number of joiners is that of the enters on the call.
 #[test]
 fn joiner_counts_in_records(rt: HostRuntime) -> Result<(), Fail> {
     all_say(&rt, rt.alloc(), 2, COUNTS)?;
@@ -240,7 +240,7 @@ lead enter "joiners":1: line 4: not a record
 lead enter "shared":true,"joiners":1: line 4: not a record
 "#;
 
-/// A mark stands for nobody, or for those who entered in the lines before, and at least one.
+// A mark stands for nobody, or for those who entered in the lines before, and at least one.
 #[test]
 fn first_format_is_still_read(rt: HostRuntime) -> Result<(), Fail> {
     all_say(&rt, rt.alloc(), 1, MARKS)
@@ -280,7 +280,7 @@ other missed: legal: 2 events
 other closed: event 2: hit is wrong
 ";
 
-/// An open call is closed, one that is current and not open is cleared, and one that is not current is missed.
+// An open call is closed, one that is current and not open is cleared, and one that is not current is missed.
 #[test]
 fn hits_in_records(rt: HostRuntime) -> Result<(), Fail> {
     all_say(&rt, rt.alloc(), 3, HITS)
@@ -296,7 +296,7 @@ fn second_format_has_no_forgetcall(rt: HostRuntime) -> Result<(), Fail> {
     all_say(&rt, rt.alloc(), 2, FORGETS_OF_ONE_CALL)
 }
 
-/// Checks a history of this format whose second line, with which this text begins, is no record.
+// Checks a history of this format whose second line, with which this text begins, is no record.
 fn second_line_is_no_record(
     rt: &impl Abort,
     alloc: Global,
@@ -324,7 +324,7 @@ const HOSTILE_FORGETS: &str = r#"{"e":"forgetcall","by":2,"k":"k","c":[1,1],"hit
 {"e":"forgetcall","by":2,"k":"k","closed":[1,1]}
 "#;
 
-/// Its names are four, its call is no null, and its hit is one of three texts.
+// Its names are four, its call is no null, and its hit is one of three texts.
 #[test]
 fn hostile_forgets_of_one_call(rt: HostRuntime) -> Result<(), Fail> {
     let missed = record(&rt, "missed");
@@ -335,7 +335,7 @@ fn hostile_forgets_of_one_call(rt: HostRuntime) -> Result<(), Fail> {
     Ok(())
 }
 
-/// A history of four events in each format.
+// A history of four events in each format.
 const FOUR_EVENTS: &str = r#"# first_format
 {"format":1}
 {"e":"lead","by":1,"k":"k","c":[1,1],"own":null}
@@ -356,7 +356,7 @@ const FOUR_EVENTS: &str = r#"# first_format
 {"e":"settle","by":1,"c":[1,1],"err":"down","joiners":1}
 "#;
 
-/// Checks a history of legal events that is cut after so many bytes: its last line is no record, or whole.
+// Checks a history of legal events that is cut after so many bytes: its last line is no record, or whole.
 fn is_cut(rt: &impl Abort, alloc: Global, history: &str, bytes: usize) -> Result<(), Fail> {
     let (records, rest) = history.split_at_checked(bytes).unwrap_or(("", ""));
     let lines = records.lines().count();
@@ -369,7 +369,7 @@ fn is_cut(rt: &impl Abort, alloc: Global, history: &str, bytes: usize) -> Result
     judges(rt, alloc, records, said.as_str())
 }
 
-/// Checks a history that is cut at every byte.
+// Checks a history that is cut at every byte.
 fn is_cut_everywhere(rt: &impl Abort, alloc: Global, history: &str) -> Result<(), Fail> {
     for bytes in 1..=history.len() {
         is_cut(rt, alloc, history, bytes)?;

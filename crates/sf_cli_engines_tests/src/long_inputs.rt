@@ -14,7 +14,7 @@ pub(crate) fn times(alloc: Global, text: &str, n: u32) -> Result<String, AllocEr
     Ok(all)
 }
 
-/// Compares the answer to an input so many times: as many times this answer.
+// Compares the answer to an input so many times: as many times this answer.
 fn answers_often(
     rt: &impl Abort,
     alloc: Global,
@@ -46,7 +46,7 @@ const LEAD: &str = r#"{"e":"lead","by":1,"k":"k","c":[1,1],"own":null}"#;
 const FORGET: &str = r#"{"e":"forget","by":2,"k":"k","closed":null}
 "#;
 
-/// The records of a call that is settled with a value of 2 MiB, and of Forgets after it: a thousand events.
+// The records of a call that is settled with a value of 2 MiB, and of Forgets after it: a thousand events.
 fn long_history(alloc: Global) -> Result<String, AllocError> {
     let value = times(alloc, "0123456789abcdef", 131_072)?;
     let forgets = times(alloc, FORGET, 998)?;

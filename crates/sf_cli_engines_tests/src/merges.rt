@@ -6,7 +6,7 @@ use std::alloc::Global;
 use std::process::Abort;
 use std::test::Fail;
 
-/// Logs of several callers, and the history that they are merged into: each is legal but for those that do not fit together.
+// Logs of several callers, and the history that they are merged into: each is legal but for those that do not fit together.
 const MERGED: &str = r#"# merge: logs_of_two_callers
 {"format":4,"lost":0}
 {"e":"enter","by":2,"k":"k","c":[1,1],"m":[2,1],"at":[1450,1530]}
@@ -64,7 +64,7 @@ fn logs_are_merged(rt: HostRuntime) -> Result<(), Fail> {
     all_answer(&rt, rt.alloc(), MERGED)
 }
 
-/// What a merge answers is read and merged again without a change.
+// What a merge answers is read and merged again without a change.
 fn stays(rt: &impl Abort, alloc: Global, merged: &str) -> Result<(), Fail> {
     answers(rt, alloc, Engine::Merge, merged.as_bytes(), merged)
 }

@@ -14,7 +14,7 @@ fn has_parts(rt: &impl Abort, drawn: &str, parts: &str) {
     }
 }
 
-/// The picture of a schedule, in which each line of its answer stands.
+// The picture of a schedule, in which each line of its answer stands.
 fn picture_of(rt: &impl Abort, alloc: Global, section: &str) -> Result<Vec<u8>, Fail> {
     let case = read(rt, section);
     let mut written: Vec<u8> = Vec::new(alloc);

@@ -6,7 +6,7 @@ use std::alloc::Global;
 use std::process::Abort;
 use std::test::Fail;
 
-/// The picture of a recording whose events have no order.
+// The picture of a recording whose events have no order.
 fn picture_of(rt: &impl Abort, alloc: Global, input: &str, due: Ending) -> Result<Vec<u8>, Fail> {
     let mut written: Vec<u8> = Vec::new(alloc);
     let mut records = input.as_bytes();
@@ -28,7 +28,7 @@ fn has(rt: &impl Abort, drawn: &str, part: &str) {
     assert!(rt; drawn.contains(part), "there is no {part} in {drawn}");
 }
 
-/// The number that stands behind this in a line.
+// The number that stands behind this in a line.
 fn number_after(rt: &impl Abort, line: &str, name: &str) -> u64 {
     let (_, behind) = line.split_once(name).unwrap_or(("", ""));
     let (digits, _) = behind.split_once('"').unwrap_or(("", ""));
@@ -38,7 +38,7 @@ fn number_after(rt: &impl Abort, line: &str, name: &str) -> u64 {
     }
 }
 
-/// The lines of an event's bar and of its label; the bar stands before the label.
+// The lines of an event's bar and of its label; the bar stands before the label.
 fn lines_of<'t>(rt: &impl Abort, drawn: &'t str, label: &str) -> (&'t str, &'t str) {
     for (at, line) in drawn.lines().enumerate() {
         if line.contains(label) {
@@ -49,7 +49,7 @@ fn lines_of<'t>(rt: &impl Abort, drawn: &'t str, label: &str) -> (&'t str, &'t s
     panic!(rt; "no bar is labelled {label} in {drawn}")
 }
 
-/// The bar of an event, from its left edge to its right one.
+// The bar of an event, from its left edge to its right one.
 fn edges_of(rt: &impl Abort, drawn: &str, label: &str) -> (u64, u64) {
     let (bar, _) = lines_of(rt, drawn, label);
     let left = number_after(rt, bar, " x=\"");
@@ -59,7 +59,7 @@ fn edges_of(rt: &impl Abort, drawn: &str, label: &str) -> (u64, u64) {
     )
 }
 
-/// Whether the event of this label is marked, in its bar and in its label.
+// Whether the event of this label is marked, in its bar and in its label.
 fn is_marked(rt: &impl Abort, drawn: &str, label: &str) -> bool {
     let (bar, text) = lines_of(rt, drawn, label);
     let is_filled = bar.contains("class=\"named\"") || bar.contains("class=\"any-named\"");
@@ -68,12 +68,12 @@ fn is_marked(rt: &impl Abort, drawn: &str, label: &str) -> bool {
     is_filled
 }
 
-/// How often a text stands in another.
+// How often a text stands in another.
 fn count(text: &str, part: &str) -> usize {
     text.split(part).count().saturating_sub(1)
 }
 
-/// The events of these labels are marked, and no other one.
+// The events of these labels are marked, and no other one.
 fn marks(rt: &impl Abort, drawn: &str, labels: &[&str]) {
     for label in labels {
         assert!(rt; is_marked(rt, drawn, label), "{label} is not marked");
@@ -85,7 +85,7 @@ fn marks(rt: &impl Abort, drawn: &str, labels: &[&str]) {
     );
 }
 
-/// Each of these stands in the text, behind the one before it.
+// Each of these stands in the text, behind the one before it.
 fn stand_in_order(rt: &impl Abort, drawn: &str, parts: &[&str]) {
     let mut rest = drawn;
     for part in parts {
@@ -96,7 +96,7 @@ fn stand_in_order(rt: &impl Abort, drawn: &str, parts: &[&str]) {
     }
 }
 
-/// `docs/RECORDS.md` has it: caller 2 joins a call that a Forget of caller 3 had closed before.
+// `docs/RECORDS.md` has it: caller 2 joins a call that a Forget of caller 3 had closed before.
 const STALE: &str = r#"{"format":4,"lost":0}
 {"e":"lead","by":1,"k":"k","c":[1,1],"own":null,"at":[1000,1180]}
 {"e":"forget","by":3,"k":"k","closed":[1,1],"at":[2000,2050]}
@@ -153,7 +153,7 @@ fn a_race_is_drawn(rt: HostRuntime) -> Result<(), Fail> {
     Ok(())
 }
 
-/// Each event that ended before another began lies left of it, and two that begin together have one left edge.
+// Each event that ended before another began lies left of it, and two that begin together have one left edge.
 #[test]
 fn what_was_before_is_left(rt: HostRuntime) -> Result<(), Fail> {
     let picture = picture_of(&rt, rt.alloc(), STALE, Ending::Illegal)?;
@@ -173,7 +173,7 @@ fn what_was_before_is_left(rt: HostRuntime) -> Result<(), Fail> {
     Ok(())
 }
 
-/// Witnesses of the other kinds: a recording, `=`, the events that are marked, and what is said of calls above the lanes.
+// Witnesses of the other kinds: a recording, `=`, the events that are marked, and what is said of calls above the lanes.
 const WITNESSES: &str = r#"# two calls
 {"format":4,"lost":0}
 {"e":"lead","by":1,"k":"k","c":[1,1],"own":null,"at":[0,1]}
@@ -249,7 +249,7 @@ const WITNESSES: &str = r#"# two calls
 +
 "#;
 
-/// The lines of a text, in a vector.
+// The lines of a text, in a vector.
 fn lines_in<'t>(alloc: Global, text: &'t str) -> Result<Vec<&'t str>, Fail> {
     let mut lines = Vec::new(alloc);
     for line in text.lines() {
@@ -283,7 +283,7 @@ fn each_kind_of_witness_is_drawn(rt: HostRuntime) -> Result<(), Fail> {
     Ok(())
 }
 
-/// A call has to be there from the end of its early event to the beginning of its late one.
+// A call has to be there from the end of its early event to the beginning of its late one.
 #[test]
 fn a_call_keeps_others_out_between_its_events(rt: HostRuntime) -> Result<(), Fail> {
     let first = WITNESSES.split("=\n").next().unwrap_or("");
@@ -303,7 +303,7 @@ fn a_call_keeps_others_out_between_its_events(rt: HostRuntime) -> Result<(), Fai
     Ok(())
 }
 
-/// Keys, values and causes are texts of strangers: XML 1.0 takes neither controls nor U+FFFE, and U+202E turns a text round.
+// Keys, values and causes are texts of strangers: XML 1.0 takes neither controls nor U+FFFE, and U+202E turns a text round.
 #[test]
 fn texts_of_strangers_are_drawn_harmlessly(rt: HostRuntime) -> Result<(), Fail> {
     let input = r#"{"format":4,"lost":0}
@@ -327,7 +327,7 @@ fn texts_of_strangers_are_drawn_harmlessly(rt: HostRuntime) -> Result<(), Fail> 
     Ok(())
 }
 
-/// A recording of one call with a long key and a long value.
+// A recording of one call with a long key and a long value.
 #[test]
 fn long_texts_are_cut(rt: HostRuntime) -> Result<(), Fail> {
     let mut input = String::new(rt.alloc());
@@ -358,7 +358,7 @@ fn long_texts_are_cut(rt: HostRuntime) -> Result<(), Fail> {
     Ok(())
 }
 
-/// 298 callers enter a call, which was forgotten before the last of them entered. Of another key there is a call beside it.
+// 298 callers enter a call, which was forgotten before the last of them entered. Of another key there is a call beside it.
 fn many_joiners(alloc: Global) -> Result<String, Fail> {
     let mut input = String::new(alloc);
     writeln!(input, "{{\"format\":4,\"lost\":7}}")?;
@@ -389,7 +389,7 @@ fn many_joiners(alloc: Global) -> Result<String, Fail> {
     Ok(input)
 }
 
-/// The key has 301 events: its Lead, 298 Enters, the Forget and the Settle. 24 are drawn: all but 20 of the Enters.
+// The key has 301 events: its Lead, 298 Enters, the Forget and the Settle. 24 are drawn: all but 20 of the Enters.
 #[test]
 fn of_many_events_those_around_the_witness_are_drawn(rt: HostRuntime) -> Result<(), Fail> {
     let input = many_joiners(rt.alloc())?;
@@ -420,7 +420,7 @@ fn of_many_events_those_around_the_witness_are_drawn(rt: HostRuntime) -> Result<
     Ok(())
 }
 
-/// Times from 0 to the greatest, and an event of one moment.
+// Times from 0 to the greatest, and an event of one moment.
 #[test]
 fn the_greatest_times_have_a_place(rt: HostRuntime) -> Result<(), Fail> {
     let input = r#"{"format":4,"lost":0}
@@ -452,7 +452,7 @@ fn the_greatest_times_have_a_place(rt: HostRuntime) -> Result<(), Fail> {
     Ok(())
 }
 
-/// An event without a time can be at any moment: its bar is dashed, and goes from the first moment to the right edge.
+// An event without a time can be at any moment: its bar is dashed, and goes from the first moment to the right edge.
 #[test]
 fn events_without_times_are_dashed(rt: HostRuntime) -> Result<(), Fail> {
     let input = r#"{"format":4,"lost":0}
@@ -490,7 +490,7 @@ fn events_without_times_are_dashed(rt: HostRuntime) -> Result<(), Fail> {
     Ok(())
 }
 
-/// Where nothing is without an order, nothing is drawn, and what `check --timed` says is written.
+// Where nothing is without an order, nothing is drawn, and what `check --timed` says is written.
 const NOT_DRAWN: &str = r#"# check picture: legal
 {"format":4,"lost":0}
 {"e":"lead","by":1,"k":"k","c":[1,1],"own":null,"at":[5,6]}

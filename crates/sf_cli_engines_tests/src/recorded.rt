@@ -6,7 +6,7 @@ use std::alloc::Global;
 use std::process::Abort;
 use std::test::Fail;
 
-/// Each record but the first is an event.
+// Each record but the first is an event.
 const RECORDED: &str = r#"# run history: an_asking_that_joins
 ask 1 k
 ask 2 k
@@ -30,6 +30,13 @@ settle 1 err down
 {"e":"forget","by":3,"k":"j","closed":null}
 {"e":"settle","by":1,"c":[1,1],"err":"down","joiners":0}
 {"e":"handed","by":1,"c":[1,1]}
+# run history: a_channel_that_joins
+chan 1 2 k
+chan 3 4 k
+=
+{"format":3}
+{"e":"lead","by":1,"k":"k","c":[1,1],"own":[2,1]}
+{"e":"enter","by":4,"k":"k","c":[1,1],"m":[4,1]}
 # run history: forgets_of_one_call
 ask 1 k
 forgetcall 2 k 1.1
@@ -84,7 +91,7 @@ step 3
 {"e":"handed","by":1,"c":[1,1]}
 "#;
 
-/// Compares the records of a case, and checks these very records.
+// Compares the records of a case, and checks these very records.
 fn is_recorded(rt: &impl Abort, alloc: Global, section: &str) -> Result<(), Fail> {
     let case = read(rt, section);
     answers(rt, alloc, case.engine, case.input.as_bytes(), case.answer)?;

@@ -268,8 +268,8 @@ fn schedules(rt: HostRuntime) -> Result<(), Fail> {
     all_answer(&rt, rt.alloc(), SCHEDULES)
 }
 
-/// Plays a row: the number of the line that is no turn, and the schedule, its lines parted by `; `. A row that begins with
-/// `#` is a remark.
+// Plays a row: the number of the line that is no turn, and the schedule, its lines parted by `; `. A row that begins with
+// `#` is a remark.
 fn is_no_turn(rt: &impl Abort, alloc: Global, row: &str) -> Result<(), Fail> {
     if row.starts_with('#') {
         return Ok(());

@@ -91,6 +91,18 @@ take 2
 1 lead 1.1
 2 join 1.1
 2 pending 1.1
+# run: pending_letter_is_taken_later
+ask 1 k
+ask 2 k
+take 2
+settle 1 ok v
+take 2
+=
+1 lead 1.1
+2 join 1.1
+2 pending 1.1
+1 settled 1.1 v joiners=1
+2 got 1.1 v joiners=1
 # run: own_channel_is_not_shared
 chan 1 2 k
 settle 1 ok v
@@ -179,6 +191,14 @@ line 1: caller 1 is not leading
 take 1
 =
 line 1: caller 1 has nothing to take
+# run: letter_is_taken_once
+ask 1 k
+ask 2 k
+settle 1 ok v
+take 2
+take 2
+=
+line 5: caller 2 has nothing to take
 # run: chan_with_itself
 chan 1 1 k
 =
@@ -217,7 +237,7 @@ ask 1 k
 line 2: not a command
 ";
 
-/// Lines that are no commands. The last has no line feed.
+// Lines that are no commands. The last has no line feed.
 const NO_COMMANDS: &str = "ask 01 k
 ask 65536 k
 ask 0 k
@@ -246,7 +266,7 @@ ask 1 k\r";
 
 const REFUSAL: &str = "line 1: not a command\n";
 
-/// Runs a script, and compares what it answers and how it ends.
+// Runs a script, and compares what it answers and how it ends.
 fn runs(rt: &impl Abort, alloc: Global, script: &[u8], answer: &str) -> Result<(), Fail> {
     answers(rt, alloc, Engine::Run { history: false }, script, answer)
 }
@@ -272,7 +292,7 @@ fn a_line_that_is_no_text_is_no_command(rt: HostRuntime) -> Result<(), Fail> {
     runs(&rt, rt.alloc(), b"ask 1 k\nask 2 \xff\n", refusal)
 }
 
-/// Asks for a key of so many bytes.
+// Asks for a key of so many bytes.
 fn asks(rt: &impl Abort, alloc: Global, bytes: u32, answer: &str) -> Result<(), Fail> {
     let key = times(alloc, "k", bytes)?;
     let script = format!(in alloc; "ask 1 {key}")?;

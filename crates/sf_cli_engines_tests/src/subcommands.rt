@@ -1,7 +1,7 @@
 //! The engines by their names, and the exit status of every outcome.
 
 use crate::cases::engine_of;
-use sf_cli_engines::{Asked, Ending, Outcome, exit_status, status};
+use sf_cli_engines::{Ending, Form, Outcome, exit_status, status};
 use sf_text::StreamFault;
 use std::process::Abort;
 
@@ -18,7 +18,7 @@ fn engines_have_the_names_of_their_subcommands(rt: HostRuntime) {
     has_name(&rt, "merge");
 }
 
-/// An engine, what it is to show, and the engine that shows it.
+// An engine, what it is to show, and the engine that shows it.
 const SHOWING: &str = "run, history: run history
 steps, history: steps history
 steps history, lines: steps
@@ -39,12 +39,12 @@ merge, lines: merge
 merge, history: none
 ";
 
-fn asked_of(rt: &impl Abort, word: &str) -> Asked {
+fn asked_of(rt: &impl Abort, word: &str) -> Form {
     match word {
-        "lines" => Asked::Lines,
-        "history" => Asked::History,
-        "timed" => Asked::Timed,
-        "picture" => Asked::Picture,
+        "lines" => Form::Lines,
+        "history" => Form::History,
+        "timed" => Form::Timed,
+        "picture" => Form::Picture,
         _ => panic!(rt; "nothing is called {word}"),
     }
 }

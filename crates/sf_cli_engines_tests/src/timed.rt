@@ -4,7 +4,7 @@ use crate::cases::{all_answer, answers};
 use sf_cli_engines::{Engine, Judged};
 use std::test::Fail;
 
-/// Recordings, and what is said of them: legal ones, each kind of witness, and what is not decided.
+// Recordings, and what is said of them: legal ones, each kind of witness, and what is not decided.
 const TIMED: &str = r#"# check timed: in_another_order
 {"format":4,"lost":0}
 {"e":"handed","by":1,"c":[1,1],"at":[9000,9200]}
@@ -149,7 +149,7 @@ fn histories_are_judged_by_their_times(rt: HostRuntime) -> Result<(), Fail> {
     all_answer(&rt, rt.alloc(), TIMED)
 }
 
-/// Without `--timed`, the first of these is judged as it stands.
+// Without `--timed`, the first of these is judged as it stands.
 #[test]
 fn times_are_not_looked_at_unasked(rt: HostRuntime) -> Result<(), Fail> {
     let input = "{\"format\":4,\"lost\":0}
