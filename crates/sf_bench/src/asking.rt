@@ -16,7 +16,7 @@ use std::sync::Wait;
 use std::thread::Threads;
 use std::time::Clock;
 
-/// What calls are settled with.
+// What calls are settled with.
 #[derive(Clone, Copy)]
 struct Number(u32);
 
@@ -30,7 +30,7 @@ impl Fit for Number {
     ghost lasts = { λ _ _ _ _ _ f. f };
 }
 
-/// A caller, and the place that it asks for.
+// A caller, and the place that it asks for.
 #[derive(Drop)]
 struct Asker<'a> {
     group: &'a Group<Number>,
@@ -122,7 +122,7 @@ fn collect(group: &Group<Number>, ticket: Ticket<Number>) -> Result<Caller<Numbe
     }
 }
 
-/// A caller that leads a call and settles it.
+// A caller that leads a call and settles it.
 #[derive(Drop)]
 struct Lead<'a>(Asker<'a>);
 
@@ -158,7 +158,7 @@ impl<'a> Operation for Lead<'a> {
     }
 }
 
-/// A caller that leads a call, and another that joins it and collects its letter.
+// A caller that leads a call, and another that joins it and collects its letter.
 #[derive(Drop)]
 struct Join<'a> {
     group: &'a Group<Number>,
@@ -203,7 +203,7 @@ impl<'a> Operation for Join<'a> {
     }
 }
 
-/// A caller that forgets a place which has no open call.
+// A caller that forgets a place which has no open call.
 #[derive(Drop)]
 struct ForgetIdle<'a>(Asker<'a>);
 
@@ -227,7 +227,7 @@ impl<'a> Operation for ForgetIdle<'a> {
     }
 }
 
-/// A caller that leads a call and settles it, and another that forgets it meanwhile.
+// A caller that leads a call and settles it, and another that forgets it meanwhile.
 #[derive(Drop)]
 struct ForgetOpen<'a> {
     asker: Asker<'a>,
@@ -259,7 +259,7 @@ impl<'a> Operation for ForgetOpen<'a> {
     }
 }
 
-/// A caller that asks whether its letter's call is current, which it is.
+// A caller that asks whether its letter's call is current, which it is.
 #[derive(Drop)]
 struct Current<'a> {
     asker: Asker<'a>,
@@ -287,7 +287,7 @@ impl<'a> Operation for Current<'a> {
     }
 }
 
-/// A caller that does with a load that answers at once.
+// A caller that does with a load that answers at once.
 #[derive(Drop)]
 struct Do<'a>(Asker<'a>);
 
@@ -323,13 +323,13 @@ impl<'a> Operation for Do<'a> {
     }
 }
 
-/// The places of each group.
+// The places of each group.
 const PLACES: u32 = 1_024;
 
-/// The most threads of a group.
+// The most threads of a group.
 const MOST_THREADS: usize = 4;
 
-/// From the place of one thread to that of the next, so that no two of their words share a cache line.
+// From the place of one thread to that of the next, so that no two of their words share a cache line.
 const APART: u32 = 256;
 
 // The next caller, which asks for this place.

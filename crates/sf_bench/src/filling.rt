@@ -20,13 +20,13 @@ use std::sync::Wait;
 use std::thread::Threads;
 use std::time::{Clock, Instant};
 
-/// What the caches keep, and what each getter keeps near, in bytes.
+// What the caches keep, and what each getter keeps near, in bytes.
 const LIMIT: u32 = 1_048_576;
 
-/// How many letters a getter keeps near, where it keeps any.
+// How many letters a getter keeps near, where it keeps any.
 const NEAR: u32 = 2_048;
 
-/// Loads the same bytes for each key.
+// Loads the same bytes for each key.
 #[derive(Clone, Copy)]
 struct OnePage {
     alloc: Global,
@@ -70,7 +70,7 @@ impl Peer for OnePage {
     }
 }
 
-/// Getters that get keys in an order.
+// Getters that get keys in an order.
 #[derive(Drop)]
 struct Gets<'a, R> {
     rt: &'a R,
@@ -79,7 +79,7 @@ struct Gets<'a, R> {
     origin: Instant,
 }
 
-/// When a getter's gets began and ended, in nanoseconds.
+// When a getter's gets began and ended, in nanoseconds.
 #[derive(Clone, Copy)]
 struct Span {
     began: u64,
@@ -223,7 +223,7 @@ fn loaders(
     Ok(sets)
 }
 
-/// A fill that is measured, and in which order its keys are got.
+// A fill that is measured, and in which order its keys are got.
 #[derive(Clone, Copy)]
 struct Setup<'a> {
     keys: Keys,

@@ -13,16 +13,16 @@ use std::sync::Wait;
 use std::thread::Threads;
 use std::time::Clock;
 
-/// How many places there are.
+// How many places there are.
 const PLACES: u32 = 65_536;
 
-/// How often one asks again that met another key's call.
+// How often one asks again that met another key's call.
 const ROUNDS: u32 = 3;
 
-/// The longest key that is measured, in bytes.
+// The longest key that is measured, in bytes.
 const LONGEST: usize = 64;
 
-/// A key, which is all of the value too.
+// A key, which is all of the value too.
 #[derive(Clone, Copy)]
 struct Inline {
     bytes: [u8; 64],
@@ -59,7 +59,7 @@ fn key_of(first: u8, length: usize) -> Inline
     Inline { bytes, length }
 }
 
-/// A key whose place is looked for.
+// A key whose place is looked for.
 #[derive(Drop)]
 struct Hash {
     places: Places,
@@ -75,7 +75,7 @@ impl Operation for Hash {
     }
 }
 
-/// A caller with a key of its own.
+// A caller with a key of its own.
 #[derive(Drop)]
 struct DoKey<'a> {
     group: &'a Group<Inline>,

@@ -10,13 +10,13 @@ use std::sync::Wait;
 use std::thread::Threads;
 use std::time::Clock;
 
-/// From one key to the next, modulo their number: a prime, so each key has its turn, in scattered order.
+// From one key to the next, modulo their number: a prime, so each key has its turn, in scattered order.
 const STRIDE: u64 = 7_919;
 
-/// How many bytes a key has.
+// How many bytes a key has.
 const KEY_BYTES: u32 = 8;
 
-/// A desk that looks keys up which its directory knows.
+// A desk that looks keys up which its directory knows.
 #[derive(Drop)]
 struct Lookup<'a> {
     directory: &'a Directory,

@@ -5,13 +5,13 @@ use std::alloc::Global;
 /// How many turns keys have, until they begin again.
 pub(crate) const TURNS: usize = 65_536;
 
-/// How many keys there are by zipf.
+// How many keys there are by zipf.
 const PAGES: usize = 1_000;
 
-/// How often the first key would have its turn, before the others' share is known.
+// How often the first key would have its turn, before the others' share is known.
 const FIRST: usize = 1_000_000;
 
-/// From one turn of a key to its next, modulo the turns: odd, so that each turn is given once, in scattered order.
+// From one turn of a key to its next, modulo the turns: odd, so that each turn is given once, in scattered order.
 const STRIDE: usize = 40_503;
 
 /// Keys, and whose turn it is when.

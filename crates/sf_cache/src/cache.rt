@@ -11,7 +11,7 @@ use std::alloc::{AllocError, Global};
 use std::marker::Model;
 use std::sync::atomic::{AtomicU64, Ordering};
 
-/// How many ways one put passes by at most to make room for its item.
+// How many ways one put passes by at most to make room for its item.
 const MOST_PASSED: u32 = 64;
 
 /// What became of an item that was put.

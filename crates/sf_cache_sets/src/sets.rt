@@ -36,7 +36,7 @@ impl<T: Stored> Model for Sets<T> {
     ghost invariant = { λ s. (s.ways.table.shared.table_id.words ≡ s.count * SET) × (1 ≤ s.count) × (s.count ≤ MOST_SETS) };
 }
 
-/// Which ways of a set may take an item.
+// Which ways of a set may take an item.
 #[derive(Clone, Copy)]
 enum Wanted {
     /// Those that have one of its name.

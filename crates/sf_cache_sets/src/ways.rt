@@ -19,7 +19,7 @@ pub(crate) const FILLED: u64 = 2;
 /// More than any name.
 pub(crate) const NAMES: u64 = 4_611_686_018_427_387_904;
 
-/// How often a caller looks again at a way that another has.
+// How often a caller looks again at a way that another has.
 const TRIES: u32 = 200;
 
 #[derive(Drop)]

@@ -20,7 +20,7 @@ impl Stored for Thrice {
     ghost fits = { λ _ _ x. x.value ≡ 3 * x.key };
 }
 
-/// Asks for the value of a key.
+// Asks for the value of a key.
 struct Ask {
     key: u32,
 }

@@ -7,7 +7,7 @@ use atomic_table::{Seat, Table};
 use std::alloc::{AllocError, Global};
 use std::marker::Model;
 
-/// How often a weight is tried to be put on, where others put theirs on at once.
+// How often a weight is tried to be put on, where others put theirs on at once.
 const TRIES: u32 = 100;
 
 /// What threads weigh within a limit. Each call returns, and waits for no other. Clauses see which scale it is, and its limit.
@@ -75,6 +75,7 @@ impl Scale {
         ensures { result ≡ record { scale = self.now; amount = 0 } }
     {
         let (lies, seat) = self.table.shared.load_new_seat::<Sits>(0);
+        // What lies on it now is of no use here.
         let _ = lies;
         Weight { seat, amount: 0 }
     }

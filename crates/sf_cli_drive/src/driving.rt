@@ -32,10 +32,10 @@ use std::sync::Wait;
 use std::thread::Threads;
 use std::time::Clock;
 
-/// What the caches of a drive keep, in bytes.
+// What the caches of a drive keep, in bytes.
 const LIMIT: i64 = 1_000;
 
-/// How many places an open drive has a key. Its seed is fixed, so that it can be made again.
+// How many places an open drive has a key. Its seed is fixed, so that it can be made again.
 const PLACES_A_KEY: u32 = 16;
 
 // The keys `k0`, `k1` and so on, with their values.

@@ -3,10 +3,10 @@
 use std::fmt;
 use std::time::{Clock, Instant};
 
-/// After so many seconds a drive begins to say how far it is.
+// After so many seconds a drive begins to say how far it is.
 const QUIET_SECONDS: u64 = 2;
 
-/// How many gets go by from one look at the clock to the next.
+// How many gets go by from one look at the clock to the next.
 const GETS_A_LOOK: u32 = 256;
 
 /// How far the first thread of a drive is.

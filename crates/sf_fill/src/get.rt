@@ -43,7 +43,7 @@ const GET_ALONE: GetCounts = GetCounts {
     run: NO_RUN,
 };
 
-/// Where a getter's caller is kept after it asked, and what the get answers.
+// Where a getter's caller is kept after it asked, and what the get answers.
 type Reply<'d, D, O> = (
     Chair<FillValue<'d, D, O>>,
     Result<View<'d, D, O>, LoadFault>,

@@ -47,7 +47,7 @@ pub struct RefusedParts<L> {
     pub loaders: Vec<L>,
 }
 
-/// All memory that a fill takes when it is made.
+// All memory that a fill takes when it is made.
 struct Rooms<'d, D: Naming, N: Naming, O: Origin, L> {
     kept: CachedLetters<'d, D, N, O>,
     getters: Vec<Getter<'d, D, N, O, L>>,

@@ -12,7 +12,7 @@ use std::process::Abort;
 use std::sync::Wait;
 use std::test::Fail;
 
-/// Four hundred gets, and how many of them the book lacks.
+// Four hundred gets, and how many of them the book lacks.
 #[derive(Drop)]
 struct Behind<'a, R> {
     rt: &'a R,
@@ -21,7 +21,7 @@ struct Behind<'a, R> {
     by: Spending,
 }
 
-/// How a getter is spent.
+// How a getter is spent.
 #[derive(Clone, Copy)]
 enum Spending {
     End,
@@ -30,7 +30,7 @@ enum Spending {
     Enter,
 }
 
-/// How many gets the book lacked.
+// How many gets the book lacked.
 #[derive(Clone, Copy, PartialEq, Eq)]
 struct Lacked {
     /// At most, when one had ended.

@@ -36,7 +36,7 @@ fn check_line(rt: &impl Abort, alloc: Global, row: &str) -> Result<(), Fail> {
     Ok(())
 }
 
-/// Lines, and the threads, keys and gets that each asks for.
+// Lines, and the threads, keys and gets that each asks for.
 const LINES: &str = "drive: 4 8 100
 drive --threads 64 --keys 1000 --gets 100000: 64 1000 100000
 drive --threads 65: refused

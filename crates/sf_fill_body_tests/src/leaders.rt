@@ -17,7 +17,7 @@ use std::process::Abort;
 use std::sync::Wait;
 use std::test::Fail;
 
-/// What the leader does before it leads, and for which key.
+// What the leader does before it leads, and for which key.
 #[derive(Clone, Copy)]
 struct Case {
     forgets: bool,
@@ -51,15 +51,15 @@ fn found_by<'d, D: Naming, N: Naming, O: Origin, R: Wait>(
     }
 }
 
-/// What the leader's Forget came to, if it made one, and the call that its second look finds.
+// What the leader's Forget came to, if it made one, and the call that its second look finds.
 #[derive(Clone, Copy, PartialEq, Eq)]
 struct Looked {
     forgot: Option<Forgotten>,
     found: Option<CallId>,
 }
 
-/// What the second look finds, once the first getter's letter of the key `a` lies in main, and the other's caller leads; and maybe a
-/// Forget came before.
+// What the second look finds, once the first getter's letter of the key `a` lies in main, and the other's caller leads; and maybe a
+// Forget came before.
 #[derive(Drop)]
 struct SecondLook<'a, R> {
     rt: &'a R,

@@ -14,14 +14,14 @@ use std::process::Abort;
 use std::sync::Wait;
 use std::test::Fail;
 
-/// Gets of the key, one by each getter.
+// Gets of the key, one by each getter.
 #[derive(Drop)]
 struct Many<'a, R> {
     rt: &'a R,
     key: &'a [u8],
 }
 
-/// What came of them.
+// What came of them.
 #[derive(Clone, Copy, PartialEq, Eq)]
 struct Came {
     getters: u32,

@@ -12,7 +12,7 @@ use std::alloc::Global;
 use std::sync::Wait;
 use std::test::Fail;
 
-/// Whether the bytes of a near letter are shared with nobody once the getter has ended, though main has its letter still.
+// Whether the bytes of a near letter are shared with nobody once the getter has ended, though main has its letter still.
 #[derive(Drop)]
 struct Own<'a, R> {
     rt: &'a R,

@@ -15,7 +15,7 @@ use std::alloc::Global;
 use std::sync::Wait;
 use std::test::Fail;
 
-/// How many entries main has after a get, and after a Forget and another get.
+// How many entries main has after a get, and after a Forget and another get.
 #[derive(Drop)]
 struct Stale<'a, R> {
     rt: &'a R,

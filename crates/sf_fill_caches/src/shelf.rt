@@ -143,6 +143,7 @@ impl<T: Drop> Shelf<T> {
         ensures refused { OnErr result (self.new ≡ self.old) }
     {
         let added = kept.key_len as u128 + kept.value_len as u128;
+        // Read for what it says of the entries alone.
         let _ = self.entries.len();
         match self.entries.put(place, kept) {
             Ok(old) => {

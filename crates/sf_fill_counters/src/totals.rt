@@ -137,7 +137,7 @@ pub const NO_RUN: Counts = Counts {
     local_load_errors: 0,
 };
 
-/// What no get counts.
+// What no get counts.
 const NOTHING: GetCounts = GetCounts {
     gets: 0,
     cache_hits: 0,

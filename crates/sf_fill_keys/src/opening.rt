@@ -45,6 +45,7 @@ pub fn hash_desks(alloc: Global, places: Places, count: u32) -> Result<Vec<KeyDe
     ensures count { IfOk result (λ made. vec_len made ≡ count) }
     ensures desks { IfOk result (λ made. AreDesksOf (inr places) made.items) }
 {
+    // The contract alone reads it.
     let _ = places;
     let mut made = Vec::with_capacity(alloc, count as usize)?;
     for _ in 0..count {

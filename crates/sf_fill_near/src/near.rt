@@ -14,10 +14,10 @@ use sf_loaders::Origin;
 use std::alloc::Global;
 use std::mem;
 
-/// How many near hits of a letter there are from one look in the caches to the next, so that their order knows of it.
+// How many near hits of a letter there are from one look in the caches to the next, so that their order knows of it.
 const HITS_ALONE: u32 = 63;
 
-/// A slot's view.
+// A slot's view.
 #[derive(Drop)]
 struct NearLetter<'d, D: Naming, N: Naming, O: Origin> {
     near: NearView<'d, D, N, O>,
@@ -29,7 +29,7 @@ struct NearLetter<'d, D: Naming, N: Naming, O: Origin> {
 
 impl<'d, D: Naming, N: Naming, O: Origin> NearLetter<'d, D, N, O> {
     // Whether its call is current, which is then an answer; nothing where it is not asked: where it is not of the key at the place, and
-    // each 64th time, so that the getter looks in the caches.
+    // where it has as many hits as it may have, so that the getter looks in the caches.
     #[inline(always)]
     fn is_current(
         &mut self,
@@ -203,8 +203,8 @@ impl<'d, D: Naming, N: Naming, O: Origin> Near<'d, D, N, O> {
         }
     }
 
-    /// The getter's own letter of the key at the place, if its call is current; else its slot is emptied. Each 64th time there is
-    /// none, so that the getter looks in the caches.
+    /// The getter's own letter of the key at the place, if its call is current; else its slot is emptied. Of a letter that has as many
+    /// hits as it may have there is none, so that the getter looks in the caches, which sets them back.
     #[inline(always)]
     pub fn look(
         &mut self,

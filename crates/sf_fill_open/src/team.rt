@@ -169,7 +169,7 @@ fn with_all<
     work_and_finish(rt, alloc, &fill, getters, team)
 }
 
-/// A getter whose thread is to work.
+// A getter whose thread is to work.
 struct GetterJob<'a, 'd, D: Naming, N: Naming, O: Origin, L, T: Team> {
     fill: &'a Fill<'d, D, N, O>,
     team: &'a T,
@@ -191,7 +191,7 @@ impl<'a, 'd, D: Naming, N: Naming, O: Origin, L: Drop, T: Team> Drop
     }
 }
 
-/// A getter whose thread has worked, and what came of that.
+// A getter whose thread has worked, and what came of that.
 struct WorkedGetter<'d, D: Naming, N: Naming, O: Origin, L, P> {
     getter: Getter<'d, D, N, O, L>,
     part: P,
@@ -251,7 +251,7 @@ fn abandon_all<'d, D: Naming, N: Naming, O: Origin, L: Drop>(getters: Vec<Getter
     getters.destroy_empty();
 }
 
-/// The jobs of the threads, and the list in which their getters were, which has room for them still.
+// The jobs of the threads, and the list in which their getters were, which has room for them still.
 type HandedOut<'a, 'd, D, N, O, L, T> = (
     Vec<GetterJob<'a, 'd, D, N, O, L, T>>,
     Vec<Getter<'d, D, N, O, L>>,

@@ -16,7 +16,7 @@ use std::sync::Wait;
 
 const PAGE: &[u8] = b"/index.html";
 
-/// What the two threads do with the fill.
+// What the two threads do with the fill.
 #[derive(Drop)]
 struct Serve<'a, R> {
     rt: &'a R,

@@ -13,7 +13,7 @@ use sf_loaders::Origin;
 use std::marker::Model;
 use std::sync::{Mutex, Wait};
 
-/// How many gets that its near letters answered a getter counts alone before it enters them.
+// How many gets that its near letters answered a getter counts alone before it enters them.
 const MOST_PENDING: u64 = 64;
 
 /// What lies under the lock: the letters that are kept, and what all getters have counted.

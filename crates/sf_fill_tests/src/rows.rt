@@ -1,6 +1,6 @@
 //! Gets, reloads and what is counted, of getters one after another and side by side.
 
-use crate::trial::{Outcome, trials, try_out};
+use crate::trial::{Tried, trials, try_out};
 use std::alloc::Global;
 use std::process::Abort;
 use std::sync::Wait;
@@ -293,7 +293,7 @@ fn read_beside_changes<R: Wait + Threads + Abort + Sync>(
     alloc: Global,
     script: &str,
 ) -> Result<(), Fail> {
-    let Outcome { said, book, .. } = try_out(rt, alloc, script)?;
+    let Tried { said, book, .. } = try_out(rt, alloc, script)?;
     assert!(rt; said.as_str() == "1 old=0\n2 old=0\n", "{said}");
     assert!(rt; book.gets == 4_000, "the gets");
     assert!(rt; book.cache_hits < 4_000 && book.loads > 1, "the hits");

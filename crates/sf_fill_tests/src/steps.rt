@@ -59,13 +59,13 @@ pub struct Step<'t> {
     pub key: &'t str,
 }
 
-/// The keys whose sources change.
+// The keys whose sources change.
 const KEYS: [&str; 2] = ["a", "b"];
 
-/// How often a getter reads them, each.
+// How often a getter reads them, each.
 const READS: u32 = 1_000;
 
-/// How often their sources change, each.
+// How often their sources change, each.
 const CHANGES: u8 = 250;
 
 fn verb_of(word: &str) -> Verb {

@@ -55,7 +55,7 @@ use std::thread::Threads;
 
 /// What the getters said, and what was counted.
 #[derive(Drop)]
-pub struct Outcome {
+pub struct Tried {
     pub said: String,
     pub book: Totals,
     pub gathered: Totals,
@@ -257,7 +257,7 @@ impl<'a, R: Wait> Play<'a, R> {
 impl<'a, R: Wait> Team for Play<'a, R> {
     type Part = String;
 
-    type Answer = Outcome;
+    type Answer = Tried;
 
     ghost use Rattle.std.specs.Prelude.{◌≡◌, ⊤};
     ghost use Rattle.sf_fill_tests.specs.Origins.{IsOpenOrigin};
@@ -290,7 +290,7 @@ impl<'a, R: Wait> Team for Play<'a, R> {
         fill: &Fill<'d, D, N, O>,
         getters: Vec<Getter<'d, D, N, O, L>>,
         parts: Vec<String>,
-    ) -> Outcome
+    ) -> Tried
         requires wants { (N.getters ≡ 3) × IsOpenOrigin O.loaded }
         requires getters { vec_len getters ≡ N.getters }
         requires parts { vec_len parts ≡ N.getters }
@@ -299,7 +299,7 @@ impl<'a, R: Wait> Team for Play<'a, R> {
         let getters = self.all_turns(fill, getters, &mut said);
         let book = fill.book(self.rt);
         let gathered = self.spent(fill, getters);
-        Outcome {
+        Tried {
             said,
             book,
             gathered,
@@ -408,7 +408,7 @@ fn play_out<R: Wait + Threads + Abort + Sync>(
     alloc: Global,
     script: &str,
     flags: &Flags,
-) -> Result<Outcome, Memory> {
+) -> Result<Tried, Memory> {
     let sizes = sizes_of(rt, script);
     let play = Play {
         rt,
@@ -426,7 +426,7 @@ pub fn try_out<R: Wait + Threads + Abort + Sync>(
     rt: &R,
     alloc: Global,
     script: &str,
-) -> Result<Outcome, Memory> {
+) -> Result<Tried, Memory> {
     check_words(rt, script);
     let flags = Flags::new();
     let outcome = play_out(rt, alloc, script, &flags)?;
@@ -481,7 +481,7 @@ fn check_words(rt: &impl Abort, script: &str) {
     }
 }
 
-fn check(rt: &impl Abort, script: &str, outcome: Outcome, wanted: &str) {
+fn check(rt: &impl Abort, script: &str, outcome: Tried, wanted: &str) {
     let counted = counters(outcome.book);
     assert!(rt; counters(outcome.gathered) == counted, "what is gathered");
     let mut said = outcome.said;

@@ -19,7 +19,7 @@ use sf_group_steps::{AskAttempt, WordSeat, Words, current_before, is_forgot, ope
 use sf_history::CallId;
 use sf_words::{KeyState, LeaderState};
 
-/// Makes both words ready, and tries the key word that was seen.
+// Makes both words ready, and tries the key word that was seen.
 fn lead_on<V: Fit>(
     words: &Words<V>,
     seat: &mut WordSeat<V>,
@@ -46,7 +46,7 @@ fn lead_on<V: Fit>(
     }
 }
 
-/// Makes the second's words ready, and tries the leader's call word that was seen.
+// Makes the second's words ready, and tries the leader's call word that was seen.
 fn join_on<V: Fit>(
     words: &Words<V>,
     seat: &mut WordSeat<V>,
@@ -75,7 +75,7 @@ fn join_on<V: Fit>(
     }
 }
 
-/// Peeks at the call that the key word named. The second joins it where it is open, and else the caller leads.
+// Peeks at the call that the key word named. The second joins it where it is open, and else the caller leads.
 fn follow_on<V: Fit>(
     words: &Words<V>,
     seat: &mut WordSeat<V>,
@@ -108,7 +108,7 @@ fn follow_on<V: Fit>(
     }
 }
 
-/// Looks, and leads a new call or has the second join the open one.
+// Looks, and leads a new call or has the second join the open one.
 fn ask_once<V: Fit>(
     words: &Words<V>,
     seat: &mut WordSeat<V>,

@@ -33,6 +33,7 @@ pub(crate) fn ready_join<V: Fit>(
     ensures told { StayAt askers seat.old.me.0 seat.new.me.0 (ask.Link called seen) }
     ensures exchanged { HaveExchanged askers 0 seat.old.me.0 seat.new.me.0 }
 {
+    // The contract alone reads them.
     let _ = called;
     let _ = seen;
     let Some(word) = CallWord::new(CallState::Listed {
@@ -67,6 +68,7 @@ pub(crate) fn link<V: Fit>(
     ensures told { StayAt askers seat.old.me.0 seat.new.me.0 (ask.Enter called seen) }
     ensures exchanged { HaveExchanged askers 0 seat.old.me.0 seat.new.me.0 }
 {
+    // The contract alone reads it.
     let _ = called;
     let Some(word) = NextWord::new(seen.top) else {
         unreachable!()

@@ -102,6 +102,7 @@ pub(crate) fn ready_own<V: Fit>(
     ensures told { StayAt askers seat.old.me.0 seat.new.me.0 (ask.ReadyLead seen forgot) }
     ensures exchanged { HaveExchanged askers 0 seat.old.me.0 seat.new.me.0 }
 {
+    // The contract alone reads them.
     let _ = seen;
     let _ = forgot;
     let Some(word) = CallWord::new(CallState::Listed {
@@ -135,6 +136,7 @@ pub(crate) fn ready<V: Fit>(
     ensures told { StayAt askers seat.old.me.0 seat.new.me.0 (ask.Lead seen forgot) }
     ensures exchanged { HaveExchanged askers 0 seat.old.me.0 seat.new.me.0 }
 {
+    // The contract alone reads them.
     let _ = seen;
     let _ = forgot;
     let Some(word) = CallWord::new(CallState::Open(LeaderState {
@@ -175,6 +177,7 @@ pub(crate) fn lead<V: Fit>(
         (lost_first askers last) (lost_second askers last) }
     ensures exchanged { HaveExchanged askers 1 seat.old.me.0 seat.new.me.0 }
 {
+    // The contract alone reads it.
     let _ = forgot;
     let Some(old) = KeyWord::new(seen) else {
         unreachable!()

@@ -63,7 +63,7 @@ pub fn current_before(seen: KeyState, forgot: bool) -> Option<CallId>
     }
 }
 
-/// Makes the own word ready, and tries the key word that was seen.
+// Makes the own word ready, and tries the key word that was seen.
 fn lead_on<V: Fit>(
     words: &Words<V>,
     seat: &mut WordSeat<V>,
@@ -93,7 +93,7 @@ fn lead_on<V: Fit>(
     }
 }
 
-/// Makes the own words ready, and tries the leader's call word that was seen.
+// Makes the own words ready, and tries the leader's call word that was seen.
 fn join_on<V: Fit>(
     words: &Words<V>,
     seat: &mut WordSeat<V>,
@@ -126,7 +126,7 @@ fn join_on<V: Fit>(
     }
 }
 
-/// Peeks at the call that the key word named, and joins it where it is open, or leads.
+// Peeks at the call that the key word named, and joins it where it is open, or leads.
 fn follow_on<V: Fit>(
     words: &Words<V>,
     seat: &mut WordSeat<V>,

@@ -19,8 +19,8 @@ use sf_history::CallId;
 use sf_words::unpack_next;
 use std::marker::Brand;
 
-/// Loads the next word of a member, and so counts it: `joiners` were counted before it, and `top` begins the list. Answers
-/// who comes after it.
+// Loads the next word of a member, and so counts it: `joiners` were counted before it, and `top` begins the list. Answers
+// who comes after it.
 fn count_one<V: Fit>(
     words: &Words<V>,
     seat: &mut WordSeat<V>,
@@ -43,6 +43,7 @@ fn count_one<V: Fit>(
         (Settling actor.place generation own value.now
         (after_count (joiners + 1) top result)) [] 0 }
 {
+    // The contract alone reads them.
     let _ = generation;
     let _ = own;
     let _ = value;
@@ -61,7 +62,7 @@ fn count_one<V: Fit>(
     next.next()
 }
 
-/// Counts the members of a settled call's list, which begins with this top.
+// Counts the members of a settled call's list, which begins with this top.
 fn count_joiners<V: Fit>(
     words: &Words<V>,
     seat: &mut WordSeat<V>,

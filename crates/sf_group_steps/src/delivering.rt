@@ -57,6 +57,7 @@ pub(crate) fn follow<V: Fit>(
     ensures lists { (l : List CallId) → Lists actor delivery seat.old.me.0 (Some member) l
         → Lists actor delivery seat.new.me.0 (Some member) l }
 {
+    // The contract alone reads them.
     let _ = delivery;
     let _ = value;
     let found = load_turns::<V, u32, Brand>(
@@ -96,6 +97,7 @@ pub(crate) fn peek_member<V: Fit>(
         → Lists actor delivery seat.new.me.0 (Some member) l }
     ensures generation { IsGeneration result }
 {
+    // The contract alone reads them.
     let _ = delivery;
     let _ = value;
     let _ = next;
@@ -138,6 +140,7 @@ pub(crate) fn peek_own<V: Fit>(
         (channel.caller ∷ []) }
     ensures generation { IsGeneration result }
 {
+    // The contract alone reads them.
     let _ = delivery;
     let _ = value;
     let found = load_cell::<V, u32, Brand>(
@@ -186,6 +189,7 @@ pub(crate) fn deliver<V: Fit>(
         → Lists actor delivery seat.old.me.0 (Some member.caller) (n ∷ l)
         → Lists actor delivery seat.new.me.0 next l }
 {
+    // The contract alone reads them.
     let _ = delivery;
     let _ = next;
     let Some(full) = CallWord::new(CallState::Full {
@@ -228,6 +232,7 @@ pub(crate) fn deliver_own<V: Fit>(
     ensures told { Goes actor.sizes actor.number seat.old.me.0 seat.new.me.0 Free
         (Handed actor.number (call_of actor.number delivery.generation) ∷ []) 0 }
 {
+    // The contract alone reads it.
     let _ = delivery;
     let Some(full) = CallWord::new(CallState::Full {
         generation: channel.generation,

@@ -44,8 +44,8 @@ pub enum ForgetAttempt {
     Lost,
 }
 
-/// The call to which a Forget goes on from its look: the one that the key word names, and for a Forget of one call that
-/// alone.
+// The call to which a Forget goes on from its look: the one that the key word names, and for a Forget of one call that
+// alone.
 fn called_by(seen: KeyState, target: Option<CallId>) -> Option<CallId>
     ensures { result ≡ forgets.called_by target seen }
 {
@@ -56,15 +56,15 @@ fn called_by(seen: KeyState, target: Option<CallId>) -> Option<CallId>
     }
 }
 
-/// Whether a Forget of one call misses it at its peek, which finds it forgotten.
+// Whether a Forget of one call misses it at its peek, which finds it forgotten.
 fn misses(target: Option<CallId>, called: CallId, found: CallState) -> bool
     ensures { result ≡ turns.misses target (is_forgot_in called.generation found) }
 {
     target.is_some() && is_forgot(found, called.generation)
 }
 
-/// Loads the key word of the place. Where it names no call, or one that is cleared, or not the call that is to be
-/// forgotten, the Forget is made.
+// Loads the key word of the place. Where it names no call, or one that is cleared, or not the call that is to be
+// forgotten, the Forget is made.
 fn forget_look<V: Fit>(
     words: &Words<V>,
     seat: &mut WordSeat<V>,
@@ -95,7 +95,7 @@ fn forget_look<V: Fit>(
     word.state()
 }
 
-/// Loads the call word of the call that the key word named. A Forget of one call that finds it forgotten is made.
+// Loads the call word of the call that the key word named. A Forget of one call that finds it forgotten is made.
 fn forget_peek<V: Fit>(
     words: &Words<V>,
     seat: &mut WordSeat<V>,
@@ -131,8 +131,8 @@ fn forget_peek<V: Fit>(
     word.state()
 }
 
-/// Exchanges the leader's call word that was seen open for the same forgotten, and says whether it did. Who enters the
-/// call between makes it fail. The last try is followed by the drop.
+// Exchanges the leader's call word that was seen open for the same forgotten, and says whether it did. Who enters the
+// call between makes it fail. The last try is followed by the drop.
 fn close_forgotten<V: Fit>(
     words: &Words<V>,
     seat: &mut WordSeat<V>,
@@ -177,8 +177,8 @@ fn close_forgotten<V: Fit>(
     found == old
 }
 
-/// Exchanges the key word of a call that was found not open for the same cleared, and says whether it did: then nothing
-/// was open. The last try is followed by the drop.
+// Exchanges the key word of a call that was found not open for the same cleared, and says whether it did: then nothing
+// was open. The last try is followed by the drop.
 fn first_clear<V: Fit>(
     words: &Words<V>,
     seat: &mut WordSeat<V>,
@@ -228,8 +228,8 @@ fn first_clear<V: Fit>(
     found == old
 }
 
-/// Clears the key word of the call that this Forget closed, where it still names that. Whether it does is nobody's
-/// matter: its leader clears it too, and an asking leads over it as it is.
+// Clears the key word of the call that this Forget closed, where it still names that. Whether it does is nobody's
+// matter: its leader clears it too, and an asking leads over it as it is.
 fn last_clear<V: Fit>(
     words: &Words<V>,
     seat: &mut WordSeat<V>,
@@ -271,7 +271,7 @@ fn last_clear<V: Fit>(
     );
 }
 
-/// Goes on with a call that was found not open.
+// Goes on with a call that was found not open.
 fn clear_on<V: Fit>(
     words: &Words<V>,
     seat: &mut WordSeat<V>,
@@ -297,7 +297,7 @@ fn clear_on<V: Fit>(
     }
 }
 
-/// Goes on with a call that was found open.
+// Goes on with a call that was found open.
 fn close_on<V: Fit>(
     words: &Words<V>,
     seat: &mut WordSeat<V>,
@@ -326,8 +326,8 @@ fn close_on<V: Fit>(
     }
 }
 
-/// Peeks at the call that the key word named, and closes it where it is open, or clears the key word. A Forget of one
-/// call misses it where another has forgotten it.
+// Peeks at the call that the key word named, and closes it where it is open, or clears the key word. A Forget of one
+// call misses it where another has forgotten it.
 fn forget_on<V: Fit>(
     words: &Words<V>,
     seat: &mut WordSeat<V>,
@@ -359,7 +359,7 @@ fn forget_on<V: Fit>(
     }
 }
 
-/// Looks, and forgets what it finds.
+// Looks, and forgets what it finds.
 fn forget_once<V: Fit>(
     words: &Words<V>,
     seat: &mut WordSeat<V>,

@@ -21,8 +21,8 @@ use sf_history::CallId;
 use sf_steps_laws::Letter;
 use std::alloc::AllocError;
 
-/// Hands a letter to a member of the list, and answers who comes after it. Refused, with nothing done, where there is no
-/// memory for the letter's copy of the value.
+// Hands a letter to a member of the list, and answers who comes after it. Refused, with nothing done, where there is no
+// memory for the letter's copy of the value.
 fn hand_one<V: Fit, W: Wakes>(
     words: &Words<V>,
     resting: &W,
@@ -73,7 +73,7 @@ fn hand_one<V: Fit, W: Wakes>(
     Ok(next)
 }
 
-/// Hands letters to the members of the list, from the first. Answers whom it could not serve, for want of memory.
+// Hands letters to the members of the list, from the first. Answers whom it could not serve, for want of memory.
 fn hand_members<V: Fit, W: Wakes>(
     words: &Words<V>,
     resting: &W,
@@ -115,7 +115,7 @@ fn hand_members<V: Fit, W: Wakes>(
     unreachable!()
 }
 
-/// Hands a letter to the own channel. Refused, with nothing done, where there is no memory for its copy of the value.
+// Hands a letter to the own channel. Refused, with nothing done, where there is no memory for its copy of the value.
 fn hand_own<V: Fit, W: Wakes>(
     words: &Words<V>,
     resting: &W,
@@ -161,7 +161,7 @@ fn hand_own<V: Fit, W: Wakes>(
     Ok(())
 }
 
-/// The same for a list that may be empty.
+// The same for a list that may be empty.
 fn hand_list<V: Fit, W: Wakes>(
     words: &Words<V>,
     resting: &W,

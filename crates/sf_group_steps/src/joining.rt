@@ -40,6 +40,7 @@ pub(crate) fn ready_join<V: Fit>(
         (Asking actor.place None (ask.Link called seen)) }
     ensures exchanged { HasExchanged actor.sizes actor.number 0 seat.old.me.0 seat.new.me.0 }
 {
+    // The contract alone reads them.
     let _ = called;
     let _ = seen;
     let Some(word) = CallWord::new(CallState::Listed { generation }) else {
@@ -73,6 +74,7 @@ pub(crate) fn link<V: Fit>(
         (Asking actor.place None (ask.Enter called seen)) }
     ensures exchanged { HasExchanged actor.sizes actor.number 0 seat.old.me.0 seat.new.me.0 }
 {
+    // The contract alone reads it.
     let _ = called;
     let Some(word) = NextWord::new(seen.top) else {
         unreachable!()
@@ -116,6 +118,7 @@ pub(crate) fn enter<V: Fit>(
         seat.new.me.0 (lost_stage actor.place last) }
     ensures exchanged { HasExchanged actor.sizes actor.number 1 seat.old.me.0 seat.new.me.0 }
 {
+    // The contract alone reads it.
     let _ = generation;
     let Some(old) = CallWord::new(CallState::Open(seen)) else {
         unreachable!()

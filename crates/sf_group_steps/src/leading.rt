@@ -107,6 +107,7 @@ pub(crate) fn ready<V: Fit>(
         (Asking actor.place None (ask.Lead seen forgot)) }
     ensures exchanged { HasExchanged actor.sizes actor.number 0 seat.old.me.0 seat.new.me.0 }
 {
+    // The contract alone reads them.
     let _ = seen;
     let _ = forgot;
     let Some(word) = CallWord::new(CallState::Open(LeaderState {
@@ -152,6 +153,7 @@ pub(crate) fn lead<V: Fit>(
         seat.new.me.0 (lost_stage actor.place last) }
     ensures exchanged { HasExchanged actor.sizes actor.number 1 seat.old.me.0 seat.new.me.0 }
 {
+    // The contract alone reads it.
     let _ = forgot;
     let Some(old) = KeyWord::new(seen) else {
         unreachable!()

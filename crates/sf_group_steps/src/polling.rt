@@ -16,7 +16,7 @@ use sf_steps_laws::Letter;
 use sf_words::{CallState, unpack_call};
 use std::marker::Brand;
 
-/// Loads the caller's own call word, and says whether it is full: then its cell is out of the table, with the letter.
+// Loads the caller's own call word, and says whether it is full: then its cell is out of the table, with the letter.
 fn look_in<V: Fit>(
     words: &Words<V>,
     seat: &mut WordSeat<V>,
@@ -42,6 +42,7 @@ fn look_in<V: Fit>(
     ensures unhanded { IsFalse result → (seat.new.me.1 ≡ [])
         × (is_handed (history_of actor.sizes seat.new.me.0.known.turns) called ≡ false) }
 {
+    // The contract alone reads it.
     let _ = called;
     let found = load_cell::<V, u32, Brand>(
         words,
@@ -56,7 +57,7 @@ fn look_in<V: Fit>(
     matches!(word.state(), CallState::Full { .. })
 }
 
-/// Brings the empty cell back into the table, by a load of the own call word. It is no turn.
+// Brings the empty cell back into the table, by a load of the own call word. It is no turn.
 fn bring_home<V: Fit>(words: &Words<V>, seat: &mut WordSeat<V>, actor: Actor)
     requires own { IsSeatOf seat.old.table_id words.now.table_id words.now.key }
     requires sizes { actor.sizes ≡ words.now.key }

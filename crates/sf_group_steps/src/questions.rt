@@ -49,8 +49,8 @@ pub(crate) fn named_by(word: KeyState) -> Option<CallId>
     }
 }
 
-/// Loads the call word of the call's caller, and says whether a Forget closed the call: then it is not current, and the
-/// question is answered.
+// Loads the call word of the call's caller, and says whether a Forget closed the call: then it is not current, and the
+// question is answered.
 fn question_peek<V: Fit>(
     words: &Words<V>,
     seat: &mut WordSeat<V>,
@@ -80,7 +80,7 @@ fn question_peek<V: Fit>(
     is_forgot(word.state(), called.generation)
 }
 
-/// Loads the key word of the place, and says whether it names the call. That answers the question.
+// Loads the key word of the place, and says whether it names the call. That answers the question.
 fn question_look<V: Fit>(
     words: &Words<V>,
     seat: &mut WordSeat<V>,

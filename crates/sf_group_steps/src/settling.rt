@@ -21,8 +21,8 @@ use sf_words::{
 };
 use std::marker::Brand;
 
-/// Loads the own call word, which is open, or forgotten since a Forget closed the call. The first load starts the settle.
-/// A forgotten call takes no joiners any more, so this load settles it.
+// Loads the own call word, which is open, or forgotten since a Forget closed the call. The first load starts the settle.
+// A forgotten call takes no joiners any more, so this load settles it.
 fn own_peek<V: Fit>(
     words: &Words<V>,
     seat: &mut WordSeat<V>,
@@ -41,6 +41,7 @@ fn own_peek<V: Fit>(
     ensures leads { IsLeadersWord generation result }
     ensures range { IsCallFor actor.sizes.callers result }
 {
+    // The contract alone reads them.
     let _ = generation;
     let _ = own;
     let found = load_turns::<V, V, Brand>(
@@ -56,8 +57,8 @@ fn own_peek<V: Fit>(
     word.state()
 }
 
-/// Exchanges the own call word that was seen open for the same done, and says whether it did: then the call is settled,
-/// with those that the word listed. Who enters the call between makes it fail, as does its Forget.
+// Exchanges the own call word that was seen open for the same done, and says whether it did: then the call is settled,
+// with those that the word listed. Who enters the call between makes it fail, as does its Forget.
 fn close_own<V: Fit>(
     words: &Words<V>,
     seat: &mut WordSeat<V>,
@@ -80,6 +81,7 @@ fn close_own<V: Fit>(
         → Fails actor.sizes actor.number actor.place generation 1 own value.now seat.old.me.0
         seat.new.me.0 }
 {
+    // The contract alone reads them.
     let _ = generation;
     let _ = own;
     let _ = value;
@@ -102,7 +104,7 @@ fn close_own<V: Fit>(
     found == old
 }
 
-/// Clears the key word for the Forget that closed the call, where it still names that. A newer call's word stays.
+// Clears the key word for the Forget that closed the call, where it still names that. A newer call's word stays.
 fn clear_own<V: Fit>(
     words: &Words<V>,
     seat: &mut WordSeat<V>,
@@ -121,6 +123,7 @@ fn clear_own<V: Fit>(
     ensures told { Goes actor.sizes actor.number seat.old.me.0 seat.new.me.0
         (at_count actor.place generation own value.now top) [] 0 }
 {
+    // The contract alone reads them.
     let _ = own;
     let _ = value;
     let _ = top;
@@ -149,8 +152,8 @@ fn clear_own<V: Fit>(
     );
 }
 
-/// Peeks, and closes the call or clears its key word. Answers the top of the list that is owed letters, or nothing where
-/// the close failed.
+// Peeks, and closes the call or clears its key word. Answers the top of the list that is owed letters, or nothing where
+// the close failed.
 fn settle_once<V: Fit>(
     words: &Words<V>,
     seat: &mut WordSeat<V>,

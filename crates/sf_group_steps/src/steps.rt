@@ -23,6 +23,7 @@ pub fn load_turns<V: Fit, A, J: Plan<V>>(
     ensures own { seat.new.table_id ≡ seat.old.table_id }
     ensures told { ToldFound J.word J.turns seat.old.me result seat.new.me }
 {
+    // The plan of the turn is picked by them: they say whose turn it is, and what it is about.
     let _ = by;
     let _ = about;
     words.load::<Finds<J>>(seat, word)
@@ -43,6 +44,7 @@ pub fn store_turns<V: Fit, A, J: Plan<V>>(
     ensures own { seat.new.table_id ≡ seat.old.table_id }
     ensures told { ToldStored (J.turns new) seat.old.me seat.new.me }
 {
+    // The plan of the turn is picked by them: they say whose turn it is, and what it is about.
     let _ = by;
     let _ = about;
     words.store::<Stores<J>>(seat, word, new);
@@ -65,6 +67,7 @@ pub fn exchange_turns<V: Fit, A, J: Plan<V>>(
     ensures own { seat.new.table_id ≡ seat.old.table_id }
     ensures told { ToldFound J.word J.turns seat.old.me result seat.new.me }
 {
+    // The plan of the turn is picked by them: they say whose turn it is, and what it is about.
     let _ = by;
     let _ = about;
     words.compare_exchange::<Finds<J>>(seat, word, old, new)
@@ -84,6 +87,7 @@ pub(crate) fn load_cell<V: Fit, A, J: CellPlan<V>>(
     ensures own { seat.new.table_id ≡ seat.old.table_id }
     ensures told { ToldHandled V.fits J.word J.turns J.handle seat.old.me result seat.new.me }
 {
+    // The plan of the turn is picked by them: they say whose turn it is, and what it is about.
     let _ = by;
     let _ = about;
     words.load::<FindsCell<J>>(seat, word)
@@ -105,6 +109,7 @@ pub(crate) fn store_cell<V: Fit, A, J: CellPlan<V>>(
     ensures own { seat.new.table_id ≡ seat.old.table_id }
     ensures told { ToldHandledStore V.fits (J.turns new) (J.handle new) seat.old.me seat.new.me }
 {
+    // The plan of the turn is picked by them: they say whose turn it is, and what it is about.
     let _ = by;
     let _ = about;
     words.store::<StoresCell<J>>(seat, word, new);

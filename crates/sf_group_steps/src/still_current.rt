@@ -18,7 +18,7 @@ use sf_history::CallId;
 use sf_words::{unpack_call, unpack_key};
 use std::marker::Brand;
 
-/// Loads the call word of the call's caller, and says whether a Forget closed the call.
+// Loads the call word of the call's caller, and says whether a Forget closed the call.
 fn find_forgot<V: Fit>(
     words: &Words<V>,
     seat: &mut WordSeat<V>,
@@ -45,7 +45,7 @@ fn find_forgot<V: Fit>(
     is_forgot(word.state(), called.generation)
 }
 
-/// Loads the key word of the place, and says whether it names the call.
+// Loads the key word of the place, and says whether it names the call.
 fn find_named<V: Fit>(
     words: &Words<V>,
     seat: &mut WordSeat<V>,

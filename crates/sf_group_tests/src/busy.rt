@@ -11,7 +11,7 @@ use std::thread;
 
 // How a thread's askings ended.
 #[derive(Clone, Copy, PartialEq, Eq)]
-enum Ended {
+enum AskEnd {
     // One was busy after its one try, and its caller came back.
     Busy,
     // The other's was.
@@ -32,41 +32,41 @@ fn is_free(player: &mut Player, caller: u32, verb: &str) -> bool {
     false
 }
 
-fn ask(player: Player, met: &AtomicBool) -> Ended {
+fn ask(player: Player, met: &AtomicBool) -> AskEnd {
     let mut player = player;
     let caller = player.last();
     for _ in 0..10_000_000 {
         if met.load(Ordering::SeqCst) {
-            return Ended::Others;
+            return AskEnd::Others;
         }
         let reply = player.obey(Command::new("ask", caller));
         let free = match reply.did {
             "leads" => is_free(&mut player, caller, "settle"),
             "joins" => is_free(&mut player, caller, "poll"),
-            "is busy" if reply.number == Some(1) && reply.caller == caller => return Ended::Busy,
+            "is busy" if reply.number == Some(1) && reply.caller == caller => return AskEnd::Busy,
             _ => false,
         };
         if !free {
-            return Ended::Wrong;
+            return AskEnd::Wrong;
         }
     }
-    Ended::Wrong
+    AskEnd::Wrong
 }
 
 // The other stops where this one has ended.
-fn work(player: Player, met: &AtomicBool) -> Ended {
+fn work(player: Player, met: &AtomicBool) -> AskEnd {
     let ended = ask(player, met);
     met.store(true, Ordering::SeqCst);
     ended
 }
 
 // One is busy at least, and the other is not wrong.
-fn check_ended(rt: &impl Abort, one: Ended, two: Ended) {
+fn check_ended(rt: &impl Abort, one: AskEnd, two: AskEnd) {
     assert!(rt;
-        one != Ended::Wrong && two != Ended::Wrong,
+        one != AskEnd::Wrong && two != AskEnd::Wrong,
         "an asking ended otherwise"
     );
-    assert!(rt; one == Ended::Busy || two == Ended::Busy, "none is busy");
+    assert!(rt; one == AskEnd::Busy || two == AskEnd::Busy, "none is busy");
 }
 
 #[test]

@@ -89,7 +89,7 @@ pub enum Event<K, V> {
     },
 }
 
-/// Another value equal to the one that the event settles the call with, if it does.
+// Another value equal to the one that the event settles the call with, if it does.
 fn share_settled<K, V: Share>(event: &mut Event<K, V>, settled: CallId) -> Result<Option<V>, Memory>
     ensures shared { IfOk result (λ found.
         found ≡ (if settles settled event.old then result_in event.old else None)) }

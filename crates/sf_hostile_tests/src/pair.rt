@@ -29,7 +29,7 @@ const SIZES: Keeps = Keeps {
     near_limit: 0,
 };
 
-/// What the two getters do.
+// What the two getters do.
 #[derive(Clone, Copy, PartialEq, Eq)]
 enum Scene {
     /// The first gets twice, reloads, and gets again.
@@ -78,7 +78,8 @@ fn play_beside<
     let fill = tried.fill;
     let (tried, waiting) = join(rt, || tried.get_beside(rt, flags), || spare.ask(rt));
     let met = flags.met();
-    let (refused, loads) = tried.end(rt);
+    // Where letters are owed, this get delivers them, and is answered.
+    let (refused, loads) = tried.get(rt).end(rt);
     assert!(rt;
         waiting.is_some() || !met || refused == 1,
         "nobody joined a load that was met, and no memory was refused"
@@ -159,7 +160,7 @@ fn three<'a, 'd, 'f, D: Naming, N: Naming>(
     (Tried::new(fill, one), Tried::new(fill, two), last)
 }
 
-/// A fill and its getters.
+// A fill and its getters.
 type Made<'d, 'f, D, N> = (Fill<'d, D, N, AnyValue>, Vec<PairGetter<'d, 'f, D, N>>);
 
 // The parts come back where memory is refused, and make the fill then.

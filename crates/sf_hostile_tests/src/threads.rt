@@ -31,22 +31,22 @@ impl Fit for Leader {
 }
 
 // A ticket that is kept until all threads have ended.
-struct Kept {
+struct KeptTicket {
     ticket: Ticket<Leader>,
 }
 
-impl Drop for Kept {
+impl Drop for KeptTicket {
     fn drop(self) {
-        let Kept { ticket } = self;
+        let KeptTicket { ticket } = self;
         ticket.abandon();
     }
 }
 
-impl Kept {
+impl KeptTicket {
     fn into_ticket(self) -> Ticket<Leader>
         ensures { result ≡ self.ticket }
     {
-        let Kept { ticket } = self;
+        let KeptTicket { ticket } = self;
         ticket
     }
 }
@@ -56,7 +56,7 @@ impl Kept {
 struct Team<'a> {
     group: &'a Group<Leader>,
     callers: Vec<Caller<Leader>>,
-    tickets: Vec<Kept>,
+    tickets: Vec<KeptTicket>,
     led: u32,
     // Tries that were busy.
     busy: u32,
@@ -73,7 +73,7 @@ fn ask(
     group: &Group<Leader>,
     mut caller: Caller<Leader>,
     busy: &mut u32,
-) -> Result<Option<Kept>, ()>
+) -> Result<Option<KeptTicket>, ()>
     requires own { caller.group ≡ group.now }
     requires place { IsPlaceOf group.now 1 }
     ensures { IfOk result (λ ended. IfSome ended (λ k. k.ticket.group ≡ group.now)) }
@@ -90,7 +90,7 @@ fn ask(
                     }
                 }
             }
-            Ok(Begun::Join(ticket)) => return Ok(Some(Kept { ticket })),
+            Ok(Begun::Join(ticket)) => return Ok(Some(KeptTicket { ticket })),
             Err(NotBegun::Busy(tries, back)) => {
                 if tries != 1 {
                     return Err(());
@@ -106,7 +106,7 @@ fn ask(
 }
 
 // The letter of the ticket's call, which is shared.
-fn take_letter(rt: &impl Abort, group: &Group<Leader>, kept: Kept)
+fn take_letter(rt: &impl Abort, group: &Group<Leader>, kept: KeptTicket)
     requires { kept.ticket.group ≡ group.now }
 {
     let ticket = kept.into_ticket();

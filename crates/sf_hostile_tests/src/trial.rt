@@ -183,7 +183,7 @@ fn get_all<'d, D: Naming, N: Naming, O: Origin, L: LoadPath<Origin = O>>(
     }
 }
 
-/// Gets of keys in turn.
+// Gets of keys in turn.
 #[derive(Drop)]
 struct GetAll<'a, R> {
     rt: &'a R,

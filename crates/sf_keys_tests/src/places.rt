@@ -66,7 +66,7 @@ fn known_keys_by_two_seeds(rt: HostRuntime) {
     }
 }
 
-/// Bytes from 0 on.
+// Bytes from 0 on.
 struct Counting;
 
 impl RandomSource for Counting {
@@ -80,7 +80,7 @@ impl RandomSource for Counting {
     }
 }
 
-/// No bytes.
+// No bytes.
 struct Refusing;
 
 impl RandomSource for Refusing {

@@ -4,7 +4,7 @@ use bytes::ByteStr;
 use std::error::Error;
 use std::fmt;
 
-/// What is said of want of memory.
+// What is said of want of memory.
 const MEMORY_TEXT: &str = "out of memory";
 
 /// Why a peer gave no value.

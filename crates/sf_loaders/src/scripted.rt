@@ -60,7 +60,7 @@ pub enum Answer {
 }
 
 impl Answer {
-    /// The same answer once more; the fault for want of memory where the copy is refused.
+    // The same answer once more; the fault for want of memory where the copy is refused.
     fn again(&self) -> Answer
         ensures { IsAgain self.now result }
     {
@@ -106,7 +106,7 @@ impl Script {
         self.asked
     }
 
-    /// The answer whose turn it is; the fault for want of memory where its copy is refused.
+    // The answer whose turn it is; the fault for want of memory where its copy is refused.
     fn play(&mut self) -> Answer
         ensures { Plays self.old result self.new }
     {

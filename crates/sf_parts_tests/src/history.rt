@@ -10,7 +10,7 @@ use sf_text::{Outcome, Text};
 use std::alloc::{AllocError, Global};
 use std::process::Abort;
 
-/// A group of texts.
+// A group of texts.
 type TextGroup = SeqGroup<Text, Outcome>;
 
 const LAST: u32 = 4_294_967_295;

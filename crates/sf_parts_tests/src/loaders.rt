@@ -17,8 +17,8 @@ const CALL: CallId = CallId {
     generation: 1,
 };
 
-/// What is due of a run: its value and who gave it, or why there is none, and the peer's fault; what it counts; and how often
-/// picker, peer and local getter are asked.
+// What is due of a run: its value and who gave it, or why there is none, and the peer's fault; what it counts; and how often
+// picker, peer and local getter are asked.
 #[derive(Clone, Copy)]
 struct Due {
     answer: &'static str,
@@ -191,14 +191,14 @@ fn want_of_memory_at_the_local_getter_is_the_result(rt: HostRuntime) -> Result<(
     assert_run(&rt, rt.alloc(), None, value("p"), Answer::Memory, due)
 }
 
-/// The origin at which each key is its own value.
+// The origin at which each key is its own value.
 struct OwnKey;
 
 impl Origin for OwnKey {
     ghost loaded = { λ key call value. value ≡ key };
 }
 
-/// A peer and a local getter of that origin.
+// A peer and a local getter of that origin.
 #[derive(Drop)]
 struct Echo {
     alloc: Global,

@@ -8,7 +8,7 @@ use std::alloc::{AllocError, Global};
 use std::process::Abort;
 use std::test::Fail;
 
-/// An event of numbers as keys.
+// An event of numbers as keys.
 type NumberEvent = Event<u32, ()>;
 
 const NO_CALL: CallId = CallId {
@@ -231,7 +231,7 @@ settle 1 1.1 1
 handed 1 1.1
 ";
 
-/// A call is forgotten, and a newer one once it is settled.
+// A call is forgotten, and a newer one once it is settled.
 const A_GROUP_WITH_FORGETS: &str = "lead 3 3.1 7
 settle 3 3.1 0
 handed 3 3.1

@@ -6,7 +6,7 @@ use std::alloc::{AllocError, Global};
 use std::process::Abort;
 use std::test::Fail;
 
-/// The records that rows call by name.
+// The records that rows call by name.
 const RECORDS: &str = r#"lead {"e":"lead","by":1,"k":"k","c":[1,1],"own":null}
 newer {"e":"lead","by":4,"k":"k","c":[4,1],"own":null}
 enter {"e":"enter","by":2,"k":"k","c":[1,1],"m":[2,1]}
@@ -232,7 +232,7 @@ fn other_spellings_of_records(rt: HostRuntime) -> Result<(), Fail> {
     assert_rewritten(&rt, rt.alloc(), text, line)
 }
 
-/// What is no record, beside the empty line and a space.
+// What is no record, beside the empty line and a space.
 const BAD_RECORDS: &str = r#"[]
 {"e":"handed","by":0,"c":[1,1]}
 {"e":"handed","by":65536,"c":[1,1]}
@@ -254,7 +254,7 @@ const BAD_RECORDS: &str = r#"[]
 {"e":"forgetcall","by":1,"k":"k","c":[1,1],"hit":"missed","closed":null}
 "#;
 
-/// What is no format, beside the empty line.
+// What is no format, beside the empty line.
 const BAD_FORMATS: &str = r#"{"format":4}
 {"format":9}
 {"format":0}

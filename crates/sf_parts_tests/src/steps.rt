@@ -146,7 +146,7 @@ fn play_scripts(
     Ok(())
 }
 
-/// Both look, and the first leads.
+// Both look, and the first leads.
 const LEADS: &str = "# may not start 1 ask 2
 # start 1 ask 1
 # start 2 ask 1
@@ -162,7 +162,7 @@ const LEADS: &str = "# may not start 1 ask 2
 # may not step 1
 ";
 
-/// The second comes too late to lead.
+// The second comes too late to lead.
 const COMES_SECOND: &str = "# step 2
 2 ready 2.1 open
 # may not leave 2
@@ -177,7 +177,7 @@ fn worlds_step(rt: HostRuntime) -> Result<(), Fail> {
     play_scripts(&rt, rt.alloc(), 2, LEADS, COMES_SECOND)
 }
 
-/// Caller 1 leads with caller 2 as its own channel, and caller 5 joins between the peek and the enter of a chan.
+// Caller 1 leads with caller 2 as its own channel, and caller 5 joins between the peek and the enter of a chan.
 const LEADS_WITH_A_CHANNEL: &str = "# start 1 chan 2 1
 # may not step 2
 # may not start 2 ask 1
@@ -209,7 +209,7 @@ const LEADS_WITH_A_CHANNEL: &str = "# start 1 chan 2 1
 = enter 1 1.1 5.1
 ";
 
-/// The chan of caller 3 comes too late to enter, is left, and enters at its second try.
+// The chan of caller 3 comes too late to enter, is left, and enters at its second try.
 const ENTERS_AT_THE_SECOND_TRY: &str = "# step 3
 4 ready 4.1 listed
 # step 3
@@ -245,8 +245,8 @@ fn chans_join_and_are_left(rt: HostRuntime) -> Result<(), Fail> {
     play_scripts(&rt, rt.alloc(), 5, first, then)
 }
 
-/// Caller 1 settles its call with `v`, and delivers a letter to each member, and to its own channel. Its members are followed
-/// once to count them, and once to serve them.
+// Caller 1 settles its call with `v`, and delivers a letter to each member, and to its own channel. Its members are followed
+// once to count them, and once to serve them.
 const SETTLES_AND_DELIVERS: &str = "# start 1 settle v
 # step 1
 1 peek 1.1 open own 5
@@ -292,7 +292,7 @@ const LEADS_ALONE: &str = "# start 1 ask 1
 = lead 1 1.1
 ";
 
-/// Callers 2 and 3 forget one call: the close of caller 2 fails, and it leaves, and finds the call cleared then.
+// Callers 2 and 3 forget one call: the close of caller 2 fails, and it leaves, and finds the call cleared then.
 const TWO_FORGET_ONE_CALL: &str = "# may not start 1 named 1
 # may not start 2 named 2
 # may not start 1 forgetcall 1 1.1

@@ -9,8 +9,8 @@ use crate::record::FIRST_FORMAT;
 use sf_history::History;
 use std::alloc::Global;
 
-/// The logs of these lines, of which the first is the text's second. The first log has this format, and says that so many
-/// events were lost.
+// The logs of these lines, of which the first is the text's second. The first log has this format, and says that so many
+// events were lost.
 fn logs_after(
     alloc: Global,
     first: u32,
@@ -49,7 +49,7 @@ fn logs_after(
     })
 }
 
-/// The logs of these lines, of which the first is the text's first.
+// The logs of these lines, of which the first is the text's first.
 fn logs_of_lines(alloc: Global, lines: &[&[u8]]) -> Result<Recording, RecordRefusal>
     ensures ok { IfOk result (λ r. logs_of_lines (map (λ line. line.now) lines.now)
         ≡ Ok (record { events = r.history; times = r.times.items; lost = r.lost })) }

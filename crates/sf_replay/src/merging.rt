@@ -46,14 +46,14 @@ pub(crate) struct Standing {
     member_generation: u32,
 }
 
-/// An event with where it stands.
+// An event with where it stands.
 #[derive(Drop)]
 struct Placed<K, V> {
     standing: Standing,
     event: Event<K, V>,
 }
 
-/// The events of all logs, one log after the other.
+// The events of all logs, one log after the other.
 fn in_one<K: Drop, V: Drop>(
     alloc: Global,
     logs: Vec<Vec<Event<K, V>>>,
@@ -68,7 +68,7 @@ fn in_one<K: Drop, V: Drop>(
     Ok(events)
 }
 
-/// The key of a lead, or of a forget that closed nothing or missed its call.
+// The key of a lead, or of a forget that closed nothing or missed its call.
 fn own_key<K, V>(event: &Event<K, V>) -> Option<&K>
     ensures { option_copied result ≡ key_held event.now }
 {
@@ -88,7 +88,7 @@ fn own_key<K, V>(event: &Event<K, V>) -> Option<&K>
     }
 }
 
-/// The keys of the leads, and of the forgets that closed nothing or missed their calls, in their order.
+// The keys of the leads, and of the forgets that closed nothing or missed their calls, in their order.
 fn keys_in_order<'a, K: Ord, V>(
     alloc: Global,
     events: &'a [Event<K, V>],
@@ -107,7 +107,7 @@ fn keys_in_order<'a, K: Ord, V>(
     Ok(keys)
 }
 
-/// How many of the keys come before the key.
+// How many of the keys come before the key.
 fn place_of<K: Ord>(keys: &[&K], key: &K) -> usize
     requires { IsSortedByKey (λ k. k.now) K.cmp keys.now }
     ensures { result ≡ place_among K.cmp (map (λ k. k.now) keys.now) key.now }
@@ -115,7 +115,7 @@ fn place_of<K: Ord>(keys: &[&K], key: &K) -> usize
     keys.partition_point(|other| (*other).cmp(key).is_lt())
 }
 
-/// For each call that was led the place of its key, which is that of its first lead.
+// For each call that was led the place of its key, which is that of its first lead.
 fn places_of_calls<K: Ord, V>(
     alloc: Global,
     keys: &[&K],
@@ -137,7 +137,7 @@ fn places_of_calls<K: Ord, V>(
     Ok(calls)
 }
 
-/// Where a part of a call stands, by the places of the calls' keys; `member` is that of an enter, and `by` who made it.
+// Where a part of a call stands, by the places of the calls' keys; `member` is that of an enter, and `by` who made it.
 fn part_standing(
     calls: &BTreeMap<(u32, u32), usize>,
     by: u32,
@@ -162,7 +162,7 @@ fn part_standing(
     }
 }
 
-/// Where an event stands that is of no call, or of one that nobody led.
+// Where an event stands that is of no call, or of one that nobody led.
 fn idle_standing(unled: bool, key: usize, by: u32) -> Standing
     ensures { result ≡ idle_standing_by unled key by }
 {
@@ -178,7 +178,7 @@ fn idle_standing(unled: bool, key: usize, by: u32) -> Standing
     }
 }
 
-/// Where an event stands, by the keys in their order and the places of the calls' keys.
+// Where an event stands, by the keys in their order and the places of the calls' keys.
 fn standing_of<K: Ord, V>(
     keys: &[&K],
     calls: &BTreeMap<(u32, u32), usize>,
@@ -227,7 +227,7 @@ pub(crate) fn standings<K: Ord, V>(
     Ok(standings)
 }
 
-/// The events, each with its standing.
+// The events, each with its standing.
 fn with_standings<K: Drop, V: Drop>(
     alloc: Global,
     standings: &[Standing],
@@ -245,7 +245,7 @@ fn with_standings<K: Drop, V: Drop>(
     Ok(placed)
 }
 
-/// The events alone.
+// The events alone.
 fn without_standings<K: Drop, V: Drop>(
     alloc: Global,
     placed: Vec<Placed<K, V>>,

@@ -11,7 +11,7 @@ use crate::record::{Interval, TextEvent};
 use sf_history::{History, Memory};
 use std::alloc::Global;
 
-/// An event with its time, and where it stands.
+// An event with its time, and where it stands.
 #[derive(Drop)]
 struct Timed {
     standing: Standing,
@@ -19,7 +19,7 @@ struct Timed {
     time: Option<Interval>,
 }
 
-/// The events, each with its standing and its time.
+// The events, each with its standing and its time.
 fn with_times(
     alloc: Global,
     standings: &[Standing],
@@ -45,7 +45,7 @@ fn with_times(
     Ok(timed)
 }
 
-/// The events, and their times.
+// The events, and their times.
 fn apart(
     alloc: Global,
     timed: Vec<Timed>,

@@ -66,7 +66,7 @@ impl From<Memory> for RecordRefusal {
     }
 }
 
-/// The JSON value that a line is, if it is one.
+// The JSON value that a line is, if it is one.
 #[tactic(auto, unfolding(crate::specs::RecordText::json_of))]
 fn json(alloc: Global, line: &[u8]) -> Result<Option<Value>, Memory>
     ensures { IfOk result (λ found. option_map view found ≡ json_of line.now) }
@@ -127,7 +127,7 @@ pub(crate) fn heading(alloc: Global, line: &[u8]) -> Result<Option<(u32, u64)>, 
     }
 }
 
-/// What stands between the line feeds.
+// What stands between the line feeds.
 fn parts(alloc: Global, text: &[u8]) -> Result<Vec<&[u8]>, Memory>
     ensures { IfOk result (λ parts.
         map (λ part. part.now) parts.items ≡ slice_split (λ byte. byte == 10) text.now) }
@@ -135,7 +135,7 @@ fn parts(alloc: Global, text: &[u8]) -> Result<Vec<&[u8]>, Memory>
     text.split(|byte| *byte == b'\n').collect(alloc)
 }
 
-/// Takes off the last line where nothing stands in it.
+// Takes off the last line where nothing stands in it.
 fn drop_empty_last(lines: &mut Vec<&[u8]>)
     ensures { map (λ line. line.now) lines.new.items
         ≡ without_empty_last (map (λ line. line.now) lines.old.items) }
@@ -156,7 +156,7 @@ pub(crate) fn lines(alloc: Global, text: &[u8]) -> Result<Vec<&[u8]>, Memory>
     Ok(lines)
 }
 
-/// The history that these lines record in the format, and the time of each event; the first of them is the text's second.
+// The history that these lines record in the format, and the time of each event; the first of them is the text's second.
 fn history(
     alloc: Global,
     format: u32,
@@ -194,7 +194,7 @@ pub struct Recording {
     pub lost: u64,
 }
 
-/// The recording of these lines, of which the first is the text's first.
+// The recording of these lines, of which the first is the text's first.
 fn recording_of_lines(alloc: Global, lines: &[&[u8]]) -> Result<Recording, RecordRefusal>
     ensures ok { IfOk result (λ recording.
         history_of_lines (map (λ line. line.now) lines.now) ≡ Ok recording.history) }

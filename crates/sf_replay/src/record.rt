@@ -20,10 +20,10 @@ pub type TextEvent = Event<Text, Outcome>;
 /// The first format of records, whose settles have a mark in place of how many joined.
 pub(crate) const FIRST_FORMAT: u32 = 1;
 
-/// The first format of records that has Forgets of one call.
+// The first format of records that has Forgets of one call.
 const FORGET_CALL_FORMAT: u32 = 3;
 
-/// The newest format of records that has no times, which is written where there are none.
+// The newest format of records that has no times, which is written where there are none.
 const PLAIN_FORMAT: u32 = 3;
 
 /// The first format of records that has times, and says how many events were lost.
@@ -106,7 +106,7 @@ pub(crate) fn time(value: &Value, format: u32) -> Option<Option<Interval>>
     }
 }
 
-/// How many names the time of a record adds.
+// How many names the time of a record adds.
 fn names_of(time: Option<Interval>) -> usize
     ensures { result ≡ names_of_time time }
 {
@@ -137,7 +137,7 @@ fn call_at(value: &Value, name: &str) -> Option<CallId>
     call(value.get(name)?)
 }
 
-/// `None` where nothing or something else stands there, `Some(None)` for null.
+// `None` where nothing or something else stands there, `Some(None)` for null.
 fn option_at(value: &Value, name: &str) -> Option<Option<CallId>>
     ensures { result ≡ field name.now option_in (view value.now) }
 {
@@ -172,7 +172,7 @@ fn bool_at(value: &Value, name: &str) -> Option<bool>
     value.get(name)?.as_bool()
 }
 
-/// How many a mark stands for, where so many entered the call before: none, or those who entered, and at least one.
+// How many a mark stands for, where so many entered the call before: none, or those who entered, and at least one.
 fn count_of_mark(entered: u64, shared: bool) -> Option<u32>
     ensures { result ≡ count_of_mark entered shared }
 {
@@ -187,7 +187,7 @@ fn count_of_mark(entered: u64, shared: bool) -> Option<u32>
     }
 }
 
-/// How many joined, where so many entered the call before.
+// How many joined, where so many entered the call before.
 fn joiners_at(value: &Value, format: u32, entered: u64) -> Option<u32>
     ensures { result ≡ joiners_in format entered (view value.now) }
 {
@@ -301,7 +301,7 @@ fn forget_call(alloc: Global, more: usize, value: &Value) -> Result<Option<TextE
     }
 }
 
-/// The Forget of one call that a JSON value says, which formats before the third do not have.
+// The Forget of one call that a JSON value says, which formats before the third do not have.
 fn forget_call_of(
     alloc: Global,
     more: usize,
@@ -317,7 +317,7 @@ fn forget_call_of(
     forget_call(alloc, more, value)
 }
 
-/// The text at the name `ok`, or else the one at the name `err`.
+// The text at the name `ok`, or else the one at the name `err`.
 fn result(alloc: Global, value: &Value) -> Result<Option<Result<Text, Text>>, Memory>
     ensures { IfOk result (λ found. found ≡ result_in (view value.now)) }
 {

@@ -8,14 +8,14 @@ use sf_text::Text;
 use sf_words::PlaceNo;
 use std::alloc::Global;
 
-/// The key of a place in records: its number in decimals.
+// The key of a place in records: its number in decimals.
 fn key_text(alloc: Global, place: PlaceNo) -> Result<Text, Memory>
     ensures { IfOk result (λ text. text ≡ decimal place) }
 {
     Ok(Text::from_string(format!(in alloc; "{place}")?))
 }
 
-/// The event, with a text as its key.
+// The event, with a text as its key.
 fn with_text_key<V: Drop>(alloc: Global, event: Event<PlaceNo, V>) -> Result<Event<Text, V>, Memory>
     ensures { IfOk result (λ same. same ≡ keyed.with_text_key event) }
 {

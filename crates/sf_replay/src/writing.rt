@@ -14,10 +14,10 @@ use sf_text::Text;
 use std::alloc::Global;
 use std::fmt;
 
-/// The first line of records, in the newest format.
+// The first line of records, in the newest format.
 const FORMAT_LINE: &str = "{\"format\":3}\n";
 
-/// A call or a member, as in `[1,2]`.
+// A call or a member, as in `[1,2]`.
 #[derive(Clone, Copy)]
 struct CallJson(CallId);
 
@@ -34,7 +34,7 @@ impl fmt::Display for CallJson {
     }
 }
 
-/// A call or a member, or null.
+// A call or a member, or null.
 #[derive(Clone, Copy)]
 struct OptionJson(Option<CallId>);
 
@@ -52,7 +52,7 @@ impl fmt::Display for OptionJson {
     }
 }
 
-/// A text as a JSON string.
+// A text as a JSON string.
 fn quoted(alloc: Global, text: &Text) -> Result<String, Memory>
     ensures { IfOk result (λ string. string_bytes string ≡ quoted text.now) }
 {
@@ -60,7 +60,7 @@ fn quoted(alloc: Global, text: &Text) -> Result<String, Memory>
     value.to_string(alloc)
 }
 
-/// What a call is settled with, after its name.
+// What a call is settled with, after its name.
 fn settled(alloc: Global, outcome: &Result<Text, Text>) -> Result<String, Memory>
     ensures { IfOk result (λ string. string_bytes string ≡ result_json outcome.now) }
 {
@@ -76,7 +76,7 @@ fn settled(alloc: Global, outcome: &Result<Text, Text>) -> Result<String, Memory
     }
 }
 
-/// One record with what stands at its end, without the end of its line.
+// One record with what stands at its end, without the end of its line.
 #[tactic(auto, unfolding(crate::specs::Written::record_with))]
 fn record(alloc: Global, event: &TextEvent, end: &str) -> Result<String, Memory>
     ensures text { IfOk result (λ string. string_bytes string ≡ record_with end.now event.now) }
@@ -144,7 +144,7 @@ pub fn write(alloc: Global, history: &History<Text, Result<Text, Text>>) -> Resu
     Ok(text)
 }
 
-/// The end of a record that may have a time.
+// The end of a record that may have a time.
 fn end(alloc: Global, time: Option<Interval>) -> Result<String, Memory>
     ensures { IfOk result (λ string. string_bytes string ≡ time_end time) }
 {
@@ -154,7 +154,7 @@ fn end(alloc: Global, time: Option<Interval>) -> Result<String, Memory>
     }
 }
 
-/// The time of this number, where there is one.
+// The time of this number, where there is one.
 fn time_at(times: &[Option<Interval>], i: usize) -> Option<Interval>
     ensures { result ≡ get_or times.now i None }
 {

@@ -82,7 +82,7 @@ fn forget_cause<'a, K, P: Past<'a, K>>(
     }
 }
 
-/// Whether a forget of one call found what it says.
+// Whether a forget of one call found what it says.
 fn is_hit(hit: Hit, opened: Option<CallId>, current: Option<CallId>, call: CallId) -> bool
     ensures { result ≡ hit_fits hit opened current call }
 {

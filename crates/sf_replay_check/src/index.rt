@@ -39,7 +39,7 @@ impl<'a, K: Ord> Index<'a, K> {
         self.rows.get(&(id.caller, id.generation)).copied()
     }
 
-    /// Notes a name that is new, with whether it is a call that is led.
+    // Notes a name that is new, with whether it is a call that is led.
     fn note_name(&mut self, id: CallId, led: bool) -> Result<(), Memory>
         ensures row { OnOk result ((c : CallId)
             → (noted_in K.cmp self.new).row c
@@ -58,7 +58,7 @@ impl<'a, K: Ord> Index<'a, K> {
         Ok(())
     }
 
-    /// Marks a call's row.
+    // Marks a call's row.
     fn mark(&mut self, call: CallId, mark: Mark)
         requires room { joiners_in ((noted_in K.cmp self.now).row call) + 1 < 2 ^ 64 }
         ensures row { (c : CallId)
@@ -73,7 +73,7 @@ impl<'a, K: Ord> Index<'a, K> {
         }
     }
 
-    /// The key has a new current call.
+    // The key has a new current call.
     fn lead_key(&mut self, key: &'a K, call: CallId) -> Result<(), Memory>
         ensures row { OnOk result ((c : CallId)
             → (noted_in K.cmp self.new).row c ≡ (noted_in K.cmp self.old).row c) }
@@ -85,7 +85,7 @@ impl<'a, K: Ord> Index<'a, K> {
         Ok(())
     }
 
-    /// The key has no current call any more.
+    // The key has no current call any more.
     fn forget_key(&mut self, key: &'a K)
         ensures row { (c : CallId)
             → (noted_in K.cmp self.new).row c ≡ (noted_in K.cmp self.old).row c }
@@ -96,7 +96,7 @@ impl<'a, K: Ord> Index<'a, K> {
         self.current.remove(&key);
     }
 
-    /// Notes a lead.
+    // Notes a lead.
     fn note_lead(&mut self, key: &'a K, call: CallId, own: Option<CallId>) -> Result<(), Memory>
         ensures row { OnOk result ((c : CallId)
             → (noted_in K.cmp self.new).row c

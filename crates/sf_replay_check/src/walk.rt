@@ -19,7 +19,7 @@ fn names_call<K, V>(event: &Event<K, V>, named: CallId) -> bool
     }
 }
 
-/// Whether some lead or enter names it.
+// Whether some lead or enter names it.
 fn is_named<K, V>(events: &[Event<K, V>], named: CallId) -> bool
     ensures { result ≡ is_named events.now named }
 {
@@ -35,7 +35,7 @@ fn begins_call<K, V>(event: &Event<K, V>, begun: CallId) -> bool
     }
 }
 
-/// Whether anyone led the call.
+// Whether anyone led the call.
 fn has_begun<K, V>(events: &[Event<K, V>], call: CallId) -> bool
     ensures { result ≡ has_begun events.now call }
 {
@@ -51,7 +51,7 @@ fn leads_call<K, V>(event: &Event<K, V>, caller: u32, led: CallId) -> bool
     }
 }
 
-/// Whether the caller led the call.
+// Whether the caller led the call.
 fn was_led<K, V>(events: &[Event<K, V>], caller: u32, call: CallId) -> bool
     ensures { result ≡ was_led events.now caller call }
 {
@@ -67,7 +67,7 @@ fn settles_call<K, V>(event: &Event<K, V>, settled: CallId) -> bool
     }
 }
 
-/// Whether the call is settled.
+// Whether the call is settled.
 fn is_settled<K, V>(events: &[Event<K, V>], call: CallId) -> bool
     ensures { result ≡ is_settled events.now call }
 {

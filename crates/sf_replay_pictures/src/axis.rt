@@ -6,13 +6,13 @@ use sf_history::Memory;
 use sf_replay::Interval;
 use std::alloc::Global;
 
-/// The left edge of the first moment: the callers stand left of it.
+// The left edge of the first moment: the callers stand left of it.
 const LEFT: usize = 140;
-/// The least width between two moments.
+// The least width between two moments.
 const STEP: usize = 20;
-/// What each doubling of the time between them adds.
+// What each doubling of the time between them adds.
 const DOUBLING: usize = 3;
-/// The width of a picture without moments.
+// The width of a picture without moments.
 const EMPTY: usize = 360;
 
 /// The moments of a picture.
@@ -24,7 +24,7 @@ pub(crate) struct Axis {
     places: Vec<usize>,
 }
 
-/// The moments at which the events at these places begin or end, each once.
+// The moments at which the events at these places begin or end, each once.
 fn moments(
     alloc: Global,
     places: &[usize],
@@ -42,7 +42,7 @@ fn moments(
     Ok(moments)
 }
 
-/// The width of this time.
+// The width of this time.
 fn width_of(time: u64) -> usize {
     let doublings = 64u32.saturating_sub(time.leading_zeros()) as usize;
     doublings.saturating_mul(DOUBLING).saturating_add(STEP)

@@ -10,7 +10,7 @@ use sf_replay::{Interval, TextEvent};
 use sf_svg::text_width;
 use std::alloc::Global;
 
-/// What lies between what stands in one row.
+// What lies between what stands in one row.
 const BETWEEN: usize = 14;
 
 /// How a bar looks.
@@ -48,7 +48,7 @@ impl Bar {
     }
 }
 
-/// What events are sorted by: caller, those with a time first, and their times.
+// What events are sorted by: caller, those with a time first, and their times.
 #[derive(Clone, Copy, PartialEq, Eq, PartialOrd, Ord)]
 struct Order {
     caller: u32,
@@ -58,7 +58,7 @@ struct Order {
     place: usize,
 }
 
-/// The places of the events by their callers, and for each caller in the order of time.
+// The places of the events by their callers, and for each caller in the order of time.
 fn orders(
     alloc: Global,
     chosen: &Chosen<'_>,
@@ -86,7 +86,7 @@ fn orders(
     Ok(orders)
 }
 
-/// The first of these rows whose last bar ends left of `left`, or a new one.
+// The first of these rows whose last bar ends left of `left`, or a new one.
 fn free_row(edges: &mut Vec<usize>, left: usize, edge: usize) -> Result<usize, Memory> {
     for (row, last) in edges.iter_mut().enumerate() {
         if last.saturating_add(BETWEEN) <= left {
@@ -99,7 +99,7 @@ fn free_row(edges: &mut Vec<usize>, left: usize, edge: usize) -> Result<usize, M
     Ok(row)
 }
 
-/// The bar of an event, in the first row.
+// The bar of an event, in the first row.
 fn bar_of_event(
     alloc: Global,
     axis: &Axis,

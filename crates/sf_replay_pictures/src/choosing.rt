@@ -21,7 +21,7 @@ pub(crate) struct Chosen<'a> {
     pub(crate) left_out: u64,
 }
 
-/// What an event is to the witness, the nearest first.
+// What an event is to the witness, the nearest first.
 #[derive(Clone, Copy, PartialEq, Eq, PartialOrd, Ord)]
 enum Kin {
     /// The witness names it.
@@ -34,7 +34,7 @@ enum Kin {
     OfItsKey,
 }
 
-/// An event that may be drawn: the least ones are.
+// An event that may be drawn: the least ones are.
 #[derive(Clone, Copy, PartialEq, Eq, PartialOrd, Ord)]
 struct Candidate {
     kin: Kin,
@@ -45,7 +45,7 @@ struct Candidate {
     place: usize,
 }
 
-/// What is known of the witness.
+// What is known of the witness.
 #[derive(Drop)]
 struct Subject<'a> {
     key: Option<&'a Text>,
@@ -62,13 +62,13 @@ pub(crate) fn time_at(times: &[Option<Interval>], place: usize) -> Option<Interv
     *times.get(place)?
 }
 
-/// How much time lies between two intervals.
+// How much time lies between two intervals.
 fn between(first: Interval, second: Interval) -> u64 {
     let before = second.from.saturating_sub(first.to);
     first.from.saturating_sub(second.to).max(before)
 }
 
-/// The key that the call was led on.
+// The key that the call was led on.
 fn key_of_call<'a>(events: &'a [TextEvent], wanted: CallId) -> Option<&'a Text> {
     for event in events {
         if let Event::Lead { key, call, .. } = event {
@@ -80,7 +80,7 @@ fn key_of_call<'a>(events: &'a [TextEvent], wanted: CallId) -> Option<&'a Text> 
     None
 }
 
-/// The key of the first of these events that has one, itself or by the Lead of its call.
+// The key of the first of these events that has one, itself or by the Lead of its call.
 fn key_of_named<'a>(events: &'a [TextEvent], named: &[usize]) -> Option<&'a Text> {
     for place in named {
         if let Some(event) = events.get(*place) {
@@ -99,7 +99,7 @@ fn key_of_named<'a>(events: &'a [TextEvent], named: &[usize]) -> Option<&'a Text
     None
 }
 
-/// The calls that were led on the key.
+// The calls that were led on the key.
 fn led_on(
     alloc: Global,
     events: &[TextEvent],
@@ -117,7 +117,7 @@ fn led_on(
 }
 
 impl<'a> Subject<'a> {
-    /// What is known of the events that are named.
+    // What is known of the events that are named.
     fn new(
         alloc: Global,
         named: &[usize],
@@ -147,7 +147,7 @@ impl<'a> Subject<'a> {
         })
     }
 
-    /// Whether the event is of the key.
+    // Whether the event is of the key.
     fn is_of_key(&self, event: &TextEvent) -> bool {
         match (key_of(event), self.key, call_of(event)) {
             (Some(key), Some(wanted), _) => key == wanted,
@@ -156,7 +156,7 @@ impl<'a> Subject<'a> {
         }
     }
 
-    /// How much time lies between the event of this time and the nearest named one; none where that is not known.
+    // How much time lies between the event of this time and the nearest named one; none where that is not known.
     fn distance(&self, time: Option<Interval>) -> u64 {
         let Some(time) = time else {
             return 0;
@@ -169,7 +169,7 @@ impl<'a> Subject<'a> {
         least.unwrap_or(0)
     }
 
-    /// What the event at this place is to the witness, if it is of its key or of a call of its events.
+    // What the event at this place is to the witness, if it is of its key or of a call of its events.
     fn kin(&self, named: &[usize], place: usize, event: &TextEvent) -> Option<Kin> {
         if named.contains(&place) {
             return Some(Kin::Named);
@@ -190,7 +190,7 @@ impl<'a> Subject<'a> {
     }
 }
 
-/// The events that may be drawn.
+// The events that may be drawn.
 fn candidates(
     alloc: Global,
     subject: &Subject<'_>,

@@ -15,7 +15,7 @@ use sf_replay_timed::Witness;
 use sf_svg::{begin, end, path, rect, text, text_width};
 use std::alloc::Global;
 
-/// How the marks look; no colour says anything.
+// How the marks look; no colour says anything.
 const STYLE: &str = "<style>
 text { font: 13px monospace; paint-order: stroke; stroke: #fff; stroke-width: 3; }
 .title, .strong { font-weight: bold; }
@@ -35,22 +35,22 @@ text { font: 13px monospace; paint-order: stroke; stroke: #fff; stroke-width: 3;
 <defs><marker id=\"head\" viewBox=\"0 0 10 10\" refX=\"9\" refY=\"5\" markerWidth=\"8\" markerHeight=\"8\" markerUnits=\"userSpaceOnUse\" orient=\"auto\"><path d=\"M0 0L10 5L0 10z\"/></marker></defs>
 ";
 
-/// Where texts begin that stand left of all bars.
+// Where texts begin that stand left of all bars.
 const EDGE: usize = 16;
-/// The least width, for the legend.
+// The least width, for the legend.
 const LEAST: usize = 560;
-/// The height of a line of text.
+// The height of a line of text.
 const LINE: usize = 20;
-/// The height of the line of a call that keeps others out.
+// The height of the line of a call that keeps others out.
 const STAY: usize = 36;
-/// The height of a row of bars, with their labels and times.
+// The height of a row of bars, with their labels and times.
 const ROW: usize = 54;
-/// The height of a bar.
+// The height of a bar.
 const BAR: usize = 12;
-/// The width of the bar of an event that began and ended at one moment.
+// The width of the bar of an event that began and ended at one moment.
 const POINT: usize = 4;
 
-/// What a picture shows.
+// What a picture shows.
 #[derive(Drop)]
 struct Picture {
     /// What stands between the verdict and the marks, line by line.
@@ -89,7 +89,7 @@ pub fn draw(
     put_together(alloc, size, STYLE, verdict, marks.as_str())
 }
 
-/// A picture of this size with these marks, and the verdict above them.
+// A picture of this size with these marks, and the verdict above them.
 fn put_together(
     alloc: Global,
     size: (usize, usize),
@@ -108,7 +108,7 @@ fn put_together(
     Ok(svg)
 }
 
-/// All marks of a picture below its title.
+// All marks of a picture below its title.
 fn marks(alloc: Global, picture: &Picture) -> Result<String, Memory> {
     let mut svg = String::new(alloc);
     draw_notes(&mut svg, picture.notes.as_slice())?;
@@ -126,7 +126,7 @@ fn marks(alloc: Global, picture: &Picture) -> Result<String, Memory> {
     Ok(svg)
 }
 
-/// The picture of a witness, laid out.
+// The picture of a witness, laid out.
 fn lay_out(
     alloc: Global,
     verdict: &str,
@@ -163,7 +163,7 @@ fn lay_out(
     })
 }
 
-/// The lines between the verdict and the marks.
+// The lines between the verdict and the marks.
 fn notes(alloc: Global, chosen: &Chosen<'_>, first: Option<u64>) -> Result<Vec<String>, Memory> {
     let mut notes = Vec::new(alloc);
     if let Some(key) = chosen.key {
@@ -182,12 +182,12 @@ fn notes(alloc: Global, chosen: &Chosen<'_>, first: Option<u64>) -> Result<Vec<S
     Ok(notes)
 }
 
-/// The bar of the event of this number.
+// The bar of the event of this number.
 fn bar_of_number(bars: &[Bar], number: u64) -> Option<usize> {
     bars.iter().position(|bar| bar.place == place(number))
 }
 
-/// The bars between which the arrow of a witness goes.
+// The bars between which the arrow of a witness goes.
 fn reversed(witness: Witness, bars: &[Bar]) -> Option<(usize, usize)> {
     match witness {
         Witness::Reversed { first, second } => {
@@ -199,7 +199,7 @@ fn reversed(witness: Witness, bars: &[Bar]) -> Option<(usize, usize)> {
     }
 }
 
-/// The right edge of a picture, for its verdict and the lines below it.
+// The right edge of a picture, for its verdict and the lines below it.
 fn edge_of_head(verdict: &str, notes: &[String]) -> usize {
     let mut width = text_width(verdict);
     for line in notes {
@@ -208,7 +208,7 @@ fn edge_of_head(verdict: &str, notes: &[String]) -> usize {
     width.saturating_add(EDGE * 2)
 }
 
-/// The right edge of a picture, for its marks.
+// The right edge of a picture, for its marks.
 fn edge_of_bars(stays: &[Stay], bars: &[Bar], axis: &Axis) -> usize {
     let mut edge = axis.right().saturating_add(EDGE).max(LEAST);
     for stay in stays {
@@ -220,12 +220,12 @@ fn edge_of_bars(stays: &[Stay], bars: &[Bar], axis: &Axis) -> usize {
     edge.saturating_add(EDGE)
 }
 
-/// The upper edge of the legend.
+// The upper edge of the legend.
 fn legend_top(picture: &Picture) -> usize {
     picture.bottom.saturating_add(44)
 }
 
-/// The height of a picture.
+// The height of a picture.
 fn height(picture: &Picture) -> usize {
     legend_top(picture).saturating_add(legend_lines(picture).saturating_mul(LINE))
 }
@@ -238,12 +238,12 @@ fn draw_notes(svg: &mut String, notes: &[String]) -> Result<(), Memory> {
     Ok(())
 }
 
-/// The upper edge of a row.
+// The upper edge of a row.
 fn row_top(picture: &Picture, row: usize) -> usize {
     row.saturating_mul(ROW).saturating_add(picture.lanes)
 }
 
-/// The caller of each lane, a line above each lane, and the line of time below them all.
+// The caller of each lane, a line above each lane, and the line of time below them all.
 fn draw_lanes(alloc: Global, svg: &mut String, picture: &Picture) -> Result<(), Memory> {
     let mut caller = 0;
     let edge = picture.width.saturating_sub(EDGE);
@@ -264,7 +264,7 @@ fn draw_lanes(alloc: Global, svg: &mut String, picture: &Picture) -> Result<(), 
     text(svg, "note", EDGE, bottom.saturating_add(5), "time")
 }
 
-/// A line down from where each event that the witness names begins and ends.
+// A line down from where each event that the witness names begins and ends.
 fn draw_ends(alloc: Global, svg: &mut String, picture: &Picture) -> Result<(), Memory> {
     let (top, bottom) = (picture.top, picture.bottom.saturating_add(8));
     for bar in picture.bars.iter() {
@@ -277,7 +277,7 @@ fn draw_ends(alloc: Global, svg: &mut String, picture: &Picture) -> Result<(), M
     Ok(())
 }
 
-/// The line of a call that keeps others out; one that nothing ended goes to the right edge.
+// The line of a call that keeps others out; one that nothing ended goes to the right edge.
 fn draw_stay(
     alloc: Global,
     svg: &mut String,
@@ -304,7 +304,7 @@ fn draw_stay(
     path(svg, class, way.as_str())
 }
 
-/// The class of a bar.
+// The class of a bar.
 fn bar_class(look: Look) -> &'static str {
     match (look.is_named, look.is_timed) {
         (true, true) => "named",
@@ -314,12 +314,12 @@ fn bar_class(look: Look) -> &'static str {
     }
 }
 
-/// The middle of a bar, from above.
+// The middle of a bar, from above.
 fn middle(picture: &Picture, bar: &Bar) -> usize {
     row_top(picture, bar.row).saturating_add(20 + BAR / 2)
 }
 
-/// Where a bar begins, and how wide it is. That of an event without a time goes to the right edge.
+// Where a bar begins, and how wide it is. That of an event without a time goes to the right edge.
 fn extent(picture: &Picture, bar: &Bar) -> (usize, usize) {
     if !bar.look.is_timed {
         let edge = picture.width.saturating_sub(EDGE);
@@ -332,7 +332,7 @@ fn extent(picture: &Picture, bar: &Bar) -> (usize, usize) {
     }
 }
 
-/// A bar, with its label above and its time below it.
+// A bar, with its label above and its time below it.
 fn draw_bar(svg: &mut String, picture: &Picture, bar: &Bar) -> Result<(), Memory> {
     let top = row_top(picture, bar.row);
     let class = bar_class(bar.look);
@@ -355,7 +355,7 @@ fn draw_bar(svg: &mut String, picture: &Picture, bar: &Bar) -> Result<(), Memory
     )
 }
 
-/// The arrow from the event that has to come first to the one that has to follow it.
+// The arrow from the event that has to come first to the one that has to follow it.
 fn draw_reversed(alloc: Global, svg: &mut String, picture: &Picture) -> Result<(), Memory> {
     let Some((first, second)) = picture.reversed else {
         return Ok(());
@@ -369,13 +369,13 @@ fn draw_reversed(alloc: Global, svg: &mut String, picture: &Picture) -> Result<(
     path(svg, "arrow", way.as_str())
 }
 
-/// How many lines the legend has.
+// How many lines the legend has.
 fn legend_lines(picture: &Picture) -> usize {
     let arrow = if picture.reversed.is_some() { 1 } else { 0 };
     4usize.saturating_add(arrow)
 }
 
-/// A line of the legend.
+// A line of the legend.
 fn draw_meaning(
     svg: &mut String,
     class: &str,
@@ -388,7 +388,7 @@ fn draw_meaning(
     text(svg, "note", 60, y.saturating_add(11), says)
 }
 
-/// What the bars and the arrow mean.
+// What the bars and the arrow mean.
 fn draw_legend(alloc: Global, svg: &mut String, picture: &Picture) -> Result<(), Memory> {
     let top = legend_top(picture);
     draw_meaning(svg, "named", 0, top, "an event that the verdict names")?;

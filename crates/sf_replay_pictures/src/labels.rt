@@ -6,9 +6,9 @@ use sf_svg::cut;
 use sf_text::{Outcome, Text};
 use std::alloc::Global;
 
-/// How many characters of a value are drawn.
+// How many characters of a value are drawn.
 const VALUE: usize = 16;
-/// How many characters of a key are drawn.
+// How many characters of a key are drawn.
 const KEY: usize = 48;
 
 /// A key with how many bytes it has, where it is cut.
@@ -21,7 +21,7 @@ pub(crate) fn key_text(alloc: Global, key: &Text) -> Result<String, Memory> {
     Ok(format!(in alloc; "{cut} ({bytes} bytes)")?)
 }
 
-/// What a call is settled with.
+// What a call is settled with.
 fn outcome_text(alloc: Global, outcome: &Outcome) -> Result<String, Memory> {
     match outcome {
         Ok(value) => cut(alloc, value.as_str(), VALUE),
@@ -32,7 +32,7 @@ fn outcome_text(alloc: Global, outcome: &Outcome) -> Result<String, Memory> {
     }
 }
 
-/// What a Lead says.
+// What a Lead says.
 fn lead_text(alloc: Global, call: CallId, own: Option<CallId>) -> Result<String, Memory> {
     Ok(match own {
         Some(own) => format!(in alloc; "lead {call} own={own}")?,
@@ -40,7 +40,7 @@ fn lead_text(alloc: Global, call: CallId, own: Option<CallId>) -> Result<String,
     })
 }
 
-/// What an event says, but for its key.
+// What an event says, but for its key.
 fn event_text(alloc: Global, event: &TextEvent) -> Result<String, Memory> {
     Ok(match event {
         Event::Lead { call, own, .. } => lead_text(alloc, *call, *own)?,

@@ -23,14 +23,14 @@ pub(crate) struct Stay {
     pub(crate) is_endless: bool,
 }
 
-/// An event of a call that it begins before, and one that it ends after, if anything ended it.
+// An event of a call that it begins before, and one that it ends after, if anything ended it.
 #[derive(Clone, Copy)]
 struct Bounds {
     early: u64,
     late: Option<u64>,
 }
 
-/// The bounds of the calls that a witness speaks of.
+// The bounds of the calls that a witness speaks of.
 fn bounds_of(witness: Witness) -> [Option<Bounds>; 2] {
     match witness {
         Witness::Wrong { .. } | Witness::Reversed { .. } => [None, None],
@@ -73,7 +73,7 @@ fn bounds_of(witness: Witness) -> [Option<Bounds>; 2] {
     }
 }
 
-/// What is said of the call.
+// What is said of the call.
 fn stay_text(alloc: Global, witness: Witness, call: CallId) -> Result<String, Memory> {
     Ok(match witness {
         Witness::Missed { .. } | Witness::StillCurrent { .. } => {
@@ -83,7 +83,7 @@ fn stay_text(alloc: Global, witness: Witness, call: CallId) -> Result<String, Me
     })
 }
 
-/// Where a call has to be there: from the end of an early event of it to the beginning of a late one.
+// Where a call has to be there: from the end of an early event of it to the beginning of a late one.
 fn stay_between(
     axis: &Axis,
     says: String,

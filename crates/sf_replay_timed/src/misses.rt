@@ -17,7 +17,7 @@ pub(crate) struct Map {
     pub places: Vec<usize>,
 }
 
-/// A Forget that missed a call of its key: the place of the call's zone, and the time of the Forget.
+// A Forget that missed a call of its key: the place of the call's zone, and the time of the Forget.
 #[derive(Clone, Copy)]
 struct Miss {
     zone: usize,
@@ -58,7 +58,7 @@ impl Map {
         Some((place, zone))
     }
 
-    /// The zone after the one at this place, if it is of the same key.
+    // The zone after the one at this place, if it is of the same key.
     fn next(&self, place: usize) -> Option<(usize, Zone)> {
         let zone = self.zones.get(place)?;
         let after = place.checked_add(1)?;
@@ -70,7 +70,7 @@ impl Map {
         }
     }
 
-    /// The miss that this event is, if it is one of a call that was led on its key.
+    // The miss that this event is, if it is one of a call that was led on its key.
     fn miss<'a, K: Ord, V>(
         &self,
         spans: &Spans<'a, K>,
@@ -94,7 +94,7 @@ impl Map {
         Some((Miss { zone, time }, span))
     }
 
-    /// Where the miss can stand, as the zones are.
+    // Where the miss can stand, as the zones are.
     fn stand(&self, miss: Miss, span: &Span) -> Option<Stand> {
         let zone = self.zones.get(miss.zone)?;
         if miss.time.from <= zone.begins {
@@ -111,7 +111,7 @@ impl Map {
         behind(after, next.begins, miss.time)
     }
 
-    /// Lets the call after a missed one begin sooner, where that gives the miss a place.
+    // Lets the call after a missed one begin sooner, where that gives the miss a place.
     fn begin_sooner(&mut self, spans: &[Span], times: &[Option<Interval>], miss: Miss) {
         let Some(missed) = self.zones.get(miss.zone) else {
             return;
@@ -136,7 +136,7 @@ impl Map {
         }
     }
 
-    /// Whether some zone of the key may begin between the missed call and the end of the Forget. `moment` is that end.
+    // Whether some zone of the key may begin between the missed call and the end of the Forget. `moment` is that end.
     fn may_begin_between(
         &self,
         spans: &[Span],
@@ -163,7 +163,7 @@ impl Map {
         false
     }
 
-    /// What is said of a miss that can stand nowhere: its witness, or that it is not decided.
+    // What is said of a miss that can stand nowhere: its witness, or that it is not decided.
     fn unplaced(
         &self,
         spans: &[Span],
@@ -267,7 +267,7 @@ impl Map {
     }
 }
 
-/// Behind what begins or ends at this moment, where the time of the miss allows it.
+// Behind what begins or ends at this moment, where the time of the miss allows it.
 fn behind(zone: usize, moment: u64, time: Interval) -> Option<Stand> {
     if time.to < moment {
         return None;

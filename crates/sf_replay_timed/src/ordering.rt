@@ -7,7 +7,7 @@ use sf_history::{Event, History, Memory};
 use sf_replay::Interval;
 use std::alloc::Global;
 
-/// An event with its time, and where it stands.
+// An event with its time, and where it stands.
 #[derive(Drop)]
 struct Ranked<K, V> {
     rank: Rank,
@@ -15,7 +15,7 @@ struct Ranked<K, V> {
     time: Option<Interval>,
 }
 
-/// The rank at this place, and the first of all where none is there.
+// The rank at this place, and the first of all where none is there.
 fn rank_at(ranks: &[Rank], place: usize) -> Rank {
     match ranks.get(place) {
         Some(rank) => *rank,
@@ -28,7 +28,7 @@ fn rank_at(ranks: &[Rank], place: usize) -> Rank {
     }
 }
 
-/// The events, each with its rank and its time.
+// The events, each with its rank and its time.
 fn with_ranks<K: Drop, V: Drop>(
     alloc: Global,
     ranks: &[Rank],
@@ -48,7 +48,7 @@ fn with_ranks<K: Drop, V: Drop>(
     Ok(ranked)
 }
 
-/// The events, and their times.
+// The events, and their times.
 fn apart<K: Drop, V: Drop>(
     alloc: Global,
     ranked: Vec<Ranked<K, V>>,

@@ -30,7 +30,7 @@ pub(crate) struct Rank {
     pub part: Part,
 }
 
-/// The moment of a call's Settle.
+// The moment of a call's Settle.
 fn settled_at(times: &[Option<Interval>], span: &Span, zone: &Zone) -> u64 {
     let from = match span.settle {
         Some(settle) => time_of(times, settle).from,
@@ -45,7 +45,7 @@ fn settled_at(times: &[Option<Interval>], span: &Span, zone: &Zone) -> u64 {
     zone.ends
 }
 
-/// The rank of an event of the call.
+// The rank of an event of the call.
 fn rank_of_call<K, V>(
     times: &[Option<Interval>],
     span: &Span,
@@ -73,7 +73,7 @@ fn rank_of_call<K, V>(
     }
 }
 
-/// The call that an event is of, but for a Forget that missed it.
+// The call that an event is of, but for a Forget that missed it.
 fn call_of<K, V>(event: &Event<K, V>) -> Option<CallId> {
     match event {
         Event::Forget { closed, .. } => *closed,
@@ -89,7 +89,7 @@ fn call_of<K, V>(event: &Event<K, V>) -> Option<CallId> {
     }
 }
 
-/// The rank of an event that is of no call: of an idle Forget that of its zone, which is set later.
+// The rank of an event that is of no call: of an idle Forget that of its zone, which is set later.
 fn rank_alone<'a, K: Ord, V>(
     spans: &Spans<'a, K>,
     times: &[Option<Interval>],
@@ -125,7 +125,7 @@ fn rank_alone<'a, K: Ord, V>(
     }
 }
 
-/// The rank of an event; of an idle Forget it is set later.
+// The rank of an event; of an idle Forget it is set later.
 fn rank_of<'a, K: Ord, V>(
     spans: &Spans<'a, K>,
     times: &[Option<Interval>],
@@ -143,7 +143,7 @@ fn rank_of<'a, K: Ord, V>(
     rank_alone(spans, times, map, place, event)
 }
 
-/// Gives each idle Forget the rank of its zone.
+// Gives each idle Forget the rank of its zone.
 fn rank_idle(ranks: &mut [Rank], zones: &[Zone]) {
     for (place, zone) in zones.iter().enumerate() {
         if let Owner::Idle(event) = zone.owner {

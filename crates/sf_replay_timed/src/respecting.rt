@@ -5,7 +5,7 @@ ghost use Rattle.sf_replay_timed.specs.InTime.{RespectsTime};
 
 use sf_replay::Interval;
 
-/// The time, and for one that is not known any time.
+// The time, and for one that is not known any time.
 fn known_or_any(time: Option<Interval>) -> Interval
     ensures { IfSome time (λ known. known ≡ result) }
 {

@@ -78,7 +78,7 @@ impl<'a, K: Ord> Spans<'a, K> {
         }
     }
 
-    /// The number of the key, which is a new one if the key was not named before.
+    // The number of the key, which is a new one if the key was not named before.
     fn number_key(&mut self, key: &'a K) -> Result<usize, Stop> {
         if let Some(number) = self.key(key) {
             return Ok(number);
@@ -88,7 +88,7 @@ impl<'a, K: Ord> Spans<'a, K> {
         Ok(number)
     }
 
-    /// Notes a name; the event is wrong for this cause where it was there before.
+    // Notes a name; the event is wrong for this cause where it was there before.
     fn note_name(&mut self, place: usize, id: CallId, cause: Cause) -> Result<(), Stop> {
         let name = (id.caller, id.generation);
         if self.names.contains_key(&name) {
@@ -98,7 +98,7 @@ impl<'a, K: Ord> Spans<'a, K> {
         Ok(())
     }
 
-    /// Notes a Lead.
+    // Notes a Lead.
     fn note_lead(
         &mut self,
         times: &[Option<Interval>],
@@ -129,7 +129,7 @@ impl<'a, K: Ord> Spans<'a, K> {
         Ok(())
     }
 
-    /// Notes an event's names and keys.
+    // Notes an event's names and keys.
     fn note_names<V>(
         &mut self,
         times: &[Option<Interval>],
@@ -157,7 +157,7 @@ impl<'a, K: Ord> Spans<'a, K> {
         }
     }
 
-    /// Notes the Forget that closed a call of the key.
+    // Notes the Forget that closed a call of the key.
     fn note_close(
         &mut self,
         place: usize,
@@ -178,7 +178,7 @@ impl<'a, K: Ord> Spans<'a, K> {
         Ok(())
     }
 
-    /// Notes the Forget that cleared a call of the key.
+    // Notes the Forget that cleared a call of the key.
     fn note_clear(&mut self, place: usize, key: &'a K, call: CallId) -> Result<(), Stop> {
         let Some(found) = self.place_on(key, call) else {
             return wrong(place, Cause::HitIsWrong);
@@ -193,7 +193,7 @@ impl<'a, K: Ord> Spans<'a, K> {
         Ok(())
     }
 
-    /// Notes an Enter.
+    // Notes an Enter.
     fn note_enter(
         &mut self,
         times: &[Option<Interval>],
@@ -213,7 +213,7 @@ impl<'a, K: Ord> Spans<'a, K> {
         Ok(())
     }
 
-    /// Notes a Settle.
+    // Notes a Settle.
     fn note_settle(
         &mut self,
         place: usize,
@@ -238,7 +238,7 @@ impl<'a, K: Ord> Spans<'a, K> {
         Ok(())
     }
 
-    /// Notes a Handed.
+    // Notes a Handed.
     fn note_handed(&mut self, place: usize, by: u32, call: CallId) -> Result<(), Stop> {
         let Some(found) = self.place(call) else {
             return wrong(place, Cause::CallWasNotLed);
@@ -256,7 +256,7 @@ impl<'a, K: Ord> Spans<'a, K> {
         Ok(())
     }
 
-    /// Notes what an event says of its call. The names are noted before.
+    // Notes what an event says of its call. The names are noted before.
     fn note<V>(
         &mut self,
         times: &[Option<Interval>],

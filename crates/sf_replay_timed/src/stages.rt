@@ -14,7 +14,7 @@ pub(crate) struct Stay {
     pub closes: Option<Bound>,
 }
 
-/// An event that follows all that began at `low` or sooner, and narrows both bounds.
+// An event that follows all that began at `low` or sooner, and narrows both bounds.
 fn follow(
     times: &[Option<Interval>],
     place: usize,
@@ -26,7 +26,7 @@ fn follow(
     Ok((later(low, start_of(times, place)), sooner(high, end)))
 }
 
-/// The event is there where another is, or is wrong for this cause.
+// The event is there where another is, or is wrong for this cause.
 fn needs(place: Option<usize>, other: Option<usize>, cause: Cause) -> Result<(), Stop> {
     match (place, other) {
         (Some(place), None) => wrong(place, cause),
@@ -34,7 +34,7 @@ fn needs(place: Option<usize>, other: Option<usize>, cause: Cause) -> Result<(),
     }
 }
 
-/// What has to hold of the events of a call beside their times.
+// What has to hold of the events of a call beside their times.
 fn fits(span: &Span) -> Result<(), Stop> {
     needs(span.handed, span.settle, Cause::CallIsNotSettled)?;
     needs(span.cleared, span.settle, Cause::HitIsWrong)?;

@@ -31,7 +31,7 @@ pub(crate) struct Zone {
     pub ends: u64,
 }
 
-/// What zones are sorted by: key, beginning, and one of a single moment before one that lasts.
+// What zones are sorted by: key, beginning, and one of a single moment before one that lasts.
 #[derive(Clone, Copy, PartialEq, Eq, PartialOrd, Ord)]
 struct Order {
     key: usize,
@@ -40,7 +40,7 @@ struct Order {
 }
 
 impl Zone {
-    /// Whether it has to be there for a while: an event of it ended before another of it began.
+    // Whether it has to be there for a while: an event of it ended before another of it began.
     fn lasts(&self) -> bool {
         match self.closes {
             Some(closes) => self.opens.at < closes.at,
@@ -66,7 +66,7 @@ impl Zone {
         true
     }
 
-    /// The zone at the first moment that it can have: that of its last beginning, or its least stay.
+    // The zone at the first moment that it can have: that of its last beginning, or its least stay.
     fn first(self) -> Zone {
         match self.closes {
             Some(closes) if closes.at <= self.opens.at => Zone {
@@ -88,7 +88,7 @@ impl Zone {
     }
 }
 
-/// The zones of all calls and idle Forgets, each at its first moment.
+// The zones of all calls and idle Forgets, each at its first moment.
 fn first_zones<'a, K: Ord, V>(
     alloc: Global,
     events: &'a [Event<K, V>],
@@ -129,7 +129,7 @@ fn first_zones<'a, K: Ord, V>(
     Ok(zones)
 }
 
-/// Two zones of which neither can come before the other; the first lasts.
+// Two zones of which neither can come before the other; the first lasts.
 fn crossed(first: &Zone, second: &Zone) -> Witness {
     match (first.closes, second.closes, second.owner) {
         (Some(last), Some(_), Owner::Idle(forget)) => Witness::Within {
@@ -158,7 +158,7 @@ fn crossed(first: &Zone, second: &Zone) -> Witness {
     }
 }
 
-/// The zone, put behind the one of its key that lasts and begins before it; or both, which have no order.
+// The zone, put behind the one of its key that lasts and begins before it; or both, which have no order.
 fn put_behind(last: &Zone, zone: &Zone) -> Result<Zone, Stop> {
     let Some(closes) = last.closes else {
         return Err(Stop::No(crossed(last, zone)));
@@ -176,7 +176,7 @@ fn put_behind(last: &Zone, zone: &Zone) -> Result<Zone, Stop> {
     })
 }
 
-/// The zones, of which each lies behind those of its key that last and begin before it. They are sorted by their first moments.
+// The zones, of which each lies behind those of its key that last and begin before it. They are sorted by their first moments.
 fn apart(alloc: Global, zones: &[Zone]) -> Result<Vec<Zone>, Stop> {
     let mut apart = Vec::new(alloc);
     let mut lasting: Option<Zone> = None;

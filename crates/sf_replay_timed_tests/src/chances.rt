@@ -8,14 +8,14 @@ use std::alloc::{AllocError, Global};
 use std::process::Abort;
 use std::test::Fail;
 
-/// Numbers by chance, the same in each run.
+// Numbers by chance, the same in each run.
 #[derive(Drop)]
 struct Chance {
     state: u64,
 }
 
 impl Chance {
-    /// A number below this one, which is at least 1.
+    // A number below this one, which is at least 1.
     fn below(&mut self, limit: u64) -> u64 {
         self.state = self
             .state
@@ -24,7 +24,7 @@ impl Chance {
         (self.state >> 33) % limit.max(1)
     }
 
-    /// A caller from 1 to 3.
+    // A caller from 1 to 3.
     fn caller(&mut self) -> u32 {
         match self.below(3) {
             0 => 1,
@@ -41,7 +41,7 @@ impl Chance {
         }
     }
 
-    /// A time that begins at one of so many moments, and lasts for at most two.
+    // A time that begins at one of so many moments, and lasts for at most two.
     fn time(&mut self, moments: u64) -> Option<Interval> {
         if self.below(12) == 0 {
             return None;
@@ -54,7 +54,7 @@ impl Chance {
     }
 }
 
-/// What may come after an event of its kind, so that many histories have an order.
+// What may come after an event of its kind, so that many histories have an order.
 fn kind(chance: &mut Chance, member: u32) -> Kind {
     match chance.below(7) {
         0 => Kind::Lead,
@@ -67,7 +67,7 @@ fn kind(chance: &mut Chance, member: u32) -> Kind {
     }
 }
 
-/// Two calls of one key, one after the other, and so many events more, with times that are near to each other.
+// Two calls of one key, one after the other, and so many events more, with times that are near to each other.
 fn drawn(alloc: Global, chance: &mut Chance, more: u32) -> Result<Vec<Made>, AllocError> {
     let mut made = Vec::new(alloc);
     let moments = chance.below(5).saturating_add(2);
@@ -97,7 +97,7 @@ fn drawn(alloc: Global, chance: &mut Chance, more: u32) -> Result<Vec<Made>, All
     Ok(made)
 }
 
-/// Draws so many histories, with so many events beside the two calls, and compares each. Both outcomes have to come often.
+// Draws so many histories, with so many events beside the two calls, and compares each. Both outcomes have to come often.
 fn draws(rt: &(impl Abort + AllocGlobal), state: u64, more: u32, count: u64) -> Result<(), Fail> {
     let mut chance = Chance { state };
     let mut found = 0_u64;

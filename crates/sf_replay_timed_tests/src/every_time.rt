@@ -8,11 +8,11 @@ use std::alloc::{AllocError, Global};
 use std::process::Abort;
 use std::test::Fail;
 
-/// The times among three moments.
+// The times among three moments.
 const TIMES: [(u64, u64); 6] = [(0, 0), (0, 1), (0, 2), (1, 1), (1, 2), (2, 2)];
 
-/// How often the search may be undecided where a Forget missed a call that ended by itself: for one in twenty of the 1,296 sets
-/// of times. No rule says how often that is; with more it would be of little use.
+// How often the search may be undecided where a Forget missed a call that ended by itself: for one in twenty of the 1,296 sets
+// of times. No rule says how often that is; with more it would be of little use.
 const OFTEN: u64 = 64;
 
 fn time(code: usize) -> Option<Interval> {
@@ -20,7 +20,7 @@ fn time(code: usize) -> Option<Interval> {
     Some(Interval { from, to })
 }
 
-/// The events of key 1, each with the call that it is of, and with the times of this number.
+// The events of key 1, each with the call that it is of, and with the times of this number.
 fn timed(alloc: Global, kinds: [(Kind, u32); 4], code: usize) -> Result<Vec<Made>, AllocError> {
     let mut made = Vec::new(alloc);
     let mut code = code;
@@ -36,7 +36,7 @@ fn timed(alloc: Global, kinds: [(Kind, u32); 4], code: usize) -> Result<Vec<Made
     Ok(made)
 }
 
-/// How often each came out.
+// How often each came out.
 #[derive(Clone, Copy)]
 struct Counts {
     found: u64,
@@ -44,7 +44,7 @@ struct Counts {
     undecided: u64,
 }
 
-/// Compares them with all times. Both outcomes have to come, and undecided at most so often.
+// Compares them with all times. Both outcomes have to come, and undecided at most so often.
 fn with_every_time(
     rt: &impl Abort,
     alloc: Global,

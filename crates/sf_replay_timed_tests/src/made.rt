@@ -29,7 +29,7 @@ pub(crate) struct Made {
     pub time: Option<Interval>,
 }
 
-/// The caller that forgets.
+// The caller that forgets.
 const FORGETTER: u32 = 9;
 
 fn first(caller: u32) -> CallId {

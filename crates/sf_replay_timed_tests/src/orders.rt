@@ -8,7 +8,7 @@ use sf_replay_timed::{InTime, judge_in_time};
 use std::alloc::{AllocError, Global};
 use std::process::Abort;
 
-/// The order of this number: the first event is chosen among all, the next one among the others, and so on.
+// The order of this number: the first event is chosen among all, the next one among the others, and so on.
 fn order_of(alloc: Global, made: &[Made], code: usize) -> Result<Vec<Made>, AllocError> {
     let mut rest = Vec::new(alloc);
     for one in made {
@@ -27,7 +27,7 @@ fn order_of(alloc: Global, made: &[Made], code: usize) -> Result<Vec<Made>, Allo
     Ok(order)
 }
 
-/// How many orders there are of so many events, up to 7.
+// How many orders there are of so many events, up to 7.
 fn orders(count: usize) -> usize {
     match count {
         0 | 1 => 1,
@@ -40,7 +40,7 @@ fn orders(count: usize) -> usize {
     }
 }
 
-/// Whether the first time lies before the second.
+// Whether the first time lies before the second.
 fn lies_before(first: Option<Interval>, second: Option<Interval>) -> bool {
     match (first, second) {
         (Some(first), Some(second)) => first.to < second.from,
@@ -48,7 +48,7 @@ fn lies_before(first: Option<Interval>, second: Option<Interval>) -> bool {
     }
 }
 
-/// Whether some event stands before one whose time lies before its own.
+// Whether some event stands before one whose time lies before its own.
 fn turns_back(order: &[Made]) -> bool {
     for (place, later) in order.iter().enumerate() {
         for earlier in order.iter().take(place) {
@@ -81,7 +81,7 @@ pub(crate) fn has_order(alloc: Global, made: &[Made]) -> Result<bool, AllocError
     Ok(false)
 }
 
-/// Whether some Forget missed its call.
+// Whether some Forget missed its call.
 fn has_miss(made: &[Made]) -> bool {
     for one in made {
         if is_miss(*one) {

@@ -80,7 +80,7 @@ impl<'a, K: Ord> Maps<'a, K> {
         }
     }
 
-    /// The caller has another row.
+    // The caller has another row.
     fn set_caller(&mut self, caller: u32, row: CallerRow) -> Result<(), Memory>
         ensures { OnOk result (IsCallerSet (noted_in K.cmp self.old) (noted_in K.cmp self.new) caller row) }
     {
@@ -88,7 +88,7 @@ impl<'a, K: Ord> Maps<'a, K> {
         Ok(())
     }
 
-    /// The call has another row.
+    // The call has another row.
     fn set_call(&mut self, call: CallId, row: CallRow) -> Result<(), Memory>
         ensures { OnOk result (IsCallSet (noted_in K.cmp self.old) (noted_in K.cmp self.new) call row) }
     {
@@ -96,7 +96,7 @@ impl<'a, K: Ord> Maps<'a, K> {
         Ok(())
     }
 
-    /// The key has this current call.
+    // The key has this current call.
     fn lead_key(&mut self, key: &'a K, call: CallId) -> Result<(), Memory>
         ensures { OnOk result (IsKeySet K.eq (noted_in K.cmp self.old) (noted_in K.cmp self.new) key.now (Some call)) }
     {
@@ -124,7 +124,7 @@ impl<'a, K: Ord> Maps<'a, K> {
         Ok(())
     }
 
-    /// The call's own channel, if it has one, is held by its member.
+    // The call's own channel, if it has one, is held by its member.
     fn hold_own(&mut self, call: CallId, own: Option<CallId>) -> Result<(), Memory>
         requires room { (a : ℕ) → ((noted_in K.cmp self.now).caller a).used ≤ 2 ^ 32 + 1 }
         ensures { OnOk result (IsOwnNoted (noted_in K.cmp self.old) (noted_in K.cmp self.new) call own) }
@@ -138,7 +138,7 @@ impl<'a, K: Ord> Maps<'a, K> {
         }
     }
 
-    /// The ticket's member is a new generation of its caller, which holds it.
+    // The ticket's member is a new generation of its caller, which holds it.
     fn hold(&mut self, ticket: Ticket) -> Result<(), Memory>
         requires room { ((noted_in K.cmp self.now).caller ticket.member.caller).used ≤ 2 ^ 32 + 1 }
         ensures { OnOk result (IsCallerSet (noted_in K.cmp self.old) (noted_in K.cmp self.new)

@@ -34,7 +34,7 @@ impl<K: Ord, V> SeqGroup<K, V> {
         }
     }
 
-    /// The call that the caller leads.
+    // The call that the caller leads.
     fn led_by<'a>(&self, index: &Index<'a, K>, caller: u32) -> Option<CallId>
         requires { IsTold K.cmp K.eq self.now index.now }
         ensures { result ≡ led_call self.now.history caller }
@@ -45,7 +45,7 @@ impl<K: Ord, V> SeqGroup<K, V> {
         }
     }
 
-    /// The ticket that the caller holds.
+    // The ticket that the caller holds.
     fn held_by<'a>(&self, index: &Index<'a, K>, caller: u32) -> Option<Ticket>
         requires { IsTold K.cmp K.eq self.now index.now }
         ensures { result ≡ held_ticket self.now caller }
@@ -56,7 +56,7 @@ impl<K: Ord, V> SeqGroup<K, V> {
         }
     }
 
-    /// The key's current call.
+    // The key's current call.
     fn current_by<'a>(&self, index: &Index<'a, K>, key: &'a K) -> Option<CallId>
         requires { IsTold K.cmp K.eq self.now index.now }
         ensures { result ≡ current_call K.eq self.now.history key.now }
@@ -67,7 +67,7 @@ impl<K: Ord, V> SeqGroup<K, V> {
         }
     }
 
-    /// The key's open call.
+    // The key's open call.
     fn open_by<'a>(&self, index: &Index<'a, K>, key: &'a K) -> Option<CallId>
         requires { IsTold K.cmp K.eq self.now index.now }
         ensures { result ≡ open_call K.eq self.now.history key.now }
@@ -79,7 +79,7 @@ impl<K: Ord, V> SeqGroup<K, V> {
         }
     }
 
-    /// How many joined the call.
+    // How many joined the call.
     fn joined_by<'a>(&self, index: &Index<'a, K>, call: CallId) -> u32
         requires { IsTold K.cmp K.eq self.now index.now }
         ensures { result ≡ joined self.now.history call }
@@ -90,7 +90,7 @@ impl<K: Ord, V> SeqGroup<K, V> {
         }
     }
 
-    /// The generation that the caller uses next.
+    // The generation that the caller uses next.
     fn next_by<'a>(&self, index: &Index<'a, K>, caller: u32) -> u64
         requires { IsTold K.cmp K.eq self.now index.now }
         ensures { result ≡ next_generation self.now.first self.now.history caller }
@@ -102,7 +102,7 @@ impl<K: Ord, V> SeqGroup<K, V> {
         }
     }
 
-    /// Refuses a caller that leads or holds a ticket.
+    // Refuses a caller that leads or holds a ticket.
     fn free_by<'a>(&self, index: &Index<'a, K>, caller: u32) -> Result<(), ModelRefusal>
         requires { IsTold K.cmp K.eq self.now index.now }
         ensures { MatchResult result (λ _. is_free self.now caller ≡ true) (λ e.
@@ -114,7 +114,7 @@ impl<K: Ord, V> SeqGroup<K, V> {
         Ok(())
     }
 
-    /// The caller's next call or member. Refuses a caller that is spent.
+    // The caller's next call or member. Refuses a caller that is spent.
     fn next_id_by<'a>(&self, index: &Index<'a, K>, caller: u32) -> Result<CallId, ModelRefusal>
         requires { IsTold K.cmp K.eq self.now index.now }
         ensures { MatchResult result (λ id. (is_spent self.now caller ≡ false)
@@ -127,7 +127,7 @@ impl<K: Ord, V> SeqGroup<K, V> {
         }
     }
 
-    /// The next call of the caller and the next member of its second. Refuses as an asking with a channel does.
+    // The next call of the caller and the next member of its second. Refuses as an asking with a channel does.
     fn next_ids_by<'a>(
         &self,
         index: &Index<'a, K>,
@@ -150,7 +150,7 @@ impl<K: Ord, V> SeqGroup<K, V> {
         Ok((id, member))
     }
 
-    /// What a Forget of the call finds.
+    // What a Forget of the call finds.
     fn hit_by<'a>(&self, index: &Index<'a, K>, key: &'a K, call: CallId) -> Hit
         requires { IsTold K.cmp K.eq self.now index.now }
         ensures { result ≡ hit_of (open_call K.eq self.now.history key.now)
@@ -165,7 +165,7 @@ impl<K: Ord, V> SeqGroup<K, V> {
         }
     }
 
-    /// Notes a new call, before it is added.
+    // Notes a new call, before it is added.
     fn note_lead<'a>(
         &self,
         index: &mut Index<'a, K>,
@@ -190,7 +190,7 @@ impl<K: Ord, V> SeqGroup<K, V> {
         }
     }
 
-    /// Notes a member that enters a call, before it is added.
+    // Notes a member that enters a call, before it is added.
     fn note_enter<'a>(
         &self,
         index: &mut Index<'a, K>,
@@ -290,7 +290,7 @@ impl<K: Ord, V> SeqGroup<K, V> {
         }
     }
 
-    /// Notes a settle, before it is added.
+    // Notes a settle, before it is added.
     fn note_settle<'a>(
         &self,
         index: &mut Index<'a, K>,
@@ -346,7 +346,7 @@ impl<K: Ord, V> SeqGroup<K, V> {
         }
     }
 
-    /// Notes a Forget, before it is added.
+    // Notes a Forget, before it is added.
     fn note_forget<'a>(
         &self,
         index: &mut Index<'a, K>,
@@ -396,7 +396,7 @@ impl<K: Ord, V> SeqGroup<K, V> {
         }
     }
 
-    /// Notes a Forget of one call, before it is added.
+    // Notes a Forget of one call, before it is added.
     fn note_forget_call<'a>(
         &self,
         index: &mut Index<'a, K>,
@@ -454,7 +454,7 @@ impl<K: Ord, V> SeqGroup<K, V> {
         }
     }
 
-    /// Notes that the caller took its letter, before it is noted of the group.
+    // Notes that the caller took its letter, before it is noted of the group.
     fn note_take<'a>(&self, index: &mut Index<'a, K>, caller: u32, ticket: Ticket)
         requires told { IsTold K.cmp K.eq self.now index.old }
         requires held { held_ticket self.now caller ≡ Some ticket }
@@ -469,7 +469,7 @@ impl<K: Ord, V> SeqGroup<K, V> {
         }
     }
 
-    /// The letter of a call whose Settle stands at this place, which so many joined.
+    // The letter of a call whose Settle stands at this place, which so many joined.
     fn letter_at(
         &mut self,
         alloc: Global,

@@ -20,7 +20,7 @@ use std::alloc::Global;
 use std::marker::Model;
 use std::mem;
 
-/// Another value equal to the one that the event settles its call with, if it settles one.
+// Another value equal to the one that the event settles its call with, if it settles one.
 fn share_result<K, V: Share>(event: &mut Event<K, V>) -> Result<Option<V>, Memory>
     ensures shared { IfOk result (λ found. found ≡ result_in event.old) }
     ensures same { event.new ≡ event.old }
@@ -467,7 +467,7 @@ impl<K: Eq, V> SeqGroup<K, V> {
         walk::joined(self.history.events(), call) as u32
     }
 
-    /// Refuses a caller that leads or holds a ticket.
+    // Refuses a caller that leads or holds a ticket.
     fn check_free(&self, caller: u32) -> Result<(), ModelRefusal>
         ensures { MatchResult result (λ _. is_free self.now caller ≡ true) (λ e.
             (is_free self.now caller ≡ false) × (e ≡ ModelRefusal.NotFree caller)) }
@@ -500,7 +500,7 @@ impl<K: Eq, V> SeqGroup<K, V> {
         self.first_generation
     }
 
-    /// The caller's next call or member. Refuses a caller that is spent.
+    // The caller's next call or member. Refuses a caller that is spent.
     fn next_id(&self, caller: u32) -> Result<CallId, ModelRefusal>
         ensures { MatchResult result (λ id. (is_spent self.now caller ≡ false)
             × (id ≡ next_id self.now caller)) (λ e. (is_spent self.now caller ≡ true)
@@ -512,7 +512,7 @@ impl<K: Eq, V> SeqGroup<K, V> {
         }
     }
 
-    /// The next call of the caller and the next member of its second. Refuses as an asking with a channel does.
+    // The next call of the caller and the next member of its second. Refuses as an asking with a channel does.
     fn next_ids(&self, caller: u32, second: u32) -> Result<(CallId, CallId), ModelRefusal>
         ensures ok { IfOk result (λ ids. MayAskChan self.now caller second
             × (ids ≡ (next_id self.now caller, next_id self.now second))) }

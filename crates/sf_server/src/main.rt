@@ -14,7 +14,7 @@ use std::sync::Wait;
 use std::sync::atomic::{AtomicU32, Ordering};
 use std::thread::{Threads, join, yield_now};
 
-/// A page, by its version. Each reader gets a copy of what was loaded.
+// A page, by its version. Each reader gets a copy of what was loaded.
 #[derive(Clone, Copy)]
 struct Page(u32);
 
@@ -28,7 +28,7 @@ impl Fit for Page {
     ghost lasts = { λ _ _ _ _ _ f. f };
 }
 
-/// Where pages come from: slow, and it counts its loads.
+// Where pages come from: slow, and it counts its loads.
 #[derive(Drop)]
 struct Origin {
     version: AtomicU32,

@@ -18,7 +18,7 @@ use sf_history::{CallId, Event, Memory};
 use sf_steps_laws::{AskStep, Stage};
 use sf_words::{CallState, KeyState, LeaderState};
 
-/// What an asking does that is to lead: a chan makes its second's word ready first.
+// What an asking does that is to lead: a chan makes its second's word ready first.
 fn prepares(second: Option<u32>, seen: KeyState, forgot: bool) -> AskStep
     ensures step { result ≡ askings.prepares second seen forgot }
     ensures top { ask_top result ≡ 0 }
@@ -29,7 +29,7 @@ fn prepares(second: Option<u32>, seen: KeyState, forgot: bool) -> AskStep
     }
 }
 
-/// What an asking does after its look.
+// What an asking does after its look.
 fn looked(second: Option<u32>, found: KeyState) -> AskStep
     ensures step { result ≡ askings.looked second found }
     ensures top { ask_top result ≡ 0 }
@@ -46,7 +46,7 @@ fn looked(second: Option<u32>, found: KeyState) -> AskStep
     }
 }
 
-/// What an asking does after its peek.
+// What an asking does after its peek.
 fn peeked(second: Option<u32>, call: CallId, found: CallState) -> AskStep
     ensures step { result ≡ askings.peeked second call (is_forgot_in call.generation found)
         (open_in call.generation found) }
@@ -138,7 +138,7 @@ impl<V: Drop> World<V> {
         );
     }
 
-    /// The caller loads the call word of the call's leader.
+    // The caller loads the call word of the call's leader.
     fn peek_to_ask(&mut self, caller: u32, place: u32, second: Option<u32>, call: CallId) -> Step<V>
         requires caller { caller ≤ self.old.callers }
         requires asks { (before : AnyStep)
@@ -161,7 +161,7 @@ impl<V: Drop> World<V> {
         Step::quiet(self.alloc(), caller, act)
     }
 
-    /// A chan makes its second's call word ready to serve as the own channel of the call to be led.
+    // A chan makes its second's call word ready to serve as the own channel of the call to be led.
     fn ready_own(
         &mut self,
         caller: u32,
@@ -191,7 +191,7 @@ impl<V: Drop> World<V> {
         Step::quiet(self.alloc(), by, Act::Ready { call, listed })
     }
 
-    /// The caller makes its own call word ready to lead.
+    // The caller makes its own call word ready to lead.
     fn ready_to_lead(
         &mut self,
         caller: u32,
@@ -222,7 +222,7 @@ impl<V: Drop> World<V> {
         Step::quiet(self.alloc(), caller, Act::Ready { call, listed })
     }
 
-    /// The caller tries to lead: it exchanges the key word that it saw.
+    // The caller tries to lead: it exchanges the key word that it saw.
     fn lead(
         &mut self,
         caller: u32,
@@ -265,7 +265,7 @@ impl<V: Drop> World<V> {
         })
     }
 
-    /// The caller leads, and the second of a chan holds the ticket of the own channel, which is the result.
+    // The caller leads, and the second of a chan holds the ticket of the own channel, which is the result.
     fn take_lead(&mut self, caller: u32, place: u32, second: Option<u32>) -> Option<CallId>
         requires caller { caller ≤ self.old.callers }
         requires asks { (before : AnyStep)

@@ -18,7 +18,7 @@ pub(crate) struct CallerRow<V> {
     pub(crate) stage: Stage<V>,
 }
 
-/// The row of a caller that has done nothing yet.
+// The row of a caller that has done nothing yet.
 fn first_row<V: Drop>() -> CallerRow<V>
     ensures { result ≡ first_row }
 {

@@ -18,7 +18,7 @@ use sf_steps_laws::{Letter, SettleStep};
 use sf_words::{CallState, PlaceNo};
 use std::alloc::Global;
 
-/// The generation that a call word bears, 0 where the caller has never asked.
+// The generation that a call word bears, 0 where the caller has never asked.
 fn generation_of(found: CallState) -> u32
     ensures { result ≡ generation_in found }
 {
@@ -30,7 +30,7 @@ fn generation_of(found: CallState) -> u32
     }
 }
 
-/// The Handed of a call, as the only event of its step.
+// The Handed of a call, as the only event of its step.
 fn one_handed<V: Drop>(alloc: Global, call: CallId) -> Result<Vec<Event<PlaceNo, V>>, Memory>
     ensures { IfOk result (λ events. events.items ≡ Handed call.caller call ∷ []) }
 {
@@ -39,7 +39,7 @@ fn one_handed<V: Drop>(alloc: Global, call: CallId) -> Result<Vec<Event<PlaceNo,
     Ok(one_event(room, Event::Handed { by, call }))
 }
 
-/// What a deliver adds after which this is next: the Handed, where no letter is owed any more.
+// What a deliver adds after which this is next: the Handed, where no letter is owed any more.
 fn handed<V: Drop>(
     alloc: Global,
     led: LedCall,
@@ -57,7 +57,7 @@ fn handed<V: Drop>(
 impl<V: Share> World<V> {
     ghost use Rattle.sf_steps.specs.Running.{SameSizes, world_of};
 
-    /// Puts a letter into a member's cell, and stores its call word as full.
+    // Puts a letter into a member's cell, and stores its call word as full.
     fn put_letter(&mut self, member: CallId, letter: Letter<V>)
         requires { member.caller ≤ self.old.callers }
         ensures world { world_of self.new ≡ delivered (world_of self.old) member letter }

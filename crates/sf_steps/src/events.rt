@@ -8,7 +8,7 @@ use sf_history::{Event, Memory};
 use sf_words::PlaceNo;
 use std::alloc::Global;
 
-/// The most events that a step adds.
+// The most events that a step adds.
 const MOST_EVENTS: usize = 2;
 
 /// No event, and room for those of a step.

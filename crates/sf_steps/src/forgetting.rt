@@ -22,7 +22,7 @@ use sf_steps_laws::{ForgetStep, Stage};
 use sf_words::{CallState, KeyState, LeaderState, PlaceNo};
 use std::alloc::Global;
 
-/// What a forget does after its peek.
+// What a forget does after its peek.
 fn peeked(call: CallId, found: CallState) -> ForgetStep
     ensures { result ≡ turns.forget_peeked call (open_in call.generation found) }
 {
@@ -35,14 +35,14 @@ fn peeked(call: CallId, found: CallState) -> ForgetStep
     }
 }
 
-/// Whether a forget of one call misses it at its peek, which finds it forgotten.
+// Whether a forget of one call misses it at its peek, which finds it forgotten.
 fn misses(target: Option<CallId>, call: CallId, found: CallState) -> bool
     ensures { result ≡ turns.misses target (is_forgot_in call.generation found) }
 {
     target.is_some() && is_forgot(call, found)
 }
 
-/// A Forget that finds no call, as the only event of its step.
+// A Forget that finds no call, as the only event of its step.
 fn one_idle<V: Drop>(alloc: Global, by: u32, place: u32) -> Result<Vec<Event<PlaceNo, V>>, Memory>
     requires { (1 ≤ place) × (place ≤ LARGEST_PLACE) }
     ensures { IfOk result (λ events. events.items ≡ event_of.Forget by place None ∷ []) }
@@ -53,7 +53,7 @@ fn one_idle<V: Drop>(alloc: Global, by: u32, place: u32) -> Result<Vec<Event<Pla
     Ok(one_event(room, Event::Forget { by, key, closed }))
 }
 
-/// A Forget of one call that misses it, as the only event of its step.
+// A Forget of one call that misses it, as the only event of its step.
 fn one_missed<V: Drop>(
     alloc: Global,
     by: u32,
@@ -69,7 +69,7 @@ fn one_missed<V: Drop>(
     Ok(one_event(room, Event::ForgetCall { by, key, call, hit }))
 }
 
-/// A Forget that closes the call, as the only event of its step.
+// A Forget that closes the call, as the only event of its step.
 fn one_closed<V: Drop>(
     alloc: Global,
     by: u32,
@@ -95,7 +95,7 @@ fn one_closed<V: Drop>(
     Ok(one_event(room, event))
 }
 
-/// A Forget that clears the key word of a call that is not open, as the only event of its step.
+// A Forget that clears the key word of a call that is not open, as the only event of its step.
 fn one_cleared<V: Drop>(
     alloc: Global,
     by: u32,
@@ -124,7 +124,7 @@ fn one_cleared<V: Drop>(
 impl<V: Drop> World<V> {
     ghost use Rattle.sf_steps.specs.Running.{SameSizes, world_of};
 
-    /// The forget goes on to a step.
+    // The forget goes on to a step.
     fn forgets_on(&mut self, caller: u32, place: u32, target: Option<CallId>, step: ForgetStep)
         requires caller { caller ≤ self.old.callers }
         requires forgets { (before : AnyStep)
@@ -144,7 +144,7 @@ impl<V: Drop> World<V> {
         );
     }
 
-    /// The forget loads the key word.
+    // The forget loads the key word.
     fn look_to_forget(&mut self, caller: u32, place: u32) -> Result<Step<V>, Memory>
         requires caller { caller ≤ self.old.callers }
         requires forgets { (before : AnyStep)
@@ -188,7 +188,7 @@ impl<V: Drop> World<V> {
         })
     }
 
-    /// The forget of one call loads the key word, and misses the call where that does not name it.
+    // The forget of one call loads the key word, and misses the call where that does not name it.
     fn look_for_call(&mut self, caller: u32, place: u32, call: CallId) -> Result<Step<V>, Memory>
         requires caller { caller ≤ self.old.callers }
         requires forgets { (before : AnyStep)
@@ -222,7 +222,7 @@ impl<V: Drop> World<V> {
         })
     }
 
-    /// The forget exchanges the leader's call word to forgot.
+    // The forget exchanges the leader's call word to forgot.
     fn close_to_forget(
         &mut self,
         caller: u32,
@@ -265,7 +265,7 @@ impl<V: Drop> World<V> {
         })
     }
 
-    /// The forget clears the key word of a call that is not open.
+    // The forget clears the key word of a call that is not open.
     fn first_clear(
         &mut self,
         caller: u32,
@@ -305,7 +305,7 @@ impl<V: Drop> World<V> {
         })
     }
 
-    /// The forget clears the key word of the call that it closed, if the key word still names it.
+    // The forget clears the key word of the call that it closed, if the key word still names it.
     fn last_clear(
         &mut self,
         caller: u32,
@@ -335,7 +335,7 @@ impl<V: Drop> World<V> {
         }
     }
 
-    /// The forget loads the call word of the call's leader. A forget of one call misses it where that is forgotten.
+    // The forget loads the call word of the call's leader. A forget of one call misses it where that is forgotten.
     fn peek_to_forget(
         &mut self,
         caller: u32,

@@ -149,7 +149,7 @@ impl<V: Drop> World<V> {
         })
     }
 
-    /// The joiner holds a ticket of the call; where that is the second of a chan, the caller is free.
+    // The joiner holds a ticket of the call; where that is the second of a chan, the caller is free.
     fn take_ticket(&mut self, caller: u32, place: u32, second: Option<u32>, call: CallId)
         requires caller { caller ≤ self.old.callers }
         requires asks { (before : AnyStep)

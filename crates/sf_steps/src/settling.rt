@@ -28,7 +28,7 @@ pub(crate) struct LedCall {
     pub(crate) own: Option<CallId>,
 }
 
-/// What a settle does after its peek of the own call word.
+// What a settle does after its peek of the own call word.
 fn after_own_peek(found: CallState) -> SettleStep
     ensures step { result ≡ turns.after_own_peek found }
     ensures member { settle_member result ≡ 0 }
@@ -42,7 +42,7 @@ fn after_own_peek(found: CallState) -> SettleStep
     }
 }
 
-/// One member more is counted, of no more than there are callers.
+// One member more is counted, of no more than there are callers.
 fn one_more(callers: u32, joiners: u32) -> u32
     ensures same { result ≡ one_more callers joiners }
 {
@@ -53,7 +53,7 @@ fn one_more(callers: u32, joiners: u32) -> u32
     }
 }
 
-/// What a settle does after it has counted a member after which this is next.
+// What a settle does after it has counted a member after which this is next.
 fn after_count(joiners: u32, top: u32, next: Option<u32>) -> SettleStep
     ensures step { result ≡ turns.after_count joiners top next }
 {
@@ -70,7 +70,7 @@ fn after_count(joiners: u32, top: u32, next: Option<u32>) -> SettleStep
     }
 }
 
-/// Adds the Settle of a call that so many joined, with this top of its list, and its Handed where no letter is owed.
+// Adds the Settle of a call that so many joined, with this top of its list, and its Handed where no letter is owed.
 fn push_settled<V: Drop>(
     events: &mut Vec<Event<PlaceNo, V>>,
     led: LedCall,
@@ -147,7 +147,7 @@ impl<V: Share> World<V> {
         result
     }
 
-    /// The settle goes on to the members from this top on, and then to the own channel; with neither it ends.
+    // The settle goes on to the members from this top on, and then to the own channel; with neither it ends.
     fn goes_to_members(&mut self, led: LedCall, joiners: u32, top: Option<u32>)
         requires caller { led.call.caller ≤ self.old.callers }
         requires settles { (v : V) × (before : AnyStep)
@@ -195,7 +195,7 @@ impl<V: Share> World<V> {
         Ok(value)
     }
 
-    /// The settle goes on to the count of the members from this top on; with none it goes on as after the count.
+    // The settle goes on to the count of the members from this top on; with none it goes on as after the count.
     fn goes_to_count(&mut self, led: LedCall, top: Option<u32>)
         requires caller { led.call.caller ≤ self.old.callers }
         requires settles { (v : V) × (before : AnyStep)
@@ -219,8 +219,8 @@ impl<V: Share> World<V> {
         }
     }
 
-    /// The value for the Settle, while the settle goes on to the count: itself where nobody else is owed it, and else
-    /// another one.
+    // The value for the Settle, while the settle goes on to the count: itself where nobody else is owed it, and else
+    // another one.
     fn settle_on(&mut self, led: LedCall, top: Option<u32>) -> Result<V, Memory>
         requires caller { led.call.caller ≤ self.old.callers }
         requires settles { (v : V) × (before : AnyStep)
@@ -243,7 +243,7 @@ impl<V: Share> World<V> {
         Ok(value)
     }
 
-    /// How many callers stand on the list from this top on.
+    // How many callers stand on the list from this top on.
     fn joiners_from(&self, top: Option<u32>) -> u32
         ensures { result ≡ count top (world_of self.now).callers (world_of self.now).nexts }
     {
@@ -259,7 +259,7 @@ impl<V: Share> World<V> {
         joiners
     }
 
-    /// The leader loads its own call word, which is open, or was closed by a Forget.
+    // The leader loads its own call word, which is open, or was closed by a Forget.
     fn peek_own(&mut self, led: LedCall) -> Result<Step<V>, Memory>
         requires caller { led.call.caller ≤ self.old.callers }
         requires settles { (v : V)
@@ -291,7 +291,7 @@ impl<V: Share> World<V> {
         })
     }
 
-    /// What a peek of the own call word adds: the Settle, where a Forget closed the call.
+    // What a peek of the own call word adds: the Settle, where a Forget closed the call.
     fn settled_by_forget(
         &mut self,
         led: LedCall,
@@ -318,7 +318,7 @@ impl<V: Share> World<V> {
         Ok(events)
     }
 
-    /// The leader exchanges its own call word to done.
+    // The leader exchanges its own call word to done.
     fn close_own(&mut self, led: LedCall, seen: LeaderState) -> Result<Step<V>, Memory>
         requires caller { led.call.caller ≤ self.old.callers }
         requires settles { (v : V)
@@ -360,7 +360,7 @@ impl<V: Share> World<V> {
         })
     }
 
-    /// The leader of a forgotten call clears the key word, if it still names the call.
+    // The leader of a forgotten call clears the key word, if it still names the call.
     fn clear_own(&mut self, led: LedCall, top: Option<u32>) -> Step<V>
         requires caller { led.call.caller ≤ self.old.callers }
         requires settles { (v : V)
@@ -381,7 +381,7 @@ impl<V: Share> World<V> {
         Step::quiet(self.alloc(), call.caller, Act::Clear { place, call, done })
     }
 
-    /// The leader loads the next word of a member, and counts it.
+    // The leader loads the next word of a member, and counts it.
     fn count(&mut self, led: LedCall, joiners: u32, member: u32, top: u32) -> Step<V>
         requires caller { led.call.caller ≤ self.old.callers }
         requires settles { (v : V)

@@ -57,7 +57,7 @@ fn is_open_with(seen: LeaderState, word: CallState) -> bool
     word == CallState::Open(seen)
 }
 
-/// The key words of places on which nothing was led yet.
+// The key words of places on which nothing was led yet.
 fn first_keys(alloc: Global, len: usize) -> Result<Vec<KeyState>, Memory>
     ensures { IfOk result (λ keys. keys.items ≡ replicate len Never) }
 {

@@ -5,7 +5,7 @@ use sf_steps::{Act, Step};
 use sf_text::Outcome;
 use std::alloc::Global;
 
-/// A word that callers exchange.
+// A word that callers exchange.
 #[derive(Clone, Copy, PartialEq, Eq)]
 enum Word {
     /// The key word of a place.
@@ -14,7 +14,7 @@ enum Word {
     Call(u32),
 }
 
-/// An exchange that was done, at this row.
+// An exchange that was done, at this row.
 #[derive(Clone, Copy)]
 struct Done {
     word: Word,
@@ -28,7 +28,7 @@ pub(crate) struct Arrow {
     pub(crate) to: usize,
 }
 
-/// The word that an act exchanges, and whether the exchange is done.
+// The word that an act exchanges, and whether the exchange is done.
 fn exchanged(act: Act) -> Option<(Word, bool)> {
     match act {
         Act::Lead { place, done, .. } | Act::Clear { place, done, .. } => Some((
@@ -51,7 +51,7 @@ pub(crate) fn exchange(act: Act) -> Option<bool> {
     }
 }
 
-/// The last exchange of each word is kept.
+// The last exchange of each word is kept.
 fn note(last: &mut Vec<Done>, done: Done) -> Result<(), Memory> {
     for before in last.iter_mut() {
         if before.word == done.word {

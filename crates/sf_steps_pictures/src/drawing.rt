@@ -10,7 +10,7 @@ use sf_svg::{begin, end, path, text};
 use sf_text::Outcome;
 use std::alloc::Global;
 
-/// How the marks look; no colour says anything.
+// How the marks look; no colour says anything.
 const STYLE: &str = "<style>
 text { font: 13px monospace; }
 .middle { text-anchor: middle; }
@@ -27,7 +27,7 @@ text { font: 13px monospace; }
 <defs><marker id=\"head\" viewBox=\"0 0 10 10\" refX=\"9\" refY=\"5\" markerWidth=\"8\" markerHeight=\"8\" orient=\"auto\"><path d=\"M0 0L10 5L0 10z\"/></marker></defs>
 ";
 
-/// The kinds of boxes, as the legend has them.
+// The kinds of boxes, as the legend has them.
 const LEGEND: [(Kind, &str, &str); 4] = [
     (
         Kind::Load,
@@ -69,7 +69,7 @@ pub fn draw(alloc: Global, trace: &Trace) -> Result<String, Memory> {
     Ok(svg)
 }
 
-/// What each step prints.
+// What each step prints.
 fn texts(alloc: Global, steps: &[Step<Outcome>]) -> Result<Vec<String>, Memory> {
     let mut texts = Vec::new(alloc);
     for step in steps {
@@ -78,7 +78,7 @@ fn texts(alloc: Global, steps: &[Step<Outcome>]) -> Result<Vec<String>, Memory> 
     Ok(texts)
 }
 
-/// The callers, each above the line of its column.
+// The callers, each above the line of its column.
 fn columns(alloc: Global, svg: &mut String, layout: &Layout) -> Result<(), Memory> {
     let bottom = layout.bottom();
     for caller in layout.callers.as_slice() {
@@ -91,7 +91,7 @@ fn columns(alloc: Global, svg: &mut String, layout: &Layout) -> Result<(), Memor
     Ok(())
 }
 
-/// What a step does with its word.
+// What a step does with its word.
 fn kind(act: Act) -> Kind {
     match exchange(act) {
         Some(true) => Kind::Exchange,
@@ -103,7 +103,7 @@ fn kind(act: Act) -> Kind {
     }
 }
 
-/// The row of a step: its number, its box, and its events or its answer.
+// The row of a step: its number, its box, and its events or its answer.
 fn draw_step(
     alloc: Global,
     svg: &mut String,
@@ -130,7 +130,7 @@ fn draw_step(
     Ok(())
 }
 
-/// An event or an answer at the right edge, and the line to it.
+// An event or an answer at the right edge, and the line to it.
 fn draw_event(
     alloc: Global,
     svg: &mut String,
@@ -156,7 +156,7 @@ fn draw_event(
     )
 }
 
-/// An arrow down a gutter beside the box that it ends at.
+// An arrow down a gutter beside the box that it ends at.
 fn draw_arrow(
     alloc: Global,
     svg: &mut String,
@@ -187,7 +187,7 @@ fn draw_arrow(
     path(svg, "arrow", way.as_str())
 }
 
-/// What the boxes and the arrows mean.
+// What the boxes and the arrows mean.
 fn legend(alloc: Global, svg: &mut String, top: usize) -> Result<(), Memory> {
     for (line, (kind, name, says)) in LEGEND.iter().enumerate() {
         let at = line

@@ -6,19 +6,19 @@ use sf_svg::text_width;
 use sf_text::Outcome;
 use std::alloc::Global;
 
-/// The height of a step's row.
+// The height of a step's row.
 const ROW: usize = 44;
-/// What lies between two columns; arrows go down there.
+// What lies between two columns; arrows go down there.
 const GUTTER: usize = 40;
-/// Where the first gutter begins: the numbers of the steps stand left of it.
+// Where the first gutter begins: the numbers of the steps stand left of it.
 const LEFT: usize = 48;
-/// Where the first row begins: the callers stand above it.
+// Where the first row begins: the callers stand above it.
 const TOP: usize = 44;
-/// What a box has beside its text, for the mark of a failed exchange.
+// What a box has beside its text, for the mark of a failed exchange.
 const MARGIN: usize = 48;
-/// The least width, for the legend.
+// The least width, for the legend.
 const LEAST: usize = 620;
-/// The height of the legend.
+// The height of the legend.
 const LEGEND: usize = 220;
 
 /// The columns and the widths of a picture.
@@ -59,7 +59,7 @@ impl Layout {
         self.column(column)
     }
 
-    /// The left edge of the boxes in a column.
+    // The left edge of the boxes in a column.
     fn column(&self, column: usize) -> usize {
         column
             .saturating_mul(self.width.saturating_add(GUTTER))
@@ -95,7 +95,7 @@ impl Layout {
     }
 }
 
-/// The upper edge of a row.
+// The upper edge of a row.
 fn row_top(row: usize) -> usize {
     row.saturating_mul(ROW).saturating_add(TOP)
 }
@@ -105,7 +105,7 @@ pub(crate) fn middle(row: usize) -> usize {
     row_top(row).saturating_add(ROW / 2)
 }
 
-/// The callers that made a step, in their order.
+// The callers that made a step, in their order.
 fn callers(alloc: Global, steps: &[Step<Outcome>]) -> Result<Vec<u32>, Memory> {
     let mut callers = Vec::new(alloc);
     for step in steps {
@@ -117,7 +117,7 @@ fn callers(alloc: Global, steps: &[Step<Outcome>]) -> Result<Vec<u32>, Memory> {
     Ok(callers)
 }
 
-/// How wide the widest line of a step is, and the widest of an event or an answer.
+// How wide the widest line of a step is, and the widest of an event or an answer.
 fn widths(texts: &[String]) -> (usize, usize) {
     let mut width = 0;
     let mut side = 0;

@@ -29,7 +29,7 @@ fn is_lead_on<V>(event: &Event<PlaceNo, V>, place: u32, led: CallId) -> bool
     }
 }
 
-/// Whether the call was led on the place.
+// Whether the call was led on the place.
 fn is_led_on<V>(events: &[Event<PlaceNo, V>], place: u32, call: CallId) -> bool
     ensures { result ≡ was_led_on events.now place call }
 {
@@ -54,7 +54,7 @@ impl Player {
         })
     }
 
-    /// Whether one of the steps led the call on the place.
+    // Whether one of the steps led the call on the place.
     fn was_led(&self, place: u32, call: CallId) -> bool
         ensures { result ≡ list_any (λ s.
             was_led_on s.events.items place call) self.now.steps.items }
@@ -64,7 +64,7 @@ impl Player {
             .any(|step| is_led_on(step.events.as_slice(), place, call))
     }
 
-    /// Whether a question is of a call that was led.
+    // Whether a question is of a call that was led.
     fn asks_of_led(&self, op: &Op<Outcome>) -> bool
         ensures { (ts : List (Turn Outcome)) → IsAfter self.now ts → IsTrue result
             ↔ AsksOfLed (events_of 64 1 ts) op.now }
@@ -117,7 +117,7 @@ impl Player {
         true
     }
 
-    /// Makes so many steps of a caller's operation; false where one of them is no turn of a schedule.
+    // Makes so many steps of a caller's operation; false where one of them is no turn of a schedule.
     fn steps(&mut self, caller: u32, count: u32) -> Result<bool, Memory>
         ensures turns { (ts : List (Turn Outcome)) → IsAfter self.old ts
             → IfOk result (λ done.

@@ -85,7 +85,7 @@ fn done(done: bool) -> &'static str
     if done { "yes" } else { "no" }
 }
 
-/// What a step's line says after its caller.
+// What a step's line says after its caller.
 fn act(alloc: Global, act: Act) -> Result<String, Memory>
     ensures { IfOk result (λ s. string_bytes s ≡ texts.act_text act) }
 {
@@ -121,7 +121,7 @@ fn act(alloc: Global, act: Act) -> Result<String, Memory>
     }
 }
 
-/// What the line of an exchange says after its caller.
+// What the line of an exchange says after its caller.
 fn exchange(alloc: Global, act: Act) -> Result<String, Memory>
     requires { texts.is_exchange act ≡ true }
     ensures { IfOk result (λ s. string_bytes s ≡ texts.act_text act) }
@@ -163,7 +163,7 @@ fn exchange(alloc: Global, act: Act) -> Result<String, Memory>
     }
 }
 
-/// The own channel of a call that is led.
+// The own channel of a call that is led.
 fn own_member(alloc: Global, own: Option<CallId>) -> Result<String, Memory>
     ensures { IfOk result (λ s. string_bytes s ≡ texts.own_member_text own) }
 {
@@ -173,7 +173,7 @@ fn own_member(alloc: Global, own: Option<CallId>) -> Result<String, Memory>
     }
 }
 
-/// The line of an event.
+// The line of an event.
 fn event(alloc: Global, event: &Event<PlaceNo, Outcome>) -> Result<String, Memory>
     ensures { IfOk result (λ s. string_bytes s ≡ texts.event_text event.now) }
 {
@@ -214,7 +214,7 @@ fn event(alloc: Global, event: &Event<PlaceNo, Outcome>) -> Result<String, Memor
     }
 }
 
-/// The lines of events.
+// The lines of events.
 fn events(alloc: Global, added: &[Event<PlaceNo, Outcome>]) -> Result<String, Memory>
     ensures { IfOk result (λ s. string_bytes s ≡ texts.events_text added.now) }
 {
@@ -226,7 +226,7 @@ fn events(alloc: Global, added: &[Event<PlaceNo, Outcome>]) -> Result<String, Me
     Ok(lines)
 }
 
-/// The line of an answer.
+// The line of an answer.
 fn answer(answer: Option<bool>) -> &'static str
     ensures { result.now ≡ texts.answer_text answer }
 {

@@ -10,9 +10,9 @@ use sf_steps_laws::Op;
 use sf_text::{Outcome, Text, call, is_token, number, words};
 use std::alloc::Global;
 
-/// The largest number of a caller or a place in a schedule.
+// The largest number of a caller or a place in a schedule.
 const LARGEST: u32 = 64;
-/// The largest number of steps in one line.
+// The largest number of steps in one line.
 const STEPS: u32 = 1_000;
 
 #[tactic(auto, unfolding(crate::specs::ScheduleText::IsLine))]
@@ -106,7 +106,7 @@ fn named(place: &str) -> Option<Op<Outcome>>
     Some(Op::Named { place })
 }
 
-/// The operation that the words after `do` and a caller say.
+// The operation that the words after `do` and a caller say.
 #[tactic(auto, unfolding(crate::specs::ScheduleText::IsOp))]
 fn op_of_words(alloc: Global, words: &[&str]) -> Result<Option<Op<Outcome>>, Memory>
     ensures { IfOk result (IsOp (map (λ w. w.now) words.now)) }
@@ -137,7 +137,7 @@ fn does(alloc: Global, caller: &str, words: &[&str]) -> Result<Option<ScheduleLi
     }
 }
 
-/// What the words of a line say, if they say something.
+// What the words of a line say, if they say something.
 #[tactic(auto, unfolding(crate::specs::ScheduleText::IsLine))]
 fn line_of_words(alloc: Global, words: &[&str]) -> Result<Option<ScheduleLine>, Memory>
     ensures { IfOk result (IsLine (map (λ w. w.now) words.now)) }
@@ -151,7 +151,7 @@ fn line_of_words(alloc: Global, words: &[&str]) -> Result<Option<ScheduleLine>, 
     }
 }
 
-/// What a line of a schedule says, if it says something.
+// What a line of a schedule says, if it says something.
 #[tactic(auto, unfolding(crate::specs::ScheduleText::IsLine))]
 fn text_line(alloc: Global, line: &str) -> Result<Option<ScheduleLine>, Memory>
     ensures { IfOk result (IsLine (words line.now)) }

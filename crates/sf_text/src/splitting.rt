@@ -7,7 +7,7 @@ ghost use Rattle.std.specs.Str.Lines.{lines, strip_carriage_return};
 use sf_history::Memory;
 use std::alloc::Global;
 
-/// A line without the carriage return at its end, if it has one.
+// A line without the carriage return at its end, if it has one.
 fn without_return(line: &[u8]) -> &[u8]
     ensures { result.now ≡ strip_carriage_return line.now }
 {

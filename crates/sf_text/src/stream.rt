@@ -75,7 +75,7 @@ pub fn read_all<R: Read>(alloc: Global, reader: &mut R) -> Result<Vec<u8>, ReadF
     Err(ReadFault::CannotRead)
 }
 
-/// Writes a whole answer. A write that fails, or that takes nothing, is not tried again.
+// Writes a whole answer. A write that fails, or that takes nothing, is not tried again.
 fn write_bytes<W: Write>(writer: &mut W, answer: &[u8]) -> Result<(), StreamFault>
     ensures ok { OnOk result (Appends (W.contents writer.old) (W.contents writer.new) answer.now) }
     ensures err { IfErr result (λ fault. fault ≡ StreamFault.CannotWrite) }
@@ -104,7 +104,7 @@ pub fn write_all<W: Write>(writer: &mut W, answer: &str) -> Result<(), StreamFau
     Ok(())
 }
 
-/// The longest line that `write_line` writes, in bytes, with its LF. The text of a line is made before any of it is written.
+// The longest line that `write_line` writes, in bytes, with its LF. The text of a line is made before any of it is written.
 const LONGEST_LINE: usize = 256;
 
 /// Writes one line as the whole answer, and hands it on. Where it fails, a beginning of the line is written, and nothing of

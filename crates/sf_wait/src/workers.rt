@@ -44,12 +44,12 @@ fn do_job<V: Fit, W: Work<V>, G: Gate>(
 }
 
 // A job of the group that a worker's closure holds. One that is never done is given up.
-struct Given<'a, V: Fit, W: Work<V>> {
+struct HeldJob<'a, V: Fit, W: Work<V>> {
     group: &'a Group<V>,
     job: Job<V, W>,
 }
 
-impl<'a, V: Fit, W: Work<V>> Model for Given<'a, V, W> {
+impl<'a, V: Fit, W: Work<V>> Model for HeldJob<'a, V, W> {
     ghost use Rattle.std.specs.Prelude.{◌≡◌};
     ghost use Rattle.sf_wait.specs.Jobs.{JobValue};
 
@@ -60,14 +60,14 @@ impl<'a, V: Fit, W: Work<V>> Model for Given<'a, V, W> {
     ghost invariant = { λ g. g.job.flight.group ≡ g.group.now };
 }
 
-impl<'a, V: Fit, W: Work<V>> Drop for Given<'a, V, W> {
+impl<'a, V: Fit, W: Work<V>> Drop for HeldJob<'a, V, W> {
     fn drop(self) {
-        let Given { group: _, job } = self;
+        let HeldJob { group: _, job } = self;
         job.abandon();
     }
 }
 
-impl<'a, V: Fit, W: Work<V>> Given<'a, V, W> {
+impl<'a, V: Fit, W: Work<V>> HeldJob<'a, V, W> {
     fn parts(self) -> (&'a Group<V>, Job<V, W>)
         ensures job { result.1 ≡ self.entry }
         ensures own { result.1.flight.group ≡ result.0.now }
@@ -78,11 +78,11 @@ impl<'a, V: Fit, W: Work<V>> Given<'a, V, W> {
 }
 
 // How a job ended, for the thread that waits for its worker. One that nobody waits for is given up.
-pub(crate) struct Ended<V: Fit, W: Work<V>>(Served<V, W>);
+pub(crate) struct WorkerEnd<V: Fit, W: Work<V>>(Served<V, W>);
 
-impl<V: Fit, W: Work<V>> Drop for Ended<V, W> {
+impl<V: Fit, W: Work<V>> Drop for WorkerEnd<V, W> {
     fn drop(self) {
-        let Ended(served) = self;
+        let WorkerEnd(served) = self;
         match served {
             Served::Done(caller, letter) => {
                 drop(caller);
@@ -94,7 +94,7 @@ impl<V: Fit, W: Work<V>> Drop for Ended<V, W> {
     }
 }
 
-impl<V: Fit, W: Work<V>> Ended<V, W> {
+impl<V: Fit, W: Work<V>> WorkerEnd<V, W> {
     fn served(self) -> Served<V, W>
         ensures { result ≡ self.0 }
     {
@@ -107,17 +107,17 @@ impl<V: Fit, W: Work<V>> Ended<V, W> {
 #[derive(Drop)]
 pub(crate) struct EndOf<V: Fit, W: Work<V>>(Snapshot<Job<V, W>>);
 
-impl<V: Fit, W: Work<V>> Promise<Ended<V, W>> for EndOf<V, W> {
+impl<V: Fit, W: Work<V>> Promise<WorkerEnd<V, W>> for EndOf<V, W> {
     ghost kept_by = { λ p r. HasServed V.fits W.answers p.0.value r.0 };
 }
 
-type Worker<V, W> = PromisedHandle<Ended<V, W>, EndOf<V, W>>;
+type Worker<V, W> = PromisedHandle<WorkerEnd<V, W>, EndOf<V, W>>;
 
 // A worker that does its job, or how the job ended whose worker could not be made.
 #[derive(Drop)]
 pub(crate) enum Hand<V: Fit, W: Work<V>> {
     Works(Worker<V, W>),
-    Stays(Ended<V, W>),
+    Stays(WorkerEnd<V, W>),
 }
 
 // A job that was started. Clauses see the job.
@@ -143,15 +143,15 @@ fn end<'a, V: Fit, W: Work<V>, G: Gate>(
     gate: &G,
     number: u32,
     left: &AtomicU32,
-    given: Given<'a, V, W>,
-) -> Ended<V, W>
+    given: HeldJob<'a, V, W>,
+) -> WorkerEnd<V, W>
     ensures { HasServed V.fits W.answers given.entry result.0 }
 {
     let (group, job) = given.parts();
     if left.load(Ordering::SeqCst) == number {
-        return Ended(Served::Left(job));
+        return WorkerEnd(Served::Left(job));
     }
-    Ended(do_job(group, gate, number, job))
+    WorkerEnd(do_job(group, gate, number, job))
 }
 
 // Starts a worker for the job, which does it, or finds that none can be made.
@@ -168,10 +168,10 @@ pub(crate) fn start<'s, E, V: Fit + Send + 's, W: Work<V> + Send + 's, G: Gate +
 {
     let snapshot = Snapshot::of(&job);
     let kept = EndOf(Snapshot::of(&job));
-    let given = Given { group, job };
+    let given = HeldJob { group, job };
     let worker = scope.spawn_with(
         kept,
-        move || -> Ended<V, W>
+        move || -> WorkerEnd<V, W>
             ensures { HasServed V.fits W.answers given.entry result.0 }
         { end(gate, number, left, given) },
     );

@@ -12,11 +12,11 @@ ghost use Rattle.sf_words.specs.declared.call_word.CallState.{CallState};
 use crate::next_word::{is_caller_or_none, unpack_next};
 use std::marker::Model;
 
-/// The least bit of the generation.
+// The least bit of the generation.
 const GENERATION: u64 = 1 << 32;
-/// The least bit of the tag.
+// The least bit of the tag.
 const TAG: u64 = 1 << 28;
-/// The bit that says whether the leader has a channel of its own.
+// The bit that says whether the leader has a channel of its own.
 const OWN: u64 = 1 << 27;
 
 /// What the call word of a caller that leads says beside its tag.
@@ -152,14 +152,14 @@ pub fn call_codes_differ()
     ensures { CallCodesDiffer }
 {}
 
-/// Whether generation and top are in their ranges.
+// Whether generation and top are in their ranges.
 fn is_leader(leader: LeaderState) -> bool
     ensures { IsTrue result ↔ IsLeaderState leader }
 {
     leader.generation != 0 && is_caller_or_none(leader.top)
 }
 
-/// The number of a leader's call word with this tag, 1 to 3.
+// The number of a leader's call word with this tag, 1 to 3.
 fn pack_leader(tag: u64, leader: LeaderState) -> u64
     requires tag { tag ≤ 3 }
     requires range { IsLeaderState leader }

@@ -11,9 +11,9 @@ ghost use Rattle.sf_words.specs.declared.key_word.KeyState.{KeyState};
 use crate::next_word::is_caller;
 use std::marker::Model;
 
-/// The least bit of the generation.
+// The least bit of the generation.
 const GENERATION: u64 = 1 << 32;
-/// The bit that says whether the call is cleared.
+// The bit that says whether the call is cleared.
 const CLEARED: u64 = 1 << 31;
 
 /// What a key word says of its key.

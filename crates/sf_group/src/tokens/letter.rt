@@ -84,6 +84,7 @@ impl<V: Fit> Letter<V> {
         ensures fits { FitsLetter V.fits self.now }
         ensures led { was_led_on self.now.seen self.now.place self.now.call ≡ true }
     {
+        // Read for what it says of the letter alone.
         let _ = &self.place;
     }
 

@@ -6,7 +6,7 @@ ghost use Rattle.std.specs.Prelude.{◌≡◌, ◌≤◌, IfSome};
 use sf_history::CallId;
 use std::marker::Model;
 
-/// From a caller's number to the generation beside it.
+// From a caller's number to the generation beside it.
 const SHIFT: u64 = 0x1_0000_0000;
 
 /// A call whose caller has a number from 1, or none.
