@@ -189,8 +189,9 @@ static void many(void) {
     }
 }
 
-/* Threads with nested calls, deadlines and Forgets: one load of a key at a time, and nothing older than a Forget. */
-enum { KEYS = 24 };
+/* Threads with nested calls, deadlines and Forgets: one load of a key at a time, and nothing older than a Forget. A stress is run again until
+   it has met what it is for, at most so often. */
+enum { KEYS = 24, MOST_RUNS = 50 };
 
 static struct key {
     char name[80];
@@ -285,7 +286,9 @@ static void *stress_one(void *at) {
     return NULL;
 }
 
-static void stress(const char *what, const sflight_do_sizes *size, uint64_t least_epochs) {
+/* One run of the stress; whether it met what it is for: so many epochs, somebody who joined, and a hit. Threads that a busy machine runs one
+   after the other may meet none of these. */
+static bool stress_once(const char *what, const sflight_do_sizes *size, uint64_t least_epochs) {
     pthread_t threads[STRESSING];
     memset(keys, 0, sizeof keys);
     for (int i = 0; i < KEYS; i++) {
@@ -304,8 +307,14 @@ static void stress(const char *what, const sflight_do_sizes *size, uint64_t leas
     check(atomic_load(&stale) == 0, "nothing is older than a Forget");
     check(atomic_load(&refused) == 0, "no call is refused");
     check(stats.leads + stats.alone == atomic_load(&loads) && stats.in_use == 0, "loads are counted, and all callers are back");
-    check(stats.epochs >= least_epochs && stats.joins > 0 && atomic_load(&hits) > 0, what);
     sflight_do_close(stressed);
+    return stats.epochs >= least_epochs && stats.joins > 0 && atomic_load(&hits) > 0;
+}
+
+static void stress(const char *what, const sflight_do_sizes *size, uint64_t least_epochs) {
+    bool met = false;
+    for (int runs = 0; !met && runs < MOST_RUNS; runs++) met = stress_once(what, size, least_epochs);
+    check(met, what);
 }
 
 static void spent(void) {

@@ -4,6 +4,7 @@
 #include "sflight_do.h"
 #include <errno.h>
 #include <pthread.h>
+#include <signal.h>
 #include <stdatomic.h>
 #include <stdlib.h>
 #include <string.h>
@@ -26,7 +27,8 @@ enum {
 struct wait {
     atomic_uint shares;
     uint64_t fingerprint;
-    bool is_moved; /* by the lock of its seat */
+    bool is_moved;         /* by the lock of its seat */
+    struct record *record; /* of its call, if that is recorded: it is there until the wait is settled and taken out of the side table */
     pthread_mutex_t lock;
     pthread_cond_t settled; /* the rest is by the lock */
     bool is_settled, is_void;
@@ -44,9 +46,10 @@ struct seat {
     uint32_t number;
     uint64_t next; /* the generation of its next asking, if that leads or joins */
     atomic_ullong word, fingerprint, over, leads;
-    pthread_mutex_t lock; /* protects the next two */
-    struct wait *wait;    /* of the call that it leads */
-    struct seat *left;    /* those whose letters of that call will come */
+    _Atomic(struct record *) record; /* of that asking, if it is recorded: it is there while one has the lock and has found it */
+    pthread_mutex_t lock;            /* protects the next two */
+    struct wait *wait;               /* of the call that it leads */
+    struct seat *left;               /* those whose letters of that call will come */
     struct seat *link;    /* in a list */
     bool is_stranger;
 };
@@ -71,6 +74,7 @@ struct entry {
 
 struct sflight_pool {
     atomic_ullong now; /* the number of the current epoch, written with both locks held */
+    _Atomic(struct recorder *) recorder; /* while it is recorded */
     atomic_uint alerts[ALERTS];
     uint64_t seeds[3];
     uint64_t names[4]; /* seeds of what the library knows of long keys */
@@ -84,6 +88,9 @@ struct sflight_pool {
     struct epoch *current;
     uint64_t leads; /* of epochs that are gone */
     uint32_t in_use;
+    bool is_recorded; /* from sflight_do_record until sflight_do_stop has returned */
+    bool is_changing; /* whether one of the two is running */
+    struct recorder *kept; /* of every recording, since a call may outlive its own */
 };
 
 __extension__ typedef unsigned __int128 wide;
@@ -155,6 +162,695 @@ static void name_of(struct name *name, const sflight_pool *pool, const uint8_t *
 }
 
 const char *sflight_version(void) { return SFLIGHT_VERSION; }
+
+/* Recording: docs/RECORDS.md has the rules.
+ *
+ * A call of a recording is a run of a load function. It has one record. The seat that leads it, or the run beside the library, has a part in
+ * the record; so has each thread that follows the call, and each Forget that closes it, until it knows its own times. The thread that gives up the
+ * last part puts the call into a lane. So a recording has whole calls only, and no thread waits for another one to be recorded.
+ *
+ * The record of a seat's call is made before the seat asks, so that a thread that finds the call finds its record. A thread that takes a part in a
+ * record holds a lock that the leader takes before it gives up its own part: that of the seat, or that of the side table. */
+
+enum {
+    LANES = 64,
+    LANE_EVENTS = 1 << 14, /* as many a lane keeps, but for those of one call */
+    CHUNK = 1 << 15,       /* bytes */
+    TEXT = 1 << 16,
+    LINE = 2048, /* no line is longer: a byte of a key takes six at most */
+    RECORDED = 250,
+    DIGEST = 37,
+    EVERY = 10000000 /* nanoseconds until the writer looks at the lanes again */
+};
+
+/* An Enter of a call, or a Forget that has closed it. */
+struct event {
+    struct event *next;
+    struct record *record; /* of a Forget that has not ended, which has a part in it */
+    uint64_t name, from, to;
+    bool is_forget;
+};
+
+struct record {
+    struct recorder *by;
+    uint64_t recording, generation, name;
+    uint64_t asked, led, settles, settled;
+    atomic_uint parts, lost; /* how many may add to it, and how many events could not be */
+    _Atomic(struct event *) events;
+    bool has_run, is_digest;
+    uint32_t len;
+    uint8_t key[]; /* or its digest */
+};
+
+/* What an asking, or a Forget, knows of the recording. Where `by` is null it is not recorded, and the rest says nothing. */
+struct noted {
+    struct recorder *by;
+    uint64_t recording, from;
+    struct record *record; /* of the call that it follows, in which it has a part */
+};
+
+/* An asking, and the wait that it follows, or that of its run. */
+struct asking {
+    struct wait *wait;
+    struct noted noted;
+};
+
+struct forgetting {
+    struct noted noted;
+    struct event *closed;
+    bool is_idle; /* where it is recorded */
+};
+
+/* A name in a recording: the number of a caller, from 1 on, and which of its calls or members it is. */
+static uint64_t name_at(uint32_t caller, uint64_t number) { return (uint64_t)caller << 32 | number; }
+
+/* What a lane has of a call, or of a Forget that closed none. So many moments of members follow, that of the Forget which closed it, and the key. */
+struct moments {
+    uint64_t name, from, to;
+};
+
+struct packed {
+    size_t size;
+    uint32_t events, members;
+    uint16_t len;
+    bool is_call, is_closed, is_digest;
+    uint64_t settles, settled;
+    struct moments first; /* of the Lead, or of the Forget */
+    struct moments rest[];
+};
+
+struct chunk {
+    struct chunk *next;
+    size_t used, size;
+    uint64_t room[];
+};
+
+struct lane {
+    _Alignas(64) pthread_mutex_t lock; /* protects the next three */
+    struct chunk *first, *last, *spare;
+    uint32_t events;
+    atomic_ullong names; /* how many were given */
+};
+
+/* Only the thread of the recording uses what comes after `is_ending`, until it has ended. */
+struct recorder {
+    struct lane lanes[LANES];
+    atomic_ullong number;    /* of the recording; 0 where nothing is recorded any more */
+    atomic_ullong missed[2]; /* events that were lost, of a recording with an even number and with an odd one */
+    uint64_t recordings, seeds[4];
+    sflight_pool *pool;
+    pthread_t thread;
+    pthread_mutex_t lock; /* protects is_ending */
+    pthread_cond_t wake;
+    bool is_ending;
+    sflight_write *write;
+    void *context;
+    sflight_recorded recorded;
+    uint64_t pending; /* events in text */
+    size_t used;
+    char *text;
+};
+
+/* The thread's lane, and its caller in a recording. */
+static unsigned here(void) {
+    static atomic_uint threads;
+    static _Thread_local unsigned number;
+    if (number == 0) number = atomic_fetch_add_explicit(&threads, 1, memory_order_relaxed) % LANES + 1;
+    return number - 1;
+}
+
+static uint64_t moment(void) {
+    struct timespec at;
+    clock_gettime(CLOCK_MONOTONIC, &at);
+    return (uint64_t)at.tv_sec * 1000000000 + (uint64_t)at.tv_nsec;
+}
+
+/* What takes place in a recording alone stands in functions of its own, so that without one it costs a look at a pointer. */
+#define RECORDING __attribute__((noinline, cold))
+
+/* It begins in the recording, whose number is read first. */
+RECORDING static void note_in(struct noted *noted) {
+    noted->recording = atomic_load(&noted->by->number);
+    noted->from = moment();
+    noted->record = NULL;
+    if (noted->recording == 0) noted->by = NULL;
+}
+
+/* It begins now. */
+static void note(struct noted *noted, sflight_pool *pool) {
+    noted->by = atomic_load_explicit(&pool->recorder, memory_order_acquire);
+    if (noted->by) note_in(noted);
+}
+
+static void lose(struct recorder *by, uint64_t recording, uint64_t events) {
+    if (atomic_load(&by->number) == recording) atomic_fetch_add(&by->missed[recording % 2], events);
+}
+
+/* A name that no other call or member has, or 0 where none is left. */
+static uint64_t new_name(struct recorder *by) {
+    unsigned first = here();
+    for (unsigned i = 0; i < LANES; i++) {
+        unsigned lane = (first + i) % LANES;
+        uint64_t number = atomic_fetch_add_explicit(&by->lanes[lane].names, 1, memory_order_relaxed) + 1;
+        if (number <= UINT32_MAX) return name_at(lane + 1, number);
+    }
+    return 0;
+}
+
+static void write_digest(const struct recorder *by, const uint8_t *key, size_t len, uint8_t text[DIGEST]) {
+    memcpy(text, "hash:", 5);
+    for (int i = 0; i < 2; i++) {
+        uint64_t half = sip_hash(&by->seeds[2 * i], key, len);
+        for (int digit = 0; digit < 16; digit++) text[5 + 16 * i + digit] = (uint8_t)"0123456789abcdef"[half >> (60 - 4 * digit) & 15];
+    }
+}
+
+/* As much of the key as a record keeps: a digest of one that is too long. */
+static bool copy_key(const struct recorder *by, const uint8_t *key, size_t len, uint8_t *to) {
+    if (len > RECORDED) write_digest(by, key, len, to);
+    else if (len > 0) memcpy(to, key, len);
+    return len > RECORDED;
+}
+
+static size_t kept_of(size_t len) { return len > RECORDED ? DIGEST : len; }
+
+/* The record of a call that is asked for, in which the asking has a part; null where that is not recorded, or there is no memory. */
+static struct record *new_record(const struct noted *noted, const uint8_t *key, size_t len) {
+    struct record *record = noted->by ? malloc(sizeof *record + kept_of(len)) : NULL;
+    if (!record) return NULL;
+    memset(record, 0, sizeof *record);
+    record->by = noted->by;
+    record->recording = noted->recording;
+    record->asked = noted->from;
+    atomic_init(&record->parts, 1);
+    record->len = (uint32_t)kept_of(len);
+    record->is_digest = copy_key(noted->by, key, len, record->key);
+    return record;
+}
+
+/* Its load begins. */
+RECORDING static void begins(const struct noted *noted, struct record *record) {
+    if (record) record->name = new_name(noted->by);
+    if (!record || record->name == 0) {
+        lose(noted->by, noted->recording, 3);
+        return;
+    }
+    record->has_run = true;
+    record->led = moment();
+}
+
+/* A free lane, whose lock the caller has then, with room for so much. Null where the recording is over, or the events are lost. */
+static struct lane *lane_for(struct recorder *by, uint64_t recording, uint32_t events, size_t size, struct packed **at) {
+    unsigned first = here();
+    for (unsigned i = 0; i < LANES; i++) {
+        struct lane *lane = &by->lanes[(first + i) % LANES];
+        if (pthread_mutex_trylock(&lane->lock) != 0) continue;
+        /* Whoever ends the recording says so first, and then takes each lock. */
+        if (atomic_load(&by->number) != recording) {
+            pthread_mutex_unlock(&lane->lock);
+            return NULL;
+        }
+        struct chunk *chunk = lane->last;
+        bool is_full = lane->events > 0 && lane->events + events > LANE_EVENTS;
+        if (!is_full && (!chunk || chunk->size - chunk->used < size)) {
+            chunk = lane->spare;
+            if (chunk && chunk->size >= size) {
+                lane->spare = NULL;
+            } else {
+                size_t room = size > CHUNK ? size : CHUNK;
+                chunk = malloc(sizeof *chunk + room);
+                if (chunk) chunk->size = room;
+            }
+            if (chunk) {
+                chunk->next = NULL;
+                chunk->used = 0;
+                if (lane->last) lane->last->next = chunk;
+                else lane->first = chunk;
+                lane->last = chunk;
+            }
+        }
+        if (is_full || !chunk) {
+            lose(by, recording, events);
+            pthread_mutex_unlock(&lane->lock);
+            return NULL;
+        }
+        *at = (struct packed *)((uint8_t *)chunk->room + chunk->used);
+        chunk->used += size;
+        return lane;
+    }
+    lose(by, recording, events);
+    return NULL;
+}
+
+/* What was put into it is there. */
+static void leave_lane(struct recorder *by, struct lane *lane, uint32_t events) {
+    uint32_t before = lane->events;
+    lane->events += events;
+    pthread_mutex_unlock(&lane->lock);
+    if (before < LANE_EVENTS / 4 && before + events >= LANE_EVENTS / 4) pthread_cond_signal(&by->wake);
+}
+
+static size_t size_of(uint32_t moments, size_t len) {
+    return (sizeof(struct packed) + moments * sizeof(struct moments) + len + 7) / 8 * 8;
+}
+
+static uint8_t *key_of(struct packed *packed) { return (uint8_t *)&packed->rest[packed->members + packed->is_closed]; }
+
+static void drop_events(struct event *events) {
+    for (struct event *next; events; events = next) {
+        next = events->next;
+        free(events);
+    }
+}
+
+/* Nobody adds to the record any more. */
+static void complete(struct record *record) {
+    struct event *others = NULL, *members = NULL, *closing = NULL, *next;
+    uint32_t count = 0;
+    for (struct event *event = atomic_load(&record->events); event; event = next) {
+        struct event **list = &others;
+        next = event->next;
+        if (event->is_forget) {
+            /* A call is closed once. Where a Forget has found it in the side table and another in the library, each can be the one. */
+            if (!closing || event->from < closing->from) {
+                struct event *other = closing;
+                closing = event;
+                if (!other) continue;
+                event = other;
+            }
+        } else if (event->to >= record->led) {
+            /* One that had left before the load began was in no call of the recording. */
+            list = &members;
+            count++;
+        }
+        event->next = *list;
+        *list = event;
+    }
+    if (closing && closing->from >= record->settles) {
+        /* It began when the call was about to be settled. From then on the key can have a newer call. */
+        closing->next = others;
+        others = closing;
+        closing = NULL;
+    }
+    uint32_t events = 3 + count + (closing != NULL), lost = atomic_load(&record->lost);
+    struct packed *packed = NULL;
+    struct lane *lane = NULL;
+    size_t size = size_of(count + (closing != NULL), record->len);
+    if (record->has_run && lost > 0) lose(record->by, record->recording, events + lost);
+    else if (record->has_run) lane = lane_for(record->by, record->recording, events, size, &packed);
+    if (lane) {
+        *packed = (struct packed){
+            .size = size, .events = events, .members = count, .len = (uint16_t)record->len, .is_call = true, .is_closed = closing != NULL,
+            .is_digest = record->is_digest, .settles = record->settles, .settled = record->settled, .first = {record->name, record->asked, record->led}};
+        struct moments *at = packed->rest;
+        for (struct event *event = members; event; event = event->next) *at++ = (struct moments){event->name, event->from, event->to};
+        /* Where it closed the call before the load began, it took effect when that did. */
+        if (closing) *at = (struct moments){closing->name, closing->from, closing->to < record->led ? record->led : closing->to};
+        memcpy(key_of(packed), record->key, record->len);
+        leave_lane(record->by, lane, events);
+    }
+    drop_events(others);
+    drop_events(members);
+    free(closing);
+    free(record);
+}
+
+static void leave_record(struct record *record) {
+    if (atomic_fetch_sub(&record->parts, 1) == 1) complete(record);
+}
+
+/* Another part in the record, if there is one. A lock is held that keeps it. */
+static struct record *share_record(struct record *record) {
+    if (record) atomic_fetch_add(&record->parts, 1);
+    return record;
+}
+
+/* The asking follows the call of the record. */
+static void take_part(struct noted *noted, struct record *record) {
+    if (noted->by && record && record->recording == noted->recording) noted->record = share_record(record);
+}
+
+static void add(struct record *record, struct event *event) {
+    event->next = atomic_load(&record->events);
+    while (!atomic_compare_exchange_weak(&record->events, &event->next, event)) {}
+}
+
+/* It follows the call no longer. Whether it was a member of it. */
+RECORDING static void followed(struct noted *noted, bool is_member) {
+    struct record *record = noted->record;
+    if (!record) return;
+    struct event *event = is_member ? malloc(sizeof *event) : NULL;
+    uint64_t name = event ? new_name(noted->by) : 0;
+    if (name != 0) {
+        *event = (struct event){.name = name, .from = noted->from, .to = moment()};
+        add(record, event);
+    } else if (is_member) {
+        free(event);
+        atomic_fetch_add(&record->lost, 1);
+    }
+    leave_record(record);
+    noted->record = NULL;
+}
+
+/* The seat is about to ask. */
+RECORDING static void attach(struct seat *seat, const struct noted *noted, const uint8_t *key, size_t len) {
+    struct record *record = new_record(noted, key, len);
+    if (record) record->generation = seat->next;
+    atomic_store(&seat->record, record);
+}
+
+/* The seat has no call any more. */
+RECORDING static void detach(struct seat *seat) {
+    struct record *record = atomic_load(&seat->record);
+    if (!record) return;
+    pthread_mutex_lock(&seat->lock);
+    atomic_store(&seat->record, NULL);
+    pthread_mutex_unlock(&seat->lock);
+    leave_record(record);
+}
+
+/* A part in the record of the leader's call, if that has not ended. */
+RECORDING static struct record *record_of(struct seat *leader, uint64_t generation) {
+    pthread_mutex_lock(&leader->lock);
+    struct record *record = atomic_load(&leader->record);
+    record = record && record->generation == generation ? share_record(record) : NULL;
+    pthread_mutex_unlock(&leader->lock);
+    return record;
+}
+
+/* The Forget has closed a call, and has a part in its record if there is one. */
+static void closes(struct forgetting *forgetting, struct record *record) {
+    forgetting->is_idle = false;
+    if (!record) return;
+    struct event *event = malloc(sizeof *event);
+    if (event) {
+        *event = (struct event){.next = forgetting->closed, .record = record, .is_forget = true};
+        forgetting->closed = event;
+    } else {
+        atomic_fetch_add(&record->lost, 1);
+        leave_record(record);
+    }
+}
+
+RECORDING static void end_forgetting(struct forgetting *forgetting, const uint8_t *key, size_t len) {
+    const struct noted *noted = &forgetting->noted;
+    uint64_t name = name_at(here() + 1, 0), to = moment();
+    for (struct event *event = forgetting->closed, *next; event; event = next) {
+        struct record *record = event->record;
+        next = event->next;
+        event->name = name;
+        /* One that began before the recording took effect after the call had begun. */
+        event->from = noted->by ? noted->from : record->asked;
+        event->to = to;
+        add(record, event);
+        leave_record(record);
+    }
+    if (!noted->by || !forgetting->is_idle) return;
+    struct packed *packed;
+    size_t size = size_of(0, kept_of(len));
+    struct lane *lane = lane_for(noted->by, noted->recording, 1, size, &packed);
+    if (!lane) return;
+    *packed = (struct packed){.size = size, .events = 1, .len = (uint16_t)kept_of(len), .first = {name, noted->from, to}};
+    packed->is_digest = copy_key(noted->by, key, len, key_of(packed));
+    leave_lane(noted->by, lane, 1);
+}
+
+/* The thread of the recording, which writes. */
+
+static void flush(struct recorder *by) {
+    if (by->used > 0 && by->recorded.failed == 0) {
+        by->recorded.failed = by->write(by->context, by->text, by->used);
+        if (by->recorded.failed != 0) {
+            /* Calls cost no more than without a recording from here on. */
+            atomic_store(&by->number, 0);
+            atomic_store(&by->pool->recorder, NULL);
+        }
+    }
+    *(by->recorded.failed == 0 ? &by->recorded.events : &by->recorded.lost) += by->pending;
+    by->pending = 0;
+    by->used = 0;
+}
+
+static void put_text(struct recorder *by, const char *text) {
+    size_t len = strlen(text);
+    memcpy(by->text + by->used, text, len);
+    by->used += len;
+}
+
+static void put_number(struct recorder *by, uint64_t number) {
+    char digits[20];
+    size_t at = sizeof digits;
+    do digits[--at] = (char)('0' + number % 10);
+    while ((number /= 10) > 0);
+    memcpy(by->text + by->used, digits + at, sizeof digits - at);
+    by->used += sizeof digits - at;
+}
+
+static void put_name(struct recorder *by, const char *what, uint64_t name) {
+    put_text(by, what);
+    put_number(by, name >> 32);
+    put_text(by, ",");
+    put_number(by, name & UINT32_MAX);
+    put_text(by, "]");
+}
+
+static void begin_line(struct recorder *by, const char *event, uint64_t name) {
+    if (by->used > TEXT - LINE) flush(by);
+    put_text(by, "{\"e\":\"");
+    put_text(by, event);
+    put_text(by, "\",\"by\":");
+    put_number(by, name >> 32);
+}
+
+static void end_line(struct recorder *by, uint64_t from, uint64_t to) {
+    put_text(by, ",\"at\":[");
+    put_number(by, from);
+    put_text(by, ",");
+    put_number(by, to);
+    put_text(by, "]}\n");
+    by->pending++;
+}
+
+static void put_format(struct recorder *by, uint64_t lost) {
+    if (by->used > TEXT - LINE) flush(by);
+    put_text(by, "{\"format\":4,\"lost\":");
+    put_number(by, lost);
+    put_text(by, "}\n");
+}
+
+/* How many bytes at the beginning are a character in UTF-8; 0 where they are none. */
+static size_t character(const uint8_t *at, size_t len) {
+    size_t more = at[0] < 0x80 ? 0 : at[0] < 0xe0 ? 1 : at[0] < 0xf0 ? 2 : 3;
+    if (more == 0) return 1;
+    if (at[0] < 0xc2 || at[0] > 0xf4 || more >= len) return 0;
+    for (size_t i = 1; i <= more; i++) if (at[i] >> 6 != 2) return 0;
+    /* Neither a longer form than is needed, nor half of a pair, nor beyond the last character. */
+    if (at[0] == 0xe0 && at[1] < 0xa0) return 0;
+    if (at[0] == 0xed && at[1] > 0x9f) return 0;
+    if (at[0] == 0xf0 && at[1] < 0x90) return 0;
+    if (at[0] == 0xf4 && at[1] > 0x8f) return 0;
+    return more + 1;
+}
+
+static bool is_text(const uint8_t *key, size_t len) {
+    for (size_t at = 0, step; at < len; at += step) {
+        step = character(key + at, len - at);
+        if (step == 0) return false;
+    }
+    return true;
+}
+
+/* The key as JSON has it; where it is no text, or could be taken for a digest, its digest. */
+static void put_key(struct recorder *by, const struct packed *packed, const uint8_t *key) {
+    static const char hex[] = "0123456789abcdef";
+    uint8_t digest[DIGEST];
+    size_t len = packed->len;
+    if (!packed->is_digest && (!is_text(key, len) || (len >= 5 && memcmp(key, "hash:", 5) == 0))) {
+        write_digest(by, key, len, digest);
+        key = digest;
+        len = DIGEST;
+    }
+    put_text(by, ",\"k\":\"");
+    for (size_t i = 0; i < len; i++) {
+        char *to = by->text + by->used;
+        if (key[i] == '"' || key[i] == '\\') {
+            to[0] = '\\';
+            to[1] = (char)key[i];
+            by->used += 2;
+        } else if (key[i] < ' ') {
+            memcpy(to, "\\u00", 4);
+            to[4] = hex[key[i] >> 4];
+            to[5] = hex[key[i] & 15];
+            by->used += 6;
+        } else {
+            to[0] = (char)key[i];
+            by->used++;
+        }
+    }
+    put_text(by, "\"");
+}
+
+static void write_packed(struct recorder *by, struct packed *packed) {
+    if (by->recorded.failed != 0) {
+        by->recorded.lost += packed->events;
+        return;
+    }
+    const uint8_t *key = key_of(packed);
+    const struct moments *first = &packed->first, *at = packed->rest;
+    begin_line(by, packed->is_call ? "lead" : "forget", first->name);
+    put_key(by, packed, key);
+    if (!packed->is_call) {
+        put_text(by, ",\"closed\":null");
+        end_line(by, first->from, first->to);
+        return;
+    }
+    put_name(by, ",\"c\":[", first->name);
+    put_text(by, ",\"own\":null");
+    end_line(by, first->from, first->to);
+    for (uint32_t i = 0; i < packed->members; i++, at++) {
+        begin_line(by, "enter", at->name);
+        put_key(by, packed, key);
+        put_name(by, ",\"c\":[", first->name);
+        put_name(by, ",\"m\":[", at->name);
+        end_line(by, at->from, at->to);
+    }
+    if (packed->is_closed) {
+        begin_line(by, "forget", at->name);
+        put_key(by, packed, key);
+        put_name(by, ",\"closed\":[", first->name);
+        end_line(by, at->from, at->to);
+    }
+    begin_line(by, "settle", first->name);
+    put_name(by, ",\"c\":[", first->name);
+    put_text(by, ",\"ok\":\"");
+    put_number(by, first->name >> 32);
+    put_text(by, ".");
+    put_number(by, first->name & UINT32_MAX);
+    put_text(by, "\",\"joiners\":");
+    put_number(by, packed->members);
+    end_line(by, packed->settles, packed->settled);
+    begin_line(by, "handed", first->name);
+    put_name(by, ",\"c\":[", first->name);
+    end_line(by, packed->settles, packed->settled);
+}
+
+/* Writes what the lane has, which keeps one chunk. */
+static void write_lane(struct recorder *by, struct lane *lane) {
+    pthread_mutex_lock(&lane->lock);
+    struct chunk *chunk = lane->first, *next, *kept = NULL;
+    lane->first = lane->last = NULL;
+    lane->events = 0;
+    pthread_mutex_unlock(&lane->lock);
+    for (; chunk; chunk = next) {
+        next = chunk->next;
+        for (size_t at = 0; at < chunk->used;) {
+            struct packed *packed = (struct packed *)((uint8_t *)chunk->room + at);
+            at += packed->size;
+            write_packed(by, packed);
+        }
+        if (kept || chunk->size > CHUNK) free(chunk);
+        else kept = chunk;
+    }
+    if (!kept) return;
+    pthread_mutex_lock(&lane->lock);
+    struct chunk *spare = lane->spare;
+    lane->spare = kept;
+    pthread_mutex_unlock(&lane->lock);
+    free(spare);
+}
+
+static struct timespec deadline_of(int64_t timeout);
+
+static void *write_all(void *at) {
+    struct recorder *by = at;
+    put_format(by, 0);
+    for (bool is_last = false; !is_last;) {
+        struct timespec deadline = deadline_of(EVERY);
+        pthread_mutex_lock(&by->lock);
+        if (!by->is_ending && by->recorded.failed == 0) pthread_cond_timedwait(&by->wake, &by->lock, &deadline);
+        /* After a writer has failed, the lanes are emptied once more. */
+        is_last = by->is_ending || by->recorded.failed != 0;
+        pthread_mutex_unlock(&by->lock);
+        for (int i = 0; i < LANES; i++) write_lane(by, &by->lanes[i]);
+        uint64_t missed = atomic_exchange(&by->missed[by->recordings % 2], 0);
+        by->recorded.lost += missed;
+        if (missed > 0) put_format(by, missed);
+        flush(by);
+    }
+    return NULL;
+}
+
+static struct recorder *new_recorder(sflight_pool *pool) {
+    struct recorder *by = aligned_alloc(64, sizeof *by);
+    if (!by) return NULL;
+    memset(by, 0, sizeof *by);
+    if (getrandom(by->seeds, sizeof by->seeds, 0) != sizeof by->seeds) {
+        free(by);
+        return NULL;
+    }
+    pthread_condattr_t attributes;
+    by->pool = pool;
+    for (int i = 0; i < LANES; i++) pthread_mutex_init(&by->lanes[i].lock, NULL);
+    pthread_mutex_init(&by->lock, NULL);
+    pthread_condattr_init(&attributes);
+    pthread_condattr_setclock(&attributes, CLOCK_MONOTONIC);
+    pthread_cond_init(&by->wake, &attributes);
+    pthread_condattr_destroy(&attributes);
+    return by;
+}
+
+static void free_recorder(struct recorder *by) {
+    if (!by) return;
+    for (int i = 0; i < LANES; i++) pthread_mutex_destroy(&by->lanes[i].lock);
+    pthread_mutex_destroy(&by->lock);
+    pthread_cond_destroy(&by->wake);
+    free(by);
+}
+
+static int begin_recording(struct recorder *by, sflight_write *write, void *context) {
+    sigset_t all, before;
+    by->text = malloc(TEXT);
+    if (!by->text) return SFLIGHT_DO_NO_MEMORY;
+    by->recordings++;
+    by->write = write;
+    by->context = context;
+    by->recorded = (sflight_recorded){0};
+    by->used = 0;
+    by->is_ending = false;
+    atomic_store(&by->missed[by->recordings % 2], 0);
+    for (int i = 0; i < LANES; i++) atomic_store(&by->lanes[i].names, 0);
+    atomic_store(&by->number, by->recordings);
+    /* The program's signals are for its own threads. */
+    sigfillset(&all);
+    pthread_sigmask(SIG_SETMASK, &all, &before);
+    int failed = pthread_create(&by->thread, NULL, write_all, by);
+    pthread_sigmask(SIG_SETMASK, &before, NULL);
+    if (failed != 0) {
+        atomic_store(&by->number, 0);
+        free(by->text);
+        return SFLIGHT_DO_NO_THREAD;
+    }
+    atomic_store(&by->pool->recorder, by);
+    /* Its first write may have failed already. */
+    if (atomic_load(&by->number) == 0) atomic_store(&by->pool->recorder, NULL);
+    return SFLIGHT_DO_DONE;
+}
+
+static void end_recording(struct recorder *by, sflight_recorded *recorded) {
+    atomic_store(&by->pool->recorder, NULL);
+    atomic_store(&by->number, 0);
+    pthread_mutex_lock(&by->lock);
+    by->is_ending = true;
+    pthread_mutex_unlock(&by->lock);
+    pthread_cond_signal(&by->wake);
+    pthread_join(by->thread, NULL);
+    for (int i = 0; i < LANES; i++) {
+        free(by->lanes[i].spare);
+        by->lanes[i].spare = NULL;
+    }
+    free(by->text);
+    if (recorded) *recorded = by->recorded;
+}
 
 /* Waits. */
 
@@ -264,7 +960,7 @@ static bool mark(struct seat *seat, uint64_t generation, uint64_t bit) {
 }
 
 /* The wait of the leader's call, with a share of it: null where the call has ended, or there is no memory. */
-static struct wait *follow_call(struct seat *leader, uint64_t generation, uint64_t fingerprint) {
+static struct wait *follow_call(struct seat *leader, uint64_t generation, uint64_t fingerprint, struct noted *noted) {
     struct wait *spare = new_wait(fingerprint), *wait = NULL;
     if (!spare) return NULL;
     pthread_mutex_lock(&leader->lock);
@@ -272,10 +968,12 @@ static struct wait *follow_call(struct seat *leader, uint64_t generation, uint64
     if (mark(leader, generation, FOLLOWED)) {
         if (!leader->wait) {
             leader->wait = spare;
+            leader->wait->record = atomic_load(&leader->record);
             spare = NULL;
         }
         wait = share_wait(leader->wait);
         follow(wait);
+        take_part(noted, wait->record);
     }
     pthread_mutex_unlock(&leader->lock);
     drop_wait(spare);
@@ -476,6 +1174,7 @@ static void move_call(sflight_pool *pool, struct seat *seat, struct entry **spar
         } else {
             seat->wait = entry->wait;
             seat->wait->fingerprint = fingerprint;
+            seat->wait->record = atomic_load(&seat->record);
         }
         seat->wait->is_moved = true;
         atomic_fetch_add(alert_of(pool, fingerprint), 1);
@@ -566,16 +1265,19 @@ enum beside { FOLLOWS, RUNS, NOTHING, NO_MEMORY };
 
 /* Looks for the key in the side table, and then in the library, and follows what it finds. Where it finds nothing, it enters a run; or
  * does not, where there is a seat and the key's slot is free. */
-static enum beside ask_beside(sflight_pool *pool, const uint8_t *key, size_t len, uint64_t fingerprint, bool has_seat, struct wait **wait) {
+static enum beside ask_beside(sflight_pool *pool, const uint8_t *key, size_t len, uint64_t fingerprint, bool has_seat, struct asking *asking) {
     enum beside how = NOTHING;
     struct entry *spare = malloc(sizeof *spare);
     struct wait *run = new_wait(fingerprint);
     bool is_well = spare && run && keep_key(run, key, len), is_over = false;
+    struct record *record = new_record(&asking->noted, key, len);
+    if (run) run->record = record;
     pthread_mutex_lock(&pool->slow);
     while (!is_over) {
         for (struct entry *entry = pool->table[fingerprint % BUCKETS]; entry && !is_over; entry = entry->next) {
             if (is_for(entry, fingerprint, key, len) && follow(entry->wait)) {
-                *wait = share_wait(entry->wait);
+                asking->wait = share_wait(entry->wait);
+                take_part(&asking->noted, entry->wait->record);
                 how = FOLLOWS;
                 is_over = true;
             }
@@ -590,9 +1292,9 @@ static enum beside ask_beside(sflight_pool *pool, const uint8_t *key, size_t len
         is_over = true;
         if (whose == SAME) {
             atomic_fetch_sub(alert_of(pool, fingerprint), 1);
-            *wait = follow_call(&epoch->seats[call.caller], call.generation, fingerprint);
+            asking->wait = follow_call(&epoch->seats[call.caller], call.generation, fingerprint, &asking->noted);
             how = FOLLOWS;
-            if (!*wait) {
+            if (!asking->wait) {
                 /* It has ended meanwhile, or there is no memory to follow it. */
                 how = NO_MEMORY;
                 is_over = !is_well || is_of(&epoch->seats[call.caller], call.generation);
@@ -604,13 +1306,14 @@ static enum beside ask_beside(sflight_pool *pool, const uint8_t *key, size_t len
             how = NO_MEMORY;
         } else {
             enter(pool, spare, run, true);
-            *wait = run;
+            asking->wait = run;
             how = RUNS;
         }
     }
     pthread_mutex_unlock(&pool->slow);
     if (how == RUNS) return how;
     free(spare);
+    free(record);
     drop_wait(run);
     return how;
 }
@@ -681,13 +1384,14 @@ static void leave(sflight_pool *pool, struct epoch *epoch, struct seat *seat, st
 }
 
 /* Asks the library by the seat, which is gone then, or leads: true. */
-static bool ask_library(sflight_pool *pool, struct epoch *epoch, struct seat *seat, const uint8_t *key, size_t len, uint64_t fingerprint, bool *is_alone, struct wait **wait) {
+static bool ask_library(sflight_pool *pool, struct epoch *epoch, struct seat *seat, const uint8_t *key, size_t len, uint64_t fingerprint, bool *is_alone, struct asking *asking) {
     uint32_t code;
     sflight_stamp call;
     if (seat->next - FIRST >= pool->sizes.calls) {
         retire(pool, epoch, seat);
         return false;
     }
+    if (asking->noted.by) attach(seat, &asking->noted, key, len);
     atomic_store_explicit(&seat->fingerprint, fingerprint, memory_order_release);
     atomic_store_explicit(&seat->word, word_of(seat->next), memory_order_release);
     struct name name;
@@ -697,10 +1401,12 @@ static bool ask_library(sflight_pool *pool, struct epoch *epoch, struct seat *se
         seat->next++;
         if (may_load(pool, epoch, key, len, fingerprint)) return true;
         settle(pool, epoch, seat, key, len, NULL);
+        if (asking->noted.by) detach(seat);
         put(pool, epoch, seat);
         return false;
     }
     if (atomic_exchange(&seat->word, 0) & FOLLOWED) serve(pool, epoch, seat, key, len, NULL);
+    if (asking->noted.by) detach(seat);
     if (code != SFLIGHT_JOINED) {
         *is_alone = code == SFLIGHT_NO_MEMORY;
         if (code == SFLIGHT_SPENT) retire(pool, epoch, seat);
@@ -710,11 +1416,25 @@ static bool ask_library(sflight_pool *pool, struct epoch *epoch, struct seat *se
     seat->next++;
     struct seat *leader = &epoch->seats[call.caller];
     enum whose whose = whose_call(leader, call.generation, fingerprint);
-    if (whose == SAME) *wait = follow_call(leader, call.generation, fingerprint);
+    if (whose == SAME) asking->wait = follow_call(leader, call.generation, fingerprint, &asking->noted);
     *is_alone = whose == ANOTHER;
     if (*is_alone) clash(pool, epoch);
     leave(pool, epoch, seat, leader, *is_alone);
     return false;
+}
+
+/* The seat leads a call that is recorded: it loads, and settles the call. */
+RECORDING static void lead_recorded(sflight_pool *pool, struct epoch *epoch, struct seat *seat, const struct noted *noted, const uint8_t *key, size_t len,
+                                    sflight_load *load, void *context, sflight_got *got) {
+    struct record *record = atomic_load(&seat->record);
+    begins(noted, record);
+    *got = (sflight_got){.value = load(context, key, len), .led = true};
+    /* From here on the key can have a newer call: once this one is over, a renewal does not move it. */
+    if (record) record->settles = moment();
+    settle(pool, epoch, seat, key, len, got);
+    /* It could be followed until it was served. */
+    if (record) record->settled = moment();
+    detach(seat);
 }
 
 static struct timespec deadline_of(int64_t timeout) {
@@ -730,13 +1450,21 @@ static struct timespec deadline_of(int64_t timeout) {
     return at;
 }
 
-static int run_beside(sflight_pool *pool, struct wait *run, const uint8_t *key, size_t len, sflight_load *load, void *context, sflight_got *got) {
+static int run_beside(sflight_pool *pool, const struct asking *asking, const uint8_t *key, size_t len, sflight_load *load, void *context, sflight_got *got) {
+    struct wait *run = asking->wait;
+    struct record *record = run->record;
     atomic_fetch_add(&pool->alone, 1);
+    if (asking->noted.by) begins(&asking->noted, record);
     *got = (sflight_got){.value = load(context, key, len), .led = true};
+    if (record) record->settles = moment();
     /* It is taken out before its followers learn of it, so that whoever asks later loads anew. */
     take_out_wait(pool, run);
     settle_wait(pool, run, key, len, got);
     drop_wait(run);
+    if (record) {
+        record->settled = moment();
+        leave_record(record);
+    }
     return SFLIGHT_DO_DONE;
 }
 
@@ -745,9 +1473,12 @@ int sflight_do(sflight_pool *pool, const uint8_t *key, size_t len, sflight_load 
     struct timespec deadline;
     if (timeout != SFLIGHT_DO_FOREVER) deadline = deadline_of(timeout);
     for (;;) {
+        struct asking asking;
         struct epoch *epoch;
+        int ended;
+        note(&asking.noted, pool);
         struct seat *seat = take(pool, &epoch);
-        struct wait *wait = NULL;
+        asking.wait = NULL;
         /* Whether one looks beside the library, and whether one may lead by the seat when nothing is there. */
         bool is_beside = !seat || is_alert(pool, fingerprint), is_alone = !seat;
         if (!is_beside && atomic_load(&epoch->strangers) > 0) {
@@ -756,31 +1487,37 @@ int sflight_do(sflight_pool *pool, const uint8_t *key, size_t len, sflight_load 
             is_beside = whose != ENDED;
             if (whose == ANOTHER) clash(pool, epoch);
         }
-        enum beside how = is_beside ? ask_beside(pool, key, len, fingerprint, seat != NULL, &wait) : NOTHING;
+        enum beside how = is_beside ? ask_beside(pool, key, len, fingerprint, seat != NULL, &asking) : NOTHING;
         if (how == NOTHING && seat) {
             is_alone = false;
-            if (ask_library(pool, epoch, seat, key, len, fingerprint, &is_alone, &wait)) {
+            if (ask_library(pool, epoch, seat, key, len, fingerprint, &is_alone, &asking)) {
                 atomic_store_explicit(&seat->leads, atomic_load(&seat->leads) + 1, memory_order_relaxed);
-                *got = (sflight_got){.value = load(context, key, len), .led = true};
-                settle(pool, epoch, seat, key, len, got);
+                if (asking.noted.by) {
+                    lead_recorded(pool, epoch, seat, &asking.noted, key, len, load, context, got);
+                } else {
+                    *got = (sflight_got){.value = load(context, key, len), .led = true};
+                    settle(pool, epoch, seat, key, len, got);
+                }
                 put(pool, epoch, seat);
                 return SFLIGHT_DO_DONE;
             }
             /* The seat is gone. */
             seat = NULL;
-            if (wait) how = FOLLOWS;
-            else if (is_alone) how = ask_beside(pool, key, len, fingerprint, false, &wait);
+            if (asking.wait) how = FOLLOWS;
+            else if (is_alone) how = ask_beside(pool, key, len, fingerprint, false, &asking);
         }
         if (how == RUNS && !seat) grow(pool);
         put(pool, epoch, seat);
         switch (how) {
         case RUNS:
-            return run_beside(pool, wait, key, len, load, context, got);
+            return run_beside(pool, &asking, key, len, load, context, got);
         case NO_MEMORY:
             return SFLIGHT_DO_NO_MEMORY;
         case FOLLOWS:
             atomic_fetch_add(&pool->joins, 1);
-            switch (wait_for(wait, key, len, timeout == SFLIGHT_DO_FOREVER ? NULL : &deadline, got)) {
+            ended = wait_for(asking.wait, key, len, timeout == SFLIGHT_DO_FOREVER ? NULL : &deadline, got);
+            if (asking.noted.by) followed(&asking.noted, ended != AGAIN);
+            switch (ended) {
             case GOT:
                 return SFLIGHT_DO_DONE;
             case LATE:
@@ -795,7 +1532,11 @@ int sflight_do(sflight_pool *pool, const uint8_t *key, size_t len, sflight_load 
 
 bool sflight_do_forget(sflight_pool *pool, const uint8_t *key, size_t len) {
     uint64_t fingerprint = fingerprint_of(pool, key, len);
+    struct forgetting forgetting;
     bool closed = false;
+    note(&forgetting.noted, pool);
+    forgetting.closed = NULL;
+    if (forgetting.noted.by) forgetting.is_idle = true;
     for (;;) {
         struct epoch *epoch;
         struct seat *seat = take(pool, &epoch);
@@ -806,15 +1547,20 @@ bool sflight_do_forget(sflight_pool *pool, const uint8_t *key, size_t len) {
             pthread_mutex_lock(&pool->slow);
             if (!seat) epoch = pool->current;
             out = take_out(pool, NULL, fingerprint, key, len);
+            for (struct entry *entry = out; entry; entry = entry->next) closes(&forgetting, share_record(entry->wait->record));
         }
         sflight_stamp call;
         if (named(pool, epoch, seat, key, len, &call)) {
             struct seat *leader = &epoch->seats[call.caller];
             /* Another key's open call stays, or it would be loaded a second time. */
-            if (whose_call(leader, call.generation, fingerprint) != ANOTHER) {
+            enum whose whose = whose_call(leader, call.generation, fingerprint);
+            if (whose != ANOTHER) {
                 uint32_t code;
-                /* Before the call ends, so that a second Forget, which finds no call, leaves none that a renewal would move. */
-                mark(leader, call.generation, FORGOTTEN);
+                struct record *record = whose == SAME && atomic_load(&leader->record) ? record_of(leader, call.generation) : NULL;
+                /* Before the call ends, so that a second Forget, which finds no call, leaves none that a renewal would move. So it ends the
+                 * call in a recording too, where that is settled before the library's part. */
+                if (mark(leader, call.generation, FORGOTTEN)) closes(&forgetting, record);
+                else if (record) leave_record(record);
                 if (!seat) pthread_mutex_lock(&pool->lock);
                 do {
                     code = sflight_forget_call(seat ? &seat->slot : &epoch->root, &call, SFLIGHT_MOST_TRIES);
@@ -827,7 +1573,10 @@ bool sflight_do_forget(sflight_pool *pool, const uint8_t *key, size_t len) {
         if (is_locked) pthread_mutex_unlock(&pool->slow);
         closed |= drop_entries(out);
         put(pool, epoch, seat);
-        if (is_over) return closed;
+        if (is_over) {
+            if (forgetting.closed || forgetting.noted.by) end_forgetting(&forgetting, key, len);
+            return closed;
+        }
     }
 }
 
@@ -876,8 +1625,39 @@ sflight_pool *sflight_do_open(const sflight_do_sizes *sizes, void (*share)(uint6
     return pool;
 }
 
+int sflight_do_record(sflight_pool *pool, sflight_write *write, void *context) {
+    pthread_mutex_lock(&pool->lock);
+    bool is_recorded = pool->is_recorded;
+    if (!is_recorded) pool->is_recorded = pool->is_changing = true;
+    pthread_mutex_unlock(&pool->lock);
+    if (is_recorded) return SFLIGHT_DO_RECORDED;
+    if (!pool->kept) pool->kept = new_recorder(pool);
+    int code = pool->kept ? begin_recording(pool->kept, write, context) : SFLIGHT_DO_NO_MEMORY;
+    pthread_mutex_lock(&pool->lock);
+    pool->is_recorded = code == SFLIGHT_DO_DONE;
+    pool->is_changing = false;
+    pthread_mutex_unlock(&pool->lock);
+    return code;
+}
+
+int sflight_do_stop(sflight_pool *pool, sflight_recorded *recorded) {
+    pthread_mutex_lock(&pool->lock);
+    /* The recording's own thread cannot wait for itself. */
+    bool is_meant = pool->is_recorded && !pool->is_changing && !pthread_equal(pool->kept->thread, pthread_self());
+    if (is_meant) pool->is_changing = true;
+    pthread_mutex_unlock(&pool->lock);
+    if (!is_meant) return SFLIGHT_DO_NOT_RECORDED;
+    end_recording(pool->kept, recorded);
+    pthread_mutex_lock(&pool->lock);
+    pool->is_recorded = pool->is_changing = false;
+    pthread_mutex_unlock(&pool->lock);
+    return SFLIGHT_DO_DONE;
+}
+
 void sflight_do_close(sflight_pool *pool) {
     if (!pool) return;
+    sflight_do_stop(pool, NULL);
+    free_recorder(pool->kept);
     free_epoch(pool, pool->current);
     pthread_mutex_destroy(&pool->lock);
     pthread_mutex_destroy(&pool->slow);

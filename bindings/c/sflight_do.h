@@ -8,6 +8,7 @@
  * - A pool never wears out.
  * - sflight_do_forget always forgets, also if no caller is free or there is no memory.
  * - A pool is small at first, and grows with its use.
+ * - What its calls do can be recorded, and judged by `sfctl check --timed` (sflight_do_record).
  *
  * Every function but sflight_do_close can be called from any thread. None may be called from a
  * signal handler, or from the forked child of a process with threads. A load function has to
@@ -67,6 +68,24 @@ enum {
     SFLIGHT_DO_NO_MEMORY = 2  /* nothing was done */
 };
 
+/* What sflight_do_record and sflight_do_stop return, or SFLIGHT_DO_DONE, or SFLIGHT_DO_NO_MEMORY. */
+enum {
+    SFLIGHT_DO_RECORDED = 3,    /* the pool is recorded already */
+    SFLIGHT_DO_NO_THREAD = 4,   /* no thread could be made */
+    SFLIGHT_DO_NOT_RECORDED = 5 /* the pool is not recorded */
+};
+
+/* Takes text of a recording: whole lines of `len` bytes, without a 0 at the end. Returns 0, or
+ * another number if it fails. */
+typedef int sflight_write(void *context, const char *text, size_t len);
+
+/* What a recording was. */
+typedef struct sflight_recorded {
+    uint64_t events; /* lines that were written, beside those of the format */
+    uint64_t lost;   /* events that were dropped */
+    int failed;      /* what the writer returned, if that was not 0 */
+} sflight_recorded;
+
 /* A timeout that never passes. */
 #define SFLIGHT_DO_FOREVER INT64_MAX
 
@@ -77,7 +96,7 @@ enum {
 sflight_pool *sflight_do_open(const sflight_do_sizes *sizes,
                               void (*share)(uint64_t value, uint32_t others));
 
-/* Frees the pool. No call may be running in it. */
+/* Ends a recording of the pool, if there is one, and frees the pool. No call may be running in it. */
 void sflight_do_close(sflight_pool *pool);
 
 /* Gets the value of the key of `len` bytes. It runs `load`, or blocks until the thread that is
@@ -96,6 +115,36 @@ bool sflight_do_is_still(sflight_pool *pool, const sflight_do_stamp *stamp);
 
 /* Returns the numbers of the pool. */
 sflight_do_stats sflight_do_statistics(sflight_pool *pool);
+
+/* Begins to record what the calls of the pool do, as records in format 4, by which `sfctl check
+ * --timed` judges whether they kept the promises. A thread of the recording gives the records to
+ * `write`, with the context, until sflight_do_stop. Returns SFLIGHT_DO_DONE, SFLIGHT_DO_RECORDED if
+ * the pool is recorded already, or SFLIGHT_DO_NO_MEMORY or SFLIGHT_DO_NO_THREAD. Only the first
+ * means that a recording has begun.
+ *
+ * - A call that ran a load function is recorded when it has ended and each thread that joined it
+ *   has the value: its Lead, an Enter of each that joined, the Forget that closed it, its Settle
+ *   and its Handed. A Forget that found no load of its key is recorded when it has ended.
+ * - A call that began before sflight_do_record is not in the recording, nor is one that has not
+ *   ended at sflight_do_stop, with all that was done to it.
+ * - The caller of a record is one of 64, by the thread. The value of a call is its name, such as
+ *   "3.17"; nothing is told of the value itself. The key stands as it is. One of more than 250
+ *   bytes, one that is no UTF-8, and one that begins with "hash:" stand as "hash:" and two hashes
+ *   of 64 bits, whose secret seeds the pool keeps. Times are nanoseconds of CLOCK_MONOTONIC.
+ * - No call waits for the writer. What it does not take in time is dropped and counted. So is a
+ *   call that there is no memory to record. Then a line {"format":4,"lost":n} stands between two
+ *   calls, and `sfctl merge` makes one recording of that.
+ * - The recording ends at the first write that does not return 0. The pool is still recorded then,
+ *   until sflight_do_stop.
+ * - The writer may call the pool, but cannot stop the recording, and must not close the pool. It
+ *   returns: it does not longjmp out, and its thread is not cancelled. All signals are blocked in
+ *   its thread. */
+int sflight_do_record(sflight_pool *pool, sflight_write *write, void *context);
+
+/* Ends the recording of the pool, and returns when all that was recorded is written. Returns
+ * SFLIGHT_DO_DONE, or SFLIGHT_DO_NOT_RECORDED if the pool is not recorded, if another thread is
+ * ending its recording, or if the writer calls this. `recorded` may be null. */
+int sflight_do_stop(sflight_pool *pool, sflight_recorded *recorded);
 
 /* Returns the version that sflight_do.c was compiled for, such as "0.1.0". It equals
  * SFLIGHT_VERSION if the program includes the same header. */

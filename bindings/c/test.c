@@ -52,6 +52,17 @@ static void sizes(void) {
     sflight_close(&slot);
 }
 
+/* Places of keys by two seeds: SipHash-1-3, scaled to as many places. */
+static void known_places(void) {
+    static const struct { const char *key; uint32_t place; } known[] = {{"", 703169}, {"a", 115306}, {"user-7", 630439}, {"0123456789abcdef0123", 955816}};
+    for (size_t i = 0; i < sizeof known / sizeof *known; i++) {
+        sflight_slot slot = SFLIGHT_SLOT_NONE;
+        check(sflight_open(&slot, 1 << 20, 1, 0x0706050403020100, 0x0f0e0d0c0b0a0908) == SFLIGHT_DONE, "many places again");
+        check(ask(&slot, known[i].key, 1) == SFLIGHT_LED && asked.place == known[i].place, known[i].key);
+        sflight_close(&slot);
+    }
+}
+
 static void not_open(void) {
     sflight_slot none = SFLIGHT_SLOT_NONE, other = SFLIGHT_SLOT_NONE;
     sflight_note note = SFLIGHT_NOTE_NONE;
@@ -77,6 +88,8 @@ static void not_open(void) {
     check(ask_chan(&none, &other, "k", 1) == SFLIGHT_NOT_OPEN && same(&asked, &five), "ask with a second not open");
     check(sflight_give_up(&none) == SFLIGHT_NOT_OPEN, "give up not open");
     check(sflight_split(&none, &other) == SFLIGHT_NOT_OPEN && !other.live, "split not open");
+    check(sflight_open(&other, 1, 1, 0, 0) == SFLIGHT_DONE && sflight_split(&none, &other) == SFLIGHT_NOT_OPEN && other.live, "split not open, into an open one");
+    sflight_close(&other);
     check(sflight_take_back(&none, &other) == SFLIGHT_NOT_OPEN, "take back not open");
     sflight_close(&none);
     sflight_close(&none);
@@ -771,6 +784,7 @@ static void sentences(void) {
 
 int main(void) {
     sizes();
+    known_places();
     not_open();
     one_call();
     forgotten_by_name();
