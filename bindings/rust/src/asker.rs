@@ -4,8 +4,9 @@ use crate::epoch::Taken;
 use crate::lent::{self, Lending};
 use crate::pool::{Beside, Letter, Pool, FIRST};
 use crate::post::{Counter, Counters, Whose};
+use crate::recording::{CallRecord, Noted};
 use crate::sync::point;
-use crate::wait::{Wait, Waiting};
+use crate::wait::{Follower, Wait, Waiting};
 use crate::{raw, Call, ForgetOutcome, Loaded, Stamp};
 use std::future::Future;
 use std::ops::Deref;
@@ -20,6 +21,8 @@ pub(crate) struct Asker<T, P: Deref<Target = Pool<T>>> {
     // that it left.
     taken: Option<Taken<T>>,
     loading: Loading<T>,
+    // Of the call that it asks for by its seat, or leads, or of its run, if that is recorded.
+    record: Option<Arc<CallRecord>>,
     // Of the answer that it got last.
     pub(crate) last: Option<Stamp>,
 }
@@ -38,9 +41,9 @@ pub(crate) enum Asked<T> {
     /// It has to load.
     Loads,
     /// It follows a call without a seat.
-    Follows(Arc<Wait<T>>),
-    /// It has joined a call by its seat.
-    Joined(Call),
+    Follows(Follower<T>),
+    /// It has joined a call by its seat. If it is recorded, its call may be too.
+    Joined(Call, Option<Noted>),
     /// It had joined, and the letter is there.
     Settled(Loaded<T>),
 }
@@ -88,7 +91,7 @@ impl<T, P: Deref<Target = Pool<T>>> Drop for Asker<T, P> {
 impl<T, P: Deref<Target = Pool<T>>> Asker<T, P> {
     /// One without a seat, which it takes where it asks.
     pub(crate) fn new(pool: P) -> Self {
-        Asker { pool, taken: None, loading: Loading::Nothing, last: None }
+        Asker { pool, taken: None, loading: Loading::Nothing, record: None, last: None }
     }
 
     /// Its seat, which is free and of the current epoch. None where all are taken.
@@ -117,25 +120,59 @@ impl<T, P: Deref<Target = Pool<T>>> Asker<T, P> {
 
     /// The load that it has to run.
     pub(crate) fn load(&mut self) -> Load<'_, T, P> {
+        if let Some(record) = &self.record {
+            record.leads();
+        }
         Load(self)
     }
 
     /// Settles what it loads with nothing. Where its job or future was leaked nobody can load for
     /// it any more.
+    #[inline]
     pub(crate) fn abandon(&mut self) {
+        if !matches!(self.loading, Loading::Nothing) {
+            self.abandon_load();
+        }
+    }
+
+    #[cold]
+    #[inline(never)]
+    fn abandon_load(&mut self) {
         match std::mem::replace(&mut self.loading, Loading::Nothing) {
-            Loading::Call(_) => drop(self.settle(0, |wait, _| wait.void())),
+            Loading::Call(_) => {
+                let record = self.fails();
+                self.settle(0, record.as_deref(), |wait, _| wait.void());
+            }
             Loading::Run(run) => {
-                self.pool.end_run(&run);
-                run.void();
+                let record = self.fails();
+                self.settle_run(&run, record.as_deref(), |run| run.void());
             }
             Loading::Nothing => {}
         }
     }
 
+    // The record of the call whose load has ended without a value.
+    fn fails(&mut self) -> Option<Arc<CallRecord>> {
+        let record = self.record.take();
+        if let Some(record) = &record {
+            record.fails();
+        }
+        record
+    }
+
     /// Settles the call that it leads with the number: how many joined by seats. `end` settles the
     /// wait of those who follow it.
-    fn settle(&mut self, number: u64, end: impl FnOnce(&Wait<T>, (u32, Stamp))) -> (u32, Stamp) {
+    #[inline(always)]
+    fn settle(
+        &mut self,
+        number: u64,
+        record: Option<&CallRecord>,
+        end: impl FnOnce(&Wait<T>, (u32, Stamp)),
+    ) -> (u32, Stamp) {
+        if let Some(record) = record {
+            // From now on its key may have a newer call.
+            record.settles();
+        }
         let taken = self.taken.as_mut().expect("who leads has a seat");
         taken.post().is_over(taken.seat.next - 1);
         let slot = &mut taken.seat.slot;
@@ -152,16 +189,66 @@ impl<T, P: Deref<Target = Pool<T>>> Asker<T, P> {
             let woken = taken.post().wake();
             self.pool.serve(&taken.epoch, woken, |wait| end(wait, (joiners, stamp)));
         }
+        if let Some(record) = record {
+            record.settled();
+            taken.post().unrecord();
+        }
         (joiners, stamp)
     }
 
+    /// Settles the run: `end` settles its wait.
+    fn settle_run<R>(
+        &mut self,
+        run: &Arc<Wait<T>>,
+        record: Option<&CallRecord>,
+        end: impl FnOnce(&Wait<T>) -> R,
+    ) -> R {
+        if let Some(record) = record {
+            record.settles();
+        }
+        self.pool.end_run(run);
+        let ended = end(run);
+        if let Some(record) = record {
+            record.settled();
+        }
+        ended
+    }
+
     fn end_call(&mut self, call: Call, key: &[u8], value: Arc<T>) -> Loaded<T> {
+        match self.record.take() {
+            None => self.end_call_with(call, key, value, None),
+            Some(record) => self.end_recorded_call(call, key, value, &record),
+        }
+    }
+
+    #[cold]
+    #[inline(never)]
+    fn end_recorded_call(
+        &mut self,
+        call: Call,
+        key: &[u8],
+        value: Arc<T>,
+        record: &Arc<CallRecord>,
+    ) -> Loaded<T> {
+        self.end_call_with(call, key, value, Some(record))
+    }
+
+    // In each of its two places it is compiled for what is known of the record there.
+    #[inline(always)]
+    fn end_call_with(
+        &mut self,
+        call: Call,
+        key: &[u8],
+        value: Arc<T>,
+        record: Option<&Arc<CallRecord>>,
+    ) -> Loaded<T> {
         let spare = self.taken.as_mut().and_then(|taken| taken.spare.take());
-        let lending = Lending::new(&value, spare);
+        let lending = Lending::new(&value, spare, record);
         let mut followers = 0;
-        let (joiners, stamp) = self.settle(lending.number(), |wait, (joiners, stamp)| {
+        let end = |wait: &Wait<T>, (joiners, stamp)| {
             followers = wait.end(key, &value, joiners, stamp);
-        });
+        };
+        let (joiners, stamp) = self.settle(lending.number(), record.map(Arc::as_ref), end);
         let spare = lending.settle(joiners);
         if let Some(taken) = &mut self.taken {
             taken.spare = spare;
@@ -171,8 +258,9 @@ impl<T, P: Deref<Target = Pool<T>>> Asker<T, P> {
     }
 
     fn end_run(&mut self, run: &Arc<Wait<T>>, key: &[u8], value: Arc<T>) -> Loaded<T> {
-        self.pool.end_run(run);
-        let joiners = run.end(key, &value, 0, Stamp::default());
+        let record = self.record.take();
+        let end = |run: &Wait<T>| run.end(key, &value, 0, Stamp::default());
+        let joiners = self.settle_run(run, record.as_deref(), end);
         self.last = None;
         Loaded { value, joiners, led: true, call: None, stamp: Stamp::default() }
     }
@@ -186,54 +274,77 @@ impl<T, P: Deref<Target = Pool<T>>> Asker<T, P> {
     }
 
     /// Asks for the key.
+    #[inline]
     pub(crate) fn ask(&mut self, key: &[u8], by: By) -> Asked<T> {
         let fingerprint = self.pool.fingerprint(key);
         loop {
-            self.refresh();
-            if self.taken.is_none() || self.pool.is_alert(fingerprint) {
-                if let Some(asked) = self.beside(key, fingerprint) {
-                    return asked;
-                }
-            } else if let Some(taken) = self
-                .taken
-                .as_mut()
-                .filter(|taken| by == By::Following || taken.epoch.has_strangers())
-            {
-                match taken.epoch.look(Some(&mut taken.seat), key, fingerprint) {
-                    (Some(call), Whose::Same) => {
-                        match taken.epoch.post(call.caller).follow(call, fingerprint) {
-                            Some(wait) => {
-                                self.count(|counters| &counters.joins);
-                                return Asked::Follows(wait);
-                            }
-                            None => continue,
-                        }
-                    }
-                    (_, Whose::Other) => {
-                        self.pool.clash(&taken.epoch);
-                        if let Some(asked) = self.beside(key, fingerprint) {
-                            return asked;
-                        }
-                    }
-                    _ => {}
-                }
-            }
-            if let Some(asked) = self.ask_library(key, fingerprint, by) {
+            let asked = if self.pool.recordings.is_on() {
+                self.ask_recorded(key, fingerprint, by)
+            } else {
+                self.ask_once(key, fingerprint, by, None)
+            };
+            if let Some(asked) = asked {
                 return asked;
             }
         }
     }
 
+    #[cold]
+    #[inline(never)]
+    fn ask_recorded(&mut self, key: &[u8], fingerprint: u64, by: By) -> Option<Asked<T>> {
+        // Before anything is looked at: so no call began in a newer epoch before.
+        let noted = self.pool.recordings.noted();
+        self.ask_once(key, fingerprint, by, noted.as_ref())
+    }
+
+    // Asks once. None where one has to ask again. In each of its two places it is compiled for what
+    // is known of the recording there.
+    #[inline(always)]
+    fn ask_once(
+        &mut self,
+        key: &[u8],
+        fingerprint: u64,
+        by: By,
+        noted: Option<&Noted>,
+    ) -> Option<Asked<T>> {
+        self.refresh();
+        if self.taken.is_none() || self.pool.is_alert(fingerprint) {
+            if let Some(asked) = self.beside(key, fingerprint, noted) {
+                return Some(asked);
+            }
+        } else if let Some(taken) =
+            self.taken.as_mut().filter(|taken| by == By::Following || taken.epoch.has_strangers())
+        {
+            match taken.epoch.look(Some(&mut taken.seat), key, fingerprint) {
+                (Some(call), Whose::Same) => {
+                    let post = taken.epoch.post(call.caller);
+                    let wait = post.follow(call, fingerprint, noted)?;
+                    self.count(|counters| &counters.joins);
+                    return Some(Asked::Follows(wait));
+                }
+                (_, Whose::Other) => {
+                    self.pool.clash(&taken.epoch);
+                    if let Some(asked) = self.beside(key, fingerprint, noted) {
+                        return Some(asked);
+                    }
+                }
+                _ => {}
+            }
+        }
+        self.ask_library(key, fingerprint, by, noted)
+    }
+
     // Looks beside the library. None where one asks it.
-    fn beside(&mut self, key: &[u8], fingerprint: u64) -> Option<Asked<T>> {
-        match self.pool.beside(key, fingerprint, self.taken.is_some()) {
+    fn beside(&mut self, key: &[u8], fingerprint: u64, noted: Option<&Noted>) -> Option<Asked<T>> {
+        match self.pool.beside(key, fingerprint, self.taken.is_some(), noted) {
             Beside::Follow(wait) => {
                 self.count(|counters| &counters.joins);
                 Some(Asked::Follows(wait))
             }
-            Beside::Run(run) => {
+            Beside::Run(run, record) => {
                 self.count(|counters| &counters.alone);
                 self.loading = Loading::Run(run);
+                self.record = record;
                 if self.taken.is_none() {
                     self.pool.grow();
                 }
@@ -244,12 +355,25 @@ impl<T, P: Deref<Target = Pool<T>>> Asker<T, P> {
     }
 
     // Asks the library once. None where one has to ask again.
-    fn ask_library(&mut self, key: &[u8], fingerprint: u64, by: By) -> Option<Asked<T>> {
+    #[inline(always)]
+    fn ask_library(
+        &mut self,
+        key: &[u8],
+        fingerprint: u64,
+        by: By,
+        noted: Option<&Noted>,
+    ) -> Option<Asked<T>> {
         let taken = self.taken.as_mut()?;
         let (epoch, seat, post) = taken.parts();
         if seat.next - FIRST >= self.pool.calls() {
             self.retire();
             return None;
+        }
+        if let Some(noted) = noted {
+            let call = Call { epoch: epoch.number, caller: seat.number, generation: seat.next };
+            let record = noted.record(key, fingerprint, Some(call));
+            post.record(record.clone());
+            self.record = Some(record);
         }
         post.begin(fingerprint, seat.next);
         let name = epoch.names.of(key);
@@ -281,7 +405,7 @@ impl<T, P: Deref<Target = Pool<T>>> Asker<T, P> {
                 seat.next += 1;
                 let call = Call::of(epoch.number, asked);
                 self.withdraw();
-                self.joined(call, fingerprint, by, key)
+                self.joined(call, fingerprint, by, key, noted)
             }
             raw::SPENT => {
                 self.withdraw();
@@ -293,7 +417,7 @@ impl<T, P: Deref<Target = Pool<T>>> Asker<T, P> {
                 self.withdraw();
                 match self.taken.take() {
                     Some(taken) => {
-                        let asked = self.beside(key, fingerprint);
+                        let asked = self.beside(key, fingerprint, noted);
                         self.taken = Some(taken);
                         asked
                     }
@@ -310,6 +434,9 @@ impl<T, P: Deref<Target = Pool<T>>> Asker<T, P> {
                 let woken = taken.post().wake();
                 self.pool.serve(&taken.epoch, woken, Wait::void);
             }
+            if self.record.take().is_some() {
+                taken.post().unrecord();
+            }
         }
     }
 
@@ -320,17 +447,24 @@ impl<T, P: Deref<Target = Pool<T>>> Asker<T, P> {
     }
 
     // It has joined this call by its seat, whichever key that is of.
-    fn joined(&mut self, call: Call, fingerprint: u64, by: By, key: &[u8]) -> Option<Asked<T>> {
+    fn joined(
+        &mut self,
+        call: Call,
+        fingerprint: u64,
+        by: By,
+        key: &[u8],
+        noted: Option<&Noted>,
+    ) -> Option<Asked<T>> {
         let taken = self.taken.as_mut()?;
         let post = taken.epoch.post(call.caller);
         match post.whose(call.generation, fingerprint) {
             Whose::Same if by == By::Seat => {
                 self.count(|counters| &counters.joins);
-                return Some(Asked::Joined(call));
+                return Some(Asked::Joined(call, noted.cloned()));
             }
             Whose::Same => {
                 // Its seat has joined, by which the library counts it.
-                if let Some(wait) = post.watch(call, fingerprint) {
+                if let Some(wait) = post.watch(call, fingerprint, noted) {
                     self.count(|counters| &counters.joins);
                     self.leave(call, false);
                     return Some(Asked::Follows(wait));
@@ -342,13 +476,13 @@ impl<T, P: Deref<Target = Pool<T>>> Asker<T, P> {
                 self.leave(call, true);
                 self.pool.clash(&epoch);
                 self.refresh();
-                return self.beside(key, fingerprint);
+                return self.beside(key, fingerprint, noted);
             }
             Whose::Ended => {}
         }
         // The call has ended, so the letter is there.
         let letter = self.taken.as_mut()?.seat.poll()?;
-        self.read(letter, call).map(Asked::Settled)
+        self.read(letter, call, noted.cloned()).map(Asked::Settled)
     }
 
     // Leaves the call that its seat joined: the seat comes back with the letter.
@@ -359,25 +493,28 @@ impl<T, P: Deref<Target = Pool<T>>> Asker<T, P> {
     }
 
     /// What it loads, for one who waits elsewhere and is not counted as one who joined.
-    pub(crate) fn own_wait(&self, key: &[u8]) -> Option<Arc<Wait<T>>> {
+    pub(crate) fn own_wait(&self, key: &[u8]) -> Option<Follower<T>> {
         match &self.loading {
             Loading::Call(call) => {
-                self.taken.as_ref()?.post().watch(*call, self.pool.fingerprint(key))
+                self.taken.as_ref()?.post().watch(*call, self.pool.fingerprint(key), None)
             }
-            Loading::Run(run) => Some(run.clone()),
+            Loading::Run(run) => Some(run.watch(None)),
             Loading::Nothing => None,
         }
     }
 
     // What the letter brings of the call that it joined. None where one has to ask again.
-    fn read(&mut self, letter: Letter, call: Call) -> Option<Loaded<T>> {
+    fn read(&mut self, letter: Letter, call: Call, noted: Option<Noted>) -> Option<Loaded<T>> {
         let Letter::Own(answer) = letter else {
             self.pool.give_back(letter);
             return None;
         };
         // SAFETY: the number is of a call of this group, which counts each caller that joined by a
         // seat, and each of these reads its letter once.
-        let value = unsafe { lent::take(answer.value) }?;
+        let (value, record) = unsafe { lent::take(answer.value) }?;
+        if let (Some(noted), Some(record)) = (noted, record) {
+            noted.entered(&record);
+        }
         let stamp = Stamp::of(self.taken.as_ref()?.epoch.number, answer.stamp);
         self.last = Some(stamp);
         Some(Loaded { value, joiners: answer.joiners, led: false, call: Some(call), stamp })
@@ -419,10 +556,10 @@ impl<T, P: Deref<Target = Pool<T>>> Asker<T, P> {
                     return Some(load_guard.end(key, load()));
                 }
                 Asked::Settled(got) => Some(got),
-                Asked::Joined(call) => {
+                Asked::Joined(call, noted) => {
                     let taken = self.taken.as_mut().expect("who joined by a seat has it");
                     let letter = taken.epoch.post(call.caller).wait(&mut taken.seat);
-                    self.read(letter, call)
+                    self.read(letter, call, noted)
                 }
                 Asked::Follows(wait) => {
                     self.rest();
@@ -449,7 +586,7 @@ impl<T, P: Deref<Target = Pool<T>>> Asker<T, P> {
             let wait = match self.ask(key, By::Following) {
                 Asked::Loads => return self.load_async(key, load).await,
                 Asked::Settled(got) => return got,
-                Asked::Joined(_) => unreachable!("who follows joins by no seat"),
+                Asked::Joined(..) => unreachable!("who follows joins by no seat"),
                 Asked::Follows(wait) => wait,
             };
             self.rest();
@@ -480,18 +617,24 @@ impl<T, P: Deref<Target = Pool<T>>> Asker<T, P> {
 
     /// Forgets the key: whether that ended an open call.
     pub(crate) fn forget(&mut self, key: &[u8]) -> bool {
+        let mut forgetting = self.pool.recordings.forgetting(false);
         self.refresh();
         let fingerprint = self.pool.fingerprint(key);
-        let closed = self.pool.forget(&mut self.taken, key, fingerprint);
+        let closed = self.pool.forget(&mut self.taken, key, fingerprint, &mut forgetting);
         self.count(|counters| if closed { &counters.closed } else { &counters.idle });
+        if let Some(forgetting) = forgetting {
+            forgetting.end(key, !closed);
+        }
         closed
     }
 
     /// Forgets this call of the key.
     pub(crate) fn forget_call(&mut self, key: &[u8], call: Call) -> ForgetOutcome {
+        let mut forgetting = self.pool.recordings.forgetting(true);
         self.refresh();
         let fingerprint = self.pool.fingerprint(key);
-        let outcome = self.pool.forget_call(&mut self.taken, key, fingerprint, call);
+        let outcome =
+            self.pool.forget_call(&mut self.taken, key, fingerprint, call, &mut forgetting);
         self.count(|counters| {
             if outcome == ForgetOutcome::Closed {
                 &counters.closed
@@ -499,6 +642,13 @@ impl<T, P: Deref<Target = Pool<T>>> Asker<T, P> {
                 &counters.idle
             }
         });
+        if let Some(forgetting) = forgetting {
+            if outcome == ForgetOutcome::Cleared {
+                forgetting.cleared(key, fingerprint, call);
+            } else {
+                forgetting.end(key, false);
+            }
+        }
         outcome
     }
 

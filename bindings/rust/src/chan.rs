@@ -1,13 +1,12 @@
 //! Calls whose value comes to a receiver, and whose load is a job.
 
 use crate::asker::{Asked, By};
-use crate::wait::{Wait, Waker};
+use crate::wait::{Follower, Waker};
 use crate::{Caller, Loaded};
 use std::fmt;
 use std::future::Future;
 use std::pin::Pin;
 use std::sync::mpsc::{RecvError, RecvTimeoutError, TryRecvError};
-use std::sync::Arc;
 use std::task::{Context, Poll};
 use std::time::{Duration, Instant};
 
@@ -47,7 +46,7 @@ impl<'a, T> Job<'a, T> {
             Asked::Loads => (asker.own_wait(key).map_or(Source::Nothing, Source::Call), true),
             Asked::Follows(wait) => (Source::Call(wait), false),
             Asked::Settled(got) => (Source::Value(got), false),
-            Asked::Joined(_) => unreachable!("who follows joins by no seat"),
+            Asked::Joined(..) => unreachable!("who follows joins by no seat"),
         };
         let receiver = Receiver { key: key.into(), source, waker: Waker::default() };
         let job = loads.then(|| Job { caller, key: key.into() });
@@ -99,7 +98,7 @@ impl<T> fmt::Debug for Job<'_, T> {
 }
 
 enum Source<T> {
-    Call(Arc<Wait<T>>),
+    Call(Follower<T>),
     Value(Loaded<T>),
     // The value was taken, or there was none.
     Nothing,

@@ -1,6 +1,7 @@
 //! An answer on its way through the library, which hands on a number of 64 bits. A caller that
 //! joined takes its share of the answer by that number.
 
+use crate::recording::CallRecord;
 use std::marker::PhantomData;
 use std::mem::{forget, ManuallyDrop};
 use std::ptr::NonNull;
@@ -20,6 +21,8 @@ pub(crate) struct Lent<T> {
     // share any more. It stands on the leader's own count, and on one of its own from then on that
     // the leader knows that somebody joined: a call that nobody joined counts nothing.
     answer: Option<ManuallyDrop<Arc<T>>>,
+    // Of the call, if that is recorded: each caller with a share has joined it.
+    record: Option<Arc<CallRecord>>,
 }
 
 /// The leader's part of one that is lent, which it settles while it has the answer itself.
@@ -27,19 +30,23 @@ pub(crate) struct Lending<'a, T>(NonNull<Lent<T>>, PhantomData<&'a Arc<T>>);
 
 impl<'a, T> Lending<'a, T> {
     /// Lends the answer. `spare` is one that came back before, or none.
-    pub(crate) fn new(answer: &'a Arc<T>, spare: Option<Box<Lent<T>>>) -> Self {
+    #[inline]
+    pub(crate) fn new(
+        answer: &'a Arc<T>,
+        spare: Option<Box<Lent<T>>>,
+        record: Option<&Arc<CallRecord>>,
+    ) -> Self {
+        let made = || Lent { shares: AtomicU64::new(MANY), answer: None, record: None };
+        let mut lent = spare.unwrap_or_else(|| Box::new(made()));
         // SAFETY: the copy is dropped only after `keep` has counted it, which comes before the
         // leader's own is dropped.
-        let copy = ManuallyDrop::new(unsafe { std::ptr::read(answer) });
-        let lent = Lent { shares: AtomicU64::new(MANY), answer: Some(copy) };
-        let at = match spare {
-            Some(mut spare) => {
-                *spare = lent;
-                spare
-            }
-            None => Box::new(lent),
-        };
-        Lending(NonNull::from(Box::leak(at)), PhantomData)
+        lent.answer = Some(ManuallyDrop::new(unsafe { std::ptr::read(answer) }));
+        lent.shares = AtomicU64::new(MANY);
+        // One that came back has none.
+        if let Some(record) = record {
+            lent.record = Some(record.clone());
+        }
+        Lending(NonNull::from(Box::leak(lent)), PhantomData)
     }
 
     /// The number that stands for it, which is not 0.
@@ -56,6 +63,7 @@ impl<'a, T> Lending<'a, T> {
     }
 
     /// So many have a share, or had one. Where that is nobody it comes back, for the next call.
+    #[inline]
     pub(crate) fn settle(self, shares: u32) -> Option<Box<Lent<T>>> {
         let lending = ManuallyDrop::new(self);
         let many = MANY - u64::from(shares);
@@ -70,6 +78,9 @@ impl<'a, T> Lending<'a, T> {
         // SAFETY: it was a box, and nobody has a share, nor will.
         let mut spare = unsafe { Box::from_raw(lending.0.as_ptr()) };
         let answer = spare.answer.take();
+        if spare.record.is_some() {
+            spare.record = None;
+        }
         if shares > 0 {
             answer.map(ManuallyDrop::into_inner);
         }
@@ -84,17 +95,18 @@ impl<T> Drop for Lending<'_, T> {
     }
 }
 
-/// Takes the share of a joiner, by the number of the call. None where the call was settled
-/// with nothing.
+/// Takes the share of a joiner, by the number of the call, with the record of that if it is
+/// recorded. None where the call was settled with nothing.
 ///
 /// # Safety
 /// The number is that of [`Lending::number`] of this type, whose call has counted the taker as a
 /// joiner, or 0; and the taker takes its share once.
-pub(crate) unsafe fn take<T>(number: u64) -> Option<Arc<T>> {
+pub(crate) unsafe fn take<T>(number: u64) -> Option<(Arc<T>, Option<Arc<CallRecord>>)> {
     let at = NonNull::new(std::ptr::with_exposed_provenance_mut::<Lent<T>>(number as usize))?;
     // SAFETY: it is freed where its count comes to 0, and one of that is the taker's.
     let lent = unsafe { at.as_ref() };
     let answer = lent.answer.clone().map(ManuallyDrop::into_inner);
+    let record = lent.record.clone();
     if lent.shares.fetch_sub(1, Ordering::Release) == 1 {
         fence(Ordering::Acquire);
         // SAFETY: it was a box, and nobody has a share any more. The leader has settled, or the
@@ -102,7 +114,7 @@ pub(crate) unsafe fn take<T>(number: u64) -> Option<Arc<T>> {
         let lent = unsafe { Box::from_raw(at.as_ptr()) };
         lent.answer.map(ManuallyDrop::into_inner);
     }
-    answer
+    Some((answer?, record))
 }
 
 #[cfg(test)]
@@ -114,7 +126,7 @@ mod tests {
         let answer = Arc::new(7);
         let mut spare = None;
         for _ in 0..3 {
-            let lending = Lending::new(&answer, spare);
+            let lending = Lending::new(&answer, spare, None);
             assert!(lending.number() != 0 && Arc::strong_count(&answer) == 1, "it counts nothing");
             spare = lending.settle(0);
             assert!(spare.is_some() && Arc::strong_count(&answer) == 1, "nor then");
@@ -125,10 +137,10 @@ mod tests {
     fn each_takes_a_share_before_the_leader_counts_or_after() {
         for before in 0..=3 {
             let answer = Arc::new(String::from("ada"));
-            let lending = Lending::new(&answer, None);
+            let lending = Lending::new(&answer, None, None);
             let number = lending.number();
             // SAFETY: three have a share.
-            let take = || unsafe { take::<String>(number) }.expect("an answer");
+            let take = || unsafe { take::<String>(number) }.expect("an answer").0;
             let mut all: Vec<_> = (0..before).map(|_| take()).collect();
             assert!(lending.settle(3).is_none() || before == 3, "who comes last frees it");
             all.extend((before..3).map(|_| take()));
@@ -147,9 +159,9 @@ mod tests {
     #[test]
     fn shares_outlive_the_leaders_answer() {
         // SAFETY: as many have a share as take it below.
-        let take = |number| unsafe { take::<String>(number) }.map(|answer| answer.to_string());
+        let take = |number| unsafe { take::<String>(number) }.map(|(answer, _)| answer.to_string());
         let mut answer = Arc::new(String::from("ada"));
-        let lending = Lending::new(&answer, None);
+        let lending = Lending::new(&answer, None, None);
         let number = lending.number();
         assert!(lending.settle(2).is_none(), "two have a share");
         answer = Arc::new(String::from("grace"));
@@ -157,7 +169,7 @@ mod tests {
             assert_eq!(take(number).as_deref(), Some("ada"));
         }
         // A leader that panics does not learn how many have a share.
-        let number = Lending::new(&answer, None).number();
+        let number = Lending::new(&answer, None, None).number();
         drop(answer);
         assert_eq!(take(number).as_deref(), Some("grace"));
     }
@@ -166,13 +178,13 @@ mod tests {
     fn shares_taken_by_threads() {
         for _ in 0..if cfg!(miri) { 20 } else { 2000 } {
             let answer = Arc::new(AtomicU64::new(0));
-            let lending = Lending::new(&answer, None);
+            let lending = Lending::new(&answer, None, None);
             let number = lending.number();
             std::thread::scope(|scope| {
                 for _ in 0..3 {
                     scope.spawn(move || {
                         // SAFETY: three have a share.
-                        let share = unsafe { take::<AtomicU64>(number) }.unwrap();
+                        let (share, _) = unsafe { take::<AtomicU64>(number) }.unwrap();
                         share.fetch_add(1, Ordering::Relaxed)
                     });
                 }

@@ -112,6 +112,7 @@ mod notes;
 mod pool;
 mod post;
 mod raw;
+mod recording;
 #[cfg(test)]
 mod schedules;
 mod stash;
@@ -132,6 +133,7 @@ pub use chan::{Job, Receiver};
 pub use notes::Note;
 pub use pool::Stats;
 use pool::{Plan, Pool};
+pub use recording::{RecordError, Recorded, Recording};
 use std::fmt;
 use std::future::Future;
 use std::sync::Arc;
@@ -545,6 +547,52 @@ impl<T: Send + Sync> Group<T> {
     /// ```
     pub fn caller(&self) -> Caller<T> {
         Caller::of(self.pool.clone())
+    }
+
+    /// Begins to write to the writer what the group's calls do, until [`Recording::stop`]: records
+    /// in format 4, by which `sfctl check --timed` judges whether the calls have kept the promises.
+    ///
+    /// A call that ran its load is recorded when it has ended and every joiner has the value: its
+    /// Lead, an Enter of each that joined, the Forget that closed it, its Settle and its Handed. A
+    /// Forget that found no open call is recorded when it returns. What has begun before the
+    /// recording, or has not ended when it stops, is left out, as are calls that were given up
+    /// before their loads. A load that panicked has the error `panic`, and one that was dropped
+    /// `dropped`. The callers that joined it ask again, so it has no Enters.
+    ///
+    /// The caller of a record is one of 64, by the thread. The value of a call is its name, such as
+    /// `3.17`: nothing of the values is called. A key stands as it is, but for one of more than 250
+    /// bytes, one that is no UTF-8, and one that begins with `hash:`. Such a key stands as `hash:`
+    /// and 32 hexadecimal digits, a hash that is another in each recording. Times are nanoseconds.
+    ///
+    /// No call waits for the writer, which runs in a thread of the recording. If it is too slow,
+    /// events are dropped and counted. Then a line `{"format":4,"lost":n}` stands between two
+    /// calls, and `sfctl merge` makes one recording of that. The writer gets whole lines. It may
+    /// call the group, but it cannot stop the recording. It is flushed when the recording ends.
+    ///
+    /// # Errors
+    /// [`RecordError::AlreadyRecorded`] if the group is recorded already;
+    /// [`RecordError::NotStarted`] if there is no thread or no memory.
+    ///
+    /// ```
+    /// # fn main() -> Result<(), Box<dyn std::error::Error>> {
+    /// # let path = std::env::temp_dir().join(format!("singleflight-{}.log", std::process::id()));
+    /// let group = singleflight::Group::<u32>::new();
+    /// let recording = group.record(std::fs::File::create(&path)?)?;
+    /// group.get_or_load("key", || 7);
+    /// group.forget("key");
+    /// let recorded = recording.stop()?;
+    /// assert!(recorded.events == 4 && recorded.lost == 0);
+    /// let log = std::fs::read_to_string(&path)?;
+    /// assert!(log.starts_with("{\"format\":4,\"lost\":0}\n"));
+    /// # std::fs::remove_file(path)?;
+    /// # Ok(())
+    /// # }
+    /// ```
+    pub fn record(
+        &self,
+        writer: impl std::io::Write + Send + 'static,
+    ) -> Result<Recording, RecordError> {
+        self.pool.recordings.begin(writer)
     }
 
     /// Returns the numbers of the group's calls. It looks at each caller that was made.

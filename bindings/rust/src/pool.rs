@@ -54,11 +54,12 @@
 
 use crate::epoch::{Epoch, Taken};
 use crate::hash::Fingerprints;
-use crate::post::{Counters, Left, Whose, Woken};
+use crate::post::{Counters, Left, Post, Whose, Woken};
 use crate::raw::{self, Slot};
+use crate::recording::{closes, CallRecord, Forgetting, Noted, Recordings};
 use crate::stash::Stash;
 use crate::sync::{lock, point};
-use crate::wait::Wait;
+use crate::wait::{Follower, Wait};
 use crate::{lent, Call, Error, ForgetOutcome, Stamp};
 use std::collections::HashMap;
 use std::sync::atomic::{
@@ -224,14 +225,15 @@ pub(crate) struct Pool<T> {
     in_use: AtomicU32,
     // Seats of the current epoch that are free.
     stash: Stash<T>,
+    pub(crate) recordings: Arc<Recordings>,
 }
 
 /// What the side table has for a key.
 pub(crate) enum Beside<T> {
     /// A call to follow.
-    Follow(Arc<Wait<T>>),
-    /// A run that was entered, for which one has to load.
-    Run(Arc<Wait<T>>),
+    Follow(Follower<T>),
+    /// A run that was entered, for which one has to load, with its record if it is recorded.
+    Run(Arc<Wait<T>>, Option<Arc<CallRecord>>),
     /// Nothing, and no call is open at the key's place: one asks the library.
     Nothing,
 }
@@ -252,6 +254,7 @@ impl<T> Pool<T> {
             made: AtomicU32::new(0),
             in_use: AtomicU32::new(0),
             stash: Stash::new(),
+            recordings: Arc::default(),
         })
     }
 
@@ -448,14 +451,20 @@ impl<T> Pool<T> {
     /// Looks for the key in the side table, and then in the library, and follows what it finds.
     /// Where it finds nothing, it enters a run; or does not, where the caller has a seat and
     /// the key's place is free.
-    pub(crate) fn beside(&self, key: &[u8], fingerprint: u64, has_seat: bool) -> Beside<T> {
+    pub(crate) fn beside(
+        &self,
+        key: &[u8],
+        fingerprint: u64,
+        has_seat: bool,
+        noted: Option<&Noted>,
+    ) -> Beside<T> {
         let mut side = lock(&self.side);
         loop {
             // A run is taken out before it is settled, and a moved call after that.
-            if let Some(run) = side.runs.get(key).filter(|run| run.join()) {
-                return Beside::Follow(run.clone());
+            if let Some(run) = side.runs.get(key).and_then(|run| run.join(noted)) {
+                return Beside::Follow(run);
             }
-            if let Some(moved) = side.join_moved(fingerprint) {
+            if let Some(moved) = side.join_moved(fingerprint, noted) {
                 return Beside::Follow(moved);
             }
             let alert = self.alert_of(fingerprint);
@@ -467,7 +476,7 @@ impl<T> Pool<T> {
                 (Some(call), Whose::Same) => {
                     point();
                     alert.fetch_sub(1, SeqCst);
-                    if let Some(wait) = epoch.post(call.caller).follow(call, fingerprint) {
+                    if let Some(wait) = epoch.post(call.caller).follow(call, fingerprint, noted) {
                         return Beside::Follow(wait);
                     }
                 }
@@ -477,9 +486,10 @@ impl<T> Pool<T> {
                     return Beside::Nothing;
                 }
                 _ => {
-                    let run = Wait::run(fingerprint, key);
+                    let record = noted.map(|noted| noted.record(key, fingerprint, None));
+                    let run = Wait::run(fingerprint, key, record.clone());
                     side.runs.insert(key.into(), run.clone());
-                    return Beside::Run(run);
+                    return Beside::Run(run, record);
                 }
             }
         }
@@ -529,7 +539,12 @@ impl<T> Pool<T> {
     }
 
     /// Forgets the key's runs and moved calls: whether there was one.
-    fn forget_beside(&self, key: &[u8], fingerprint: u64) -> bool {
+    fn forget_beside(
+        &self,
+        key: &[u8],
+        fingerprint: u64,
+        forgetting: &mut Option<Forgetting>,
+    ) -> bool {
         if !self.is_alert(fingerprint) {
             return false;
         }
@@ -537,10 +552,23 @@ impl<T> Pool<T> {
         let run = side.runs.remove_entry(key);
         let moved = side.moved.remove(&fingerprint).unwrap_or_default();
         let count = moved.len() as u32 + u32::from(run.is_some());
+        // Nobody follows these from now on, so each that is not settled yet is closed in its record.
+        let run_record = run.as_ref().and_then(|(_, run)| run.record());
+        closes(forgetting, run_record);
+        moved.iter().for_each(|wait| closes(forgetting, wait.record()));
         point();
         self.alert_of(fingerprint).fetch_sub(count, SeqCst);
         drop(side);
         run.is_some() || moved.iter().any(|wait| !wait.is_settled())
+    }
+
+    // The record of the post's call, if there is one and it is recorded.
+    fn recorded(&self, post: &Post<T>, generation: u32) -> Option<Arc<CallRecord>> {
+        if self.recordings.is_on() {
+            post.recorded(generation)
+        } else {
+            None
+        }
     }
 
     /// Forgets the key: whether that ended a call.
@@ -549,19 +577,28 @@ impl<T> Pool<T> {
         taken: &mut Option<Taken<T>>,
         key: &[u8],
         fingerprint: u64,
+        forgetting: &mut Option<Forgetting>,
     ) -> bool {
         let mut closed = false;
         loop {
             let epoch = self.epoch_of(taken);
-            closed |= self.forget_beside(key, fingerprint);
+            closed |= self.forget_beside(key, fingerprint, forgetting);
             if let Some(stamp) = epoch.named(taken.as_mut().map(|taken| &mut taken.seat), key) {
                 let post = epoch.post(stamp.caller);
                 // Another key's open call stays: of this key nothing is open then, nor current.
                 if post.whose(stamp.generation, fingerprint) != Whose::Other {
-                    post.forget(stamp.generation);
+                    let record = self.recorded(post, stamp.generation);
+                    let marked = post.forget(stamp.generation);
                     let seat = taken.as_mut().map(|taken| &mut taken.seat);
                     let hit = epoch.forget_stamp(seat, key, stamp);
-                    closed |= hit == ForgetOutcome::Closed;
+                    if hit == ForgetOutcome::Closed {
+                        closed = true;
+                    }
+                    // By the mark the call is not moved, so a newer one may have begun, also where
+                    // the library has settled this one since.
+                    if marked || hit == ForgetOutcome::Closed {
+                        closes(forgetting, record);
+                    }
                 }
             }
             if self.now() == epoch.number {
@@ -581,6 +618,7 @@ impl<T> Pool<T> {
         key: &[u8],
         fingerprint: u64,
         call: Call,
+        forgetting: &mut Option<Forgetting>,
     ) -> ForgetOutcome {
         let epoch = self.epoch_of(taken);
         if call.epoch == epoch.number && epoch.has(call.caller) {
@@ -588,24 +626,33 @@ impl<T> Pool<T> {
             if post.whose(call.generation, fingerprint) == Whose::Other {
                 return ForgetOutcome::Missed;
             }
-            post.forget(call.generation);
+            let record = self.recorded(post, call.generation);
+            let marked = post.forget(call.generation);
             let hit = epoch.forget_call(taken.as_mut().map(|taken| &mut taken.seat), key, call);
+            if marked || hit == ForgetOutcome::Closed {
+                closes(forgetting, record);
+            }
             if hit != ForgetOutcome::Missed {
                 if self.now() == epoch.number {
                     return hit;
                 }
-                self.forget_moved(fingerprint, call);
+                self.forget_moved(fingerprint, call, forgetting);
                 return hit;
             }
         }
-        if self.forget_moved(fingerprint, call) {
+        if self.forget_moved(fingerprint, call, forgetting) {
             ForgetOutcome::Closed
         } else {
             ForgetOutcome::Missed
         }
     }
 
-    fn forget_moved(&self, fingerprint: u64, call: Call) -> bool {
+    fn forget_moved(
+        &self,
+        fingerprint: u64,
+        call: Call,
+        forgetting: &mut Option<Forgetting>,
+    ) -> bool {
         if !self.is_alert(fingerprint) {
             return false;
         }
@@ -614,8 +661,14 @@ impl<T> Pool<T> {
         let found = moved.and_then(|moved| {
             moved.iter().find(|wait| wait.call == Some(call) && !wait.is_settled()).cloned()
         });
+        let Some(wait) = found else { return false };
+        let record = wait.record();
         drop(side);
-        found.is_some_and(|wait| self.unmove(&wait))
+        let closed = self.unmove(&wait);
+        if closed {
+            closes(forgetting, record);
+        }
+        closed
     }
 
     // The epoch of the seat, or where there is none the current one.
@@ -718,11 +771,17 @@ impl<T> Pool<T> {
     }
 }
 
+impl<T> Drop for Pool<T> {
+    fn drop(&mut self) {
+        self.recordings.close();
+    }
+}
+
 impl<T> Side<T> {
     // Joins a moved call of a key with this fingerprint. One that is settled is about to be taken
     // out.
-    fn join_moved(&self, fingerprint: u64) -> Option<Arc<Wait<T>>> {
-        self.moved.get(&fingerprint)?.iter().find(|wait| wait.join()).cloned()
+    fn join_moved(&self, fingerprint: u64, noted: Option<&Noted>) -> Option<Follower<T>> {
+        self.moved.get(&fingerprint)?.iter().find_map(|wait| wait.join(noted))
     }
 
     fn unmove(&mut self, wait: &Arc<Wait<T>>) -> bool {

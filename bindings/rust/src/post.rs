@@ -1,9 +1,10 @@
 //! What stands at the number of a library's caller: which call it leads, and who waits for that.
 
 use crate::pool::{Letter, Seat};
+use crate::recording::{CallRecord, Noted};
 use crate::stash::processors;
 use crate::sync::{lock, point, sleep};
-use crate::wait::Wait;
+use crate::wait::{Follower, Wait};
 use crate::Call;
 use std::sync::atomic::{
     AtomicU64, AtomicUsize,
@@ -47,6 +48,16 @@ struct Waits<T> {
     asleep: u32,
     // Of the call that the caller leads, made by the first who follows it.
     wait: Option<Arc<Wait<T>>>,
+    // Of the call that the caller asks for, or leads, if that is recorded.
+    record: Option<Arc<CallRecord>>,
+}
+
+impl<T> Waits<T> {
+    // The wait of the call.
+    fn of(&mut self, fingerprint: u64, call: Call) -> &Arc<Wait<T>> {
+        let record = self.record.as_ref().filter(|record| record.is_of(call.generation));
+        self.wait.get_or_insert_with(|| Wait::new(fingerprint, call, record.cloned()))
+    }
 }
 
 /// Those who waited for a call that is settled, and are not woken yet.
@@ -138,7 +149,7 @@ impl<T> Default for Post<T> {
             fingerprint: AtomicU64::new(0),
             over: AtomicU64::new(0),
             counters: Counters::default(),
-            waits: Mutex::new(Waits { left: Vec::new(), asleep: 0, wait: None }),
+            waits: Mutex::new(Waits { left: Vec::new(), asleep: 0, wait: None, record: None }),
             settled: Condvar::new(),
         }
     }
@@ -152,6 +163,25 @@ impl<T> Post<T> {
         point();
         self.word.store(word_of(generation), Release);
         point();
+    }
+
+    /// Its caller is about to ask, for a call that is recorded.
+    #[cold]
+    pub(crate) fn record(&self, record: Arc<CallRecord>) {
+        lock(&self.waits).record = Some(record);
+    }
+
+    /// The call is settled in the library, or there is none.
+    #[cold]
+    pub(crate) fn unrecord(&self) {
+        let record = lock(&self.waits).record.take();
+        drop(record);
+    }
+
+    /// The record of the caller's call of this generation, if it is recorded and is not settled.
+    #[cold]
+    pub(crate) fn recorded(&self, generation: u32) -> Option<Arc<CallRecord>> {
+        lock(&self.waits).record.as_ref().filter(|record| record.is_of(generation)).cloned()
     }
 
     /// The load of its caller's call is over.
@@ -186,9 +216,9 @@ impl<T> Post<T> {
         }
     }
 
-    /// A Forget has ended the call of this generation.
-    pub(crate) fn forget(&self, generation: u32) {
-        self.mark(generation, FORGOTTEN);
+    /// A Forget ends the call of this generation: whether its leader had not settled it.
+    pub(crate) fn forget(&self, generation: u32) -> bool {
+        self.mark(generation, FORGOTTEN)
     }
 
     // Whether the word is of this generation and has the mark.
@@ -201,22 +231,36 @@ impl<T> Post<T> {
     /// Joins the call without a seat, unless it has ended. The leader's exchange with 0 comes after
     /// the mark, or the mark is not set. And it takes the lock before it counts who followed,
     /// so that it counts this one.
-    pub(crate) fn follow(&self, call: Call, fingerprint: u64) -> Option<Arc<Wait<T>>> {
-        self.waits_for(call, fingerprint, true)
+    pub(crate) fn follow(
+        &self,
+        call: Call,
+        fingerprint: u64,
+        noted: Option<&Noted>,
+    ) -> Option<Follower<T>> {
+        self.waits_for(call, fingerprint, |wait| wait.join(noted))
     }
 
     /// The same for one who was counted elsewhere, or has not joined.
-    pub(crate) fn watch(&self, call: Call, fingerprint: u64) -> Option<Arc<Wait<T>>> {
-        self.waits_for(call, fingerprint, false)
+    pub(crate) fn watch(
+        &self,
+        call: Call,
+        fingerprint: u64,
+        noted: Option<&Noted>,
+    ) -> Option<Follower<T>> {
+        self.waits_for(call, fingerprint, |wait| Some(wait.watch(noted)))
     }
 
-    fn waits_for(&self, call: Call, fingerprint: u64, joins: bool) -> Option<Arc<Wait<T>>> {
+    fn waits_for(
+        &self,
+        call: Call,
+        fingerprint: u64,
+        join: impl FnOnce(&Arc<Wait<T>>) -> Option<Follower<T>>,
+    ) -> Option<Follower<T>> {
         let mut waits = lock(&self.waits);
         if !self.mark(call.generation, FOLLOWED) {
             return None;
         }
-        let wait = waits.wait.get_or_insert_with(|| Wait::new(fingerprint, call)).clone();
-        (!joins || wait.join()).then_some(wait)
+        join(waits.of(fingerprint, call))
     }
 
     /// Enters the call that the caller asks for, or leads, among those that are moved to the next
@@ -243,7 +287,7 @@ impl<T> Post<T> {
             }
             let generation = ((word >> 2) - 1) as u32;
             let call = Call { epoch, caller, generation };
-            let wait = waits.wait.get_or_insert_with(|| Wait::new(fingerprint, call)).clone();
+            let wait = waits.of(fingerprint, call).clone();
             wait.moved.store(true, Relaxed);
             return Some(wait);
         }

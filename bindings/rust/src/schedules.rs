@@ -8,11 +8,16 @@
 //! began, or than a Forget that had returned, that a stamp that is current is no older either, and
 //! that all callers of the library are back.
 //!
-//! `SFLIGHT_SCHEDULES` says how many are drawn, and `SFLIGHT_SEED` with which one it begins.
+//! Others are recorded, and their logs are judged: each is legal in time, by a clock that counts
+//! steps.
+//!
+//! `SFLIGHT_SCHEDULES` says how many are drawn, `SFLIGHT_RECORDED` how many are recorded, and
+//! `SFLIGHT_SEED` with which one both begin.
 
 use crate::asker::Asker;
 use crate::sync::lock;
 use crate::{raw, Caller, Group, Loaded, Plan, Stamp};
+use judge::Log;
 use std::arch::global_asm;
 use std::cell::Cell;
 use std::collections::HashMap;
@@ -25,6 +30,9 @@ use std::sync::atomic::{AtomicBool, Ordering::SeqCst};
 use std::sync::{Arc, Mutex};
 use std::task::{Context, Poll, Wake, Waker};
 use std::time::Duration;
+
+#[path = "../tests/judge/mod.rs"]
+mod judge;
 
 // Keeps the registers that a call has to keep on the old stack, and takes those of the new one.
 global_asm!(
@@ -90,6 +98,11 @@ thread_local!(static PLAY: Cell<*mut Play> = const { Cell::new(null_mut()) });
 
 pub(crate) fn is_played() -> bool {
     !PLAY.get().is_null()
+}
+
+/// How many steps were made in the schedule that is played.
+pub(crate) fn steps() -> Option<u64> {
+    with(|play| play.steps)
 }
 
 /// A step that others can see comes next: the turn may end.
@@ -623,16 +636,22 @@ impl Actor {
 const SCENE: [&[(u64, usize)]; 4] =
     [&[(0, 0)], &[(12, 0), (0, 0)], &[(12, 0), (0, 0)], &[(0, 1), (0, 1)]];
 
-#[derive(Default)]
+#[derive(Debug, Default)]
 struct Played {
     steps: u64,
     loads: u64,
     current: u64,
     epochs: u64,
+    events: u64,
 }
 
-// Plays the schedule of this seed.
-fn schedule(seed: u64, stacks: &mut Vec<Box<[u128]>>, all: &mut Played) -> Result<(), String> {
+// Plays the schedule of this seed, and may record it.
+fn schedule(
+    seed: u64,
+    stacks: &mut Vec<Box<[u128]>>,
+    all: &mut Played,
+    is_recorded: bool,
+) -> Result<(), String> {
     let mut random = Random::new(seed);
     let is_scene = random.below(4) == 0;
     let callers = if is_scene { 1 } else { 1 + random.below(4) as u32 };
@@ -643,6 +662,12 @@ fn schedule(seed: u64, stacks: &mut Vec<Box<[u128]>>, all: &mut Played) -> Resul
         calls: [1, 2, 4, 1000][random.below(4) as usize],
     };
     let group = Group::of(plan).map_err(|why| why.to_string())?;
+    let log = Log::default();
+    let recording = Rc::new(Cell::new(None));
+    let begins = {
+        let (group, log, recording) = (group.clone(), log.clone(), recording.clone());
+        move || recording.set(Some(group.record(log.clone()).expect("a recording")))
+    };
     let world = Rc::new(World::default());
     let actors = if is_scene { 4 } else { 2 + random.below(3) as usize };
     let turn = [1, 2, 4, 16][random.below(4) as usize];
@@ -662,8 +687,34 @@ fn schedule(seed: u64, stacks: &mut Vec<Box<[u128]>>, all: &mut Played) -> Resul
             }
         }) as Task
     });
-    let tasks = tasks.collect();
+    let mut tasks: Vec<_> = tasks.collect();
+    let recorded = Rc::new(Cell::new(None));
+    let mut own = Random::new(!seed);
+    if is_recorded && own.below(2) == 0 {
+        begins();
+    } else if is_recorded {
+        // Calls and Forgets have begun before, and may go on after it.
+        let (recorded, recording) = (recorded.clone(), recording.clone());
+        let (before, during) = (own.below(300), own.below(1000));
+        tasks.push(Box::new(move || {
+            (0..before).for_each(|_| point());
+            begins();
+            (0..during).for_each(|_| point());
+            recorded.set(recording.take().map(|recording: crate::Recording| recording.stop()));
+        }));
+    }
     all.steps += play(random, turn, stacks, tasks)?;
+    if is_recorded {
+        let stopped = recording.take().map(|recording| recording.stop()).or(recorded.take());
+        let recorded = stopped.expect("a recording").map_err(|why| why.to_string())?;
+        let text = log.text();
+        let (events, lost) = judge::read(&text)?;
+        judge::judge(&events).map_err(|why| format!("its log has no order: {why}"))?;
+        if (events.len() as u64, lost) != (recorded.events, 0) {
+            return Err(format!("{recorded:?} of {} events", events.len()));
+        }
+        all.events += recorded.events;
+    }
     let stats = group.stats();
     all.loads += world.loads.get();
     all.current += world.current.get();
@@ -690,7 +741,23 @@ fn number(name: &str, otherwise: u64) -> u64 {
 
 #[test]
 fn schedules_drawn_at_random() {
-    let (first, count) = (number("SFLIGHT_SEED", 1), number("SFLIGHT_SCHEDULES", 100_000));
+    let count = number("SFLIGHT_SCHEDULES", 100_000);
+    let all = each_schedule("SFLIGHT_SCHEDULES", count, false);
+    assert!(
+        count < 1000 || all.loads > count && all.current > 0 && all.epochs > count,
+        "they do something"
+    );
+}
+
+#[test]
+fn recorded_schedules_are_legal_in_time() {
+    let count = number("SFLIGHT_RECORDED", 5_000);
+    let all = each_schedule("SFLIGHT_RECORDED", count, true);
+    assert!(count < 1000 || all.events > all.loads, "they are recorded");
+}
+
+fn each_schedule(name: &str, count: u64, is_recorded: bool) -> Played {
+    let first = number("SFLIGHT_SEED", 1);
     let threads = 4;
     let played: Vec<Played> = std::thread::scope(|scope| {
         let threads: Vec<_> = (0..threads)
@@ -698,8 +765,8 @@ fn schedules_drawn_at_random() {
                 scope.spawn(move || {
                     let (mut stacks, mut all) = (Vec::new(), Played::default());
                     for seed in (first + thread..first + count).step_by(threads as usize) {
-                        if let Err(why) = schedule(seed, &mut stacks, &mut all) {
-                            panic!("SFLIGHT_SEED={seed} SFLIGHT_SCHEDULES=1: {why}");
+                        if let Err(why) = schedule(seed, &mut stacks, &mut all, is_recorded) {
+                            panic!("SFLIGHT_SEED={seed} {name}=1: {why}");
                         }
                     }
                     all
@@ -709,10 +776,15 @@ fn schedules_drawn_at_random() {
         threads.into_iter().map(|thread| thread.join().expect("a schedule that is right")).collect()
     });
     let sum = |part: fn(&Played) -> u64| played.iter().map(part).sum::<u64>();
-    let (steps, loads, current, epochs) =
-        (sum(|all| all.steps), sum(|all| all.loads), sum(|all| all.current), sum(|all| all.epochs));
-    println!("{count} schedules: {steps} steps, {loads} loads, {current} stamps, {epochs} epochs");
-    assert!(count < 1000 || loads > count && current > 0 && epochs > count, "they do something");
+    let all = Played {
+        steps: sum(|all| all.steps),
+        loads: sum(|all| all.loads),
+        current: sum(|all| all.current),
+        epochs: sum(|all| all.epochs),
+        events: sum(|all| all.events),
+    };
+    println!("{count} schedules: {all:?}");
+    all
 }
 
 #[test]

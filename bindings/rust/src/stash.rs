@@ -32,7 +32,7 @@ impl<T> Stash<T> {
 
     // The places, from the thread's own on.
     fn places(&self) -> impl Iterator<Item = &Mutex<Option<Taken<T>>>> {
-        let own = number() % self.0.len();
+        let own = thread_number() % self.0.len();
         let (before, after) = self.0.split_at(own);
         after.iter().chain(before).map(|place| &place.0)
     }
@@ -40,7 +40,7 @@ impl<T> Stash<T> {
     /// A seat from the thread's own place.
     #[inline]
     pub(crate) fn take_own(&self) -> Option<Taken<T>> {
-        try_lock(&self.0[number() % self.0.len()].0)?.take()
+        try_lock(&self.0[thread_number() % self.0.len()].0)?.take()
     }
 
     /// A seat from any place.
@@ -80,7 +80,7 @@ impl<T> Stash<T> {
 }
 
 /// A number of this thread, from 0 on.
-fn number() -> usize {
+pub(crate) fn thread_number() -> usize {
     static NEXT: AtomicUsize = AtomicUsize::new(0);
     thread_local!(static NUMBER: Cell<usize> = const { Cell::new(usize::MAX) });
     NUMBER.with(|number| {

@@ -1,10 +1,12 @@
 //! Those who follow a call without a caller of the library: threads that sleep, and tasks that are
 //! woken.
 
+use crate::recording::{CallRecord, Noted};
 use crate::sync::{lock, point, sleep};
 use crate::{Call, Loaded, Stamp};
 use std::collections::BTreeMap;
 use std::future::Future;
+use std::ops::Deref;
 use std::panic::{catch_unwind, AssertUnwindSafe};
 use std::pin::Pin;
 use std::sync::atomic::{
@@ -33,6 +35,8 @@ struct State<T> {
     asleep: u32,
     wakers: BTreeMap<u64, task::Waker>,
     next: u64,
+    // Of the call, if that is recorded, until it is settled.
+    record: Option<Arc<CallRecord>>,
 }
 
 /// The number of a task's waker, which is 0 before it has one.
@@ -56,16 +60,21 @@ pub(crate) struct Wait<T> {
 
 impl<T> Wait<T> {
     /// One of a call of the library.
-    pub(crate) fn new(fingerprint: u64, call: Call) -> Arc<Self> {
-        Self::with(fingerprint, Some(call), Box::default())
+    pub(crate) fn new(fingerprint: u64, call: Call, record: Option<Arc<CallRecord>>) -> Arc<Self> {
+        Self::with(fingerprint, Some(call), Box::default(), record)
     }
 
     /// One of a run beside the library.
-    pub(crate) fn run(fingerprint: u64, key: &[u8]) -> Arc<Self> {
-        Self::with(fingerprint, None, key.into())
+    pub(crate) fn run(fingerprint: u64, key: &[u8], record: Option<Arc<CallRecord>>) -> Arc<Self> {
+        Self::with(fingerprint, None, key.into(), record)
     }
 
-    fn with(fingerprint: u64, call: Option<Call>, key: Box<[u8]>) -> Arc<Self> {
+    fn with(
+        fingerprint: u64,
+        call: Option<Call>,
+        key: Box<[u8]>,
+        record: Option<Arc<CallRecord>>,
+    ) -> Arc<Self> {
         Arc::new(Wait {
             fingerprint,
             call,
@@ -78,6 +87,7 @@ impl<T> Wait<T> {
                 asleep: 0,
                 wakers: BTreeMap::new(),
                 next: 0,
+                record,
             }),
             settled: Condvar::new(),
         })
@@ -90,11 +100,26 @@ impl<T> Wait<T> {
 
     /// Counts one more follower; or does not, where the call is settled: its members were counted
     /// then. So each member's answer is shared or none is.
-    pub(crate) fn join(&self) -> bool {
+    pub(crate) fn join(self: &Arc<Self>, noted: Option<&Noted>) -> Option<Follower<T>> {
         let mut state = lock(&self.state);
-        let is_open = state.outcome.is_none();
-        state.followers += u32::from(is_open);
-        is_open
+        if state.outcome.is_some() {
+            return None;
+        }
+        state.followers += 1;
+        let member = state.joins(noted);
+        drop(state);
+        Some(Follower { wait: self.clone(), member })
+    }
+
+    /// The same for one who was counted elsewhere.
+    pub(crate) fn watch(self: &Arc<Self>, noted: Option<&Noted>) -> Follower<T> {
+        let member = lock(&self.state).joins(noted);
+        Follower { wait: self.clone(), member }
+    }
+
+    /// The record of the call, if that is recorded and is not settled.
+    pub(crate) fn record(&self) -> Option<Arc<CallRecord>> {
+        lock(&self.state).record.clone()
     }
 
     /// Sleeps until it is settled, or until the deadline: whether it is settled.
@@ -169,7 +194,9 @@ impl<T> Wait<T> {
         self.is_settled.store(true, Release);
         let wakers = std::mem::take(&mut state.wakers);
         let asleep = state.asleep > 0;
+        let record = state.record.take();
         drop(state);
+        drop(record);
         if asleep {
             self.settled.notify_all();
         }
@@ -195,6 +222,36 @@ impl<T> Wait<T> {
                 })
             }
             _ => None,
+        }
+    }
+}
+
+impl<T> State<T> {
+    // Which member of the recorded call it is that joins now, if it is recorded too.
+    fn joins(&self, noted: Option<&Noted>) -> Option<usize> {
+        self.record.as_ref()?.joins(noted?)
+    }
+}
+
+/// A caller that follows a call. If it is dropped before the call is settled, it has left the call.
+pub(crate) struct Follower<T> {
+    wait: Arc<Wait<T>>,
+    // Which member of the call it is, where both are recorded.
+    member: Option<usize>,
+}
+
+impl<T> Deref for Follower<T> {
+    type Target = Wait<T>;
+
+    fn deref(&self) -> &Wait<T> {
+        &self.wait
+    }
+}
+
+impl<T> Drop for Follower<T> {
+    fn drop(&mut self) {
+        if let (Some(member), Some(record)) = (self.member, self.wait.record()) {
+            record.left(member);
         }
     }
 }

@@ -2,6 +2,9 @@
 //! panic: all end, one load of a key runs at a time, nothing is older than a Forget, and answers of
 //! one thread do not go backwards. `SFLIGHT_CALLS` says how many calls are made in each of the four
 //! groups, 60,000 by default, and eight times as many in that whose callers are spent soon.
+mod random;
+
+use random::Random;
 use singleflight::{Caller, Group, Stamp, Stats};
 use std::future::Future;
 use std::panic::{catch_unwind, resume_unwind, AssertUnwindSafe};
@@ -15,17 +18,6 @@ use std::time::{Duration, Instant};
 const THREADS: u64 = 64;
 const KEYS: usize = 48;
 const DEPTH: usize = 3;
-
-struct Random(u64);
-
-impl Random {
-    fn below(&mut self, most: u64) -> u64 {
-        self.0 ^= self.0 << 13;
-        self.0 ^= self.0 >> 7;
-        self.0 ^= self.0 << 17;
-        (self.0 >> 11) % most
-    }
-}
 
 struct Value<'a> {
     key: usize,
