@@ -827,6 +827,7 @@ func (it sole) forget(f *forgetting) (closed bool) {
 	defer s.mu.Unlock()
 	before := s.lone.Load()
 	if it.isOpen && before < it.call.generation {
+		yield()
 		s.lone.Store(it.call.generation)
 		yield()
 	}

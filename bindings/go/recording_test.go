@@ -355,6 +355,30 @@ func TestRecordingOfAPart(t *testing.T) {
 	g.Do("key", value(4))
 }
 
+// A call that was led in one recording is joined without one, and in another: it is in neither.
+func TestTwoRecordingsOfACall(t *testing.T) {
+	g := open(t, 8)
+	started, release := chans()
+	var all []<-chan Result
+	first := recordedBy(t, g, func() {
+		all = append(all, g.DoChan("key", heldAny(1, started, release)))
+		begun(t, started)
+	})
+	all = append(all, g.DoChan("key", value(2)))
+	second := recordedBy(t, g, func() {
+		all = append(all, g.DoChan("key", value(3)))
+		close(release)
+		for _, ch := range all {
+			if r := came(t, ch); r.Val != 1 || r.Joiners != 2 {
+				t.Error("of one call", r)
+			}
+		}
+	})
+	if all := append(isLegal(t, first), isLegal(t, second)...); len(all) != 0 {
+		t.Errorf("events of a call that neither has whole: %s%s", first, second)
+	}
+}
+
 func TestTwoRecordings(t *testing.T) {
 	g := open(t, 8)
 	var first, second bytes.Buffer

@@ -10,6 +10,7 @@ import (
 	"math/rand"
 	"os"
 	"strconv"
+	"sync"
 	"sync/atomic"
 	"testing"
 	"time"
@@ -561,4 +562,184 @@ func TestSettlingIsNotEnded(t *testing.T) {
 		t.Error("an answer went back", first, v)
 	}
 	<-old
+}
+
+// A scheduler that stops each goroutine of some at one of its yields.
+type stops struct {
+	mu sync.Mutex
+	by map[string]*stop // by the goroutine's name
+}
+
+type stop struct {
+	left             int // how many yields are before it
+	stopped, release chan struct{}
+}
+
+// Stops the goroutine that calls it.
+func (s *stops) stopMe(at *stop) {
+	s.mu.Lock()
+	defer s.mu.Unlock()
+	s.by[goroutine()] = at
+}
+
+func (s *stops) yield(blocked bool) {
+	if blocked {
+		time.Sleep(time.Millisecond)
+		return
+	}
+	s.mu.Lock()
+	at := s.by[goroutine()]
+	stops := at != nil && at.left == 0
+	if at != nil {
+		at.left--
+	}
+	s.mu.Unlock()
+	if stops {
+		close(at.stopped)
+		<-at.release
+	}
+}
+
+func (s *stops) spawn(do func()) { go do() }
+func (s *stops) index() uint     { return 0 }
+
+func stopAt(yields int) *stop {
+	stopped, release := chans()
+	return &stop{yields, stopped, release}
+}
+
+// Whether it is soon closed.
+func isDone(done <-chan struct{}) bool {
+	select {
+	case <-done:
+		return true
+	case <-time.After(20 * time.Millisecond):
+		return false
+	}
+}
+
+// A group whose goroutines stop.
+func openStopped(callers uint32) (*Group, *stops) {
+	g, s := new(Group), &stops{by: map[string]*stop{}}
+	g.made.Store(newPool(sizes{places: 64, callers: callers, fixed: true, fixedCallers: true, generations: generations}))
+	schedule, schedulesHash = s, 1
+	return g, s
+}
+
+// A joiner that has its letter before the leader has told how many joined counts them itself: those of
+// this call, and not of the one that the leader's caller led before.
+func TestJoinersWhileSettling(t *testing.T) {
+	defer func() { schedule = nil }()
+	early := 0
+	for at := 0; ; at++ {
+		g, s := openStopped(3)
+		started, release := chans()
+		all := []<-chan Result{g.DoChan("key", heldAny(1, started, release))}
+		begun(t, started)
+		all = append(all, g.DoChan("key", value(2)), g.DoChan("key", value(2)))
+		close(release)
+		for _, ch := range all {
+			if r := receive(t, ch); r.Joiners != 2 {
+				t.Error("the call before", at, r)
+			}
+		}
+		leader := stopAt(at)
+		started, release = chans()
+		led := g.DoChan("key", func() (any, error) {
+			close(started)
+			<-release
+			s.stopMe(leader)
+			return 3, nil
+		})
+		begun(t, started)
+		joined := g.DoChan("key", value(4))
+		close(release)
+		var first, last Result
+		select {
+		case <-leader.stopped:
+			select {
+			case last = <-joined:
+				early++
+				close(leader.release)
+			case <-time.After(50 * time.Millisecond):
+				close(leader.release)
+				last = receive(t, joined)
+			}
+			first = receive(t, led)
+		case first = <-led:
+			// It has settled its call in fewer yields.
+			last = receive(t, joined)
+			at = -1
+		}
+		if first.Joiners != 1 || last.Joiners != 1 || last.Val != 3 {
+			t.Error("one joiner", at, first, last)
+		}
+		g.Close()
+		if at < 0 {
+			break
+		}
+	}
+	if early == 0 {
+		t.Error("no joiner had its letter while the leader stood")
+	}
+}
+
+// A joiner, and one who forgets the call if it is unshared, are stopped at each of their yields, and the
+// joiner goes on first, while the call is settled. Where the call was closed as unshared the joiner has
+// another result, and where the joiner has its result the leader is told so.
+func TestForgetUnsharedWhileSettling(t *testing.T) {
+	defer func() { schedule = nil }()
+	closed, waits := 0, false
+	for i := 0; !waits; i++ {
+		for j, isOver := 0, false; !isOver; j++ {
+			g, s := openStopped(3)
+			joins, forgets := stopAt(i), stopAt(j)
+			started, release := chans()
+			led := g.DoChan("key", heldAny(1, started, release))
+			begun(t, started)
+			joined, forgotten := make(chan any, 1), make(chan struct{})
+			go func() {
+				s.stopMe(joins)
+				v, _, _ := g.Do("key", value(2))
+				joined <- v
+			}()
+			// Without a stop it waits for its result.
+			waits = !isDone(joins.stopped)
+			go func() {
+				s.stopMe(forgets)
+				g.ForgetUnshared("key")
+				close(forgotten)
+			}()
+			// Without a stop it is over, or waits for the joiner.
+			isOver = !isDone(forgets.stopped)
+			close(release)
+			// The leader settles the call, and may wait for who forgets then.
+			time.Sleep(5 * time.Millisecond)
+			close(joins.release)
+			var v any
+			select {
+			case v = <-joined:
+			case <-time.After(20 * time.Millisecond):
+			}
+			close(forgets.release)
+			came(t, forgotten)
+			if v == nil {
+				v = came(t, joined)
+			}
+			r := receive(t, led)
+			if st := g.Stats(); st.Closed > 0 {
+				closed++
+				if v == 1 {
+					t.Error("it was closed as unshared, and a joiner has its result", i, j, st)
+				}
+			}
+			if v == 1 && !r.Shared {
+				t.Error("a joiner has its result, and the leader is told of none", i, j)
+			}
+			g.Close()
+		}
+	}
+	if closed == 0 {
+		t.Error("no call was closed")
+	}
 }
