@@ -58,7 +58,7 @@ use crate::post::{Counters, Left, Post, Whose, Woken};
 use crate::raw::{self, Slot};
 use crate::recording::{closes, CallRecord, Forgetting, Noted, Recordings};
 use crate::stash::Stash;
-use crate::sync::{lock, point};
+use crate::sync::{lock, point, stall_point};
 use crate::wait::{Follower, Wait};
 use crate::{lent, Call, Error, ForgetOutcome, Stamp};
 use std::collections::HashMap;
@@ -559,6 +559,7 @@ impl<T> Pool<T> {
         point();
         self.alert_of(fingerprint).fetch_sub(count, SeqCst);
         drop(side);
+        stall_point();
         run.is_some() || moved.iter().any(|wait| !wait.is_settled())
     }
 
@@ -589,6 +590,7 @@ impl<T> Pool<T> {
                 if post.whose(stamp.generation, fingerprint) != Whose::Other {
                     let record = self.recorded(post, stamp.generation);
                     let marked = post.forget(stamp.generation);
+                    stall_point();
                     let seat = taken.as_mut().map(|taken| &mut taken.seat);
                     let hit = epoch.forget_stamp(seat, key, stamp);
                     if hit == ForgetOutcome::Closed {
@@ -628,6 +630,7 @@ impl<T> Pool<T> {
             }
             let record = self.recorded(post, call.generation);
             let marked = post.forget(call.generation);
+            stall_point();
             let hit = epoch.forget_call(taken.as_mut().map(|taken| &mut taken.seat), key, call);
             if marked || hit == ForgetOutcome::Closed {
                 closes(forgetting, record);

@@ -107,12 +107,24 @@ pub(crate) fn steps() -> Option<u64> {
 
 /// A step that others can see comes next: the turn may end.
 pub(crate) fn point() {
-    step(false);
+    step(Step::Ready);
+}
+
+/// The same, where the turn often ends with a long stall.
+pub(crate) fn stall_point() {
+    step(Step::Stalled);
 }
 
 /// It cannot go on before another has taken a turn.
 pub(crate) fn is_blocked() {
-    step(true);
+    step(Step::Blocked);
+}
+
+#[derive(Clone, Copy, PartialEq, Eq)]
+enum Step {
+    Ready,
+    Stalled,
+    Blocked,
 }
 
 // What `run` makes of the play. None where nothing is played.
@@ -122,7 +134,8 @@ fn with<R>(run: impl FnOnce(&mut Play) -> R) -> Option<R> {
     unsafe { PLAY.get().as_mut() }.map(run)
 }
 
-fn step(is_blocked: bool) {
+fn step(step: Step) {
+    let is_blocked = step == Step::Blocked;
     let ends = with(|play| {
         play.steps += 1;
         if play.steps > MOST_STEPS {
@@ -130,10 +143,11 @@ fn step(is_blocked: bool) {
             // The coroutines are left as they are.
             return Some(play.back_to_main());
         }
-        if !is_blocked && play.random.below(play.turn) != 0 {
+        let is_long = step == Step::Stalled && play.has_stalls && play.random.below(2) == 0;
+        if !is_long && !is_blocked && play.random.below(play.turn) != 0 {
             return None;
         }
-        if play.has_stalls && !is_blocked && play.random.below(16) == 0 {
+        if is_long || play.has_stalls && !is_blocked && play.random.below(16) == 0 {
             let until = play.steps + play.random.below(500);
             play.coroutines[play.current].stalls = until;
         }

@@ -11,6 +11,14 @@ pub(crate) fn point() {
     crate::schedules::point();
 }
 
+/// The same, after a step that others have to wait for or to find: whoever is stopped here is often
+/// stopped for long.
+#[inline(always)]
+pub(crate) fn stall_point() {
+    #[cfg(test)]
+    crate::schedules::stall_point();
+}
+
 /// Takes the lock. A lock whose holder panicked is as good as before: no holder panics between two
 /// writes.
 #[inline]
