@@ -1061,10 +1061,11 @@ static void stress(const char *what, const sflight_do_sizes *sizes, bool stands)
     stressed = sflight_do_open(sizes, NULL);
     is_standing = stands;
     running = THREADS;
-    for (size_t i = 0; i < THREADS; i++) if (pthread_create(&threads[i], NULL, stress_one, (void *)i) != 0) abort();
     do {
         struct log log = {0};
         record(stressed, &log);
+        /* The first recording has some of each thread, also where this thread is slow. */
+        for (size_t i = 0; i < THREADS && recordings == 0; i++) if (pthread_create(&threads[i], NULL, stress_one, (void *)i) != 0) abort();
         for (int i = 0; i < 20 && running > 0; i++) sleep_ms(2);
         sflight_recorded recorded = stop(stressed);
         events += recorded.events;

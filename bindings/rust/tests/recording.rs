@@ -11,7 +11,7 @@ use std::future::Future;
 use std::io::{self, ErrorKind, Write};
 use std::panic::{catch_unwind, AssertUnwindSafe};
 use std::pin::pin;
-use std::sync::atomic::{AtomicBool, Ordering::SeqCst};
+use std::sync::atomic::{AtomicBool, AtomicU32, Ordering::SeqCst};
 use std::sync::mpsc::channel;
 use std::sync::{Arc, Barrier, Mutex};
 use std::task::{Context, Poll, Waker};
@@ -656,22 +656,22 @@ fn a_slow_writer() {
 #[test]
 fn a_writer_that_calls_the_group() {
     let group = Group::<u32>::new();
-    let (log, own) = (Log::default(), group.clone());
-    let (mut out, mut writes) = (log.clone(), 0);
+    let (log, own, writes) = (Log::default(), group.clone(), Arc::new(AtomicU32::new(0)));
+    let (mut out, counted) = (log.clone(), writes.clone());
     let recording = group.record(Writer(move |text: &[u8]| {
         assert!(text.ends_with(b"\n") && text.starts_with(b"{"), "whole lines");
-        writes += 1;
-        if writes < 4 {
-            own.get_or_load("key", || writes);
+        if counted.load(SeqCst) < 3 {
+            own.get_or_load("key", || 1);
             own.forget("key");
         }
+        counted.fetch_add(1, SeqCst);
         out.write(text)
     }));
     let recording = recording.unwrap();
-    for _ in 0..10 {
-        group.get_or_load("key", || 0);
-        std::thread::sleep(Duration::from_millis(5));
-    }
+    until("it has written often", || {
+        group.get_or_load("another", || 0);
+        writes.load(SeqCst) > 3
+    });
     recording.stop().unwrap();
     let text = log.text();
     assert!(legal(&text).iter().filter(|it| it.kind == "forget").count() == 3, "{text}");
