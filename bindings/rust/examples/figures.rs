@@ -221,6 +221,26 @@ fn beside_waiters<A: Asker>(waiters: usize, asker: impl Fn() -> A + Sync) -> [u6
     [gets.iter().sum(), gets.into_iter().min().unwrap()]
 }
 
+// The least and the median nanoseconds a get of each thread with its own key, while the group is
+// recorded, and while it is not, in rounds that alternate; and how many of a hundred events were
+// lost.
+fn recorded(threads: usize) -> ([f64; 2], [f64; 2], f64) {
+    let (mut with, mut without, mut events, mut lost) = (Vec::new(), Vec::new(), 0, 0);
+    for _ in 0..7 {
+        let group = Group::<u64>::open(1 << 20, 4).unwrap();
+        without.push(gets(threads, false, || group.caller()));
+        let recording = group.record(std::io::sink()).unwrap();
+        with.push(gets(threads, false, || group.caller()));
+        let recorded = recording.stop().unwrap();
+        (events, lost) = (events + recorded.events, lost + recorded.lost);
+    }
+    let [with, without] = [with, without].map(|mut all| {
+        all.sort_by(f64::total_cmp);
+        [all[0], all[all.len() / 2]]
+    });
+    (with, without, 100.0 * lost as f64 / (events + lost) as f64)
+}
+
 fn main() {
     let open = |callers| Group::<u64>::open(1 << 20, callers).unwrap();
     for len in [8, 32, 128, 250, 1000] {
@@ -249,6 +269,13 @@ fn main() {
             let plains = best(|| gets(threads, hot, || &plain));
             println!("{what}, {threads} threads: {ours:.0} ns a get, {groups:.0} by the group; mutex, map and condition variable {plains:.0} ns");
         }
+    }
+    for threads in [1, 4] {
+        let (with, without, lost) = recorded(threads);
+        println!(
+            "recorded, {threads} threads: {:.0} ({:.0}) ns a get; not recorded {:.0} ({:.0}) ns; {lost:.1} % lost",
+            with[0], with[1], without[0], without[1]
+        );
     }
     for load in [1, 10, 100] {
         let (group, plain) = (open(64), Plain::default());
