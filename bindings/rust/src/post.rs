@@ -3,7 +3,7 @@
 use crate::pool::{Letter, Seat};
 use crate::recording::{CallRecord, Noted};
 use crate::stash::processors;
-use crate::sync::{lock, point, sleep};
+use crate::sync::{lock, point, sleep, stall_point};
 use crate::wait::{Follower, Wait};
 use crate::Call;
 use std::sync::atomic::{
@@ -203,7 +203,8 @@ impl<T> Post<T> {
         if !is_of(self.word.load(Acquire), generation) {
             return Whose::Ended;
         }
-        point();
+        // What the word is of may end here.
+        stall_point();
         let found = self.fingerprint.load(Acquire);
         point();
         if !is_of(self.word.load(Acquire), generation) {
