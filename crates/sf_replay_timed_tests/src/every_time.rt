@@ -196,6 +196,17 @@ fn a_cleared_call(rt: HostRuntime) -> Result<(), Fail> {
 }
 
 #[test]
+fn a_cleared_call_that_was_entered(rt: HostRuntime) -> Result<(), Fail> {
+    let kinds = [
+        (Kind::Lead, 1),
+        (Kind::Enter(3), 1),
+        (Kind::Settle(1), 1),
+        (Kind::Of(Hit::Cleared), 1),
+    ];
+    with_every_time(&rt, rt.alloc(), kinds, 0)
+}
+
+#[test]
 fn a_miss_of_a_call_that_a_forget_ended(rt: HostRuntime) -> Result<(), Fail> {
     let kinds = [
         (Kind::Lead, 1),
