@@ -88,7 +88,10 @@ fn failed<D: std::fmt::Display + Drop>(rt: &impl Eprint, why: D) -> ExitCode {
 fn main(rt: HostRuntime) -> ExitCode {
     let words = match words(&rt) {
         Ok(words) => words,
-        Err(error) if error.kind() == io::ErrorKind::OutOfMemory => return failed(&rt, Fault::Memory),
+        Err(error) if error.kind() == io::ErrorKind::OutOfMemory => return failed(
+            &rt,
+            Fault::Memory,
+        ),
         Err(_) => return failed(&rt, "the arguments are not valid UTF-8"),
     };
     match parse(rt.alloc(), words.as_slice()) {
