@@ -1,6 +1,8 @@
 //! What the command line asks for.
 
 ghost use Rattle.std.specs.Prelude.{◌≡◌, ◌≢◌, [], IfSome, IfNone, IfOk, IfErr, map, string_bytes};
+ghost use Rattle.std.specs.IoError.{error_kind};
+ghost use Rattle.std.specs.declared.io.ErrorKind.TheVariants as io_kind;
 ghost use Rattle.clap.specs.Words.{fault_of, kind_of};
 ghost use Rattle.sf_cli_engines.specs.Engines.{name_of, shown_by};
 ghost use Rattle.sf_cli_engines.specs.declared.engine.Engine as engines;
@@ -39,7 +41,11 @@ pub enum Mistake {
 
 impl Mistake {
     /// Why the words could not be read: there is no memory for them, or they are no text.
-    pub fn of_words(error: io::Error) -> Mistake {
+    pub fn of_words(error: io::Error) -> Mistake
+        ensures memory { error_kind error ≡ io_kind.OutOfMemory
+            → IsWantOfMemory (Usage.Mistake result) }
+        ensures text { error_kind error ≢ io_kind.OutOfMemory → result ≡ Mistake.NoText }
+    {
         if error.kind() == io::ErrorKind::OutOfMemory {
             Mistake::Said(Error::from(AllocError))
         } else {
