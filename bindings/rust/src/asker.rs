@@ -5,7 +5,7 @@ use crate::lent::{self, Lending};
 use crate::pool::{Beside, Letter, Pool, FIRST};
 use crate::post::{Counter, Counters, Whose};
 use crate::recording::{CallRecord, Noted};
-use crate::sync::point;
+use crate::sync::{point, stall_point};
 use crate::wait::{Follower, Wait, Waiting};
 use crate::{raw, Call, ForgetOutcome, Loaded, Stamp};
 use std::future::Future;
@@ -315,6 +315,7 @@ impl<T, P: Deref<Target = Pool<T>>> Asker<T, P> {
         } else if let Some(taken) =
             self.taken.as_mut().filter(|taken| by == By::Following || taken.epoch.has_strangers())
         {
+            stall_point();
             match taken.epoch.look(Some(&mut taken.seat), key, fingerprint) {
                 (Some(call), Whose::Same) => {
                     let post = taken.epoch.post(call.caller);
@@ -378,6 +379,7 @@ impl<T, P: Deref<Target = Pool<T>>> Asker<T, P> {
         post.begin(fingerprint, seat.next);
         let name = epoch.names.of(key);
         let mut asked = raw::Stamp::default();
+        stall_point();
         let code = loop {
             point();
             match raw::ask(&mut seat.slot, &name, &mut asked) {
@@ -394,6 +396,7 @@ impl<T, P: Deref<Target = Pool<T>>> Asker<T, P> {
                 );
                 seat.next += 1;
                 self.loading = Loading::Call(call);
+                stall_point();
                 if self.pool.may_load(epoch.number, key, fingerprint) {
                     post.counters.leads.add();
                     return Some(Asked::Loads);

@@ -603,8 +603,26 @@ impl Actor {
         of.forgotten.set(of.forgotten.get().max(began));
     }
 
-    // Asks about what it got last, or forgets that call alone.
+    // Forgets the call alone that the key has now. A newer one may run beside it then.
+    fn forget_now(&mut self, key: usize) {
+        let Some(call) = self.caller.current_call(NAMES[key]) else { return };
+        let world = self.world.clone();
+        let of = &world.keys[key];
+        of.forgetting.set(of.forgetting.get() + 1);
+        of.running.set(Vec::new());
+        match self.by_group() {
+            false => self.caller.forget_call(NAMES[key], call),
+            true => self.group.forget_call(NAMES[key], call),
+        };
+        of.forgetting.set(of.forgetting.get() - 1);
+        of.forgot.set(world.tick());
+    }
+
+    // Asks about what it got last, or forgets that call alone; or the one that the key has now.
     fn last(&mut self, key: usize) {
+        if !self.is_grouped && self.random.below(3) == 0 {
+            return self.forget_now(key);
+        }
         let Some((moment, stamp, call)) = self.last.get(&key).copied() else { return };
         let floor = self.world.keys[key].forgotten.get();
         let is_current = match self.by_group() {
