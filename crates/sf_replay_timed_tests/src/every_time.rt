@@ -11,10 +11,6 @@ use std::test::Fail;
 // The times among three moments.
 const TIMES: [(u64, u64); 6] = [(0, 0), (0, 1), (0, 2), (1, 1), (1, 2), (2, 2)];
 
-// How often the search may be undecided where a Forget missed a call that ended by itself: for one in twenty of the 1,296 sets
-// of times. No rule says how often that is; with more it would be of little use.
-const OFTEN: u64 = 64;
-
 fn time(code: usize) -> Option<Interval> {
     let (from, to) = TIMES[code % 6];
     Some(Interval { from, to })
@@ -224,6 +220,8 @@ fn a_miss_of_a_call_that_a_forget_ended(rt: HostRuntime) -> Result<(), Fail> {
     with_every_time(&rt, rt.alloc(), kinds, 0)
 }
 
+// Where a Forget missed a call that ended by itself, the search may be undecided. No rule says how often: it is that for so many of
+// the 1,296 sets of times, and one that is undecided more often has lost something.
 #[test]
 fn a_miss_of_a_call_that_ended_by_itself(rt: HostRuntime) -> Result<(), Fail> {
     let kinds = [
@@ -232,19 +230,19 @@ fn a_miss_of_a_call_that_ended_by_itself(rt: HostRuntime) -> Result<(), Fail> {
         (Kind::Of(Hit::Missed), 1),
         (Kind::Lead, 2),
     ];
-    with_every_time(&rt, rt.alloc(), kinds, OFTEN)?;
+    with_every_time(&rt, rt.alloc(), kinds, 2)?;
     let kinds = [
         (Kind::Lead, 1),
         (Kind::Settle(0), 1),
         (Kind::Of(Hit::Missed), 1),
         (Kind::Idle, 0),
     ];
-    with_every_time(&rt, rt.alloc(), kinds, OFTEN)?;
+    with_every_time(&rt, rt.alloc(), kinds, 38)?;
     let kinds = [
         (Kind::Lead, 1),
         (Kind::Enter(3), 1),
         (Kind::Of(Hit::Missed), 1),
         (Kind::Idle, 0),
     ];
-    with_every_time(&rt, rt.alloc(), kinds, OFTEN)
+    with_every_time(&rt, rt.alloc(), kinds, 0)
 }
