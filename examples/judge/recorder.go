@@ -151,38 +151,84 @@ func (r *recorder) write(out *bufio.Writer) (stale int) {
 			}
 		}
 	}
-	// A Forget closes the key's last run that began to load before it.
 	runs := map[string][]*run{}
 	for _, it := range r.runs {
 		runs[it.key] = append(runs[it.key], it)
 	}
-	closes := map[*forgot]bool{}
 	for key, of := range runs {
 		sort.Slice(of, func(i, j int) bool { return of[i].begun < of[j].begun })
-		for i, it := range of {
-			if i+1 < len(of) {
-				it.next = of[i+1]
-			}
-			all := forgets[key]
-			at := sort.Search(len(all), func(i int) bool { return all[i].from >= it.begun })
-			if at < len(all) && (it.next == nil || all[at].from < it.next.begun) {
-				it.closed = all[at]
-				closes[all[at]] = true
-			}
-		}
+		closeAll(of, forgets[key])
 	}
 	fmt.Fprintln(out, `{"format":4,"lost":0}`)
 	for _, it := range r.runs {
 		it.write(out, end)
 	}
+	closing := map[*forgot]bool{}
+	for _, it := range r.runs {
+		closing[it.closed] = true
+	}
 	for _, of := range forgets {
 		for _, f := range of {
-			if !closes[f] {
+			if !closing[f] {
 				fmt.Fprintf(out, `{"e":"forget","by":%d,"k":%q,"closed":null,"at":[%d,%d]}`+"\n", f.by, f.key, f.from, f.to)
 			}
 		}
 	}
 	return stale
+}
+
+// closeAll says which Forget closed each run of a key: the first one that came after the run had begun to load, and before the next
+// run did. Where two runs load at one time, it was one that came while either of them was asked for: the cache had begun that call,
+// and not its load. So that call was the first of the two.
+func closeAll(runs []*run, forgets []*forgot) {
+	closes := map[*forgot]*run{}
+	for i, it := range runs {
+		if i+1 < len(runs) {
+			it.next = runs[i+1]
+		}
+		at := sort.Search(len(forgets), func(i int) bool { return forgets[i].from >= it.begun })
+		if at < len(forgets) && (it.next == nil || forgets[at].from < it.next.begun) {
+			it.closeBy(forgets[at], closes)
+		}
+	}
+	for i := 1; i < len(runs); i++ {
+		first, second := runs[i-1], runs[i]
+		if first.closed != nil || first.loaded <= second.begun {
+			continue
+		}
+		if f := first.forgotEarly(forgets, closes); f != nil {
+			first.closeBy(f, closes)
+		} else if f := second.forgotEarly(forgets, closes); f != nil && f.from <= first.begun {
+			if later := second.closed; later != nil {
+				first.closeBy(later, closes)
+			}
+			second.closeBy(f, closes)
+			runs[i-1], runs[i] = second, first
+			first.next, second.next = second.next, first
+		}
+	}
+}
+
+// forgotEarly returns a Forget that came while the run was asked for: the last one that closed no run, or that of a run which had
+// ended by itself.
+func (it *run) forgotEarly(forgets []*forgot, closes map[*forgot]*run) (found *forgot) {
+	for _, f := range forgets {
+		if f.to < it.asked || it.begun < f.from {
+			continue
+		}
+		if of := closes[f]; of == nil || found == nil && of.loaded <= it.begun {
+			found = f
+		}
+	}
+	return found
+}
+
+// closeBy says that the Forget closed this run, and no other.
+func (it *run) closeBy(f *forgot, closes map[*forgot]*run) {
+	if of := closes[f]; of != nil {
+		of.closed = nil
+	}
+	it.closed, closes[f] = f, it
 }
 
 func (it *run) write(out *bufio.Writer, end int64) {
