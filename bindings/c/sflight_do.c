@@ -14,6 +14,7 @@
 enum {
     ALERTS = 64,
     BUCKETS = 64,
+    PLACES = 64, /* threads have so many numbers */
     STEP = 8,
     MOST_GROWN_SLOTS = 1 << 20,
     MOST_GROWN_CALLERS = SFLIGHT_MOST_CALLERS - 1,
@@ -50,8 +51,15 @@ struct seat {
     pthread_mutex_t lock;            /* protects the next two */
     struct wait *wait;               /* of the call that it leads */
     struct seat *left;               /* those whose letters of that call will come */
-    struct seat *link;    /* in a list */
+    struct seat *link;               /* in a list */
+    struct epoch *epoch;
     bool is_stranger;
+};
+
+/* Has a seat that a call has used, for the next call: there is one near each thread, so that threads share no lock. Such a seat counts as in
+ * use by its epoch, but not in the statistics. */
+struct place {
+    _Alignas(64) _Atomic(struct seat *) seat;
 };
 
 /* A group of the library. By the pool's lock of seats, but for what is atomic. */
@@ -81,7 +89,8 @@ struct sflight_pool {
     sflight_do_sizes sizes;
     void (*share)(uint64_t, uint32_t);
     atomic_bool is_renewing;
-    atomic_ullong joins, alone;
+    struct place places[PLACES];
+    _Alignas(64) atomic_ullong joins, alone;
     pthread_mutex_t slow; /* protects the side table, and comes before the other */
     struct entry *table[BUCKETS];
     pthread_mutex_t lock; /* protects the epochs and their seats */
@@ -173,7 +182,7 @@ const char *sflight_version(void) { return SFLIGHT_VERSION; }
  * record holds a lock that the leader takes before it gives up its own part: that of the seat, or that of the side table. */
 
 enum {
-    LANES = 64,
+    LANES = PLACES,
     LANE_EVENTS = 1 << 14, /* as many a lane keeps, but for those of one call */
     CHUNK = 1 << 15,       /* bytes */
     TEXT = 1 << 16,
@@ -220,6 +229,14 @@ struct forgetting {
     struct event *closed;
     bool is_idle; /* where it is recorded */
 };
+
+/* The thread's number, by which it has its place for a seat, its lane, and its caller in a recording. */
+static unsigned here(void) {
+    static atomic_uint threads;
+    static _Thread_local unsigned number;
+    if (number == 0) number = atomic_fetch_add_explicit(&threads, 1, memory_order_relaxed) % PLACES + 1;
+    return number - 1;
+}
 
 /* A name in a recording: the number of a caller, from 1 on, and which of its calls or members it is. */
 static uint64_t name_at(uint32_t caller, uint64_t number) { return (uint64_t)caller << 32 | number; }
@@ -270,14 +287,6 @@ struct recorder {
     size_t used;
     char *text;
 };
-
-/* The thread's lane, and its caller in a recording. */
-static unsigned here(void) {
-    static atomic_uint threads;
-    static _Thread_local unsigned number;
-    if (number == 0) number = atomic_fetch_add_explicit(&threads, 1, memory_order_relaxed) % LANES + 1;
-    return number - 1;
-}
 
 static uint64_t moment(void) {
     struct timespec at;
@@ -999,6 +1008,7 @@ static struct epoch *open_epoch(uint64_t number, uint32_t slots, uint32_t caller
     for (size_t i = 0; i < (size_t)callers + 2; i++) {
         struct seat *seat = &epoch->seats[i];
         memset(seat, 0, sizeof *seat);
+        seat->epoch = epoch;
         seat->next = FIRST;
         pthread_mutex_init(&seat->lock, NULL);
     }
@@ -1019,24 +1029,55 @@ static void free_epoch(sflight_pool *pool, struct epoch *epoch) {
     free(epoch);
 }
 
-/* A free seat of the current epoch, which stays as long as the seat is taken; null where all are. */
-static struct seat *take(sflight_pool *pool, struct epoch **at) {
-    pthread_mutex_lock(&pool->lock);
-    struct epoch *epoch = pool->current;
-    struct seat *seat = epoch->free;
-    *at = epoch;
-    if (seat) {
-        epoch->free = seat->link;
-    } else if (epoch->made < epoch->callers) {
-        sflight_slot slot = SFLIGHT_SLOT_NONE;
-        uint32_t number = 0;
-        if (sflight_split(&epoch->root, &slot) == SFLIGHT_DONE && sflight_number(&slot, &number) == SFLIGHT_DONE) {
-            seat = &epoch->seats[number];
-            seat->slot = slot;
-            seat->number = number;
-            epoch->made++;
-        }
+/* The lock is held. */
+static void let_go(sflight_pool *pool, struct epoch *epoch) {
+    if (--epoch->in_use == 0 && epoch->is_replaced) free_epoch(pool, epoch);
+}
+
+/* The lock is held. */
+static void put_back(sflight_pool *pool, struct seat *seat) {
+    struct epoch *epoch = seat->epoch;
+    seat->link = epoch->free;
+    epoch->free = seat;
+    pool->in_use--;
+    let_go(pool, epoch);
+}
+
+/* A seat from a place, if there is one. */
+static struct seat *from_places(sflight_pool *pool) {
+    for (int i = 0; i < PLACES; i++) {
+        struct place *place = &pool->places[i];
+        struct seat *seat = atomic_load(&place->seat) ? atomic_exchange(&place->seat, NULL) : NULL;
+        if (seat) return seat;
     }
+    return NULL;
+}
+
+/* The lock is held. */
+static struct seat *new_seat(struct epoch *epoch) {
+    sflight_slot slot = SFLIGHT_SLOT_NONE;
+    uint32_t number = 0;
+    if (epoch->made == epoch->callers || sflight_split(&epoch->root, &slot) != SFLIGHT_DONE || sflight_number(&slot, &number) != SFLIGHT_DONE) return NULL;
+    struct seat *seat = &epoch->seats[number];
+    seat->slot = slot;
+    seat->number = number;
+    epoch->made++;
+    return seat;
+}
+
+/* A free seat of the current epoch, which stays as long as the seat is taken; null where all are. By a seat of an epoch that was replaced
+ * before, one could join a call there whose load is over, and go back behind an answer of the current epoch. */
+static struct seat *take(sflight_pool *pool) {
+    struct seat *seat = atomic_exchange(&pool->places[here()].seat, NULL);
+    if (seat && seat->epoch->number == atomic_load(&pool->now)) return seat;
+    pthread_mutex_lock(&pool->lock);
+    if (seat) put_back(pool, seat);
+    struct epoch *epoch = pool->current;
+    /* No seat is made while one is left. */
+    while (!epoch->free && (seat = from_places(pool))) put_back(pool, seat);
+    seat = epoch->free;
+    if (seat) epoch->free = seat->link;
+    else seat = new_seat(epoch);
     if (seat) {
         epoch->in_use++;
         pool->in_use++;
@@ -1045,22 +1086,23 @@ static struct seat *take(sflight_pool *pool, struct epoch **at) {
     return seat;
 }
 
-/* The lock is held. */
-static void let_go(sflight_pool *pool, struct epoch *epoch) {
-    if (--epoch->in_use == 0 && epoch->is_replaced) free_epoch(pool, epoch);
-}
-
-static void put(sflight_pool *pool, struct epoch *epoch, struct seat *seat) {
+static void put(sflight_pool *pool, struct seat *seat) {
     if (!seat) return;
-    pthread_mutex_lock(&pool->lock);
     if (seat->is_stranger) {
         seat->is_stranger = false;
-        atomic_fetch_sub(&epoch->strangers, 1);
+        atomic_fetch_sub(&seat->epoch->strangers, 1);
     }
-    seat->link = epoch->free;
-    epoch->free = seat;
-    pool->in_use--;
-    let_go(pool, epoch);
+    _Atomic(struct seat *) *place = &pool->places[here()].seat;
+    struct seat *none = NULL;
+    uint64_t number = seat->epoch->number;
+    if (atomic_compare_exchange_strong(place, &none, seat)) {
+        /* A renewal changes `now` first, and then empties the places: it finds the seat, or is seen here. */
+        if (atomic_load(&pool->now) == number) return;
+        seat = atomic_exchange(place, NULL);
+        if (!seat) return;
+    }
+    pthread_mutex_lock(&pool->lock);
+    put_back(pool, seat);
     pthread_mutex_unlock(&pool->lock);
 }
 
@@ -1214,6 +1256,7 @@ static void renew(sflight_pool *pool, uint64_t number, uint32_t slots, uint32_t 
         pthread_mutex_unlock(&pool->slow);
         pthread_mutex_lock(&pool->lock);
         old->is_replaced = true;
+        for (struct seat *seat; (seat = from_places(pool));) put_back(pool, seat);
         let_go(pool, old);
         pthread_mutex_unlock(&pool->lock);
     }
@@ -1239,7 +1282,8 @@ static void grow(sflight_pool *pool) {
 }
 
 /* Lets a seat go whose caller has had all its calls. */
-static void retire(sflight_pool *pool, struct epoch *epoch, struct seat *seat) {
+static void retire(sflight_pool *pool, struct seat *seat) {
+    struct epoch *epoch = seat->epoch;
     uint64_t number = epoch->number;
     uint32_t slots = epoch->slots, callers = epoch->callers;
     pthread_mutex_lock(&pool->lock);
@@ -1331,7 +1375,7 @@ static bool may_load(sflight_pool *pool, struct epoch *epoch, const uint8_t *key
 }
 
 /* Its asking, or the call that it led, is over: settles the wait of those who follow, and gives back the seats of those who joined. */
-static void serve(sflight_pool *pool, struct epoch *epoch, struct seat *seat, const uint8_t *key, size_t len, sflight_got *got) {
+static void serve(sflight_pool *pool, struct seat *seat, const uint8_t *key, size_t len, sflight_got *got) {
     pthread_mutex_lock(&seat->lock);
     struct wait *wait = seat->wait;
     struct seat *left = seat->left, *next;
@@ -1348,30 +1392,30 @@ static void serve(sflight_pool *pool, struct epoch *epoch, struct seat *seat, co
         sflight_answer answer;
         next = left->link;
         if (sflight_poll(&left->slot, &answer) == SFLIGHT_PENDING) abort();
-        put(pool, epoch, left);
+        put(pool, left);
     }
 }
 
 /* Settles the call that the seat leads with what was got, or with nothing. */
-static void settle(sflight_pool *pool, struct epoch *epoch, struct seat *seat, const uint8_t *key, size_t len, sflight_got *got) {
+static void settle(sflight_pool *pool, struct seat *seat, const uint8_t *key, size_t len, sflight_got *got) {
     sflight_answer answer = {0};
     atomic_store_explicit(&seat->over, word_of(seat->next - 1), memory_order_release);
     if (sflight_finish(&seat->slot, 0, &answer) == SFLIGHT_OWES) {
         while (sflight_go_on(&seat->slot, &answer) == SFLIGHT_OWES) {}
     }
     if (got) {
-        got->stamp.epoch = epoch->number;
+        got->stamp.epoch = seat->epoch->number;
         got->stamp.call = answer.stamp;
     }
-    if ((atomic_exchange(&seat->word, 0) & FOLLOWED) || answer.joiners > 0) serve(pool, epoch, seat, key, len, got);
+    if ((atomic_exchange(&seat->word, 0) & FOLLOWED) || answer.joiners > 0) serve(pool, seat, key, len, got);
 }
 
 /* The seat leaves the call of the leader, which it joined. */
-static void leave(sflight_pool *pool, struct epoch *epoch, struct seat *seat, struct seat *leader, bool is_stranger) {
+static void leave(sflight_pool *pool, struct seat *seat, struct seat *leader, bool is_stranger) {
     sflight_answer answer;
     if (is_stranger) {
         seat->is_stranger = true;
-        atomic_fetch_add(&epoch->strangers, 1);
+        atomic_fetch_add(&seat->epoch->strangers, 1);
     }
     pthread_mutex_lock(&leader->lock);
     bool is_free = sflight_poll(&seat->slot, &answer) != SFLIGHT_PENDING;
@@ -1380,15 +1424,16 @@ static void leave(sflight_pool *pool, struct epoch *epoch, struct seat *seat, st
         leader->left = seat;
     }
     pthread_mutex_unlock(&leader->lock);
-    if (is_free) put(pool, epoch, seat);
+    if (is_free) put(pool, seat);
 }
 
 /* Asks the library by the seat, which is gone then, or leads: true. */
-static bool ask_library(sflight_pool *pool, struct epoch *epoch, struct seat *seat, const uint8_t *key, size_t len, uint64_t fingerprint, bool *is_alone, struct asking *asking) {
+static bool ask_library(sflight_pool *pool, struct seat *seat, const uint8_t *key, size_t len, uint64_t fingerprint, bool *is_alone, struct asking *asking) {
+    struct epoch *epoch = seat->epoch;
     uint32_t code;
     sflight_stamp call;
     if (seat->next - FIRST >= pool->sizes.calls) {
-        retire(pool, epoch, seat);
+        retire(pool, seat);
         return false;
     }
     if (asking->noted.by) attach(seat, &asking->noted, key, len);
@@ -1400,17 +1445,17 @@ static bool ask_library(sflight_pool *pool, struct epoch *epoch, struct seat *se
     if (code == SFLIGHT_LED) {
         seat->next++;
         if (may_load(pool, epoch, key, len, fingerprint)) return true;
-        settle(pool, epoch, seat, key, len, NULL);
+        settle(pool, seat, key, len, NULL);
         if (asking->noted.by) detach(seat);
-        put(pool, epoch, seat);
+        put(pool, seat);
         return false;
     }
-    if (atomic_exchange(&seat->word, 0) & FOLLOWED) serve(pool, epoch, seat, key, len, NULL);
+    if (atomic_exchange(&seat->word, 0) & FOLLOWED) serve(pool, seat, key, len, NULL);
     if (asking->noted.by) detach(seat);
     if (code != SFLIGHT_JOINED) {
         *is_alone = code == SFLIGHT_NO_MEMORY;
-        if (code == SFLIGHT_SPENT) retire(pool, epoch, seat);
-        else put(pool, epoch, seat);
+        if (code == SFLIGHT_SPENT) retire(pool, seat);
+        else put(pool, seat);
         return false;
     }
     seat->next++;
@@ -1419,19 +1464,19 @@ static bool ask_library(sflight_pool *pool, struct epoch *epoch, struct seat *se
     if (whose == SAME) asking->wait = follow_call(leader, call.generation, fingerprint, &asking->noted);
     *is_alone = whose == ANOTHER;
     if (*is_alone) clash(pool, epoch);
-    leave(pool, epoch, seat, leader, *is_alone);
+    leave(pool, seat, leader, *is_alone);
     return false;
 }
 
 /* The seat leads a call that is recorded: it loads, and settles the call. */
-RECORDING static void lead_recorded(sflight_pool *pool, struct epoch *epoch, struct seat *seat, const struct noted *noted, const uint8_t *key, size_t len,
+RECORDING static void lead_recorded(sflight_pool *pool, struct seat *seat, const struct noted *noted, const uint8_t *key, size_t len,
                                     sflight_load *load, void *context, sflight_got *got) {
     struct record *record = atomic_load(&seat->record);
     begins(noted, record);
     *got = (sflight_got){.value = load(context, key, len), .led = true};
     /* From here on the key can have a newer call: once this one is over, a renewal does not move it. */
     if (record) record->settles = moment();
-    settle(pool, epoch, seat, key, len, got);
+    settle(pool, seat, key, len, got);
     /* It could be followed until it was served. */
     if (record) record->settled = moment();
     detach(seat);
@@ -1474,10 +1519,10 @@ int sflight_do(sflight_pool *pool, const uint8_t *key, size_t len, sflight_load 
     if (timeout != SFLIGHT_DO_FOREVER) deadline = deadline_of(timeout);
     for (;;) {
         struct asking asking;
-        struct epoch *epoch;
         int ended;
         note(&asking.noted, pool);
-        struct seat *seat = take(pool, &epoch);
+        struct seat *seat = take(pool);
+        struct epoch *epoch = seat ? seat->epoch : NULL;
         asking.wait = NULL;
         /* Whether one looks beside the library, and whether one may lead by the seat when nothing is there. */
         bool is_beside = !seat || is_alert(pool, fingerprint), is_alone = !seat;
@@ -1490,15 +1535,15 @@ int sflight_do(sflight_pool *pool, const uint8_t *key, size_t len, sflight_load 
         enum beside how = is_beside ? ask_beside(pool, key, len, fingerprint, seat != NULL, &asking) : NOTHING;
         if (how == NOTHING && seat) {
             is_alone = false;
-            if (ask_library(pool, epoch, seat, key, len, fingerprint, &is_alone, &asking)) {
+            if (ask_library(pool, seat, key, len, fingerprint, &is_alone, &asking)) {
                 atomic_store_explicit(&seat->leads, atomic_load(&seat->leads) + 1, memory_order_relaxed);
                 if (asking.noted.by) {
-                    lead_recorded(pool, epoch, seat, &asking.noted, key, len, load, context, got);
+                    lead_recorded(pool, seat, &asking.noted, key, len, load, context, got);
                 } else {
                     *got = (sflight_got){.value = load(context, key, len), .led = true};
-                    settle(pool, epoch, seat, key, len, got);
+                    settle(pool, seat, key, len, got);
                 }
-                put(pool, epoch, seat);
+                put(pool, seat);
                 return SFLIGHT_DO_DONE;
             }
             /* The seat is gone. */
@@ -1507,7 +1552,7 @@ int sflight_do(sflight_pool *pool, const uint8_t *key, size_t len, sflight_load 
             else if (is_alone) how = ask_beside(pool, key, len, fingerprint, false, &asking);
         }
         if (how == RUNS && !seat) grow(pool);
-        put(pool, epoch, seat);
+        put(pool, seat);
         switch (how) {
         case RUNS:
             return run_beside(pool, &asking, key, len, load, context, got);
@@ -1538,8 +1583,8 @@ bool sflight_do_forget(sflight_pool *pool, const uint8_t *key, size_t len) {
     forgetting.closed = NULL;
     if (forgetting.noted.by) forgetting.is_idle = true;
     for (;;) {
-        struct epoch *epoch;
-        struct seat *seat = take(pool, &epoch);
+        struct seat *seat = take(pool);
+        struct epoch *epoch = seat ? seat->epoch : NULL;
         struct entry *out = NULL;
         /* Without a seat the lock keeps the epoch. */
         bool is_locked = !seat || is_alert(pool, fingerprint);
@@ -1572,7 +1617,7 @@ bool sflight_do_forget(sflight_pool *pool, const uint8_t *key, size_t len) {
         bool is_over = atomic_load(&pool->now) == epoch->number;
         if (is_locked) pthread_mutex_unlock(&pool->slow);
         closed |= drop_entries(out);
-        put(pool, epoch, seat);
+        put(pool, seat);
         if (is_over) {
             if (forgetting.closed || forgetting.noted.by) end_forgetting(&forgetting, key, len);
             return closed;
@@ -1582,12 +1627,11 @@ bool sflight_do_forget(sflight_pool *pool, const uint8_t *key, size_t len) {
 
 bool sflight_do_is_still(sflight_pool *pool, const sflight_do_stamp *stamp) {
     if (stamp->epoch != atomic_load(&pool->now)) return false;
-    struct epoch *epoch;
-    struct seat *seat = take(pool, &epoch);
+    struct seat *seat = take(pool);
     bool is_still = false;
     if (seat) {
-        is_still = epoch->number == stamp->epoch && sflight_is_still(&seat->slot, &stamp->call);
-        put(pool, epoch, seat);
+        is_still = seat->epoch->number == stamp->epoch && sflight_is_still(&seat->slot, &stamp->call);
+        put(pool, seat);
         return is_still;
     }
     pthread_mutex_lock(&pool->lock);
@@ -1600,13 +1644,16 @@ sflight_do_stats sflight_do_statistics(sflight_pool *pool) {
     pthread_mutex_lock(&pool->lock);
     sflight_do_stats stats = {pool->leads, atomic_load(&pool->joins), atomic_load(&pool->alone), pool->current->number, pool->in_use};
     for (size_t i = 0; i < (size_t)pool->current->callers + 2; i++) stats.leads += atomic_load(&pool->current->seats[i].leads);
+    /* One that goes from place to place meanwhile may be counted twice. */
+    for (int i = 0; i < PLACES && stats.in_use > 0; i++) stats.in_use -= atomic_load(&pool->places[i].seat) != NULL;
     pthread_mutex_unlock(&pool->lock);
     return stats;
 }
 
 sflight_pool *sflight_do_open(const sflight_do_sizes *sizes, void (*share)(uint64_t value, uint32_t others)) {
-    sflight_pool *pool = calloc(1, sizeof *pool);
+    sflight_pool *pool = aligned_alloc(64, sizeof *pool);
     if (!pool) return NULL;
+    memset(pool, 0, sizeof *pool);
     if (sizes) pool->sizes = *sizes;
     if (pool->sizes.slots == 0) pool->sizes.slots = 1024;
     if (pool->sizes.callers == 0) pool->sizes.callers = 32;
