@@ -699,9 +699,10 @@ impl<T> Pool<T> {
         }
     }
 
-    /// The same for one who has no seat: by one of the stash, where there is one near.
+    /// The same for one who has no seat: by a free one, which is left near the thread for its next
+    /// question. So threads that ask share no lock.
     pub(crate) fn is_current_by_any(&self, stamp: Stamp) -> bool {
-        let mut taken = self.stash.take_own();
+        let mut taken = self.take();
         let is_current = self.is_current(taken.as_mut(), stamp);
         if let Some(taken) = taken {
             self.put(taken);
@@ -860,6 +861,17 @@ mod tests {
         pool.put(taken);
         assert!(pool.stash.count() == 1 && pool.stats().in_use == 0, "it is in the stash");
         assert!(pool.take().is_some_and(|taken| taken.seat.number == number), "and found");
+    }
+
+    #[test]
+    fn a_question_leaves_a_seat_near_the_thread() {
+        let pool = pool();
+        let none = Stamp::of(pool.now(), raw::Stamp::default());
+        assert!(!pool.is_current_by_any(none) && pool.stash.count() == 1, "it is left there");
+        let (first, second) = (pool.take().unwrap(), pool.take().unwrap());
+        assert!(!pool.is_current_by_any(none), "without a seat the pool itself is asked");
+        pool.put(first);
+        pool.put(second);
     }
 
     // By such a seat one could join a call whose load is over, and go back behind an answer of the
