@@ -1,5 +1,6 @@
 // Command origin has pages for cacheserver: GET answers a page with its version, POST writes it,
-// and GET /loads answers how often pages were asked for. GET /slow takes a second.
+// and GET /loads answers how often pages were asked for. GET /slow takes a second, /large has the
+// most bytes that a page may have, /larger has one more, and /broken fails.
 package main
 
 import (
@@ -29,6 +30,13 @@ func main() {
 			written[page]++
 		case page == "/loads":
 			fmt.Fprintln(w, loads)
+		case page == "/large":
+			loads++
+			w.Write(make([]byte, 1<<20))
+		case page == "/larger":
+			w.Write(make([]byte, 1<<20+1))
+		case page == "/broken":
+			http.Error(w, "broken", http.StatusInternalServerError)
 		default:
 			loads++
 			if written[page] == 0 {
