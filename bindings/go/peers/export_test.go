@@ -1,6 +1,7 @@
 package peers
 
 import (
+	"context"
 	"encoding/json"
 	"time"
 )
@@ -19,4 +20,10 @@ func Lie(key []byte, self string, answer func([]byte) []byte) func([]byte) []byt
 		text, _ = json.Marshal(reply{From: self, Start: what.ToStart, Held: []number{*what.Number}})
 		return k.seal(sealReply, sealed, text)
 	}
+}
+
+// SizesOf returns what of a Pool's Options has reached its parts: Forgotten, Timeout, Every, Owner.
+func SizesOf(p *Pool) (forgotten int, timeout, every, within time.Duration) {
+	toOwner := p.engine.Transport(context.Background()).(owner)
+	return p.node.versions.most, p.node.timeout, p.node.every, toOwner.within
 }

@@ -85,6 +85,32 @@ func TestAProcessThatWasRestoredBeginsAgain(t *testing.T) {
 	}
 }
 
+// A process that is started again counts its changes anew. Who asks it for what came after a change of
+// the last process is told all of them.
+func TestChangesOfAProcessThatIsStartedAgain(t *testing.T) {
+	m := newMesh()
+	a, b, _ := beginAll(t, m, time.Minute)
+	for i := 0; i < 50; i++ {
+		if err := forget(b, user); err != nil {
+			t.Fatal(err)
+		}
+	}
+	round(a) // has all of b's changes
+	b = begin(t, m, "b", time.Minute)
+	for _, peer := range []string{"a", "c"} {
+		m.setCut(peer, true)
+	}
+	if err := forget(b, user); err == nil {
+		t.Error("a Forget that nobody has heard returns nil")
+	}
+	for _, peer := range []string{"a", "c"} {
+		m.setCut(peer, false)
+	}
+	if round(a); !has(a, b, user) {
+		t.Error("it is not told of a change of the later process")
+	}
+}
+
 // An address may lead to another peer: an entry of DNS that is out of date, an address that is used
 // again.
 func TestAnotherPeerDoesNotAcknowledge(t *testing.T) {

@@ -350,6 +350,50 @@ func TestRepliesOfAnOwner(t *testing.T) {
 	}
 }
 
+// A key of the most bytes, each of which is escaped, comes to its owner and back, through a server with
+// the limits of Server.
+func TestTheLongestKeyComesToItsOwner(t *testing.T) {
+	if groupcache.GetGroup("values") == nil {
+		groupcache.NewGroup("values", 1<<20, groupcache.GetterFunc(func(context.Context, string, groupcache.Sink) error { return nil }))
+	}
+	server := httptest.NewUnstartedServer(nil)
+	self := "http://" + server.Listener.Addr().String()
+	m := newMesh()
+	a, b := start(t, m, self, time.Minute, self, "http://b"), start(t, m, "http://b", time.Minute, self, "http://b")
+	for _, n := range []*node{a, b} {
+		await(t, n.session.Load().ready, "it does not begin")
+	}
+	p := &Pool{node: a}
+	server.Config = p.Server()
+	server.Config.Handler = http.HandlerFunc(func(w http.ResponseWriter, r *http.Request) {
+		status, err := p.checkValue(r)
+		if err != nil {
+			http.Error(w, err.Error(), status)
+			return
+		}
+		key, _ := keyOf(strings.TrimPrefix(r.URL.Path, enginePath+"values/"))
+		w.Header().Set(signHeader, a.keys.sign(time.Now(), []byte(signOwner), []byte(r.Header.Get(signHeader)), []byte("200"), []byte(key)))
+		w.Write([]byte(key))
+	})
+	server.Start()
+	defer server.Close()
+	for _, key := range []string{"7", strings.Repeat("k", MostKeyBytes), strings.Repeat("\xff", MostKeyBytes)} {
+		name := nameOf(key, versionOf(a.versions, keyItem("values", key)), 0)
+		r, err := http.NewRequest("GET", self+enginePath+"values/"+url.QueryEscape(name), nil)
+		if err != nil {
+			t.Fatal(err)
+		}
+		got, err := owner{connections(nil), 2 * time.Minute, b}.RoundTrip(r)
+		if err != nil {
+			t.Errorf("%.10q: %v", key, err)
+			continue
+		}
+		if body, _ := io.ReadAll(got.Body); got.StatusCode != http.StatusOK || string(body) != key {
+			t.Errorf("%.10q: %s, %.50q", key, got.Status, body)
+		}
+	}
+}
+
 // authority makes certificates for one name, of an authority of its own.
 func authority(t *testing.T) (*x509.CertPool, tls.Certificate) {
 	key, err := ecdsa.GenerateKey(elliptic.P256(), rand.Reader)
