@@ -206,6 +206,29 @@ func TestRecorderBlocksNobodyElse(t *testing.T) {
 	}
 }
 
+// A leader whose context ends once its call is settled has the result, and not the context's error.
+func TestLeaderOfASettledCall(t *testing.T) {
+	var cancel context.CancelFunc
+	returned := make(chan struct{})
+	g := recorded(t, func(Load) {
+		cancel()
+		select {
+		case <-returned:
+			t.Error("the leader does not wait for the result")
+		case <-time.After(50 * time.Millisecond):
+		}
+	})
+	var ctx context.Context
+	ctx, cancel = context.WithCancel(always)
+	go func() {
+		defer close(returned)
+		if v, err, _ := doContext(ctx, g, "key", loadOf(1)); v != 1 || err != nil {
+			t.Error("its result", v, err)
+		}
+	}()
+	within(t, 20*time.Second, "the leader", func() { <-returned })
+}
+
 // A recorder that panics is its leader's panic, and one that ends its goroutine ends the leader's;
 // the call has ended all the same. A leader with a context has the result in spite of the latter.
 func TestRecorderBreaks(t *testing.T) {

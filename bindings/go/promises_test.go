@@ -543,6 +543,108 @@ func TestPanicsOfLoadsThatWereLeft(t *testing.T) {
 	}
 }
 
+// What a load comes to comes to all who have joined: a value with an error, a panic, and the end of the
+// goroutine. They joined by callers of their own and without one, in the library and beside it.
+func TestJoinersOfLoadsThatFail(t *testing.T) {
+	failed := errors.New("failed")
+	type end struct {
+		r         Result
+		recovered any
+		returned  bool
+	}
+	for _, callers := range []uint32{16, 1} {
+		for what, ends := range map[string]func() (any, error){
+			"an error": func() (any, error) { return 3, failed },
+			"a panic":  func() (any, error) { panic(failed) },
+			"an end":   func() (any, error) { runtime.Goexit(); return nil, nil },
+		} {
+			g := openFixed(t, callers)
+			if callers == 1 {
+				// The one caller is taken.
+				busy := make(chan struct{})
+				defer close(busy)
+				g.DoChan("other", func() (any, error) { <-busy; return 0, nil })
+			}
+			ctx, cancel := context.WithCancel(always)
+			defer cancel()
+			all := make(chan end, 3)
+			ask := func(ctx context.Context, fn func() (any, error)) {
+				var its end
+				defer func() { its.recovered = recover(); all <- its }()
+				its.r, _ = g.Of.Do(ctx, "key", func(context.Context) (any, error) { return fn() })
+				its.returned = true
+			}
+			started, release := chans()
+			go ask(always, func() (any, error) { close(started); <-release; return ends() })
+			begun(t, started)
+			go ask(always, value("a second load"))
+			go ask(ctx, value("a third load"))
+			until(t, "both join", func() bool { return g.Stats().Joins == 2 })
+			close(release)
+			for i := 0; i < 3; i++ {
+				its := came(t, all)
+				err, _ := its.recovered.(error)
+				switch {
+				case its.returned != (what == "an error") || (its.recovered != nil) != (what == "a panic"):
+					t.Error(callers, what, its)
+				case its.returned && (its.r.Val != 3 || its.r.Err != failed || !its.r.Shared || its.r.Joiners != 2):
+					t.Error(callers, what, its.r)
+				case what == "a panic" && !errors.Is(err, failed):
+					t.Error(callers, what, err)
+				}
+			}
+		}
+	}
+}
+
+// Who joins one call after the other that ends for want of callers asks again each time.
+func TestRoundsOfOneWhoJoins(t *testing.T) {
+	const rounds = 5
+	failed := errors.New("the load was ended")
+	ends, cancel := context.WithCancel(always)
+	defer cancel()
+	for _, ctx := range []context.Context{always, ends} {
+		for _, callers := range []uint32{16, 1} {
+			g := openFixed(t, callers)
+			if callers == 1 {
+				busy := make(chan struct{})
+				defer close(busy)
+				g.DoChan("other", func() (any, error) { <-busy; return 0, nil })
+			}
+			// A call whose one caller has left.
+			left := func() (release chan struct{}) {
+				own, leave := context.WithCancel(always)
+				started, release := chans()
+				gone := make(chan error)
+				go func() {
+					_, err, _ := doContext(own, g, "key", func(context.Context) (any, error) { close(started); <-release; return nil, failed })
+					gone <- err
+				}()
+				begun(t, started)
+				leave()
+				if err := came(t, gone); err != context.Canceled {
+					t.Error("who leaves", err)
+				}
+				return release
+			}
+			release := left()
+			joiner := g.Of.DoChan(ctx, "key", loadOf("its own"))
+			for i := uint64(1); i < rounds; i++ {
+				until(t, "it joins", func() bool { return g.Stats().Joins == i })
+				g.Forget("key")
+				next := left()
+				close(release)
+				release = next
+			}
+			until(t, "it joins", func() bool { return g.Stats().Joins == rounds })
+			close(release)
+			if r := receive(t, joiner); r.Val != "its own" || r.Err != nil {
+				t.Error("who joins asks again", callers, r)
+			}
+		}
+	}
+}
+
 // errors.Is and errors.As see through a panic that goes on.
 func TestPanicUnwraps(t *testing.T) {
 	failed := errors.New("failed")
