@@ -208,7 +208,8 @@ func TestRecorderBlocksNobodyElse(t *testing.T) {
 
 // A leader whose context ends once its call is settled has the result, and not the context's error.
 func TestLeaderOfASettledCall(t *testing.T) {
-	var cancel context.CancelFunc
+	ctx, cancel := context.WithCancel(always)
+	defer cancel()
 	returned := make(chan struct{})
 	g := recorded(t, func(Load) {
 		cancel()
@@ -218,8 +219,6 @@ func TestLeaderOfASettledCall(t *testing.T) {
 		case <-time.After(50 * time.Millisecond):
 		}
 	})
-	var ctx context.Context
-	ctx, cancel = context.WithCancel(always)
 	go func() {
 		defer close(returned)
 		if v, err, _ := doContext(ctx, g, "key", loadOf(1)); v != 1 || err != nil {
