@@ -123,30 +123,57 @@ func TestCloseWhileCallsRun(t *testing.T) {
 	}
 }
 
-// A group that nobody closes is freed when nobody has it.
+// The numbers of a closed group are those that it had, but for its callers.
+func TestStatsAfterClose(t *testing.T) {
+	g := open(t, 8)
+	started, release := chans()
+	first := g.DoChan("key", heldAny(1, started, release))
+	begun(t, started)
+	joined := g.DoChan("key", value(2))
+	until(t, "another waits", func() bool { return waiting(g) == 1 })
+	g.Do("other", value(3))
+	g.Forget("other")
+	held, end := chans()
+	open := g.DoChan("forgotten", heldAny(4, held, end))
+	begun(t, held)
+	g.Forget("forgotten")
+	close(end)
+	receive(t, open)
+	want := Stats{Leads: 3, Joins: 1, Closed: 1, Idle: 1, Epochs: 1, InUse: 2, Proved: isProved}
+	if st := g.Stats(); st.Made == 0 {
+		t.Error("its callers", st)
+	}
+	g.Close()
+	if st := g.Stats(); st != want {
+		t.Error("while a call runs", st, want)
+	}
+	close(release)
+	receive(t, first)
+	receive(t, joined)
+	want.InUse = 0
+	until(t, "all seats are freed", func() bool { return isFreed(g) })
+	if st := g.Stats(); st != want {
+		t.Error("closed", st, want)
+	}
+	g.Do("key", value(5))
+	g.Forget("key")
+	want.Alone, want.Idle = 1, 2
+	if st := g.Stats(); st != want {
+		t.Error("what comes then", st, want)
+	}
+}
+
+// A group that nobody closes is closed when nobody has it.
 func TestForgottenGroup(t *testing.T) {
-	freed := make(chan bool, 1)
+	var e *epoch
 	func() {
 		g := new(Group)
 		g.Do("key", value(1))
-		p := g.made.Load()
-		runtime.SetFinalizer(p, nil)
-		runtime.SetFinalizer(p, func(p *pool) {
-			p.close()
-			freed <- p.now.Load() == nil && len(p.draining) == 0
-		})
+		e = g.made.Load().now.Load()
 	}()
-	until(t, "the group is freed", func() bool {
+	until(t, "each seat is freed", func() bool {
 		runtime.GC()
-		select {
-		case all := <-freed:
-			if !all {
-				t.Error("each seat is freed")
-			}
-			return true
-		default:
-			return false
-		}
+		return e.closed.Load() && e.gone.Load() == e.made.Load()
 	})
 }
 
