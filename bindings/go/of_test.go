@@ -140,6 +140,13 @@ func TestOfGoroutines(t *testing.T) {
 		if same := got.Val == goroutine(); same != (ctx.Done() == nil) || err != nil {
 			t.Error("the function's goroutine", same, err)
 		}
+		of := receiveGot(t, o.DoChan(ctx, "key", func(own context.Context) (string, error) {
+			v, _ := own.Value(keyOfValue{}).(string)
+			return v, nil
+		}))
+		if of.Val != "ada" || of.Err != nil {
+			t.Error("the values of DoChan's context", of)
+		}
 	}
 }
 

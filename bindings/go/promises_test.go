@@ -628,7 +628,8 @@ func TestRoundsOfOneWhoJoins(t *testing.T) {
 				return release
 			}
 			release := left()
-			joiner := g.Of.DoChan(ctx, "key", loadOf("its own"))
+			joiner := make(chan Result, 1)
+			go func() { r, _ := g.Of.Do(ctx, "key", loadOf("its own")); joiner <- r }()
 			for i := uint64(1); i < rounds; i++ {
 				until(t, "it joins", func() bool { return g.Stats().Joins == i })
 				g.Forget("key")
