@@ -510,10 +510,11 @@ func TestPanicsOfLoadsThatWereLeft(t *testing.T) {
 	defer g.Close()
 	for _, waits := range []bool{true, false} {
 		ctx, cancel := context.WithCancel(context.Background())
+		text := fmt.Sprint("left, and another waits: ", waits)
 		started, release := chans()
 		gone := make(chan error)
 		go func() {
-			_, err, _ := doContext(ctx, g, "key", func(context.Context) (any, error) { close(started); <-release; panic("left") })
+			_, err, _ := doContext(ctx, g, "key", func(context.Context) (any, error) { close(started); <-release; panic(text) })
 			gone <- err
 		}()
 		<-started
@@ -526,15 +527,15 @@ func TestPanicsOfLoadsThatWereLeft(t *testing.T) {
 			until(t, "another waits", func() bool { return waiting(g) == 2 })
 		}
 		cancel()
-		if err := <-gone; err != context.Canceled {
+		if err := came(t, gone); err != context.Canceled {
 			t.Error("the leader leaves", err)
 		}
 		close(release)
 		if waits {
-			if e, ok := (<-recovered).(error); !ok || !strings.HasPrefix(e.Error(), "left\n\n") {
+			if e, ok := came(t, recovered).(error); !ok || !strings.HasPrefix(e.Error(), text+"\n\n") {
 				t.Error("the panic goes on", e)
 			}
-		} else if v := <-told; v != "left" {
+		} else if v := came(t, told); v != text {
 			t.Error("the hook", v)
 		}
 	}
