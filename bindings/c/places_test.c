@@ -121,8 +121,39 @@ static void comes_from_thread_to_thread(void) {
     sflight_do_close(pool);
 }
 
+/* The slots of eight keys, as the stamps of their loads tell. */
+static void slots_of(sflight_pool *pool, uint32_t slots[8]) {
+    for (uint8_t key = 0; key < 8; key++) {
+        sflight_got got;
+        if (sflight_do(pool, &key, 1, plain, NULL, SFLIGHT_DO_FOREVER, &got) != SFLIGHT_DO_DONE) abort();
+        slots[key] = (uint32_t)got.stamp.call.place;
+    }
+}
+
+/* Nobody can choose keys that meet: all seeds of two pools differ, and so do those of two epochs of a pool. */
+static void seeds_differ(void) {
+    const sflight_do_sizes sizes = {.slots = 1 << 16, .callers = 4, .is_fixed = true};
+    sflight_pool *pools[2];
+    uint64_t seeds[14];
+    uint32_t slots[3][8];
+    for (int i = 0; i < 2; i++) {
+        pools[i] = sflight_do_open(&sizes, NULL);
+        if (!pools[i]) abort();
+        memcpy(&seeds[7 * i], pools[i]->seeds, sizeof pools[i]->seeds);
+        memcpy(&seeds[7 * i + 3], pools[i]->names, sizeof pools[i]->names);
+        slots_of(pools[i], slots[i]);
+    }
+    for (int i = 0; i < 14; i++) for (int j = 0; j < i; j++) check(seeds[i] != seeds[j], "a seed of its own");
+    check(memcmp(slots[0], slots[1], sizeof slots[0]) != 0, "two pools have their own slots for a key");
+    replace_epoch(pools[0]);
+    slots_of(pools[0], slots[2]);
+    check(memcmp(slots[0], slots[2], sizeof slots[0]) != 0, "two epochs too");
+    for (int i = 0; i < 2; i++) sflight_do_close(pools[i]);
+}
+
 int main(void) {
     alarm(60);
+    seeds_differ();
     is_left_near();
     is_found_elsewhere();
     is_current_when_taken();
