@@ -207,6 +207,16 @@ fn is_current_says_yes_and_no() {
     );
 }
 
+// By seeds of its own: the first calls of two groups are the same but for their slots.
+#[test]
+fn each_group_has_its_own_slots_for_keys() {
+    let stamps = || {
+        let group = open::<u32>(1);
+        [1u8, 2, 3, 4].map(|key| group.get_or_load([key], || 1).stamp())
+    };
+    assert_ne!(stamps(), stamps());
+}
+
 #[test]
 fn the_last_waker_is_woken_once() {
     let group = open::<u32>(4);
