@@ -1,5 +1,5 @@
 //! A drive: its fill, its threads, and what comes of them.
-ghost use Rattle.std.specs.Prelude.{◌≡◌, ◌≢◌, ◌*◌, ◌<◌, ◌≤◌, ℕ, List, IfOk, IfErr, codes, string_bytes, vec_len};
+ghost use Rattle.std.specs.Prelude.{◌≡◌, ◌≢◌, ◌↔◌, ◌*◌, ◌<◌, ◌≤◌, ℕ, List, IfOk, IfErr, IsTrue, codes, string_bytes, vec_len};
 ghost use Rattle.std.specs.Io.KnownBytes.{Appends};
 ghost use Rattle.sf_cli_drive.specs.declared.report.DriveEnding.{DriveEnding};
 ghost use Rattle.sf_cli_drive.specs.declared.report.Report.{Report};
@@ -17,7 +17,7 @@ use crate::line::DriveLine;
 use crate::loaders::{AnyKey, OddPicker, ThirdFails};
 use crate::report::{DriveEnding, Report};
 use sf_dir::LONGEST_KEY;
-use sf_fill::{Fill, Getter, Naming};
+use sf_fill::{Fill, Getter, Naming, Totals};
 use sf_fill_open::{DirectoryKeys, FillSizes, Keeps, Keys, Places, Team, with_team};
 use sf_group::Memory;
 use sf_loaders::scripted::RoundChance;
@@ -106,20 +106,23 @@ impl<'a, R: Wait + Clock + Eprint> Team for Crew<'a, R> {
     {
         let book = fill.book(self.rt);
         let gathered = fill.gather(self.rt, getters);
-        found(self.alloc, parts, gathered == book, self.line)
+        found(self.alloc, parts, book, gathered, self.line)
     }
 }
 
-// What the threads found.
+// What the threads found: the book's numbers were these before, and those that were gathered.
 fn found(
     alloc: Global,
     parts: Vec<ThreadEnd>,
-    totals_equal: bool,
+    book: Totals,
+    gathered: Totals,
     line: DriveLine,
 ) -> Result<Found, Memory>
     requires { vec_len parts ≡ line.threads }
-    ensures { IfOk result (λ found.
+    ensures by_parts { IfOk result (λ found.
         IsFoundBy line.threads line.gets parts.items found.report found.history) }
+    ensures totals { IfOk result (λ found.
+        IsTrue found.report.totals_equal ↔ (book ≡ gathered)) }
 {
     let mut logs = Vec::with_capacity(alloc, parts.len())?;
     let mut answers: u64 = 0;
@@ -139,7 +142,7 @@ fn found(
     let report = Report {
         gets: line.threads as u64 * line.gets as u64,
         answers,
-        totals_equal,
+        totals_equal: gathered == book,
         verdict: verdict_on(alloc, &history),
     };
     Ok(Found { report, history })

@@ -18,6 +18,8 @@ mod own;
 #[cfg(test)]
 mod seats;
 #[cfg(test)]
+mod seeds;
+#[cfg(test)]
 mod spots;
 #[cfg(test)]
 mod stale;

@@ -215,3 +215,27 @@ counted 4 2 2 2 0 0 2 0";
 fn large_value_is_kept(rt: HostRuntime) -> Result<(), Fail> {
     trials(&rt, rt.alloc(), LARGE)
 }
+
+// A key's place is its SipHash-1-3 by the seed, scaled down, where no other key is there.
+const SEEDS: &str = "\
+places 65536
+seed0 506097522914230528
+seed1 1084818905618843912
+1 put a
+=
+1 put a settled 1.1 of 7207 w=true
+counted 1 0 1 1 0 0 1 0
+
+places 65536
+keys hashed
+seed0 1084818905618843912
+seed1 506097522914230528
+1 put a
+=
+1 put a settled 1.1 of 46885 w=true
+counted 1 0 1 1 0 0 1 0";
+
+#[test]
+fn keys_have_their_places_by_the_seed(rt: HostRuntime) -> Result<(), Fail> {
+    trials(&rt, rt.alloc(), SEEDS)
+}

@@ -22,6 +22,8 @@
 //!     places 8          how many places keys have
 //!     keys hashed       a hash says them, and no directory gives them
 //!     longest 4         the longest key of a directory, in bytes
+//!     seed0 0           the first half of the seed that keys have their places by
+//!     seed1 0           its second half
 //!     limit 100         how many bytes of keys and values main and hot keep
 //!     near 0            how many letters each getter keeps near
 //!     near-bytes 100    how many bytes of keys and values these have at most
@@ -81,15 +83,15 @@ fn says(script: &str, name: &str, value: &str) -> bool {
     }
 }
 
-// The number that the script says under this name, of 250 at most.
+// The number that the script says under this name, of 65,536 at most.
 fn number(rt: &impl Abort, script: &str, name: &str, otherwise: u32) -> u32
-    ensures { result ≤ 250 }
+    ensures { result ≤ 65_536 }
 {
     let number = match setting(script, name) {
         Some(value) => value.parse::<u32>().unwrap_or(u32::MAX),
         None => otherwise,
     };
-    assert!(rt; number <= 250, "no number of {name}");
+    assert!(rt; number <= 65_536, "no number of {name}");
     number
 }
 
@@ -115,25 +117,38 @@ fn near_bytes(rt: &impl Abort, script: &str) -> usize {
     bytes
 }
 
+// A half of the seed.
+fn seed(rt: &impl Abort, script: &str, name: &str) -> u64 {
+    let Some(value) = setting(script, name) else {
+        return 0;
+    };
+    let Ok(half) = value.parse::<u64>() else {
+        panic!(rt; "no {name}")
+    };
+    half
+}
+
 // Where keys have their places.
 fn keys(rt: &impl Abort, script: &str) -> Keys
     ensures { places_for result ≤ LARGEST_PLACE }
 {
     let count = number(rt, script, "places", 8);
     let key_bytes = number(rt, script, "longest", 4);
+    let seed0 = seed(rt, script, "seed0");
+    let seed1 = seed(rt, script, "seed1");
     assert!(rt; count > 0, "no places");
     if says(script, "keys", "hashed") {
         return Keys::Hashed(Places {
             count,
-            seed0: 0,
-            seed1: 0,
+            seed0,
+            seed1,
         });
     }
     Keys::Directory(DirectoryKeys {
         keys: count,
         key_bytes,
-        seed0: 0,
-        seed1: 0,
+        seed0,
+        seed1,
     })
 }
 
@@ -465,6 +480,8 @@ fn is_known(line: &str) -> bool {
             | "places"
             | "keys"
             | "longest"
+            | "seed0"
+            | "seed1"
             | "limit"
             | "near"
             | "near-bytes"
