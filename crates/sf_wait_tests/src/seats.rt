@@ -194,6 +194,13 @@ impl<'a> Seat<'a> {
         seat
     }
 
+    /// Makes the step, whatever comes of it.
+    pub fn make<R: Abort + Wait>(self, stage: &Stage<R>, step: &str) -> Seat<'a> {
+        let mut said = String::new(stage.alloc);
+        let seat = self.step(stage, step, &mut said);
+        seat
+    }
+
     // Makes the step, and says what comes of it.
     fn step<R: Abort + Wait>(self, stage: &Stage<R>, step: &str, said: &mut String) -> Seat<'a> {
         let (verb, rest) = step.split_once(' ').unwrap_or((step, ""));
