@@ -18,7 +18,7 @@ use std::convert::Infallible;
 use std::fmt;
 use std::future::Future;
 use std::hash::{BuildHasherDefault, Hasher};
-use std::sync::atomic::{AtomicBool, AtomicU64, AtomicUsize, Ordering};
+use std::sync::atomic::{AtomicBool, AtomicU64, AtomicU8, AtomicUsize, Ordering};
 use std::sync::{Arc, Mutex};
 use std::time::{Duration, Instant};
 
@@ -35,6 +35,17 @@ const COMMON_SLOTS: u64 = 1_048_576;
 const MOST_SLOTS: u64 = 134_217_728;
 /// How many values a lane remembers.
 const NEAR: usize = 1024;
+/// The queues of a shard.
+const SMALL: usize = 0;
+const MAIN: usize = 1;
+/// The small queue has room for one entry in so many.
+const SMALL_PART: usize = 10;
+/// What stands before the first place of a queue, and after the last one; and after the last free one.
+const END: usize = usize::MAX;
+/// How many hits of an entry are counted at most.
+const MOST_USED: u8 = 3;
+/// How many ghosts a row has: as many as there are fingerprints in a line of memory.
+const ROW: usize = 8;
 /// How many loads run by the library at a time, where the builder says nothing.
 const LOADS: u32 = 1024;
 
@@ -71,16 +82,17 @@ struct Name {
     near: AtomicBool,
     /// Whether the entry has left the cache.
     left: AtomicBool,
-    /// Whether the entry was found since the hand last passed it.
-    used: AtomicBool,
+    /// How often the entry was found, less what its shard took off since.
+    used: AtomicU8,
 }
 
 impl Name {
-    /// Marks the entry as found. Most often it is marked already, and then nobody else's copy of this
-    /// line of memory is taken away.
+    /// Counts that the entry was found. One that is hot has its most already, and then nobody else's
+    /// copy of this line of memory is taken away.
     fn mark(&self) {
-        if !self.used.load(Ordering::Relaxed) {
-            self.used.store(true, Ordering::Relaxed);
+        let used = self.used.load(Ordering::Relaxed);
+        if used < MOST_USED {
+            self.used.store(used + 1, Ordering::Relaxed);
         }
     }
 }
@@ -94,42 +106,163 @@ struct Entry<V> {
     until: Option<Instant>,
 }
 
-/// A part of the keys, by fingerprint.
+/// The queue of a place, and the places before and after it there.
+struct Link {
+    queue: usize,
+    before: usize,
+    after: usize,
+}
+
+/// The ends of a queue of places, and how many it has.
+struct Queue {
+    front: usize,
+    back: usize,
+    len: usize,
+}
+
+/// A part of the keys, by fingerprint. What makes room is chosen by S3-FIFO (Juncheng Yang and others,
+/// "FIFO queues are all you need for cache eviction", SOSP 2023): an entry comes into the small queue,
+/// and goes on to the main one if it was found meanwhile. So a key that is asked for once pushes out
+/// none that is asked for again. One that left the small queue lately comes into the main one at once.
 struct Shard<V> {
+    /// The place of each entry, which is its own until it leaves.
     at: HashMap<u64, usize, BuildHasherDefault<Same>>,
-    entries: Vec<Entry<V>>,
-    hand: usize,
+    entries: Vec<Option<Entry<V>>>,
+    links: Vec<Link>,
+    queues: [Queue; 2],
+    /// A place without an entry. After it comes the one that became free before it.
+    free: usize,
+    /// The fingerprints that left the small queue lately, about as many as there are entries. A row has
+    /// those of a part of all fingerprints, the latest first. A place that was never taken has 0.
+    ghosts: Vec<[u64; ROW]>,
 }
 
 impl<V> Shard<V> {
-    /// Takes an entry out. The last one comes into its place.
-    fn remove(&mut self, index: usize) -> Entry<V> {
-        let entry = self.entries.swap_remove(index);
-        self.at.remove(&entry.fingerprint);
-        if let Some(moved) = self.entries.get(index) {
-            self.at.insert(moved.fingerprint, index);
+    fn new() -> Self {
+        Shard {
+            at: HashMap::default(),
+            entries: Vec::new(),
+            links: Vec::new(),
+            queues: [SMALL, MAIN].map(|_| Queue { front: END, back: END, len: 0 }),
+            free: END,
+            ghosts: Vec::new(),
         }
-        entry
     }
 
-    /// Takes out the next entry that was not found since the hand last passed it.
-    fn evict(&mut self) -> Option<Entry<V>> {
-        // Lanes mark entries meanwhile: a caller that has passed all takes the one that comes next.
-        for passed in 0..=self.entries.len() {
-            if self.hand >= self.entries.len() {
-                self.hand = 0;
-            }
-            let entry = self.entries.get(self.hand)?;
-            if passed == self.entries.len() || !entry.name.used.load(Ordering::Relaxed) {
-                let evicted = self.remove(self.hand);
-                // The newest entry has come into its place, and its turn is when all others had theirs.
-                self.hand += 1;
-                return Some(evicted);
-            }
-            entry.name.used.store(false, Ordering::Relaxed);
-            self.hand += 1;
+    fn len(&self) -> usize {
+        self.at.len()
+    }
+
+    /// The place of a fingerprint's entry, and the entry.
+    fn find(&self, fingerprint: u64) -> Option<(usize, &Entry<V>)> {
+        let place = *self.at.get(&fingerprint)?;
+        Some((place, self.entries[place].as_ref()?))
+    }
+
+    /// Puts an entry in. It takes the place of the one that has its fingerprint, which is handed out.
+    fn put(&mut self, entry: Entry<V>) -> Option<Entry<V>> {
+        if let Some(&place) = self.at.get(&entry.fingerprint) {
+            return self.entries[place].replace(entry);
         }
+        if self.free == END {
+            self.free = self.entries.len();
+            self.entries.push(None);
+            self.links.push(Link { queue: SMALL, before: END, after: END });
+        }
+        let place = self.free;
+        self.free = self.links[place].after;
+        let has_ghost = self.has_ghost(entry.fingerprint);
+        self.at.insert(entry.fingerprint, place);
+        self.entries[place] = Some(entry);
+        self.append(if has_ghost { MAIN } else { SMALL }, place);
         None
+    }
+
+    /// Takes out the entry that is in a place.
+    fn remove(&mut self, place: usize) -> Option<Entry<V>> {
+        let entry = self.entries[place].take()?;
+        self.at.remove(&entry.fingerprint);
+        self.unlink(place);
+        self.links[place].after = std::mem::replace(&mut self.free, place);
+        Some(entry)
+    }
+
+    /// Takes a place out of its queue.
+    fn unlink(&mut self, place: usize) {
+        let Link { queue, before, after } = self.links[place];
+        self.join(queue, before, after);
+        self.queues[queue].len -= 1;
+    }
+
+    /// Puts a place that is in no queue to the back of one.
+    fn append(&mut self, queue: usize, place: usize) {
+        self.links[place].queue = queue;
+        self.join(queue, self.queues[queue].back, place);
+        self.join(queue, place, END);
+        self.queues[queue].len += 1;
+    }
+
+    /// Makes two places of a queue neighbours, or one of them an end of it.
+    fn join(&mut self, queue: usize, before: usize, after: usize) {
+        match self.links.get_mut(before) {
+            Some(link) => link.after = after,
+            None => self.queues[queue].front = after,
+        }
+        match self.links.get_mut(after) {
+            Some(link) => link.before = before,
+            None => self.queues[queue].back = before,
+        }
+    }
+
+    /// Takes out the entry whose turn it is.
+    fn evict(&mut self) -> Option<Entry<V>> {
+        while self.queues[SMALL].len > self.len() / SMALL_PART {
+            let place = self.queues[SMALL].front;
+            let Entry { fingerprint, name, .. } = self.entries.get(place)?.as_ref()?;
+            if name.used.load(Ordering::Relaxed) == 0 {
+                self.leave_ghost(*fingerprint);
+                return self.remove(place);
+            }
+            name.used.store(0, Ordering::Relaxed);
+            self.unlink(place);
+            self.append(MAIN, place);
+        }
+        // Lanes mark entries meanwhile, so the passes are counted. Once they would have taken off all
+        // marks that there were, the next entry leaves, whatever its marks.
+        let mut passes = self.queues[MAIN].len * usize::from(MOST_USED);
+        loop {
+            let place = self.queues[MAIN].front;
+            let name = &self.entries.get(place)?.as_ref()?.name;
+            let used = name.used.load(Ordering::Relaxed);
+            if used == 0 || passes == 0 {
+                return self.remove(place);
+            }
+            name.used.store(used - 1, Ordering::Relaxed);
+            self.unlink(place);
+            self.append(MAIN, place);
+            passes -= 1;
+        }
+    }
+
+    fn row(&self, fingerprint: u64) -> usize {
+        // The lower half of the fingerprint as a part of all rows: the upper half chose the shard.
+        ((u64::from(fingerprint as u32) * self.ghosts.len() as u64) >> 32) as usize
+    }
+
+    fn has_ghost(&self, fingerprint: u64) -> bool {
+        self.ghosts.get(self.row(fingerprint)).is_some_and(|row| row.contains(&fingerprint))
+    }
+
+    /// Remembers a fingerprint that leaves the small queue, for which its row forgets the oldest.
+    fn leave_ghost(&mut self, fingerprint: u64) {
+        // With another number of rows most ghosts are not found. But a shard grows while there is room,
+        // and then nothing leaves.
+        if self.ghosts.len() * ROW < self.len() {
+            self.ghosts.resize(self.len().div_ceil(ROW), [0; ROW]);
+        }
+        let row = self.row(fingerprint);
+        self.ghosts[row].rotate_right(1);
+        self.ghosts[row][0] = fingerprint;
     }
 }
 
@@ -405,13 +538,9 @@ impl<V: Send + Sync, E: Send + Sync> CacheBuilder<V, E> {
         let near = || (0..NEAR).map(|_| Near { last: 0, copy: None }).collect();
         let own = || Own { caller: group.caller(), near: near(), hits: 0, misses: 0, joins: 0 };
         let lane = |_| Lane(Mutex::new(own()));
-        let shard = |_| {
-            let at = HashMap::default();
-            Mutex::new(Shard { at, entries: Vec::new(), hand: 0 })
-        };
         Ok(Cache {
             lanes: (0..lanes).map(lane).collect(),
-            shards: (0..shards).map(shard).collect(),
+            shards: (0..shards).map(|_| Mutex::new(Shard::new())).collect(),
             fingerprints: Fingerprints::new(),
             era: AtomicU64::new(0),
             invalidations: (0..shards).map(|_| AtomicU64::new(0)).collect(),
@@ -434,7 +563,8 @@ impl<V: Send + Sync, E: Send + Sync> CacheBuilder<V, E> {
 /// After [`Cache::invalidate`] has returned, no call that begins later, in any thread, gets a value
 /// of that key whose load began before; neither from the cache nor from a load that was under way.
 /// What the values weigh together is never more than the limit: one that was not found lately makes
-/// room (second chance). Errors are shared by those who wait for the load, and are not kept.
+/// room (S3-FIFO), first of all those that were asked for once. Errors are shared by those who wait
+/// for the load, and are not kept.
 ///
 /// It is shared between threads by reference, or in an [`Arc`].
 ///
@@ -705,15 +835,13 @@ impl<V: Send + Sync, E: Send + Sync> Cache<V, E> {
     /// Takes all entries out.
     fn empty(&self) {
         for shard in &self.shards {
-            let mut shard = lock(shard);
-            let entries = std::mem::take(&mut shard.entries);
-            shard.at.clear();
-            drop(shard);
+            let emptied = std::mem::replace(&mut *lock(shard), Shard::new());
+            let entries = || emptied.entries.iter().flatten();
             // All weights first: a listener may panic.
-            let weight = entries.iter().map(|entry| entry.weight).sum();
+            let weight = entries().map(|entry| entry.weight).sum();
             self.weight.fetch_sub(weight, Ordering::SeqCst);
-            entries.iter().for_each(|entry| self.unremember(entry));
-            entries.iter().for_each(|entry| self.tell(entry));
+            entries().for_each(|entry| self.unremember(entry));
+            entries().for_each(|entry| self.tell(entry));
         }
     }
 
@@ -740,7 +868,7 @@ impl<V: Send + Sync, E: Send + Sync> Cache<V, E> {
             failures: self.failures.load(Ordering::Relaxed),
             evictions: self.evictions.load(Ordering::Relaxed),
             weight: self.weight(),
-            entries: self.shards.iter().map(|shard| lock(shard).entries.len() as u64).sum(),
+            entries: self.shards.iter().map(|shard| lock(shard).len() as u64).sum(),
             ..Default::default()
         };
         for lane in &self.lanes {
@@ -766,9 +894,8 @@ impl<V: Send + Sync, E: Send + Sync> Cache<V, E> {
         let own = begun.fetch_add(1, Ordering::SeqCst) + 1;
         self.group.forget(name(era, key));
         let mut shard = lock(self.shard(fingerprint));
-        let index = shard.at.get(&fingerprint).copied();
-        let entry = match index {
-            Some(index) if *shard.entries[index].name.key == *key => Some(shard.remove(index)),
+        let entry = match shard.find(fingerprint) {
+            Some((place, entry)) if *entry.name.key == *key => shard.remove(place),
             _ => None,
         };
         drop(shard);
@@ -841,8 +968,7 @@ impl<V: Send + Sync, E: Send + Sync> Cache<V, E> {
     /// What the key's shard has of it, whatever has become of its call; with its name, if it is wanted.
     fn find_far(&self, key: &[u8], fingerprint: u64, era: u64, named: bool) -> Option<Found<V>> {
         let shard = lock(self.shard(fingerprint));
-        let index = *shard.at.get(&fingerprint)?;
-        let entry = &shard.entries[index];
+        let (_, entry) = shard.find(fingerprint)?;
         if *entry.name.key != *key || entry.name.era != era {
             return None;
         }
@@ -915,8 +1041,8 @@ impl<V: Send + Sync, E: Send + Sync> Cache<V, E> {
             return;
         }
         let not = || AtomicBool::new(false);
-        let key = key.into();
-        let name = Arc::new(Name { key, era, near: not(), left: not(), used: not() });
+        let (key, used) = (key.into(), AtomicU8::new(0));
+        let name = Arc::new(Name { key, era, near: not(), left: not(), used });
         let entry = Entry { fingerprint, name, value, stamp, weight, until };
         let mut shard = lock(self.shard(fingerprint));
         // All was invalidated meanwhile. Whoever begins an era empties this shard later, by its lock.
@@ -924,15 +1050,7 @@ impl<V: Send + Sync, E: Send + Sync> Cache<V, E> {
             self.weight.fetch_sub(weight, Ordering::SeqCst);
             return;
         }
-        let before = match shard.at.get(&fingerprint).copied() {
-            Some(index) => Some(std::mem::replace(&mut shard.entries[index], entry)),
-            None => {
-                let index = shard.entries.len();
-                shard.entries.push(entry);
-                shard.at.insert(fingerprint, index);
-                None
-            }
-        };
+        let before = shard.put(entry);
         drop(shard);
         if let Some(before) = before {
             self.left(before);
@@ -999,7 +1117,9 @@ impl<V: Send + Sync, E: Send + Sync> Cache<V, E> {
 
 #[cfg(test)]
 mod tests {
-    use super::{lock, name, Cache, Ordering};
+    use super::{lock, name, Cache, Entry, Name, Ordering, Shard, END, MAIN, SMALL};
+    use std::collections::HashMap;
+    use std::sync::Arc;
 
     /// The limit of a cache whose keys all have one fingerprint.
     pub(super) const BLIND: u64 = 1_000_003;
@@ -1062,5 +1182,307 @@ mod tests {
         let mut own = lock(&cache.lane().0);
         assert!(own.remember(fingerprint, &found).is_none());
         assert!(own.near.iter().all(|near| near.copy.is_none()), "it is remembered");
+    }
+
+    /// The fingerprint of a number: those of numbers in turn are in all rows of ghosts alike.
+    fn spread(number: u64) -> u64 {
+        number.wrapping_mul(0x7f4a_7c15_9e37_79b9)
+    }
+
+    /// An entry whose value tells it from others of its fingerprint.
+    fn entry(fingerprint: u64, value: u64) -> Entry<u64> {
+        let (near, left, used) = Default::default();
+        let name = Arc::new(Name { key: Box::default(), era: 0, near, left, used });
+        let (value, stamp) = (Arc::new(value), Default::default());
+        Entry { fingerprint, name, value, stamp, weight: 1, until: None }
+    }
+
+    /// Puts in an entry of each fingerprint.
+    fn put(shard: &mut Shard<u64>, fingerprints: impl IntoIterator<Item = u64>) {
+        for fingerprint in fingerprints {
+            assert!(shard.put(entry(fingerprint, 0)).is_none());
+        }
+    }
+
+    /// Puts in an entry of each, for which another leaves. Those that left.
+    fn exchange(shard: &mut Shard<u64>, fingerprints: impl IntoIterator<Item = u64>) -> Vec<u64> {
+        let exchange = |fingerprint| {
+            let left = shard.evict().expect("it has entries").fingerprint;
+            put(shard, [fingerprint]);
+            left
+        };
+        fingerprints.into_iter().map(exchange).collect()
+    }
+
+    fn mark(shard: &Shard<u64>, fingerprints: impl IntoIterator<Item = u64>) {
+        for fingerprint in fingerprints {
+            shard.find(fingerprint).expect("it is there").1.name.mark();
+        }
+    }
+
+    fn remove(shard: &mut Shard<u64>, fingerprint: u64) -> Option<Entry<u64>> {
+        let (place, _) = shard.find(fingerprint)?;
+        shard.remove(place)
+    }
+
+    /// The fingerprints of the queues by turn. The links of each have to agree, and each place is in a
+    /// queue or free.
+    fn orders(shard: &Shard<u64>) -> [Vec<u64>; 2] {
+        let orders = [SMALL, MAIN].map(|queue| {
+            let (mut order, mut before, mut place) = (Vec::new(), END, shard.queues[queue].front);
+            while place != END {
+                let (link, entry) = (&shard.links[place], shard.entries[place].as_ref());
+                assert_eq!((link.queue, link.before), (queue, before), "of place {place}");
+                order.push(entry.expect("it has an entry").fingerprint);
+                (before, place) = (place, link.after);
+            }
+            let (back, len) = (shard.queues[queue].back, shard.queues[queue].len);
+            assert_eq!((back, len), (before, order.len()), "of queue {queue}");
+            order
+        });
+        let (mut free, mut place) = (0, shard.free);
+        while place != END {
+            assert!(shard.entries[place].is_none(), "at the free place {place}");
+            (free, place) = (free + 1, shard.links[place].after);
+        }
+        assert_eq!(orders.concat().len(), shard.len());
+        assert_eq!([shard.len() + free; 2], [shard.entries.len(), shard.links.len()]);
+        orders
+    }
+
+    #[test]
+    fn a_scan_pushes_out_no_key_that_was_found_twice() {
+        let mut shard = Shard::new();
+        put(&mut shard, 0..100);
+        for _ in 0..2 {
+            mark(&shard, (0..80).step_by(2));
+        }
+        exchange(&mut shard, 1_000..11_000);
+        let [small, main] = orders(&shard);
+        assert_eq!(main, Vec::from_iter((0..80).step_by(2)));
+        assert_eq!(small, Vec::from_iter(10_940..11_000));
+    }
+
+    #[test]
+    fn a_key_that_comes_back_soon_comes_into_the_main_queue() {
+        let mut shard = Shard::new();
+        put(&mut shard, 0..20);
+        assert_eq!(exchange(&mut shard, 100..120), Vec::from_iter(0..20));
+        // All are of one row, which has 13 to 19 and 100 once that has left.
+        assert_eq!(exchange(&mut shard, [13, 12, 19]), [100, 101, 102]);
+        assert_eq!(orders(&shard), [Vec::from_iter((103..120).chain([12])), vec![13, 19]]);
+    }
+
+    #[test]
+    fn a_key_of_the_small_queue_moves_if_it_was_found() {
+        let mut shard = Shard::new();
+        put(&mut shard, 0..20);
+        mark(&shard, [0, 1, 3]);
+        assert_eq!(exchange(&mut shard, [20, 21]), [2, 4]);
+        assert_eq!(orders(&shard), [Vec::from_iter(5..22), vec![0, 1, 3]]);
+        let used =
+            [0, 1, 3].map(|key| shard.find(key).unwrap().1.name.used.load(Ordering::Relaxed));
+        assert_eq!(used, [0; 3], "it moves with its mark");
+    }
+
+    fn with_a_main_queue() -> Shard<u64> {
+        let mut shard = Shard::new();
+        put(&mut shard, 101..119);
+        mark(&shard, 101..119);
+        put(&mut shard, 17..20);
+        assert_eq!(shard.evict().map(|entry| entry.fingerprint), Some(17));
+        assert_eq!(orders(&shard), [vec![18, 19], Vec::from_iter(101..119)]);
+        shard
+    }
+
+    #[test]
+    fn a_key_of_the_main_queue_goes_round_while_it_is_marked() {
+        let mut shard = with_a_main_queue();
+        for key in [18, 19] {
+            assert!(remove(&mut shard, key).is_some());
+        }
+        // 101 has two marks, 103 has one, and 104 has three.
+        mark(&shard, [101, 101, 103, 104, 104, 104, 104]);
+        let left = std::iter::from_fn(|| Some(shard.evict()?.fingerprint));
+        let expected = [102].into_iter().chain(105..119).chain([103, 101, 104]);
+        assert_eq!(Vec::from_iter(left), Vec::from_iter(expected));
+    }
+
+    #[test]
+    fn an_entry_is_removed_wherever_it_stands() {
+        for gone in [0, 1, 9, 10, 18, 19] {
+            let mut shard = Shard::new();
+            put(&mut shard, 0..20);
+            assert_eq!(remove(&mut shard, gone).map(|entry| entry.fingerprint), Some(gone));
+            assert!(remove(&mut shard, gone).is_none());
+            put(&mut shard, [30]);
+            let small = (0..20).filter(|key| *key != gone).chain([30]).collect();
+            assert_eq!(orders(&shard), [small, vec![]]);
+            assert_eq!(shard.entries.len(), 20, "the place is not taken again");
+        }
+        for gone in [101, 102, 110, 117, 118] {
+            let mut shard = with_a_main_queue();
+            assert_eq!(remove(&mut shard, gone).map(|entry| entry.fingerprint), Some(gone));
+            let main = (101..119).filter(|key| *key != gone).collect();
+            assert_eq!(orders(&shard), [vec![18, 19], main]);
+        }
+    }
+
+    #[test]
+    fn an_entry_that_is_replaced_leaves_its_place_to_the_new_one() {
+        let mut shard = with_a_main_queue();
+        let before = orders(&shard);
+        for key in [18, 105] {
+            assert_eq!(
+                shard.put(entry(key, 7)).map(|old| (old.fingerprint, *old.value)),
+                Some((key, 0))
+            );
+            assert_eq!(shard.find(key).map(|(_, new)| *new.value), Some(7));
+        }
+        assert_eq!(orders(&shard), before);
+    }
+
+    #[test]
+    fn there_are_about_as_many_ghosts_as_entries() {
+        let mut shard = Shard::new();
+        put(&mut shard, (1..51).map(spread));
+        exchange(&mut shard, (100..10_000).map(spread));
+        assert_eq!(shard.ghosts.len(), 7, "rows for 50 entries");
+        // What left last was 9,949.
+        let remembered = |number: &u64| shard.has_ghost(spread(*number));
+        let remembered = Vec::from_iter((1..10_000).filter(remembered));
+        assert!(remembered.len() == 56 && remembered.ends_with(&Vec::from_iter(9_910..9_950)));
+        (9_951..10_000).for_each(|key| drop(remove(&mut shard, spread(key))));
+        exchange(&mut shard, (20_000..30_000).map(spread));
+        assert_eq!((shard.ghosts.len(), shard.entries.len()), (7, 50));
+    }
+
+    // Lanes may mark entries as fast as they are passed: here each has a mark that no pass takes off.
+    #[test]
+    fn an_eviction_ends_though_all_are_marked() {
+        let mut shard = with_a_main_queue();
+        let names: Vec<_> = (101..119).map(|key| shard.find(key).unwrap().1.name.clone()).collect();
+        names.iter().for_each(|name| name.used.store(u8::MAX, Ordering::Relaxed));
+        assert_eq!(exchange(&mut shard, [1]), [101]);
+        assert!(names.iter().all(|name| name.used.load(Ordering::Relaxed) == u8::MAX - 3));
+    }
+
+    #[test]
+    fn a_mark_counts_to_three() {
+        let shard = with_a_main_queue();
+        mark(&shard, std::iter::repeat_n(101, 1_000));
+        assert_eq!(shard.find(101).unwrap().1.name.used.load(Ordering::Relaxed), 3);
+    }
+
+    /// The algorithm of the paper, in lists of fingerprints.
+    #[derive(Default)]
+    struct Paper {
+        small: Vec<u64>,
+        main: Vec<u64>,
+        /// By rows of eight, for each eighth entry one.
+        ghosts: Vec<Vec<u64>>,
+        /// What each entry's value is, and how often it was found.
+        known: HashMap<u64, (u64, u32)>,
+    }
+
+    impl Paper {
+        fn put(&mut self, key: u64, value: u64) -> Option<u64> {
+            let old = self.known.insert(key, (value, 0));
+            if old.is_none() {
+                let has_ghost = self.row(key).is_some_and(|row| row.contains(&key));
+                if has_ghost { &mut self.main } else { &mut self.small }.push(key);
+            }
+            old.map(|(value, _)| value)
+        }
+
+        fn row(&mut self, key: u64) -> Option<&mut Vec<u64>> {
+            let all = self.ghosts.len() as u64;
+            self.ghosts.get_mut((key % (1 << 32) * all / (1 << 32)) as usize)
+        }
+
+        fn find(&mut self, key: u64) {
+            self.known.entry(key).and_modify(|(_, found)| *found = 3.min(*found + 1));
+        }
+
+        fn remove(&mut self, key: u64) -> Option<u64> {
+            self.small.retain(|other| *other != key);
+            self.main.retain(|other| *other != key);
+            self.known.remove(&key).map(|(value, _)| value)
+        }
+
+        fn evict(&mut self) -> Option<u64> {
+            while !self.known.is_empty() {
+                let is_small = 10 * self.small.len() > self.known.len();
+                let key = if is_small { &mut self.small } else { &mut self.main }.remove(0);
+                let found = self.known[&key].1;
+                if found > 0 {
+                    let found = if is_small { 0 } else { found - 1 };
+                    self.known.entry(key).and_modify(|known| known.1 = found);
+                    self.main.push(key);
+                    continue;
+                }
+                if is_small {
+                    while 8 * self.ghosts.len() < self.known.len() {
+                        self.ghosts.push(vec![0; 8]);
+                    }
+                    let row = self.row(key).expect("there is a row");
+                    row.insert(0, key);
+                    row.pop();
+                }
+                return self.remove(key);
+            }
+            None
+        }
+    }
+
+    // Nothing is lost, and nothing leaves twice: each entry has a value of its own, and is in the shard
+    // or was handed out.
+    #[test]
+    fn a_shard_does_as_the_paper_says() {
+        for seed in 0..40u64 {
+            let (mut shard, mut paper, mut state) = (Shard::new(), Paper::default(), seed);
+            let (mut values, mut left) = (0, Vec::new());
+            let mut random = |up_to: u64| {
+                state = state
+                    .wrapping_mul(6_364_136_223_846_793_005)
+                    .wrapping_add(1_442_695_040_888_963_407);
+                (state >> 33) % up_to
+            };
+            let limit = [1, 2, 5, 12, 40][seed as usize % 5];
+            for _ in 0..2_000 {
+                // Some keys are asked for more often than others, and all rows have some.
+                let key = spread(random(3 * limit).min(random(3 * limit)));
+                let (value, expected) = match random(40) {
+                    0..8 => {
+                        values += 1;
+                        (shard.put(entry(key, values)), paper.put(key, values))
+                    }
+                    8..24 => {
+                        paper.find(key);
+                        shard.find(key).into_iter().for_each(|(_, entry)| entry.name.mark());
+                        (None, None)
+                    }
+                    24..26 => (remove(&mut shard, key), paper.remove(key)),
+                    26 => (shard.evict(), paper.evict()),
+                    _ if shard.find(key).is_some() => continue,
+                    _ => {
+                        values += 1;
+                        let full = shard.len() as u64 >= limit;
+                        let evicted = full.then(|| (shard.evict(), paper.evict()));
+                        assert!(shard.put(entry(key, values)).is_none());
+                        paper.put(key, values);
+                        evicted.unwrap_or_default()
+                    }
+                };
+                let value = value.map(|entry| *entry.value);
+                assert_eq!(value, expected, "seed {seed}");
+                left.extend(value);
+                assert_eq!(orders(&shard), [&paper.small, &paper.main].map(Clone::clone));
+                assert_eq!(paper.ghosts, shard.ghosts);
+            }
+            left.extend(shard.entries.iter().flatten().map(|entry| *entry.value));
+            left.sort();
+            assert_eq!(left, Vec::from_iter(1..=values), "seed {seed}");
+        }
     }
 }

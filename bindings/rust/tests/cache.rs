@@ -276,11 +276,25 @@ fn a_hot_key_stays() {
             loads.fetch_add(1, SeqCst);
             1
         });
-        cache.get_or_load(round.to_le_bytes(), || 2);
+        // Found once, these come into the main queue, where the hot key stands by its marks alone.
+        for _ in 0..2 {
+            cache.get_or_load(round.to_le_bytes(), || 2);
+        }
     }
     // It may be loaded again where a key of its hash slot was loaded.
     let loads = loads.into_inner();
     assert!(loads < 8, "a key that is always in use was loaded {loads} times");
+}
+
+// More are asked for once than the cache has ghosts, so keys that were found stay by their marks.
+#[test]
+fn keys_that_are_asked_for_once_push_out_none_that_was_found() {
+    let cache: Cache<u32> = Cache::builder(5_000).entries(50_000).build().unwrap();
+    for key in (0..1_000u32).chain(0..1_000).chain(10_000..30_000) {
+        cache.get_or_load(key.to_le_bytes(), || key);
+    }
+    let kept = (0..1_000u32).filter(|key| cache.get(key.to_le_bytes()).is_some()).count();
+    assert!(kept > 900, "{kept} of 1,000 keys that were found are left");
 }
 
 // The keys in use are others after a while. The old ones leave, and not the newest.
