@@ -25,6 +25,9 @@ use std::time::{Duration, Instant};
 /// How many shards and lanes there are at most. Both are powers of two.
 const MOST_SHARDS: usize = 256;
 const MOST_LANES: usize = 64;
+/// How many entries a shard has room for at least. With few entries in each, what leaves is hardly
+/// chosen: the only entry of a shard makes room whatever its marks.
+const LEAST_OF_SHARD: u64 = 32;
 /// How many hash slots of the group each entry has, and how many where that would be more than the
 /// common number; how many there are at least and at most. A load of one key at the slot of another
 /// ends that one's value, so with few slots a cache that misses often loses what it has.
@@ -463,8 +466,9 @@ impl<V: Send + Sync, E: Send + Sync> CacheBuilder<V, E> {
 
     /// Sets how many entries the cache is to have, by which the group gets its hash slots of 8 bytes:
     /// 64 for each, in a cache of more than 65,536 entries 16 for each, and 16,384 at least. Where
-    /// there are more entries, a load of one key makes the value of another stale more often. Without
-    /// this, there are as many entries as the limit, and at most 65,536.
+    /// there are more entries, a load of one key makes the value of another stale more often. Where
+    /// there are fewer, the cache has more shards than it needs, and those with few entries hardly
+    /// choose what leaves. Without this, there are as many entries as the limit, and at most 65,536.
     ///
     /// ```
     /// let cache: singleflight::Cache<u32> =
@@ -534,7 +538,9 @@ impl<V: Send + Sync, E: Send + Sync> CacheBuilder<V, E> {
         }
         let callers = self.loads.saturating_add(lanes as u32);
         let group = Group::open(slots as u32, callers)?;
-        let shards = (4 * lanes).min(MOST_SHARDS);
+        let parts = (4 * lanes).min(MOST_SHARDS);
+        let enough = (entries.min(self.limit) / LEAST_OF_SHARD).max(1);
+        let shards = parts.min(1 << enough.ilog2());
         let near = || (0..NEAR).map(|_| Near { last: 0, copy: None }).collect();
         let own = || Own { caller: group.caller(), near: near(), hits: 0, misses: 0, joins: 0 };
         let lane = |_| Lane(Mutex::new(own()));
@@ -543,7 +549,7 @@ impl<V: Send + Sync, E: Send + Sync> CacheBuilder<V, E> {
             shards: (0..shards).map(|_| Mutex::new(Shard::new())).collect(),
             fingerprints: Fingerprints::new(),
             era: AtomicU64::new(0),
-            invalidations: (0..shards).map(|_| AtomicU64::new(0)).collect(),
+            invalidations: (0..parts).map(|_| AtomicU64::new(0)).collect(),
             weight: AtomicU64::new(0),
             evictions: AtomicU64::new(0),
             loads: AtomicU64::new(0),
@@ -581,7 +587,7 @@ pub struct Cache<V, E = Infallible> {
     shards: Box<[Mutex<Shard<V>>]>,
     fingerprints: Fingerprints,
     era: AtomicU64,
-    /// By shard, how many invalidations of keys have begun.
+    /// By a part of the fingerprints, how many invalidations of keys have begun.
     invalidations: Box<[AtomicU64]>,
     weight: AtomicU64,
     evictions: AtomicU64,
@@ -790,7 +796,7 @@ impl<V: Send + Sync, E: Send + Sync> Cache<V, E> {
     pub fn insert(&self, key: impl AsRef<[u8]>, value: V) {
         let key = key.as_ref();
         let (era, fingerprint) = (self.era(), self.fingerprint(key));
-        let begun = &self.invalidations[self.shard_number(fingerprint)];
+        let begun = self.invalidations(fingerprint);
         let own = self.forget(key, fingerprint, era);
         let name = name(era, key);
         // The receiver goes with the end of this: nobody waits for it.
@@ -890,7 +896,7 @@ impl<V: Send + Sync, E: Send + Sync> Cache<V, E> {
 
     /// Forgets the key in the era, and takes its entry out. The number of this invalidation.
     fn forget(&self, key: &[u8], fingerprint: u64, era: u64) -> u64 {
-        let begun = &self.invalidations[self.shard_number(fingerprint)];
+        let begun = self.invalidations(fingerprint);
         let own = begun.fetch_add(1, Ordering::SeqCst) + 1;
         self.group.forget(name(era, key));
         let mut shard = lock(self.shard(fingerprint));
@@ -917,6 +923,10 @@ impl<V: Send + Sync, E: Send + Sync> Cache<V, E> {
     fn shard_number(&self, fingerprint: u64) -> usize {
         // The map below takes the hash's lower bits for its places, and its upper seven for marks.
         (fingerprint >> 32) as usize & (self.shards.len() - 1)
+    }
+
+    fn invalidations(&self, fingerprint: u64) -> &AtomicU64 {
+        &self.invalidations[(fingerprint >> 32) as usize & (self.invalidations.len() - 1)]
     }
 
     fn shard(&self, fingerprint: u64) -> &Mutex<Shard<V>> {

@@ -286,6 +286,27 @@ fn a_hot_key_stays() {
     assert!(loads < 8, "a key that is always in use was loaded {loads} times");
 }
 
+// With a shard for each of few keys, the hot key would be the only one in its shard, and make room.
+#[test]
+fn a_hot_key_stays_in_a_cache_of_few() {
+    for limit in [2, 3, 10, 100] {
+        let cache: Cache<u32> = Cache::builder(limit).entries(50_000).build().unwrap();
+        let loads = AtomicUsize::new(0);
+        for round in 0..1_000u32 {
+            cache.get_or_load("hot", || {
+                loads.fetch_add(1, SeqCst);
+                1
+            });
+            cache.get_or_load(round.to_le_bytes(), || 2);
+        }
+        let loads = loads.into_inner();
+        assert!(
+            loads < 4,
+            "in a cache of {limit} a key that is always in use was loaded {loads} times"
+        );
+    }
+}
+
 // More are asked for once than the cache has ghosts, so keys that were found stay by their marks.
 #[test]
 fn keys_that_are_asked_for_once_push_out_none_that_was_found() {
