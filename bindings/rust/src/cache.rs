@@ -1069,7 +1069,6 @@ impl<V: Send + Sync, E: Send + Sync> Cache<V, E> {
 
     /// Takes so much of the limit, for which others leave. Returns whether there was room.
     fn make_room(&self, fingerprint: u64, weight: u64) -> bool {
-        let own = (fingerprint >> 32) as usize;
         let take = || {
             self.weight
                 .fetch_update(Ordering::SeqCst, Ordering::SeqCst, |now| {
@@ -1077,19 +1076,20 @@ impl<V: Send + Sync, E: Send + Sync> Cache<V, E> {
                 })
                 .is_ok()
         };
-        // The key's own shard first, and one of another where that is empty.
-        let mut shard = own;
-        while shard < own + self.shards.len() {
+        // One entry of each shard in turn, from the key's own on: a heavy value empties no shard, of
+        // which the main queue would go too.
+        let (mut shard, mut empty) = (self.shard_number(fingerprint), 0);
+        while empty < self.shards.len() {
             if take() {
                 return true;
             }
-            let evicted = lock(&self.shards[shard & (self.shards.len() - 1)]).evict();
-            match evicted {
-                Some(entry) => {
-                    self.evictions.fetch_add(1, Ordering::Relaxed);
-                    self.left(entry);
-                }
-                None => shard += 1,
+            let evicted = lock(&self.shards[shard]).evict();
+            shard = (shard + 1) & (self.shards.len() - 1);
+            empty += 1;
+            if let Some(entry) = evicted {
+                empty = 0;
+                self.evictions.fetch_add(1, Ordering::Relaxed);
+                self.left(entry);
             }
         }
         take()

@@ -307,6 +307,25 @@ fn a_hot_key_stays_in_a_cache_of_few() {
     }
 }
 
+// Its room comes from all shards: in each some of the keys that were asked for once leave.
+#[test]
+fn a_heavy_value_pushes_out_no_key_that_was_found() {
+    let cache: Cache<u32> = Cache::builder(10_000)
+        .entries(50_000)
+        .weigher(|_, value| u64::from(*value))
+        .build()
+        .unwrap();
+    for key in (0..2_000u32).chain(0..2_000).chain(10_000..18_000) {
+        cache.get_or_load(key.to_le_bytes(), || 1);
+    }
+    for heavy in ["a", "b"] {
+        cache.get_or_load(heavy, || 2_000);
+    }
+    assert_eq!(cache.weight(), 10_000);
+    let kept = (0..2_000u32).filter(|key| cache.get(key.to_le_bytes()).is_some()).count();
+    assert!(kept > 1_900, "{kept} of 2,000 keys that were found are left");
+}
+
 // More are asked for once than the cache has ghosts, so keys that were found stay by their marks.
 #[test]
 fn keys_that_are_asked_for_once_push_out_none_that_was_found() {
