@@ -43,10 +43,12 @@ const SMALL: usize = 0;
 const MAIN: usize = 1;
 /// The small queue has room for one entry in so many.
 const SMALL_PART: usize = 10;
-/// What stands before the first place of a queue, and after the last one; and after the last free one.
+/// Stands for no place: before the first one of a queue, after the last one, after the last free one.
 const END: usize = usize::MAX;
 /// How many hits of an entry are counted at most.
 const MOST_USED: u8 = 3;
+/// How many entries an eviction passes at most.
+const MOST_PASSES: usize = 1024;
 /// How many ghosts a row has: as many as there are fingerprints in a line of memory.
 const ROW: usize = 8;
 /// How many loads run by the library at a time, where the builder says nothing.
@@ -109,7 +111,8 @@ struct Entry<V> {
     until: Option<Instant>,
 }
 
-/// The queue of a place, and the places before and after it there.
+/// The queue of a place, and the places before and after it there. Of a free place `after` alone
+/// counts.
 struct Link {
     queue: usize,
     before: usize,
@@ -124,9 +127,10 @@ struct Queue {
 }
 
 /// A part of the keys, by fingerprint. What makes room is chosen by S3-FIFO (Juncheng Yang and others,
-/// "FIFO queues are all you need for cache eviction", SOSP 2023): an entry comes into the small queue,
-/// and goes on to the main one if it was found meanwhile. So a key that is asked for once pushes out
-/// none that is asked for again. One that left the small queue lately comes into the main one at once.
+/// "FIFO queues are all you need for cache eviction", SOSP 2023). An entry comes into the small queue,
+/// and moves to the main one if it was found meanwhile. So a key that is asked for once pushes out
+/// none that is asked for again. A key that left the small queue lately comes into the main one at
+/// once. The paper's sizes are bytes, and here a queue's size is its number of entries.
 struct Shard<V> {
     /// The place of each entry, which is its own until it leaves.
     at: HashMap<u64, usize, BuildHasherDefault<Same>>,
@@ -136,7 +140,7 @@ struct Shard<V> {
     /// A place without an entry. After it comes the one that became free before it.
     free: usize,
     /// The fingerprints that left the small queue lately, about as many as there are entries. A row has
-    /// those of a part of all fingerprints, the latest first. A place that was never taken has 0.
+    /// those of a part of all fingerprints, the latest first, and 0 where there are fewer.
     ghosts: Vec<[u64; ROW]>,
 }
 
@@ -219,28 +223,21 @@ impl<V> Shard<V> {
 
     /// Takes out the entry whose turn it is.
     fn evict(&mut self) -> Option<Entry<V>> {
-        while self.queues[SMALL].len > self.len() / SMALL_PART {
-            let place = self.queues[SMALL].front;
-            let Entry { fingerprint, name, .. } = self.entries.get(place)?.as_ref()?;
-            if name.used.load(Ordering::Relaxed) == 0 {
-                self.leave_ghost(*fingerprint);
-                return self.remove(place);
-            }
-            name.used.store(0, Ordering::Relaxed);
-            self.unlink(place);
-            self.append(MAIN, place);
-        }
-        // Lanes mark entries meanwhile, so the passes are counted. Once they would have taken off all
-        // marks that there were, the next entry leaves, whatever its marks.
-        let mut passes = self.queues[MAIN].len * usize::from(MOST_USED);
+        // The shard is locked, and lanes mark entries meanwhile. So after many passes the next entry
+        // leaves, whatever its marks.
+        let mut passes = MOST_PASSES;
         loop {
-            let place = self.queues[MAIN].front;
-            let name = &self.entries.get(place)?.as_ref()?.name;
+            let is_small = self.queues[SMALL].len > self.len() / SMALL_PART;
+            let place = self.queues[if is_small { SMALL } else { MAIN }].front;
+            let Entry { fingerprint, name, .. } = self.entries.get(place)?.as_ref()?;
             let used = name.used.load(Ordering::Relaxed);
             if used == 0 || passes == 0 {
+                if is_small {
+                    self.leave_ghost(*fingerprint);
+                }
                 return self.remove(place);
             }
-            name.used.store(used - 1, Ordering::Relaxed);
+            name.used.store(if is_small { 0 } else { used - 1 }, Ordering::Relaxed);
             self.unlink(place);
             self.append(MAIN, place);
             passes -= 1;
@@ -258,8 +255,8 @@ impl<V> Shard<V> {
 
     /// Remembers a fingerprint that leaves the small queue, for which its row forgets the oldest.
     fn leave_ghost(&mut self, fingerprint: u64) {
-        // With another number of rows most ghosts are not found. But a shard grows while there is room,
-        // and then nothing leaves.
+        // With another number of rows many ghosts are not found. That is rare: a shard grows while
+        // there is room, when nothing leaves, and its rows never become fewer.
         if self.ghosts.len() * ROW < self.len() {
             self.ghosts.resize(self.len().div_ceil(ROW), [0; ROW]);
         }
@@ -568,9 +565,9 @@ impl<V: Send + Sync, E: Send + Sync> CacheBuilder<V, E> {
 ///
 /// After [`Cache::invalidate`] has returned, no call that begins later, in any thread, gets a value
 /// of that key whose load began before; neither from the cache nor from a load that was under way.
-/// What the values weigh together is never more than the limit: one that was not found lately makes
-/// room (S3-FIFO), first of all those that were asked for once. Errors are shared by those who wait
-/// for the load, and are not kept.
+/// What the values weigh together is never more than the limit. S3-FIFO chooses what leaves: first a
+/// value that was loaded and not found since, and else one that was not found lately. Errors are
+/// shared by those who wait for the load, and are not kept.
 ///
 /// It is shared between threads by reference, or in an [`Arc`].
 ///
@@ -1367,14 +1364,25 @@ mod tests {
         assert_eq!((shard.ghosts.len(), shard.entries.len()), (7, 50));
     }
 
-    // Lanes may mark entries as fast as they are passed: here each has a mark that no pass takes off.
+    // Lanes may mark entries as fast as they are passed: here no pass takes off the last mark.
     #[test]
     fn an_eviction_ends_though_all_are_marked() {
         let mut shard = with_a_main_queue();
         let names: Vec<_> = (101..119).map(|key| shard.find(key).unwrap().1.name.clone()).collect();
         names.iter().for_each(|name| name.used.store(u8::MAX, Ordering::Relaxed));
-        assert_eq!(exchange(&mut shard, [1]), [101]);
-        assert!(names.iter().all(|name| name.used.load(Ordering::Relaxed) == u8::MAX - 3));
+        // After 56 rounds of 18 entries 16 more are passed.
+        assert_eq!(exchange(&mut shard, [1]), [117]);
+        let used = names.iter().map(|name| u8::MAX - name.used.load(Ordering::Relaxed));
+        assert_eq!(Vec::from_iter(used), [[57; 16].as_slice(), &[56; 2]].concat());
+    }
+
+    #[test]
+    fn an_eviction_ends_though_many_come_into_the_main_queue() {
+        let mut shard = Shard::new();
+        put(&mut shard, 0..2_000);
+        mark(&shard, 0..2_000);
+        assert_eq!(exchange(&mut shard, [2_000]), [1_024]);
+        assert_eq!(orders(&shard), [Vec::from_iter(1_025..2_001), Vec::from_iter(0..1_024)]);
     }
 
     #[test]
