@@ -136,7 +136,7 @@ fn keys(rt: &impl Abort, script: &str) -> Keys
     let key_bytes = number(rt, script, "longest", 4);
     let seed0 = seed(rt, script, "seed0");
     let seed1 = seed(rt, script, "seed1");
-    assert!(rt; count > 0, "no places");
+    assert!(rt; count > 0 && key_bytes <= 250, "no places");
     if says(script, "keys", "hashed") {
         return Keys::Hashed(Places {
             count,
