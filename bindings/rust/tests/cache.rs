@@ -118,6 +118,23 @@ fn each_entry_that_leaves_is_told_once() {
     assert_eq!((cache.stats().weight, cache.stats().evictions), (0, 0));
 }
 
+// The old value stays until the new one takes its place.
+#[test]
+fn an_entry_that_is_loaded_again_is_told() {
+    let left = Arc::new(Mutex::new(Vec::new()));
+    let told = left.clone();
+    let cache: Cache<u32> = Cache::builder(10)
+        .time_to_live(Duration::ZERO)
+        .on_evict(move |_, value| told.lock().unwrap().push(**value))
+        .build()
+        .unwrap();
+    for value in [1, 2, 3] {
+        assert_eq!(*cache.get_or_load("key", || value), value);
+    }
+    assert_eq!((cache.weight(), cache.stats().entries), (1, 1));
+    assert_eq!(*left.lock().unwrap(), [1, 2]);
+}
+
 #[test]
 fn a_listener_may_use_the_cache() {
     within_a_minute(|| {
