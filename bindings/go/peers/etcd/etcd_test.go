@@ -98,7 +98,7 @@ func (c *cluster) start(i int) {
 }
 
 func (c *cluster) kill(i int) {
-	if c.commands[i] != nil {
+	if c.commands[i] != nil && c.commands[i].Process != nil {
 		c.commands[i].Process.Kill()
 		c.commands[i].Wait()
 		c.commands[i] = nil
