@@ -11,7 +11,11 @@
  * one thread at a time, and sflight_cache_close alone. A load or drop function may use the cache by
  * another reader; a load that asks for its own key waits for itself. It returns: it does not longjmp
  * out, and its thread is not cancelled meanwhile. No function is called from a signal handler, or
- * from the forked child of a process with threads. */
+ * from the forked child of a process with threads.
+ *
+ * A load or drop function of a program in C++ throws no exception: the key could not be loaded again.
+ * From C++17 on the types of both are noexcept, so that one that may throw does not compile. A load
+ * that fails returns null. */
 #ifndef SFLIGHT_CACHE_H
 #define SFLIGHT_CACHE_H
 
@@ -37,7 +41,8 @@ typedef struct sflight_value {
 
 /* Loads the value of the key. Returns a pointer, or null where it failed. Writes what the value
  * weighs, which is 1 unless it says otherwise. */
-typedef void *sflight_cache_load(void *context, const uint8_t *key, size_t len, uint64_t *weight);
+typedef void *sflight_cache_load(void *context, const uint8_t *key, size_t len,
+                                 uint64_t *weight) SFLIGHT_NOEXCEPT;
 
 /* How a cache is made. */
 typedef struct sflight_cache_options {
@@ -45,8 +50,9 @@ typedef struct sflight_cache_options {
     uint32_t entries; /* about how many values there will be, 1 to 8,388,608 */
     uint32_t readers; /* how many readers at one time, 1 to 65,534 */
     sflight_cache_load *load;
-    void (*drop)(void *context, void *value); /* may be null, where values need not be freed */
-    void *context;                            /* for the two */
+    /* May be null, where values need not be freed. */
+    void (*drop)(void *context, void *value) SFLIGHT_NOEXCEPT;
+    void *context; /* for the two */
 } sflight_cache_options;
 
 /* What has happened, since the cache was opened. */
