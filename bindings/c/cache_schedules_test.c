@@ -1,0 +1,196 @@
+/* Schedules of sflight_cache.c: threads whose steps are in an order that a number draws, which get few keys
+ * of few hash slots, with nested loads, loads that fail, Forgets (also by a reader that loads) and readers
+ * that have no caller. One load of a key runs at a time, unless a Forget came between; nothing is older than
+ * a Forget that had returned, nor than what a get had returned before it was asked for.
+ * usage: cache_schedules_test [NUMBER [COUNT]], the first schedule and how many. */
+#include "schedules.h"
+
+#include "sflight_cache.c"
+
+#ifndef SCHEDULES
+#define SCHEDULES 3000
+#endif
+
+enum { KEYS = 4, DEPTH = 3, MOST_RUNNING = 64 };
+
+static int passed, failed;
+
+static void check(bool holds, const char *what) {
+    if (holds) { passed++; return; }
+    failed++;
+    printf("FAILED: %s (schedule %llu)\n", what, (unsigned long long)play.number);
+    fflush(stdout);
+}
+
+/* One actor runs at a time, and hands over within the library's parts alone: what is here is read and
+ * written as by one thread. */
+static struct key {
+    const char *name;
+    size_t len;
+    uint64_t begun, ended; /* Forgets */
+    uint64_t forgotten;    /* when the last one began that has returned */
+    uint64_t newest, newest_ended; /* the newest that was returned, and what had ended when it was asked for */
+    struct { uint64_t moment, ended; } running[MOST_RUNNING];
+    int count;
+} keys[KEYS] = {
+    {.name = "k", .len = 1}, {.name = "k\0", .len = 2}, {.name = "another", .len = 7},
+    {.name = "a long key, which the library keeps on the heap", .len = 47},
+};
+
+struct value {
+    uint64_t moment;
+    int key;
+};
+
+static sflight_cache *cache;
+static sflight_reader *readers[MOST_ACTORS][DEPTH];
+static int live, depths[MOST_ACTORS], loaded[MOST_ACTORS][DEPTH];
+static uint64_t ended_at[MOST_ACTORS][DEPTH];
+static uint64_t ticks, hits, loads, joins, alone, doubles, stale, backward, refused;
+static unsigned rounds, forgetting;
+static bool fails;
+
+static void ask(int number);
+static void forgets(int number, sflight_reader *reader);
+
+static void *load(void *context, const uint8_t *name, size_t len, uint64_t *weight) {
+    (void)context;
+    int depth = depths[actor], number = loaded[actor][depth];
+    struct key *key = &keys[number];
+    uint64_t moment = ++ticks, ended = ended_at[actor][depth];
+    if (key->len != len || memcmp(key->name, name, len) != 0) abort();
+    *weight = 1 + random_below(2);
+    /* What was asked for before all Forgets that have begun by now had returned may have been ended by one. */
+    for (int i = 0; i < key->count && ended == key->begun; i++) doubles += key->running[i].ended == key->begun;
+    if (key->count == MOST_RUNNING) abort();
+    key->running[key->count].moment = moment;
+    key->running[key->count++].ended = ended;
+    for (unsigned i = random_below(6); i > 0; i--) point(false);
+    int other = number + 1 + (int)random_below(KEYS);
+    if (depth + 1 < DEPTH && other < KEYS && random_below(2) == 0) {
+        depths[actor]++;
+        ask(other);
+        depths[actor]--;
+    }
+    if (random_below(6) == 0) forgets((int)random_below(KEYS), readers[actor][depth]);
+    for (int i = 0; i < key->count; i++) {
+        if (key->running[i].moment == moment) key->running[i] = key->running[--key->count];
+    }
+    if (fails && random_below(4) == 0) return NULL;
+    struct value *value = malloc(sizeof *value);
+    if (!value) abort();
+    *value = (struct value){moment, number};
+    live++;
+    return value;
+}
+
+static void drop(void *context, void *value) {
+    (void)context;
+    live--;
+    ((struct value *)value)->key = -1;
+    free(value);
+}
+
+static void ask(int number) {
+    struct key *key = &keys[number];
+    int depth = depths[actor];
+    sflight_reader *reader = readers[actor][depth];
+    uint64_t least = key->forgotten, newest = key->newest, ended = key->newest_ended, asked = key->ended;
+    sflight_value value;
+    int code = SFLIGHT_CACHE_HIT;
+    loaded[actor][depth] = number;
+    ended_at[actor][depth] = asked;
+    if (random_below(4) > 0) code = sflight_cache_get(reader, (const uint8_t *)key->name, key->len, &value);
+    else if (!sflight_cache_peek(reader, (const uint8_t *)key->name, key->len, &value)) return;
+    if (code > SFLIGHT_CACHE_JOINED) {
+        refused += code != SFLIGHT_CACHE_FAILED || !fails;
+        return;
+    }
+    struct value *got = value.at;
+    uint64_t moment = got->moment;
+    hits += code == SFLIGHT_CACHE_HIT;
+    joins += code == SFLIGHT_CACHE_JOINED;
+    stale += moment < least || got->key != number;
+    backward += moment < newest && key->begun == ended;
+    /* What was joined was not there before. */
+    backward += code != SFLIGHT_CACHE_HIT && moment <= newest && key->begun == ended;
+    if (moment > key->newest) {
+        key->newest = moment;
+        key->newest_ended = asked;
+    }
+    point(false);
+    sflight_cache_release(cache, &value);
+}
+
+static void forgets(int number, sflight_reader *reader) {
+    bool is_all = random_below(4) == 0;
+    uint64_t began = ++ticks;
+    for (int i = 0; i < KEYS; i++) keys[i].begun += is_all || i == number;
+    if (is_all) sflight_cache_forget_all(reader);
+    else sflight_cache_forget(reader, (const uint8_t *)keys[number].name, keys[number].len);
+    for (int i = 0; i < KEYS; i++) {
+        if (!is_all && i != number) continue;
+        if (keys[i].forgotten < began) keys[i].forgotten = began;
+        keys[i].ended++;
+    }
+}
+
+static void acts_at_random(int number) {
+    for (unsigned i = 0; i < rounds; i++) {
+        int key = (int)random_below(random_below(2) ? 2 : KEYS);
+        if (random_below(forgetting) == 0) forgets(key, readers[number][0]);
+        else ask(key);
+    }
+}
+
+static void play_at_random(uint64_t number) {
+    begin_play(number, 2 + (int)(number % (MOST_ACTORS - 1)));
+    uint32_t count = (uint32_t)play.actors * DEPTH;
+    few_places = 1 + random_below(3);
+    few_callers = random_below(3) == 0 ? 1 + random_below(count) : 0;
+    rounds = 1 + random_below(6);
+    forgetting = 2 + random_below(10);
+    fails = random_below(3) == 0;
+    cache = sflight_cache_open(&(sflight_cache_options){
+        .limit = 1 + random_below(5), .entries = 8, .readers = count, .load = load, .drop = drop});
+    if (!cache) abort();
+    cache->places = few_places;
+    for (int i = 0; i < KEYS; i++) keys[i] = (struct key){.name = keys[i].name, .len = keys[i].len};
+    for (int i = 0; i < play.actors; i++) {
+        for (int j = 0; j < DEPTH; j++) {
+            readers[i][j] = sflight_cache_enter(cache);
+            if (!readers[i][j]) abort();
+        }
+    }
+    play_all(acts_at_random);
+    for (int i = 0; i < play.actors; i++)
+        for (int j = 0; j < DEPTH; j++) sflight_cache_leave(readers[i][j]);
+    sflight_cache_stats stats = sflight_cache_statistics(cache);
+    loads += stats.loads;
+    alone += stats.alone;
+    check(doubles == 0, "one load of a key at a time");
+    check(stale == 0, "nothing is older than a Forget that had returned");
+    check(backward == 0, "nothing is older than what was returned before");
+    check(refused == 0, "no get is refused");
+    bool is_bare = atomic_load(&cache->strangers) == 0;
+    for (int i = 0; i < ALERTS; i++) is_bare = is_bare && atomic_load(&cache->alerts[i]) == 0;
+    check(is_bare, "no caller is left with a leader, and no run stands in the table");
+    sflight_cache_close(cache);
+    check(live == 0, "each value is dropped once");
+    doubles = stale = backward = refused = 0;
+    live = 0;
+}
+
+int main(int argc, char **argv) {
+    setvbuf(stdout, NULL, _IOLBF, 0);
+    uint64_t from = argc > 1 ? strtoull(argv[1], NULL, 10) : 1;
+    uint64_t count = argc > 2 ? strtoull(argv[2], NULL, 10) : argc > 1 ? 1 : SCHEDULES;
+    open_plays();
+    for (uint64_t i = from; i < from + count && failed == 0; i++) play_at_random(i);
+    close_plays();
+    printf("%llu hits, %llu loads, %llu beside the library, %llu joined\n", (unsigned long long)hits,
+           (unsigned long long)loads, (unsigned long long)alone, (unsigned long long)joins);
+    if (argc == 1) check(hits > 0 && joins > 0 && alone > 0 && loads > alone, "there was something of each");
+    printf("%d passed, %d failed\n", passed, failed);
+    return failed > 0;
+}
