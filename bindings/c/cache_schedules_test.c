@@ -143,16 +143,10 @@ static void acts_at_random(int number) {
     }
 }
 
-static void play_at_random(uint64_t number) {
-    begin_play(number, 2 + (int)(number % (MOST_ACTORS - 1)));
+static void open_cache(sflight_cache_load *by, uint64_t limit) {
     uint32_t count = (uint32_t)play.actors * DEPTH;
-    few_places = 1 + random_below(3);
-    few_callers = random_below(3) == 0 ? 1 + random_below(count) : 0;
-    rounds = 1 + random_below(6);
-    forgetting = 2 + random_below(10);
-    fails = random_below(3) == 0;
     cache = sflight_cache_open(&(sflight_cache_options){
-        .limit = 1 + random_below(5), .entries = 8, .readers = count, .load = load, .drop = drop});
+        .limit = limit, .entries = 8, .readers = count, .load = by, .drop = drop});
     if (!cache) abort();
     cache->places = few_places;
     for (int i = 0; i < KEYS; i++) keys[i] = (struct key){.name = keys[i].name, .len = keys[i].len};
@@ -162,10 +156,25 @@ static void play_at_random(uint64_t number) {
             if (!readers[i][j]) abort();
         }
     }
-    play_all(acts_at_random);
+}
+
+static sflight_cache_stats leave_readers(void) {
     for (int i = 0; i < play.actors; i++)
         for (int j = 0; j < DEPTH; j++) sflight_cache_leave(readers[i][j]);
-    sflight_cache_stats stats = sflight_cache_statistics(cache);
+    return sflight_cache_statistics(cache);
+}
+
+static void play_at_random(uint64_t number) {
+    begin_play(number, 2 + (int)(number % (MOST_ACTORS - 1)));
+    uint32_t count = (uint32_t)play.actors * DEPTH;
+    few_places = 1 + random_below(3);
+    few_callers = random_below(3) == 0 ? 1 + random_below(count) : 0;
+    rounds = 1 + random_below(6);
+    forgetting = 2 + random_below(10);
+    fails = random_below(3) == 0;
+    open_cache(load, 1 + random_below(5));
+    play_all(acts_at_random);
+    sflight_cache_stats stats = leave_readers();
     loads += stats.loads;
     alone += stats.alone;
     check(doubles == 0, "one load of a key at a time");
@@ -181,11 +190,97 @@ static void play_at_random(uint64_t number) {
     live = 0;
 }
 
+/* The leader B of a key finds a run A of it beside the library, and gives its call up. Before it has, A
+ * returns, and gets the key again: it joins B's call, and must neither get what A has returned, nor a
+ * failure. `phase` says how far it is:
+ * 0: the call of another key is open at the place, and B is about to ask, having seen no run;
+ * 1: A runs beside the library;
+ * 2: the other key's call is over, and B asks and finds A's run;
+ * 3: A has returned 1, the store has 2 now, and A asks again;
+ * 4: A has asked, and B goes on. */
+static int phase;
+static bool is_other_led, is_waiting, is_second;
+static uint64_t store;
+
+static bool waits_for_phase(int who, const char *where) {
+    if (who == 1 && strcmp(where, "ask") == 0 && phase < 2) return is_waiting = true;
+    if (who == 1 && strcmp(where, "finish") == 0 && phase < 4) {
+        if (phase == 2) phase = 3;
+        return true;
+    }
+    if (who == 0 && is_second && phase == 3 && strcmp(where, "has asked") == 0) phase = 4;
+    return false;
+}
+
+static void *load_in_order(void *context, const uint8_t *name, size_t len, uint64_t *weight) {
+    (void)context;
+    (void)name;
+    (void)weight;
+    struct value *value = malloc(sizeof *value);
+    if (!value) abort();
+    *value = (struct value){store, 0};
+    live++;
+    if (len > 1) {
+        is_other_led = true;
+        while (phase < 1) point(true);
+    } else if (phase == 0) {
+        phase = 1;
+        while (phase < 3) point(true);
+    }
+    return value;
+}
+
+/* What the actor gets of the key, in its first reader; 0 for a failure. */
+static uint64_t get(const char *key) {
+    sflight_value value;
+    int code = sflight_cache_get(readers[actor][0], (const uint8_t *)key, strlen(key), &value);
+    if (code > SFLIGHT_CACHE_JOINED) return 0;
+    uint64_t moment = ((struct value *)value.at)->moment;
+    sflight_cache_release(cache, &value);
+    return moment;
+}
+
+static void joins_a_leader_that_gives_up(int number) {
+    switch (number) {
+    case 0:
+        while (!is_other_led || !is_waiting) point(true);
+        check(get("k") == 1, "the first get has the first value");
+        store = 2;
+        is_second = true;
+        check(get("k") == 2, "who joins a leader that gives up gets nothing that was returned before");
+        phase = 4;
+        break;
+    case 1:
+        check(get("k") >= 1, "the leader gets a value");
+        break;
+    default:
+        check(get("another") == 1, "another key's load");
+        phase = 2;
+    }
+}
+
+static void asks_again(uint64_t number) {
+    begin_play(number, 3);
+    few_places = 1;
+    few_callers = 0;
+    phase = 0;
+    is_other_led = is_waiting = is_second = false;
+    store = 1;
+    open_cache(load_in_order, 5);
+    play.waits = waits_for_phase;
+    play_all(joins_a_leader_that_gives_up);
+    play.waits = NULL;
+    check(leave_readers().alone == 1, "one load beside the library");
+    sflight_cache_close(cache);
+    check(live == 0, "each value is dropped once");
+}
+
 int main(int argc, char **argv) {
     setvbuf(stdout, NULL, _IOLBF, 0);
     uint64_t from = argc > 1 ? strtoull(argv[1], NULL, 10) : 1;
     uint64_t count = argc > 2 ? strtoull(argv[2], NULL, 10) : argc > 1 ? 1 : SCHEDULES;
     open_plays();
+    for (uint64_t i = 0; argc == 1 && i < 200; i++) asks_again(i);
     for (uint64_t i = from; i < from + count && failed == 0; i++) play_at_random(i);
     close_plays();
     printf("%llu hits, %llu loads, %llu beside the library, %llu joined\n", (unsigned long long)hits,
