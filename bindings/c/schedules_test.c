@@ -392,11 +392,20 @@ static void lengths(void) {
     sflight_do_close(pool);
 }
 
+/* Threads have numbers in the order of their first calls. It is the same one whatever schedules are played. */
+static void takes_number(int number) {
+    (void)number;
+    here();
+}
+
 int main(int argc, char **argv) {
     setvbuf(stdout, NULL, _IOLBF, 0);
     uint64_t from = argc > 1 ? strtoull(argv[1], NULL, 10) : 1;
     uint64_t count = argc > 2 ? strtoull(argv[2], NULL, 10) : argc > 1 ? 1 : SCHEDULES;
     open_plays();
+    here();
+    begin_play(0, MOST_ACTORS);
+    play_all(takes_number);
     if (argc == 1) {
         lengths();
         stamps_beside();

@@ -113,8 +113,9 @@ int sflight_do(sflight_pool *pool, const uint8_t *key, size_t len, sflight_load 
  * Returns whether a load was running. */
 bool sflight_do_forget(sflight_pool *pool, const uint8_t *key, size_t len);
 
-/* Returns whether the answer with this stamp may still be used: its key was not forgotten. It can
- * return false too early, if another key uses the same hash slot or the pool has grown. */
+/* Returns whether the answer with this stamp may still be used: its key was not forgotten, and no
+ * later load of it has begun. It can return false too early, if another key uses the same hash slot or
+ * the pool has grown. */
 bool sflight_do_is_still(sflight_pool *pool, const sflight_do_stamp *stamp);
 
 /* Returns the numbers of the pool. */
