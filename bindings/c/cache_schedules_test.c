@@ -45,6 +45,8 @@ struct value {
 static sflight_cache *cache;
 static sflight_reader *readers[MOST_ACTORS][DEPTH];
 static int live, depths[MOST_ACTORS], loaded[MOST_ACTORS][DEPTH];
+static int most[MOST_ACTORS]; /* the greatest key that the actor is loading, or -1 */
+static bool drops_get, is_in_drop[MOST_ACTORS];
 static uint64_t ended_at[MOST_ACTORS][DEPTH];
 static uint64_t ticks, hits, loads, joins, alone, doubles, stale, backward, refused;
 static unsigned rounds, forgetting;
@@ -66,13 +68,16 @@ static void *load(void *context, const uint8_t *name, size_t len, uint64_t *weig
     key->running[key->count].moment = moment;
     key->running[key->count++].ended = ended;
     for (unsigned i = random_below(6); i > 0; i--) point(false);
-    int other = number + 1 + (int)random_below(KEYS);
+    /* Greater keys alone, so that no two wait for each other. */
+    int other = number + 1 + (int)random_below(KEYS), before = most[actor];
+    most[actor] = number;
     if (depth + 1 < DEPTH && other < KEYS && random_below(2) == 0) {
         depths[actor]++;
         ask(other);
         depths[actor]--;
     }
     if (random_below(6) == 0) forgets((int)random_below(KEYS), readers[actor][depth]);
+    most[actor] = before;
     for (int i = 0; i < key->count; i++) {
         if (key->running[i].moment == moment) key->running[i] = key->running[--key->count];
     }
@@ -89,6 +94,15 @@ static void drop(void *context, void *value) {
     live--;
     ((struct value *)value)->key = -1;
     free(value);
+    /* A drop function may get values too, by another reader: any, once what its thread loads is over. */
+    if (actor < 0 || !drops_get || is_in_drop[actor] || depths[actor] + 1 == DEPTH || random_below(4)) return;
+    int other = most[actor] + 1 + (int)random_below(KEYS);
+    if (other >= KEYS) return;
+    is_in_drop[actor] = true;
+    depths[actor]++;
+    ask(other);
+    depths[actor]--;
+    is_in_drop[actor] = false;
 }
 
 static void ask(int number) {
@@ -148,7 +162,7 @@ static void open_cache(sflight_cache_load *by, uint64_t limit) {
     cache = sflight_cache_open(&(sflight_cache_options){
         .limit = limit, .entries = 8, .readers = count, .load = by, .drop = drop});
     if (!cache) abort();
-    cache->places = few_places;
+    if (few_places) cache->places = few_places;
     for (int i = 0; i < KEYS; i++) keys[i] = (struct key){.name = keys[i].name, .len = keys[i].len};
     for (int i = 0; i < play.actors; i++) {
         for (int j = 0; j < DEPTH; j++) {
@@ -172,6 +186,8 @@ static void play_at_random(uint64_t number) {
     rounds = 1 + random_below(6);
     forgetting = 2 + random_below(10);
     fails = random_below(3) == 0;
+    for (int i = 0; i < MOST_ACTORS; i++) most[i] = -1;
+    drops_get = true;
     open_cache(load, 1 + random_below(5));
     play_all(acts_at_random);
     sflight_cache_stats stats = leave_readers();
@@ -266,6 +282,7 @@ static void asks_again(uint64_t number) {
     phase = 0;
     is_other_led = is_waiting = is_second = false;
     store = 1;
+    drops_get = false;
     open_cache(load_in_order, 5);
     play.waits = waits_for_phase;
     play_all(joins_a_leader_that_gives_up);
@@ -275,12 +292,80 @@ static void asks_again(uint64_t number) {
     check(live == 0, "each value is dropped once");
 }
 
+/* A call is settled, and its value takes the place of another. The drop function of that one gets a key, whose
+ * load in another thread waits for the very call. `phase` is 1 once the first key is loaded, and 2 once the other
+ * thread has joined its call. */
+static uint64_t get_by(int depth, const char *key) {
+    sflight_value value;
+    int code = sflight_cache_get(readers[actor][depth], (const uint8_t *)key, strlen(key), &value);
+    if (code > SFLIGHT_CACHE_JOINED) return 0;
+    sflight_cache_release(cache, &value);
+    return 1;
+}
+
+static void until(int least) {
+    for (int i = 0; phase < least && i < 3000; i++) point(true);
+}
+
+static void *load_for_drop(void *context, const uint8_t *name, size_t len, uint64_t *weight) {
+    (void)context;
+    (void)weight;
+    if (len == 5) {
+        phase = 1;
+        until(2);
+    } else if (len == 6 && actor == 1) {
+        until(1);
+        is_second = true;
+        check(get_by(1, "first") == 1, "a load gets what is settled");
+    }
+    struct value *value = malloc(sizeof *value);
+    if (!value) abort();
+    *value = (struct value){len, name[0]};
+    live++;
+    return value;
+}
+
+static void drop_and_get(void *context, void *value) {
+    drop(context, value);
+    if (actor != 0 || phase != 2) return;
+    phase = 3;
+    check(get_by(1, "second") == 1, "a drop function gets what waits for the call before it");
+}
+
+static bool sees_join(int who, const char *where) {
+    if (who == 1 && is_second && phase == 1 && strcmp(where, "has asked") == 0) phase = 2;
+    return false;
+}
+
+static void gets_in_drop(int number) {
+    if (number == 0) check(get_by(0, "old") == 1 && get_by(0, "first") == 1, "a key and the next");
+    else check(get_by(0, "second") == 1, "and another");
+}
+
+static void drops_in_order(uint64_t number) {
+    begin_play(number, 2);
+    few_places = few_callers = 0;
+    phase = 0;
+    is_second = drops_get = false;
+    open_cache(load_for_drop, 1);
+    cache->options.drop = drop_and_get;
+    play.waits = sees_join;
+    play_all(gets_in_drop);
+    play.waits = NULL;
+    leave_readers();
+    sflight_cache_close(cache);
+    check(live == 0, "each value is dropped once");
+}
+
 int main(int argc, char **argv) {
     setvbuf(stdout, NULL, _IOLBF, 0);
     uint64_t from = argc > 1 ? strtoull(argv[1], NULL, 10) : 1;
     uint64_t count = argc > 2 ? strtoull(argv[2], NULL, 10) : argc > 1 ? 1 : SCHEDULES;
     open_plays();
-    for (uint64_t i = 0; argc == 1 && i < 200; i++) asks_again(i);
+    for (uint64_t i = 0; argc == 1 && i < 200; i++) {
+        asks_again(i);
+        drops_in_order(i);
+    }
     for (uint64_t i = from; i < from + count && failed == 0; i++) play_at_random(i);
     close_plays();
     printf("%llu hits, %llu loads, %llu beside the library, %llu joined\n", (unsigned long long)hits,

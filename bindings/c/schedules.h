@@ -29,6 +29,7 @@
 enum {
     MOST_ACTORS = 6,
     MOST_NAMES = 32,
+    WAKES = 256,
     MOST_STEPS = 400000, /* a play that takes more of them hangs */
     SWITCHES = 3,        /* one step in so many is followed by another thread's */
     STALLS = 40,         /* one in so many stops its thread for long, */
@@ -58,6 +59,7 @@ static struct {
     bool is_over[MOST_ACTORS];
     unsigned stalled[MOST_ACTORS];
     sem_t turn[MOST_ACTORS], end;
+    unsigned wakes[WAKES]; /* of condition variables */
     sflight_stamp clearing[MOST_ACTORS];
     struct named names[MOST_NAMES];
     int names_used;
@@ -144,18 +146,35 @@ static inline int played_unlock(pthread_mutex_t *lock) {
     return code;
 }
 
-static inline int played_wait(pthread_cond_t *condition, pthread_mutex_t *lock) {
-    if (actor < 0) return pthread_cond_wait(condition, lock);
+static inline unsigned *wakes_of(const pthread_cond_t *condition) {
+    return &play.wakes[(uintptr_t)condition / sizeof *condition % WAKES];
+}
+
+static inline int played_broadcast(pthread_cond_t *condition) {
+    point(false);
+    if (actor >= 0) ++*wakes_of(condition);
+    return pthread_cond_broadcast(condition);
+}
+
+/* Every other schedule wakes threads for no reason; in the rest one that nobody wakes sleeps. */
+static inline int sleeps(pthread_cond_t *condition, pthread_mutex_t *lock, bool has_deadline) {
+    unsigned before = *wakes_of(condition);
+    bool is_late = false;
     pthread_mutex_unlock(lock);
-    do point(true);
-    while (pthread_mutex_trylock(lock) != 0);
-    return 0;
+    do {
+        point(true);
+        is_late = has_deadline && random_below(16) == 0;
+    } while (!is_late && play.number % 2 == 0 && *wakes_of(condition) == before);
+    while (pthread_mutex_trylock(lock) != 0) point(true);
+    return is_late ? ETIMEDOUT : 0;
+}
+
+static inline int played_wait(pthread_cond_t *condition, pthread_mutex_t *lock) {
+    return actor < 0 ? pthread_cond_wait(condition, lock) : sleeps(condition, lock, false);
 }
 
 static inline int played_timedwait(pthread_cond_t *condition, pthread_mutex_t *lock, const struct timespec *at) {
-    if (actor < 0) return pthread_cond_timedwait(condition, lock, at);
-    played_wait(condition, lock);
-    return random_below(8) == 0 ? ETIMEDOUT : 0;
+    return actor < 0 ? pthread_cond_timedwait(condition, lock, at) : sleeps(condition, lock, true);
 }
 
 static inline int played_yield(void) {
@@ -244,6 +263,7 @@ static inline bool is_after(const char *where, bool is) {
 #define pthread_mutex_unlock played_unlock
 #define pthread_cond_wait played_wait
 #define pthread_cond_timedwait played_timedwait
+#define pthread_cond_broadcast played_broadcast
 #define sched_yield played_yield
 #define getrandom played_random
 

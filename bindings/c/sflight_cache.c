@@ -841,12 +841,13 @@ static int lead(sflight_reader *r, const uint8_t *key, size_t len, uint32_t plac
     void *at = c->options.load(c->options.context, key, len, &weight);
     uint64_t word = at ? put(c, at, BIAS + 1) : 0;
     sflight_answer answer;
-    bool wakes = settle(r, word, &answer);
+    /* Before the value is kept, which drops others: the drop function may get a value whose load waits
+     * for this call. */
+    if (settle(r, word, &answer)) serve(r, place);
     if (word) {
         bool is_kept = keep(r, weight);
         leave(c, word, BIAS - answer.joiners - is_kept);
     }
-    if (wakes) serve(r, place);
     return own_load(r, at, word, value);
 }
 
