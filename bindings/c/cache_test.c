@@ -56,6 +56,7 @@ struct plan {
     sflight_reader *inner; /* a load uses this, where it is not null */
     sflight_cache *cache;
     void (*meanwhile)(struct plan *plan, const uint8_t *key, size_t len); /* what the first load does */
+    void (*waits)(const uint8_t *key, size_t len);                        /* and what each load does */
 };
 
 static unsigned number_of(const uint8_t *key, size_t len) {
@@ -74,6 +75,7 @@ static void *load(void *context, const uint8_t *key, size_t len, uint64_t *weigh
         plan->meanwhile = NULL;
         meanwhile(plan, key, len);
     }
+    if (plan->waits) plan->waits(key, len);
     if (plan->weight) *weight = plan->weight;
     if (plan->fails) return NULL;
     struct page *page = malloc(sizeof *page + len);
@@ -151,8 +153,11 @@ static void test_options(void) {
     check(cache != NULL, "the least options are taken");
     sflight_reader *reader = enter(cache);
     check(!sflight_cache_enter(cache), "there are no more readers than were asked for");
-    sflight_cache_leave(reader);
-    reader = enter(cache);
+    for (int i = 0; i < 10; i++) {
+        sflight_cache_leave(reader);
+        reader = enter(cache);
+        check(reader->slot.live, "a caller of a reader that left is there for the next one");
+    }
     sflight_value value;
     check(sflight_cache_get(reader, NULL, 0, &value) == SFLIGHT_CACHE_LOADED, "the empty key");
     void *page = value.at;
@@ -430,6 +435,314 @@ static void test_near(void) {
     check(live == 0, "until that is closed");
 }
 
+/* The place of the key, by a get of it. */
+static uint32_t place_by(sflight_cache *cache, sflight_reader *reader, const char *key) {
+    sflight_stamp stamp = {0};
+    get_text(cache, reader, key);
+    if (sflight_named(&reader->slot, (const uint8_t *)key, strlen(key), &stamp) != SFLIGHT_DONE) abort();
+    return stamp.place;
+}
+
+/* Another key of the place of this one. Both are forgotten. */
+static void find_twin(sflight_cache *cache, sflight_reader *reader, const char *key, char twin[16]) {
+    uint32_t place = place_by(cache, reader, key);
+    int i = 0;
+    do snprintf(twin, 16, "twin-%d", i++);
+    while (place_by(cache, reader, twin) != place);
+    sflight_cache_forget_all(reader);
+}
+
+static const char *twin_key;
+
+static void get_twin(struct plan *plan, const uint8_t *key, size_t len) {
+    (void)key;
+    (void)len;
+    for (int i = 0; i < 3; i++)
+        check(get_text(plan->cache, plan->inner, twin_key) == SFLIGHT_CACHE_LOADED,
+              "a load gets another key of its place");
+    forget_text(plan->inner, twin_key);
+    check(get_text(plan->cache, plan->inner, "elsewhere") <= SFLIGHT_CACHE_LOADED,
+          "and one of another place");
+}
+
+static void get_by_own(struct plan *plan, const uint8_t *key, size_t len) {
+    sflight_value value = {.word = 1};
+    check(sflight_cache_get(plan->inner, (const uint8_t *)"there", 5, &value) == SFLIGHT_CACHE_BUSY
+              && !value.at && !value.word, "a get of a reader that is in a load is refused");
+    check(sflight_cache_get(plan->inner, key, len, &value) == SFLIGHT_CACHE_BUSY,
+          "also of the key that is loaded");
+    check(sflight_cache_peek(plan->inner, (const uint8_t *)"there", 5, &value),
+          "a peek finds what is there");
+    sflight_cache_release(plan->cache, &value);
+    check(!sflight_cache_peek(plan->inner, key, len, &value), "and not what is loaded");
+}
+
+static void forget_by_own(struct plan *plan, const uint8_t *key, size_t len) {
+    sflight_cache_forget(plan->inner, key, len);
+    forget_text(plan->inner, "there");
+}
+
+static void forget_all_by_own(struct plan *plan, const uint8_t *key, size_t len) {
+    (void)key;
+    (void)len;
+    sflight_cache_forget_all(plan->inner);
+}
+
+/* Whether all callers are back that readers have left with leaders. */
+static bool are_back(sflight_cache *cache) {
+    sflight_slot slots[64] = {{0}};
+    int count = 0;
+    while (count < 64 && sflight_split(&cache->root, &slots[count]) == SFLIGHT_DONE) count++;
+    for (int i = 0; i < count; i++)
+        if (sflight_take_back(&cache->root, &slots[i]) != SFLIGHT_DONE) abort();
+    return atomic_load(&cache->strangers) == 0
+           && (uint32_t)count + cache->entered == 2 * cache->options.readers;
+}
+
+/* Loads of two keys of one place, in one thread; and a reader that is in a load. */
+static void test_one_place(void) {
+    struct plan plan = {0};
+    char twin[16];
+    sflight_cache *cache = open_cache(100, 100, &plan);
+    sflight_reader *reader = enter(cache);
+    plan.cache = cache;
+    plan.inner = enter(cache);
+    find_twin(cache, reader, "outer", twin);
+    twin_key = twin;
+    for (int i = 0; i < 100; i++) {
+        plan.meanwhile = get_twin;
+        check(get_text(cache, reader, "outer") == SFLIGHT_CACHE_LOADED, "and is loaded itself");
+        check(get_text(cache, reader, "outer") == SFLIGHT_CACHE_HIT, "and kept");
+        forget_text(reader, "outer");
+        check(live <= 1, "what is not kept is dropped");
+    }
+    check(sflight_cache_statistics(cache).alone == 300, "loads beside the library are counted");
+    check(are_back(cache), "and all callers are back");
+
+    sflight_cache_leave(plan.inner);
+    plan.inner = reader;
+    get_text(cache, reader, "there");
+    plan.meanwhile = get_by_own;
+    check(get_text(cache, reader, "outer") == SFLIGHT_CACHE_LOADED, "what was refused changes nothing");
+    check(get_text(cache, reader, "outer") == SFLIGHT_CACHE_HIT, "it is kept");
+    check(get_text(cache, reader, "there") == SFLIGHT_CACHE_HIT, "so is what was there");
+    forget_text(reader, "outer");
+    plan.meanwhile = forget_by_own;
+    check(get_text(cache, reader, "outer") == SFLIGHT_CACHE_LOADED, "a reader forgets in its load");
+    check(get_text(cache, reader, "outer") == SFLIGHT_CACHE_LOADED, "the key that it loads");
+    check(get_text(cache, reader, "there") == SFLIGHT_CACHE_LOADED, "and another");
+    forget_text(reader, "outer");
+    plan.meanwhile = forget_all_by_own;
+    check(get_text(cache, reader, "outer") == SFLIGHT_CACHE_LOADED, "and all");
+    check(get_text(cache, reader, "outer") == SFLIGHT_CACHE_LOADED, "the key that it loads too");
+    check(get_text(cache, reader, "there") == SFLIGHT_CACHE_LOADED, "and what was there");
+    sflight_cache_leave(reader);
+    sflight_cache_close(cache);
+    check(live == 0, "all are dropped");
+}
+
+/* A thread that gets one key, in whose load it waits for `over`. */
+struct held {
+    pthread_t thread;
+    sflight_cache *cache;
+    sflight_reader *reader;
+    const char *key;
+    atomic_bool begun, over;
+    int code;
+};
+
+static struct held *_Atomic holds[2];
+
+static void hold_load(const uint8_t *key, size_t len) {
+    for (int i = 0; i < 2; i++) {
+        struct held *held = holds[i];
+        if (!held || strlen(held->key) != len || memcmp(held->key, key, len) || held->begun) continue;
+        held->begun = true;
+        while (!held->over) sched_yield();
+        return;
+    }
+}
+
+static void *get_held(void *arg) {
+    struct held *held = arg;
+    held->code = get_text(held->cache, held->reader, held->key);
+    return NULL;
+}
+
+static void begin_held(struct held *held, int number) {
+    holds[number] = held;
+    if (pthread_create(&held->thread, NULL, get_held, held)) abort();
+}
+
+static void end_held(struct held *held) {
+    held->over = true;
+    pthread_join(held->thread, NULL);
+}
+
+/* How many follow the run of the key, with the reader that loads. */
+static unsigned users_of(sflight_cache *cache, const char *key) {
+    pthread_mutex_lock(&cache->slow);
+    struct run *run = run_of(cache, fingerprint_of(cache, (const uint8_t *)key, strlen(key)),
+                             (const uint8_t *)key, strlen(key));
+    unsigned users = run ? atomic_load(&run->users) : 0;
+    pthread_mutex_unlock(&cache->slow);
+    return users;
+}
+
+/* The load of one key is held, and so is that of another one of its place, which runs beside the
+ * library. Of that one there is one load at a time, which others follow and a Forget reaches. The
+ * Forget of the one leaves the call of the other. */
+static void test_beside(void) {
+    struct plan plan = {0};
+    char twin[16];
+    sflight_cache *cache = open_cache(100, 100, &plan);
+    sflight_reader *readers[5];
+    for (int i = 0; i < 5; i++) readers[i] = enter(cache);
+    find_twin(cache, readers[0], "outer", twin);
+    struct held outer = {.cache = cache, .reader = readers[0], .key = "outer"};
+    struct held run = {.cache = cache, .reader = readers[1], .key = twin};
+    struct held follower = {.cache = cache, .reader = readers[2], .key = twin};
+    struct held second = {.cache = cache, .reader = readers[3], .key = "outer"};
+    plan.waits = hold_load;
+    loads = 0;
+    begin_held(&outer, 0);
+    while (!outer.begun) sched_yield();
+    begin_held(&run, 1);
+    while (!run.begun) sched_yield();
+    if (pthread_create(&follower.thread, NULL, get_held, &follower)) abort();
+    while (users_of(cache, twin) < 2) sched_yield();
+    forget_text(readers[4], twin);
+    check(users_of(cache, twin) == 0, "a Forget takes the run out");
+    check(get_text(cache, readers[4], twin) == SFLIGHT_CACHE_LOADED, "a get after it loads anew");
+    check(loads == 3, "once");
+    /* The Forget of the twin did not end the call of the other key. */
+    if (pthread_create(&second.thread, NULL, get_held, &second)) abort();
+    for (int i = 0; i < 1000 && loads == 3; i++) sched_yield();
+    end_held(&run);
+    pthread_join(follower.thread, NULL);
+    check(run.code == SFLIGHT_CACHE_LOADED && follower.code == SFLIGHT_CACHE_JOINED,
+          "whoever asked before has the value of the run");
+    end_held(&outer);
+    pthread_join(second.thread, NULL);
+    check(outer.code == SFLIGHT_CACHE_LOADED && loads == 3
+              && (second.code == SFLIGHT_CACHE_JOINED || second.code == SFLIGHT_CACHE_HIT),
+          "a Forget of another key of the place ends no call");
+    check(get_text(cache, readers[4], "outer") == SFLIGHT_CACHE_HIT, "nor its value");
+    sflight_cache_stats stats = sflight_cache_statistics(cache);
+    check(stats.alone == 2, "two loads ran beside the library");
+
+    /* A failure is shared too, and a Forget of all takes a run out. */
+    sflight_cache_forget_all(readers[4]);
+    outer = (struct held){.cache = cache, .reader = readers[0], .key = "outer"};
+    run = (struct held){.cache = cache, .reader = readers[1], .key = twin};
+    begin_held(&outer, 0);
+    while (!outer.begun) sched_yield();
+    begin_held(&run, 1);
+    while (!run.begun) sched_yield();
+    if (pthread_create(&follower.thread, NULL, get_held, &follower)) abort();
+    while (users_of(cache, twin) < 2) sched_yield();
+    sflight_cache_forget_all(readers[4]);
+    check(users_of(cache, twin) == 0, "a Forget of all takes the run out");
+    plan.fails = true;
+    end_held(&run);
+    pthread_join(follower.thread, NULL);
+    check(run.code == SFLIGHT_CACHE_FAILED && follower.code == SFLIGHT_CACHE_FAILED,
+          "a failure beside the library is shared");
+    end_held(&outer);
+    plan.waits = NULL;
+    holds[0] = holds[1] = NULL;
+    check(are_back(cache), "all callers are back");
+    for (int i = 0; i < 5; i++) sflight_cache_leave(readers[i]);
+    sflight_cache_close(cache);
+    check(live == 0, "all are dropped");
+}
+
+/* Takes all callers that no reader has, and the reader's own. */
+static int take_callers(sflight_cache *cache, sflight_reader *reader, sflight_slot slots[64]) {
+    int count = 0;
+    while (count < 63 && sflight_split(&cache->root, &slots[count]) == SFLIGHT_DONE) count++;
+    slots[count++] = reader->slot;
+    reader->slot = SFLIGHT_SLOT_NONE;
+    return count;
+}
+
+static void put_callers(sflight_cache *cache, sflight_slot slots[64], int count) {
+    for (int i = 0; i < count; i++)
+        if (sflight_take_back(&cache->root, &slots[i]) != SFLIGHT_DONE) abort();
+}
+
+static struct plan *keeping;
+static int met_while_kept;
+
+/* Between the settling of a call and the keeping of its value: the first value that is dropped makes
+ * room for that. A reader without a caller loads the key anew, beside the library. */
+static void drop_beside(void *context, void *value) {
+    struct plan *plan = keeping;
+    keeping = NULL;
+    if (plan) {
+        unsigned version = 0;
+        atomic_fetch_add(&versions[7], 1);
+        check(get(plan->cache, plan->inner, "key-7", 5, &version) == SFLIGHT_CACHE_LOADED
+                  && version == atomic_load(&versions[7]), "a newer value is loaded beside the library");
+        met_while_kept++;
+    }
+    drop(context, value);
+}
+
+/* Readers that have no caller. */
+static void test_no_caller(void) {
+    struct plan plan = {0};
+    sflight_cache *cache = open_cache(2, 100, &plan);
+    sflight_reader *reader = enter(cache), *bare = enter(cache);
+    sflight_slot slots[64] = {{0}};
+    sflight_value value;
+    cache->options.drop = drop_beside;
+    plan.cache = cache;
+    plan.inner = bare;
+    get_text(cache, reader, "one");
+    get_text(cache, reader, "two");
+    int count = take_callers(cache, bare, slots);
+    keeping = &plan;
+    unsigned version = 0;
+    check(get(cache, reader, "key-7", 5, &version) == SFLIGHT_CACHE_LOADED && met_while_kept == 1, "a value that is about to be kept");
+    check(get(cache, reader, "key-7", 5, &version) == SFLIGHT_CACHE_LOADED
+              && version == atomic_load(&versions[7]), "is not, once a newer one was returned");
+    check(sflight_cache_peek(bare, (const uint8_t *)"key-7", 5, &value), "a reader without a caller finds values");
+    sflight_cache_release(cache, &value);
+    forget_text(bare, "key-7");
+    check(!sflight_cache_peek(reader, (const uint8_t *)"key-7", 5, &value), "and forgets");
+    check(get_text(cache, bare, "key-7") == SFLIGHT_CACHE_LOADED && get_text(cache, bare, "key-7") == SFLIGHT_CACHE_LOADED,
+          "and loads beside the library");
+    /* It waits for the load of its own key, and then finds the value. */
+    struct held held = {.cache = cache, .reader = reader, .key = "key-7"};
+    struct held waits = {.cache = cache, .reader = bare, .key = "key-7"};
+    plan.waits = hold_load;
+    begin_held(&held, 0);
+    while (!held.begun) sched_yield();
+    if (pthread_create(&waits.thread, NULL, get_held, &waits)) abort();
+    sflight_stamp stamp;
+    pthread_mutex_lock(&cache->lock);
+    if (sflight_named(&cache->root, (const uint8_t *)"key-7", 5, &stamp) != SFLIGHT_DONE) abort();
+    pthread_mutex_unlock(&cache->lock);
+    while (!(atomic_load(&cache->seats[stamp.caller].word) & AWAITED)) sched_yield();
+    end_held(&held);
+    pthread_join(waits.thread, NULL);
+    /* Where it looks before the value is kept, it loads anew. */
+    check(held.code == SFLIGHT_CACHE_LOADED
+              && (waits.code == SFLIGHT_CACHE_HIT || waits.code == SFLIGHT_CACHE_LOADED), "one load of its key at a time");
+    plan.waits = NULL;
+    holds[0] = holds[1] = NULL;
+    sflight_cache_forget_all(bare);
+    check(live == 0, "it forgets all");
+    put_callers(cache, slots, count);
+    check(get_text(cache, bare, "key-7") == SFLIGHT_CACHE_LOADED && bare->slot.live, "it has a caller again");
+    check(get_text(cache, bare, "key-7") == SFLIGHT_CACHE_HIT, "and keeps values");
+    sflight_cache_leave(reader);
+    sflight_cache_leave(bare);
+    sflight_cache_close(cache);
+    check(live == 0, "all are dropped");
+}
+
 struct asker {
     pthread_t thread;
     sflight_cache *cache;
@@ -551,6 +864,9 @@ int main(void) {
     test_order();
     test_failures();
     test_meanwhile();
+    test_one_place();
+    test_beside();
+    test_no_caller();
     test_words();
     test_near();
     test_shared(false);

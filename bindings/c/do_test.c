@@ -189,8 +189,8 @@ static void many(void) {
     }
 }
 
-/* Threads with nested calls, deadlines and Forgets: one load of a key at a time, and nothing older than a Forget. A stress is run again until
-   it has met what it is for, at most so often. */
+/* Threads with nested calls, deadlines and Forgets: one load of a key at a time, nothing older than a Forget, and nothing older than what was
+   returned before, nor the same. A stress is run again until it has met what it is for, at most so often. */
 enum { KEYS = 24, MOST_RUNS = 50 };
 
 static struct key {
@@ -199,11 +199,12 @@ static struct key {
     pthread_mutex_t lock; /* protects the rest */
     struct { uint64_t moment, ended; } running[4 * STRESSING];
     int count;
+    uint64_t newest, newest_ended; /* that was returned, and how many Forgets had ended when it was asked for */
     uint64_t cached_moment;
     sflight_do_stamp cached;
 } keys[KEYS];
 
-static atomic_ullong ticks, loads, hits, doubles, stale, refused;
+static atomic_ullong ticks, loads, hits, doubles, stale, backward, refused;
 static sflight_pool *stressed;
 
 struct asking {
@@ -245,11 +246,13 @@ static void ask(int number, int depth, unsigned *seed) {
     struct asking asking = {number, depth, seed, atomic_load(&key->ended)};
     uint64_t least = atomic_load(&key->forgotten);
     pthread_mutex_lock(&key->lock);
-    uint64_t cached = key->cached_moment;
+    uint64_t cached = key->cached_moment, newest = key->newest, ended = key->newest_ended;
     sflight_do_stamp stamp = key->cached;
     pthread_mutex_unlock(&key->lock);
     if (rand_r(seed) % 2 && sflight_do_is_still(stressed, &stamp)) {
         stale += cached < least;
+        /* Where no Forget has begun since the newest was asked for. */
+        backward += cached < newest && atomic_load(&key->begun) == ended;
         hits++;
     }
     sflight_got got;
@@ -260,6 +263,13 @@ static void ask(int number, int depth, unsigned *seed) {
         return;
     }
     stale += got.value >> 8 < least || (got.value & 255) != (uint64_t)number;
+    backward += got.value >> 8 <= newest && atomic_load(&key->begun) == ended;
+    pthread_mutex_lock(&key->lock);
+    if (got.value >> 8 > key->newest) {
+        key->newest = got.value >> 8;
+        key->newest_ended = asking.ended;
+    }
+    pthread_mutex_unlock(&key->lock);
     if (sflight_do_is_still(stressed, &got.stamp)) {
         pthread_mutex_lock(&key->lock);
         key->cached = got.stamp;
@@ -305,6 +315,7 @@ static bool stress_once(const char *what, const sflight_do_sizes *size, uint64_t
            (unsigned long long)stats.alone, (unsigned long long)stats.joins, (unsigned long long)hits, (unsigned long long)stats.epochs);
     check(atomic_load(&doubles) == 0, "one load of a key at a time");
     check(atomic_load(&stale) == 0, "nothing is older than a Forget");
+    check(atomic_load(&backward) == 0, "nothing is older than what was returned before");
     check(atomic_load(&refused) == 0, "no call is refused");
     check(stats.leads + stats.alone == atomic_load(&loads) && stats.in_use == 0, "loads are counted, and all callers are back");
     sflight_do_close(stressed);

@@ -57,6 +57,14 @@ extern "C" {
 #define SFLIGHT_MUST_USE
 #endif
 
+/* Stands in the types of functions that the headers over this one call. From C++17 on, one that may
+ * throw an exception does not fit them. */
+#if defined(__cplusplus) && __cplusplus >= 201703L
+#define SFLIGHT_NOEXCEPT noexcept
+#else
+#define SFLIGHT_NOEXCEPT
+#endif
+
 /* A caller; or nothing, where all is zero. */
 typedef struct sflight_slot {
     void *at;

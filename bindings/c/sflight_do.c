@@ -1307,6 +1307,15 @@ static void clash(sflight_pool *pool, struct epoch *epoch) {
 
 enum beside { FOLLOWS, RUNS, NOTHING, NO_MEMORY };
 
+/* What the key's last call came to is current no more, since a run of the key begins: a thread that has that result, and is stopped before
+ * it caches it, would do so after the newer result of the run was returned. The call is over, or it would be followed; that of another
+ * key loses its stamp too soon. The lock of the side table is held. */
+static void end_stamp(sflight_pool *pool, struct epoch *epoch, const sflight_stamp *call) {
+    pthread_mutex_lock(&pool->lock);
+    while (sflight_forget_call(&epoch->root, call, SFLIGHT_MOST_TRIES) == SFLIGHT_BUSY) {}
+    pthread_mutex_unlock(&pool->lock);
+}
+
 /* Looks for the key in the side table, and then in the library, and follows what it finds. Where it finds nothing, it enters a run; or
  * does not, where there is a seat and the key's slot is free. */
 static enum beside ask_beside(sflight_pool *pool, const uint8_t *key, size_t len, uint64_t fingerprint, bool has_seat, struct asking *asking) {
@@ -1327,7 +1336,7 @@ static enum beside ask_beside(sflight_pool *pool, const uint8_t *key, size_t len
             }
         }
         if (is_over) break;
-        sflight_stamp call;
+        sflight_stamp call = {0};
         how = NOTHING;
         atomic_fetch_add(alert_of(pool, fingerprint), 1);
         /* The current epoch stays: it is replaced with this lock held. */
@@ -1349,6 +1358,7 @@ static enum beside ask_beside(sflight_pool *pool, const uint8_t *key, size_t len
             atomic_fetch_sub(alert_of(pool, fingerprint), 1);
             how = NO_MEMORY;
         } else {
+            if (whose == ENDED) end_stamp(pool, epoch, &call);
             enter(pool, spare, run, true);
             asking->wait = run;
             how = RUNS;

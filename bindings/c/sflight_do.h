@@ -12,7 +12,11 @@
  *
  * Every function but sflight_do_close can be called from any thread. None may be called from a
  * signal handler, or from the forked child of a process with threads. A load function has to
- * return: it does not longjmp out of sflight_do, and its thread is not cancelled meanwhile. */
+ * return: it does not longjmp out of sflight_do, and its thread is not cancelled meanwhile.
+ *
+ * A function of a program in C++ that is called here throws no exception: its key could not be loaded
+ * again. From C++17 on the types of these functions are noexcept, so that one that may throw does not
+ * compile. A load that fails returns a number that says so. */
 #ifndef SFLIGHT_DO_H
 #define SFLIGHT_DO_H
 
@@ -59,7 +63,7 @@ typedef struct sflight_do_stats {
 
 /* Loads the value of a key. The context is the one given to sflight_do. A load that fails returns a
  * number that says so. */
-typedef uint64_t sflight_load(void *context, const uint8_t *key, size_t len);
+typedef uint64_t sflight_load(void *context, const uint8_t *key, size_t len) SFLIGHT_NOEXCEPT;
 
 /* What sflight_do returns. */
 enum {
@@ -77,7 +81,7 @@ enum {
 
 /* Takes text of a recording: whole lines of `len` bytes, without a 0 at the end. Returns 0, or
  * another number if it fails. */
-typedef int sflight_write(void *context, const char *text, size_t len);
+typedef int sflight_write(void *context, const char *text, size_t len) SFLIGHT_NOEXCEPT;
 
 /* What a recording was. */
 typedef struct sflight_recorded {
@@ -94,7 +98,7 @@ typedef struct sflight_recorded {
  * number: a program that counts references adds that many. `share` must not use the pool. Returns
  * null if there is no memory, or if a size is out of range (see sflight_open). */
 sflight_pool *sflight_do_open(const sflight_do_sizes *sizes,
-                              void (*share)(uint64_t value, uint32_t others));
+                              void (*share)(uint64_t value, uint32_t others) SFLIGHT_NOEXCEPT);
 
 /* Ends a recording of the pool, if there is one, and frees the pool. No call may be running in it. */
 void sflight_do_close(sflight_pool *pool);
@@ -109,8 +113,9 @@ int sflight_do(sflight_pool *pool, const uint8_t *key, size_t len, sflight_load 
  * Returns whether a load was running. */
 bool sflight_do_forget(sflight_pool *pool, const uint8_t *key, size_t len);
 
-/* Returns whether the answer with this stamp may still be used: its key was not forgotten. It can
- * return false too early, if another key uses the same hash slot or the pool has grown. */
+/* Returns whether the answer with this stamp may still be used: its key was not forgotten, and no
+ * later load of it has begun. It can return false too early, if another key uses the same hash slot or
+ * the pool has grown. */
 bool sflight_do_is_still(sflight_pool *pool, const sflight_do_stamp *stamp);
 
 /* Returns the numbers of the pool. */

@@ -1,0 +1,361 @@
+/* For tests that include sflight_do.c or sflight_cache.c after this: it plays threads by a schedule. One
+ * thread runs at a time, and before each step that others can see it may be another one's turn, as a random
+ * number says. A schedule has a number, and is played again by it. Steps are the atomics, the locks, the
+ * waits and the library's functions, in whose places macros are put here. A thread that is no actor of a
+ * play runs as ever.
+ *
+ * The library's functions are one step each, but for one: a Forget that has closed a call and has not
+ * cleared its place yet. What others see then is played: the place names the call still. */
+#ifndef SFLIGHT_SCHEDULES_H
+#define SFLIGHT_SCHEDULES_H
+
+#ifndef _GNU_SOURCE
+#define _GNU_SOURCE
+#endif
+#include "sflight.h"
+#include <errno.h>
+#include <pthread.h>
+#include <sched.h>
+#include <semaphore.h>
+#include <stdatomic.h>
+#include <stdbool.h>
+#include <stdint.h>
+#include <stdio.h>
+#include <stdlib.h>
+#include <string.h>
+#include <sys/random.h>
+#include <unistd.h>
+
+enum {
+    MOST_ACTORS = 6,
+    MOST_NAMES = 32,
+    WAKES = 256,
+    MOST_STEPS = 400000, /* a play that takes more of them hangs */
+    SWITCHES = 3,        /* one step in so many is followed by another thread's */
+    STALLS = 40,         /* one in so many stops its thread for long, */
+    STALLS_AFTER = 8,    /* and of those after which others have to find something, */
+    LONG = 400           /* for so many steps of others at most */
+};
+
+/* Where it is not 0, a cache has so many places and callers, in place of what it asks for. */
+static uint32_t few_places, few_callers;
+
+static inline uint32_t played_open(sflight_slot *slot, uint32_t places, uint32_t callers, uint64_t a,
+                                   uint64_t b) {
+    return sflight_open(slot, few_places ? few_places : places, few_callers ? few_callers : callers, a, b);
+}
+
+/* What the place of a key named last, since a place cannot be asked for. */
+struct named {
+    uint8_t key[64];
+    size_t len;
+    sflight_stamp stamp;
+};
+
+static struct {
+    int actors, now;
+    uint64_t number, random, steps;
+    int waited; /* so many steps in turn were of actors that wait */
+    bool is_over[MOST_ACTORS];
+    unsigned stalled[MOST_ACTORS];
+    sem_t turn[MOST_ACTORS], end;
+    unsigned wakes[WAKES]; /* of condition variables */
+    sflight_stamp clearing[MOST_ACTORS];
+    struct named names[MOST_NAMES];
+    int names_used;
+    bool (*waits)(int actor, const char *where); /* whether the actor waits at the step of this name */
+} play;
+
+static _Thread_local int actor = -1;
+
+static inline uint64_t random_number(void) {
+    play.random ^= play.random << 13;
+    play.random ^= play.random >> 7;
+    play.random ^= play.random << 17;
+    return play.random * 0x9e3779b97f4a7c15u >> 24;
+}
+
+static inline unsigned random_below(unsigned most) { return (unsigned)(random_number() % most); }
+
+/* Another actor's turn, if there is one that is not stopped. */
+static inline void hand_over(bool is_blocked) {
+    int next = -1, found = 0;
+    /* Where all that are not stopped wait, those go on that are. */
+    for (int round = play.waited > 2 * play.actors; round < 2 && next < 0; round++) {
+        for (int i = 0; i < play.actors; i++) {
+            if (play.is_over[i] || (i == actor && (is_blocked || play.is_over[actor]))) continue;
+            if (round == 0 && play.stalled[i] > 0) {
+                play.stalled[i]--;
+                continue;
+            }
+            if (random_below((unsigned)++found) == 0) next = i;
+        }
+    }
+    if (next < 0) next = actor;
+    if (next == actor) return;
+    play.stalled[next] = 0;
+    play.now = next;
+    int me = actor;
+    bool is_over = play.is_over[me];
+    sem_post(&play.turn[next]);
+    if (is_over) return;
+    while (sem_wait(&play.turn[me]) != 0) {}
+}
+
+static inline void point(bool is_blocked) {
+    if (actor < 0) {
+        if (is_blocked) sched_yield();
+        return;
+    }
+    if (++play.steps > MOST_STEPS) {
+        printf("FAILED: schedule %llu hangs\n", (unsigned long long)play.number);
+        fflush(stdout);
+        _exit(1);
+    }
+    play.waited = is_blocked ? play.waited + 1 : 0;
+    if (!is_blocked && random_below(STALLS) == 0) play.stalled[actor] = random_below(LONG);
+    if (is_blocked || play.stalled[actor] > 0 || random_below(SWITCHES) == 0) hand_over(is_blocked);
+}
+
+/* A step with a name, where a test may let the actor wait. Whoever is stopped after a step that others
+ * have to find is often stopped for long. */
+static inline void point_at(const char *where) {
+    if (actor >= 0 && strncmp(where, "has ", 4) == 0 && random_below(STALLS_AFTER) == 0)
+        play.stalled[actor] = random_below(LONG);
+    point(false);
+    while (actor >= 0 && play.waits && play.waits(actor, where)) point(true);
+}
+
+static inline uint32_t after(const char *where, uint32_t code) {
+    point_at(where);
+    return code;
+}
+
+/* The parts of the C library that block. */
+
+static inline int played_lock(pthread_mutex_t *lock) {
+    if (actor < 0) return pthread_mutex_lock(lock);
+    point(false);
+    while (pthread_mutex_trylock(lock) != 0) point(true);
+    return 0;
+}
+
+static inline int played_unlock(pthread_mutex_t *lock) {
+    int code = pthread_mutex_unlock(lock);
+    point(false);
+    return code;
+}
+
+static inline unsigned *wakes_of(const pthread_cond_t *condition) {
+    return &play.wakes[(uintptr_t)condition / sizeof *condition % WAKES];
+}
+
+static inline int played_broadcast(pthread_cond_t *condition) {
+    point(false);
+    if (actor >= 0) ++*wakes_of(condition);
+    return pthread_cond_broadcast(condition);
+}
+
+/* Every other schedule wakes threads for no reason; in the rest one that nobody wakes sleeps. */
+static inline int sleeps(pthread_cond_t *condition, pthread_mutex_t *lock, bool has_deadline) {
+    unsigned before = *wakes_of(condition);
+    bool is_late = false;
+    pthread_mutex_unlock(lock);
+    do {
+        point(true);
+        is_late = has_deadline && random_below(16) == 0;
+    } while (!is_late && play.number % 2 == 0 && *wakes_of(condition) == before);
+    while (pthread_mutex_trylock(lock) != 0) point(true);
+    return is_late ? ETIMEDOUT : 0;
+}
+
+static inline int played_wait(pthread_cond_t *condition, pthread_mutex_t *lock) {
+    return actor < 0 ? pthread_cond_wait(condition, lock) : sleeps(condition, lock, false);
+}
+
+static inline int played_timedwait(pthread_cond_t *condition, pthread_mutex_t *lock, const struct timespec *at) {
+    return actor < 0 ? pthread_cond_timedwait(condition, lock, at) : sleeps(condition, lock, true);
+}
+
+static inline int played_yield(void) {
+    if (actor < 0) return sched_yield();
+    point(true);
+    return 0;
+}
+
+static inline ssize_t played_random(void *to, size_t size, unsigned flags) {
+    if (play.random == 0) return getrandom(to, size, flags);
+    for (size_t i = 0; i < size; i++) ((uint8_t *)to)[i] = (uint8_t)random_number();
+    return (ssize_t)size;
+}
+
+/* The library. */
+
+static inline struct named *name_in(const uint8_t *key, size_t len) {
+    for (int i = 0; i < play.names_used; i++) {
+        struct named *name = &play.names[i];
+        if (name->len == len && memcmp(name->key, key, len) == 0) return name;
+    }
+    return NULL;
+}
+
+static inline uint32_t played_named(sflight_slot *slot, const uint8_t *key, size_t len, sflight_stamp *stamp) {
+    if (actor >= 0) point_at("named");
+    uint32_t code = sflight_named(slot, key, len, stamp);
+    if (actor < 0) return code;
+    struct named *name = name_in(key, len);
+    if (code == SFLIGHT_DONE && len <= sizeof name->key && (name || play.names_used < MOST_NAMES)) {
+        if (!name) name = &play.names[play.names_used++];
+        memcpy(name->key, key, len);
+        name->len = len;
+        name->stamp = *stamp;
+    } else if (code == SFLIGHT_NOTHING && name) {
+        for (int i = 0; i < play.actors; i++) {
+            if (name->stamp.place && memcmp(&play.clearing[i], &name->stamp, sizeof *stamp) == 0) {
+                *stamp = name->stamp;
+                code = SFLIGHT_DONE;
+            }
+        }
+    }
+    point_at("has named");
+    return code;
+}
+
+static inline uint32_t played_forget_call(sflight_slot *slot, const sflight_stamp *stamp, uint32_t tries) {
+    if (actor >= 0) point_at("forget");
+    uint32_t code = sflight_forget_call(slot, stamp, tries);
+    if (actor < 0 || code != SFLIGHT_DONE) return code;
+    play.clearing[actor] = *stamp;
+    point_at("has closed");
+    if (random_below(2) == 0) {
+        play.stalled[actor] = random_below(LONG);
+        hand_over(true);
+    }
+    memset(&play.clearing[actor], 0, sizeof play.clearing[actor]);
+    return code;
+}
+
+static inline bool is_after(const char *where, bool is) {
+    point_at(where);
+    return is;
+}
+
+#undef atomic_load
+#undef atomic_store
+#undef atomic_exchange
+#undef atomic_fetch_add
+#undef atomic_fetch_sub
+#undef atomic_compare_exchange_strong
+#undef atomic_compare_exchange_weak
+#define atomic_load(at) (point(false), atomic_load_explicit(at, memory_order_seq_cst))
+#define atomic_store(at, to) (point(false), atomic_store_explicit(at, to, memory_order_seq_cst))
+#define atomic_exchange(at, to) (point(false), atomic_exchange_explicit(at, to, memory_order_seq_cst))
+#define atomic_fetch_add(at, by) (point(false), atomic_fetch_add_explicit(at, by, memory_order_seq_cst))
+#define atomic_fetch_sub(at, by) (point(false), atomic_fetch_sub_explicit(at, by, memory_order_seq_cst))
+#define atomic_compare_exchange_strong(at, from, to) \
+    (point(false), \
+     atomic_compare_exchange_strong_explicit(at, from, to, memory_order_seq_cst, memory_order_seq_cst))
+#define atomic_compare_exchange_weak(at, from, to) \
+    (point(false), \
+     atomic_compare_exchange_weak_explicit(at, from, to, memory_order_seq_cst, memory_order_seq_cst))
+
+#define pthread_mutex_lock played_lock
+#define pthread_mutex_unlock played_unlock
+#define pthread_cond_wait played_wait
+#define pthread_cond_timedwait played_timedwait
+#define pthread_cond_broadcast played_broadcast
+#define sched_yield played_yield
+#define getrandom played_random
+
+#define sflight_open played_open
+#define sflight_named played_named
+#define sflight_forget_call played_forget_call
+#define sflight_ask(...) (point_at("ask"), after("has asked", (sflight_ask)(__VA_ARGS__)))
+#define sflight_finish(...) (point_at("finish"), after("has finished", (sflight_finish)(__VA_ARGS__)))
+#define sflight_poll(...) (point_at("poll"), (sflight_poll)(__VA_ARGS__))
+#define sflight_is_still(...) is_after("is still", (point(false), (sflight_is_still)(__VA_ARGS__)))
+#define sflight_look(...) after("has looked", (point(false), (sflight_look)(__VA_ARGS__)))
+#define sflight_keep(...) after("has kept", (point_at("keep"), (sflight_keep)(__VA_ARGS__)))
+#define sflight_take_out(...) after("has taken out", (point(false), (sflight_take_out)(__VA_ARGS__)))
+
+/* Plays. */
+
+struct part {
+    pthread_t thread;
+    sem_t begin;
+    int number;
+    void (*run)(int number);
+};
+
+static struct part parts[MOST_ACTORS];
+
+static inline void *acts(void *at) {
+    struct part *part = at;
+    for (;;) {
+        while (sem_wait(&part->begin) != 0) {}
+        if (!part->run) return NULL;
+        while (sem_wait(&play.turn[part->number]) != 0) {}
+        actor = part->number;
+        part->run(part->number);
+        play.is_over[actor] = true;
+        bool is_end = true;
+        for (int i = 0; i < play.actors; i++) is_end = is_end && play.is_over[i];
+        if (is_end) sem_post(&play.end);
+        else hand_over(true);
+        actor = -1;
+    }
+}
+
+/* Numbers the play: what is random from here on is so by its number. */
+static inline void begin_play(uint64_t number, int actors) {
+    play.number = number;
+    play.random = (number + 1) * 0xbf58476d1ce4e5b9u | 1;
+    for (int i = 0; i < 8; i++) random_number();
+    play.actors = actors;
+    play.steps = 0;
+    play.waited = 0;
+    play.names_used = 0;
+    play.waits = NULL;
+    memset(play.is_over, 0, sizeof play.is_over);
+    memset(play.stalled, 0, sizeof play.stalled);
+    memset(play.clearing, 0, sizeof play.clearing);
+}
+
+/* Each actor runs this with its number. Returns when all have ended. */
+static inline void play_all(void (*run)(int number)) {
+    for (int i = 0; i < play.actors; i++) {
+        parts[i].run = run;
+        sem_post(&parts[i].begin);
+    }
+    play.now = (int)random_below((unsigned)play.actors);
+    sem_post(&play.turn[play.now]);
+    while (sem_wait(&play.end) != 0) {}
+}
+
+/* The threads of the actors, which play one schedule after the other. */
+static inline void open_plays(void) {
+    /* Threads that run one after the other do so sooner on one processor. */
+    cpu_set_t all, one;
+    if (sched_getaffinity(0, sizeof all, &all) == 0) {
+        CPU_ZERO(&one);
+        for (int i = 0; i < CPU_SETSIZE && CPU_COUNT(&one) == 0; i++) if (CPU_ISSET(i, &all)) CPU_SET(i, &one);
+        sched_setaffinity(0, sizeof one, &one);
+    }
+    sem_init(&play.end, 0, 0);
+    for (int i = 0; i < MOST_ACTORS; i++) {
+        sem_init(&play.turn[i], 0, 0);
+        sem_init(&parts[i].begin, 0, 0);
+        parts[i].number = i;
+        if (pthread_create(&parts[i].thread, NULL, acts, &parts[i])) abort();
+    }
+}
+
+static inline void close_plays(void) {
+    for (int i = 0; i < MOST_ACTORS; i++) {
+        parts[i].run = NULL;
+        sem_post(&parts[i].begin);
+        pthread_join(parts[i].thread, NULL);
+    }
+}
+
+#endif
