@@ -46,11 +46,13 @@
 //!
 //! # Why answers do not go backwards
 //!
-//! A leader's word stays until the library has settled the call. So whoever looks follows it, or
-//! comes after all who can still join. A call whose load is over is not moved: L has settled in the
-//! library, and stalls before its word is 0; another key's call is led at the slot; a run R of L's
-//! key finds that one, loads, and returns a newer answer; now the renewal would enter L, and the
-//! next asker would follow it.
+//! A leader's word stays until the library has settled the call, and before that the leader writes
+//! that its load is over. Whoever looks follows a call whose load is not over. One whose load is
+//! over may have been settled: L has settled in the library, and stalls before its word is 0; a
+//! caller that joined it by a seat returns L's value; whoever asks from now on may not follow L, or
+//! gets a value that was there before it asked. So with a call that was moved. With a seat one asks
+//! the library, which knows whether L is open. A run closes L in the library first, so that nobody
+//! joins L later and goes back behind the run's answer.
 
 use crate::epoch::{Epoch, Taken};
 use crate::hash::Fingerprints;
@@ -459,40 +461,35 @@ impl<T> Pool<T> {
         noted: Option<&Noted>,
     ) -> Beside<T> {
         let mut side = lock(&self.side);
-        loop {
-            // A run is taken out before it is settled, and a moved call after that.
-            if let Some(run) = side.runs.get(key).and_then(|run| run.join(noted)) {
-                return Beside::Follow(run);
-            }
-            if let Some(moved) = side.join_moved(fingerprint, noted) {
-                return Beside::Follow(moved);
-            }
-            let alert = self.alert_of(fingerprint);
-            point();
-            alert.fetch_add(1, SeqCst);
-            let epoch = self.current();
-            let (call, whose) = epoch.look(None, key, fingerprint);
-            match (call, whose) {
-                (Some(call), Whose::Same) => {
-                    point();
-                    alert.fetch_sub(1, SeqCst);
-                    if let Some(wait) = epoch.post(call.caller).follow(call, fingerprint, noted) {
-                        return Beside::Follow(wait);
-                    }
-                }
-                (_, Whose::Ended) if has_seat => {
-                    point();
-                    alert.fetch_sub(1, SeqCst);
-                    return Beside::Nothing;
-                }
-                _ => {
-                    let record = noted.map(|noted| noted.record(key, fingerprint, None));
-                    let run = Wait::run(fingerprint, key, record.clone());
-                    side.runs.insert(key.into(), run.clone());
-                    return Beside::Run(run, record);
-                }
-            }
+        // A run is taken out before it is settled, and a moved call after that.
+        if let Some(run) = side.runs.get(key).and_then(|run| run.join(noted)) {
+            return Beside::Follow(run);
         }
+        if let Some(moved) = self.join_moved(&side, fingerprint, noted) {
+            return Beside::Follow(moved);
+        }
+        let alert = self.alert_of(fingerprint);
+        point();
+        alert.fetch_add(1, SeqCst);
+        let epoch = self.current();
+        let (call, whose) = epoch.look(None, key, fingerprint);
+        let own = call.filter(|_| whose == Whose::Same);
+        let followed =
+            own.and_then(|call| epoch.post(call.caller).follow(call, fingerprint, noted));
+        if followed.is_some() || has_seat && whose != Whose::Other {
+            point();
+            alert.fetch_sub(1, SeqCst);
+            return followed.map_or(Beside::Nothing, Beside::Follow);
+        }
+        // One whose load is over may be open still. It is closed, or somebody could have the newer
+        // value of the run first, and then join that call.
+        if let Some(call) = own {
+            epoch.forget_call(None, key, call);
+        }
+        let record = noted.map(|noted| noted.record(key, fingerprint, None));
+        let run = Wait::run(fingerprint, key, record.clone());
+        side.runs.insert(key.into(), run.clone());
+        Beside::Run(run, record)
     }
 
     /// Whether a leader of this epoch may load, that has led its call before. Else it settles that
@@ -522,6 +519,27 @@ impl<T> Pool<T> {
             drop(side);
             drop(entered);
         }
+    }
+
+    // Joins a moved call of a key with this fingerprint, unless its load is over: somebody may have
+    // its value then. It is about to be taken out.
+    fn join_moved(
+        &self,
+        side: &Side<T>,
+        fingerprint: u64,
+        noted: Option<&Noted>,
+    ) -> Option<Follower<T>> {
+        let moved = side.moved.get(&fingerprint)?;
+        let epochs = lock(&self.epochs);
+        moved.iter().find_map(|wait| {
+            let call = wait.call?;
+            // The leader's seat keeps its epoch until the call is settled.
+            let epoch = epochs.all.iter().find(|epoch| epoch.number == call.epoch)?;
+            if epoch.post(call.caller).is_over(call.generation) {
+                return None;
+            }
+            wait.join(noted)
+        })
     }
 
     /// A call is settled that was followed.
@@ -782,12 +800,6 @@ impl<T> Drop for Pool<T> {
 }
 
 impl<T> Side<T> {
-    // Joins a moved call of a key with this fingerprint. One that is settled is about to be taken
-    // out.
-    fn join_moved(&self, fingerprint: u64, noted: Option<&Noted>) -> Option<Follower<T>> {
-        self.moved.get(&fingerprint)?.iter().find_map(|wait| wait.join(noted))
-    }
-
     fn unmove(&mut self, wait: &Arc<Wait<T>>) -> bool {
         let Some(moved) = self.moved.get_mut(&wait.fingerprint) else {
             return false;

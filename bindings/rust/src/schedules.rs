@@ -5,8 +5,9 @@
 //!
 //! Of each schedule it is checked that it ends, that no load of a key begins while another one runs
 //! that no Forget ended, that no answer is older than one that was returned before its asking
-//! began, or than a Forget that had returned, that a stamp that is current is no older either, and
-//! that all callers of the library are back.
+//! began, or than a Forget that had returned, that a stamp that is current is no older either, that
+//! no caller joins a load whose value somebody had before it asked, and that all callers of the
+//! library are back.
 //!
 //! Others are recorded, and their logs are judged: each is legal in time, by a clock that counts
 //! steps.
@@ -296,6 +297,8 @@ struct Value {
     moment: u64,
     is_counted: bool,
     live: Rc<Cell<i64>>,
+    // When it was returned first, or 0.
+    had: Cell<u64>,
     // Whether its leader has returned and said that nobody joined, and whether somebody has
     // returned it who joined.
     is_alone: Cell<bool>,
@@ -373,6 +376,7 @@ impl World {
             moment,
             is_counted,
             live: self.live.clone(),
+            had: Cell::new(0),
             is_alone: Cell::new(false),
             is_joined: Cell::new(false),
         }
@@ -383,9 +387,27 @@ impl World {
         self.keys[key].returned.get().max(self.keys[key].forgotten.get())
     }
 
+    // When one asks, and what the answer has to be at least.
+    fn asks(&self, key: usize) -> (u64, u64) {
+        (self.tick(), self.least(key))
+    }
+
     // A receiver of the job that its own caller had has not joined.
-    fn returned(&self, key: usize, least: u64, got: &Loaded<Value>, has_joined: bool) {
+    fn returned(
+        &self,
+        key: usize,
+        (asked, least): (u64, u64),
+        got: &Loaded<Value>,
+        has_joined: bool,
+    ) {
         let answer = &got.value;
+        let had = answer.had.get();
+        check(had == 0 || asked < had, || {
+            format!("an answer of {key} that somebody had before it was asked for")
+        });
+        if had == 0 {
+            answer.had.set(self.tick());
+        }
         if got.led && !got.shared() {
             answer.is_alone.set(true);
         }
@@ -466,29 +488,29 @@ impl Actor {
         self.is_grouped || self.random.below(2) == 0
     }
 
-    fn got(&mut self, key: usize, least: u64, got: Loaded<Value>, has_joined: bool) {
-        self.world.returned(key, least, &got, has_joined);
+    fn got(&mut self, key: usize, asked: (u64, u64), got: Loaded<Value>, has_joined: bool) {
+        self.world.returned(key, asked, &got, has_joined);
         self.last.insert(key, (got.value.moment, got.stamp(), got.call()));
     }
 
     fn get(&mut self, key: usize, is_nested: bool, timeout: bool) {
-        let (world, asked, least) = (self.world.clone(), self.world.tick(), self.world.least(key));
+        let (world, asked) = (self.world.clone(), self.world.asks(key));
         let most = [4, 4, 4, 400][self.random.below(4) as usize];
         let steps = self.random.below(most);
         let mut second = self.second.take();
         let load = || {
-            let moment = world.begins(key, asked);
+            let moment = world.begins(key, asked.0);
             (0..steps).for_each(|_| point());
             // A load asks for greater keys alone, so that no two wait for each other.
             if let Some(other) = second.as_mut().filter(|_| is_nested && key + 1 < KEYS) {
-                let (asked, least) = (world.tick(), world.least(key + 1));
+                let asked = world.asks(key + 1);
                 let got = other.get_or_load(NAMES[key + 1], || {
-                    let moment = world.begins(key + 1, asked);
+                    let moment = world.begins(key + 1, asked.0);
                     point();
                     world.ends(key + 1, moment);
                     world.value(moment)
                 });
-                world.returned(key + 1, least, &got, true);
+                world.returned(key + 1, asked, &got, true);
             }
             point();
             world.ends(key, moment);
@@ -504,7 +526,7 @@ impl Actor {
         };
         self.second = second;
         if let Ok(got) = got {
-            self.got(key, least, got, true);
+            self.got(key, asked, got, true);
         }
     }
 
@@ -515,10 +537,10 @@ impl Actor {
                 self.0.ends(self.1, self.2);
             }
         }
-        let (world, asked, least) = (self.world.clone(), self.world.tick(), self.world.least(key));
+        let (world, asked) = (self.world.clone(), self.world.asks(key));
         let (steps, polls) = (self.random.below(3), self.random.below(40));
         let load = async {
-            let running = Load(&world, key, world.begins(key, asked));
+            let running = Load(&world, key, world.begins(key, asked.0));
             let mut left = steps;
             std::future::poll_fn(|context| {
                 left = left.saturating_sub(1);
@@ -541,12 +563,12 @@ impl Actor {
             got = polled(&mut self.random, task.as_mut(), polls);
         }
         if let Some(got) = got {
-            self.got(key, least, got, true);
+            self.got(key, asked, got, true);
         }
     }
 
     fn channel(&mut self, key: usize) {
-        let (world, asked, least) = (self.world.clone(), self.world.tick(), self.world.least(key));
+        let (world, asked) = (self.world.clone(), self.world.asks(key));
         let (is_run, by_group) = (self.random.below(4) > 0, self.by_group());
         let (receiver, job) = match by_group {
             true => self.group.subscribe(NAMES[key]),
@@ -556,12 +578,12 @@ impl Actor {
         let run = |job: crate::Job<'_, Value>| {
             if is_run {
                 let got = job.run(|| {
-                    let moment = world.begins(key, asked);
+                    let moment = world.begins(key, asked.0);
                     point();
                     world.ends(key, moment);
                     world.value(moment)
                 });
-                world.returned(key, least, &got, false);
+                world.returned(key, asked, &got, false);
                 return;
             }
             point();
@@ -576,7 +598,7 @@ impl Actor {
         let mut receives = pin!(receiver);
         for _ in 0..self.random.below(30) {
             if let Ok(got) = receives.try_recv() {
-                self.got(key, least, got, has_joined);
+                self.got(key, asked, got, has_joined);
                 break;
             }
             is_blocked();
@@ -585,7 +607,7 @@ impl Actor {
             self.caller.current_call(NAMES[key]);
         }
         if let Some(Ok(got)) = polled(&mut self.random, receives.as_mut(), 10) {
-            self.got(key, least, got, has_joined);
+            self.got(key, asked, got, has_joined);
         }
     }
 
@@ -631,7 +653,9 @@ impl Actor {
         };
         if is_current {
             check(moment >= floor, || {
-                format!("a stamp of {key} from {moment} is current after a Forget from {floor}")
+                format!(
+                    "a stamp of {key} from {moment} is current after a value or a Forget from {floor}"
+                )
             });
             self.world.current.set(self.world.current.get() + 1);
         }
