@@ -50,9 +50,14 @@
 //! that its load is over. Whoever looks follows a call whose load is not over. One whose load is
 //! over may have been settled: L has settled in the library, and stalls before its word is 0; a
 //! caller that joined it by a seat returns L's value; whoever asks from now on may not follow L, or
-//! gets a value that was there before it asked. So with a call that was moved. With a seat one asks
-//! the library, which knows whether L is open. A run closes L in the library first, so that nobody
-//! joins L later and goes back behind the run's answer.
+//! gets a value that was there before it asked. The same holds for a moved call. With a seat one
+//! asks the library, which knows whether L is open. A run closes L in the library first, so that
+//! nobody joins L later and goes back behind the run's answer.
+//!
+//! A call of the library ends the stamp of the call before it at its slot. A run is no call there,
+//! so it ends that stamp itself before its load begins: L is settled, and its leader stalls before
+//! it keeps the value; no seat is free; a run of L's key returns a newer value; now the leader asks
+//! whether its stamp is current.
 
 use crate::epoch::{Epoch, Taken};
 use crate::hash::Fingerprints;
@@ -473,17 +478,19 @@ impl<T> Pool<T> {
         alert.fetch_add(1, SeqCst);
         let epoch = self.current();
         let (call, whose) = epoch.look(None, key, fingerprint);
-        let own = call.filter(|_| whose == Whose::Same);
-        let followed =
-            own.and_then(|call| epoch.post(call.caller).follow(call, fingerprint, noted));
+        let followed = call
+            .filter(|_| whose == Whose::Same)
+            .and_then(|call| epoch.post(call.caller).follow(call, fingerprint, noted));
         if followed.is_some() || has_seat && whose != Whose::Other {
             point();
             alert.fetch_sub(1, SeqCst);
             return followed.map_or(Beside::Nothing, Beside::Follow);
         }
-        // One whose load is over may be open still. It is closed, or somebody could have the newer
-        // value of the run first, and then join that call.
-        if let Some(call) = own {
+        // The run ends the stamp of the key's last value, as a call of the library does, or whoever
+        // has that value could keep it after the run has returned a newer one. A call whose load is
+        // over may be open still. It is closed, or somebody could have the newer value of the run
+        // first, and then join that call. Another key's open call has ended the stamp itself.
+        if let Some(call) = call.filter(|_| whose != Whose::Other) {
             epoch.forget_call(None, key, call);
         }
         let record = noted.map(|noted| noted.record(key, fingerprint, None));

@@ -646,7 +646,7 @@ impl Actor {
             return self.forget_now(key);
         }
         let Some((moment, stamp, call)) = self.last.get(&key).copied() else { return };
-        let floor = self.world.keys[key].forgotten.get();
+        let floor = self.world.least(key);
         let is_current = match self.by_group() {
             false => self.caller.is_current(stamp),
             true => self.group.is_current(stamp),

@@ -637,6 +637,28 @@ fn what_was_invalidated_while_it_was_put_down_is_not_found() {
     assert_eq!(*cache.get_or_load("key", || 3), 3);
 }
 
+// The leader is stopped before it keeps its value: its weigher gets another key, for which it holds
+// the only caller of the library, and so the first key is loaded beside the library.
+#[test]
+fn no_value_is_kept_once_a_newer_one_was_returned() {
+    let own: Arc<Mutex<Weak<Cache<u32>>>> = Arc::default();
+    let weighs = own.clone();
+    let cache = Cache::builder(10).loads(1).weigher(move |_, value| {
+        if *value == 1 {
+            let cache = weighs.lock().unwrap().upgrade().expect("it lives");
+            cache.get_or_load("other", || {
+                assert_eq!(*cache.get_or_load("key", || 2), 2);
+                3
+            });
+        }
+        1
+    });
+    let cache = Arc::new(cache.build().unwrap());
+    *own.lock().unwrap() = Arc::downgrade(&cache);
+    assert_eq!(*cache.get_or_load("key", || 1), 1);
+    assert_eq!(cache.get("key"), None, "a value is kept that was loaded before another");
+}
+
 #[test]
 fn an_insert_loses_to_an_invalidation_of_all_that_begins_meanwhile() {
     let own: Arc<Mutex<Weak<Cache<u32>>>> = Arc::default();

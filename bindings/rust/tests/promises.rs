@@ -78,6 +78,18 @@ fn loads_that_hang_hold_up_no_other_key() {
 }
 
 #[test]
+fn a_load_beside_the_library_ends_the_stamp_before_it() {
+    let group = Group::<u64>::open(16, 1).unwrap();
+    let mut caller = group.caller();
+    let stamp = caller.get_or_load("key", || 1).stamp();
+    assert!(caller.is_current(stamp) && group.is_current(stamp), "it is the last value");
+    // The only caller of the library is taken.
+    let got = group.get_or_load("key", || 2);
+    assert!(*got.value == 2 && got.call().is_none(), "it is loaded beside the library");
+    assert!(!caller.is_current(stamp) && !group.is_current(stamp), "a newer value was returned");
+}
+
+#[test]
 fn one_load_for_more_than_there_are_callers() {
     for group in [Group::<u64>::open(1, 1).unwrap(), Group::open(1024, 4).unwrap(), Group::new()] {
         const THREADS: u64 = 300;
