@@ -381,13 +381,14 @@ impl<T> Pool<T> {
         }
     }
 
-    /// One loads beside the library since no caller was free.
+    /// One loads beside the library since no caller was free. Of several, one renews; the others
+    /// find the new epoch here, which has free callers.
     pub(crate) fn grow(&self) {
         let epoch = self.current();
         if epoch.is_worn() {
             // There was no memory before.
             self.renew(&epoch, epoch.places, epoch.callers);
-        } else if self.plan.grows && epoch.callers < MOST_CALLERS {
+        } else if self.plan.grows && epoch.callers < MOST_CALLERS && epoch.is_full() {
             let callers = (epoch.callers * STEP).min(MOST_CALLERS);
             self.renew(&epoch, (epoch.places * STEP).min(MOST_PLACES), callers);
         }
@@ -891,6 +892,29 @@ mod tests {
         assert!(!pool.is_current_by_any(none), "without a seat the pool itself is asked");
         pool.put(first);
         pool.put(second);
+    }
+
+    // Of those who found no seat, one renews. The others come to that when the new epoch is there.
+    #[test]
+    fn a_pool_grows_where_all_its_seats_are_taken() {
+        let plan = Plan { places: 1, callers: 2, grows: true, calls: 1000 };
+        let pool: Pool<u32> = Pool::open(plan).unwrap();
+        let take = |count| Vec::from_iter((0..count).map(|_| pool.take().expect("a free seat")));
+        let first = take(1);
+        pool.grow();
+        assert_eq!(pool.now(), 1, "one seat is not made");
+        take(1).into_iter().for_each(|taken| pool.put_back(taken));
+        pool.grow();
+        assert_eq!(pool.now(), 1, "one was put back");
+        let second = take(1);
+        assert!(pool.take().is_none(), "all are taken");
+        (0..3).for_each(|_| pool.grow());
+        assert_eq!((pool.now(), pool.current().callers), (2, 16), "it has grown once");
+        let more = take(16);
+        pool.grow();
+        assert_eq!(pool.now(), 3, "all are taken again");
+        first.into_iter().chain(second).chain(more).for_each(|taken| pool.put(taken));
+        assert_eq!(pool.stats().in_use, 0);
     }
 
     // By such a seat one could join a call whose load is over, and go back behind an answer of the

@@ -293,6 +293,28 @@ fn callers_that_are_spent_are_renewed() {
     assert!(stats.leads == 30_000 && stats.alone == 0 && stats.in_use == 1, "{stats:?}");
 }
 
+// The first 32 take all callers of the library. One of the others makes the group grow to 256.
+#[test]
+fn a_burst_of_callers_makes_a_group_grow_once() {
+    for _ in 0..20 {
+        const THREADS: u64 = 100;
+        let (group, all) = (Group::<u64>::new(), Barrier::new(THREADS as usize));
+        std::thread::scope(|scope| {
+            for thread in 0..THREADS {
+                let (group, all) = (&group, &all);
+                scope.spawn(move || {
+                    group.get_or_load(thread.to_le_bytes(), || {
+                        all.wait();
+                        thread
+                    })
+                });
+            }
+        });
+        let call = group.get_or_load("after", || 1).call().expect("a caller is free");
+        assert_eq!(call.epoch, 2, "it has grown more than once");
+    }
+}
+
 // A call that is open when its epoch is replaced is joined, forgotten and forgotten by its name.
 #[test]
 fn calls_that_are_open_when_their_callers_are_renewed() {
