@@ -10,10 +10,10 @@
 //! library are back.
 //!
 //! Others are recorded, and their logs are judged: each is legal in time, by a clock that counts
-//! steps.
+//! steps. Others again play a cache (`cached`).
 //!
-//! `SFLIGHT_SCHEDULES` says how many are drawn, `SFLIGHT_RECORDED` how many are recorded, and
-//! `SFLIGHT_SEED` with which one both begin.
+//! `SFLIGHT_SCHEDULES` says how many are drawn, `SFLIGHT_RECORDED` how many are recorded,
+//! `SFLIGHT_CACHED` how many play a cache, and `SFLIGHT_SEED` with which one each begins.
 
 use crate::asker::Asker;
 use crate::sync::lock;
@@ -32,6 +32,7 @@ use std::sync::{Arc, Mutex};
 use std::task::{Context, Poll, Wake, Waker};
 use std::time::Duration;
 
+mod cached;
 #[path = "../tests/judge/mod.rs"]
 mod judge;
 
@@ -813,23 +814,8 @@ fn recorded_schedules_are_legal_in_time() {
 }
 
 fn each_schedule(name: &str, count: u64, is_recorded: bool) -> Played {
-    let first = number("SFLIGHT_SEED", 1);
-    let threads = 4;
-    let played: Vec<Played> = std::thread::scope(|scope| {
-        let threads: Vec<_> = (0..threads)
-            .map(|thread| {
-                scope.spawn(move || {
-                    let (mut stacks, mut all) = (Vec::new(), Played::default());
-                    for seed in (first + thread..first + count).step_by(threads as usize) {
-                        if let Err(why) = schedule(seed, &mut stacks, &mut all, is_recorded) {
-                            panic!("SFLIGHT_SEED={seed} {name}=1: {why}");
-                        }
-                    }
-                    all
-                })
-            })
-            .collect();
-        threads.into_iter().map(|thread| thread.join().expect("a schedule that is right")).collect()
+    let played = each_seed(name, count, |seed, stacks, all: &mut Played| {
+        schedule(seed, stacks, all, is_recorded)
     });
     let sum = |part: fn(&Played) -> u64| played.iter().map(part).sum::<u64>();
     let all = Played {
@@ -841,6 +827,32 @@ fn each_schedule(name: &str, count: u64, is_recorded: bool) -> Played {
     };
     println!("{count} schedules: {all:?}");
     all
+}
+
+// Plays the schedule of each seed, in some threads: what each thread has played.
+fn each_seed<R: Default + Send>(
+    name: &str,
+    count: u64,
+    schedule: impl Fn(u64, &mut Vec<Box<[u128]>>, &mut R) -> Result<(), String> + Sync,
+) -> Vec<R> {
+    let (first, schedule) = (number("SFLIGHT_SEED", 1), &schedule);
+    let threads = 4;
+    std::thread::scope(|scope| {
+        let threads: Vec<_> = (0..threads)
+            .map(|thread| {
+                scope.spawn(move || {
+                    let (mut stacks, mut all) = (Vec::new(), R::default());
+                    for seed in (first + thread..first + count).step_by(threads as usize) {
+                        if let Err(why) = schedule(seed, &mut stacks, &mut all) {
+                            panic!("SFLIGHT_SEED={seed} {name}=1: {why}");
+                        }
+                    }
+                    all
+                })
+            })
+            .collect();
+        threads.into_iter().map(|thread| thread.join().expect("a schedule that is right")).collect()
+    })
 }
 
 #[test]
