@@ -80,18 +80,20 @@ fn call(group: &Group<u64>, options: &Options, random: &mut Random) {
 }
 
 fn main() -> Result<(), Box<dyn std::error::Error>> {
-    let Some(options) = options() else {
+    let end = |made: &Options| Instant::now().checked_add(Duration::from_secs(made.seconds));
+    let Some((options, until)) = options().and_then(|made| end(&made).map(|until| (made, until)))
+    else {
         eprintln!("{USAGE}");
         std::process::exit(2);
     };
     let group = Group::new();
     let recording = group.record(BufWriter::new(File::create(&options.log)?))?;
-    let (calls, until) = (AtomicU64::new(0), Instant::now() + Duration::from_secs(options.seconds));
+    let calls = AtomicU64::new(0);
     std::thread::scope(|scope| {
         for client in 0..options.clients {
             let (group, options, calls) = (&group, &options, &calls);
             scope.spawn(move || {
-                let mut random = Random((client + 1) * 0x9e37_79b9_7f4a_7c15);
+                let mut random = Random((client + 1).wrapping_mul(0x9e37_79b9_7f4a_7c15));
                 while Instant::now() < until {
                     call(group, options, &mut random);
                     calls.fetch_add(1, Relaxed);

@@ -24,4 +24,9 @@ fn main() {
     cache.invalidate("ada");
     let page = cache.get_or_load("ada", || "her new page".to_string());
     assert_eq!(*page, "her new page");
+
+    let token = cache.write_token("ada");
+    // Here the page is written to the store. Its value is not kept if another wrote it meanwhile.
+    let is_kept = token.insert("her page of today".to_string());
+    assert!(is_kept && cache.get("ada").is_some());
 }

@@ -174,7 +174,7 @@ impl<T, P: Deref<Target = Pool<T>>> Asker<T, P> {
             record.settles();
         }
         let taken = self.taken.as_mut().expect("who leads has a seat");
-        taken.post().is_over(taken.seat.next - 1);
+        taken.post().ends_load(taken.seat.next - 1);
         let slot = &mut taken.seat.slot;
         let mut answer = raw::Answer::default();
         point();
@@ -318,10 +318,12 @@ impl<T, P: Deref<Target = Pool<T>>> Asker<T, P> {
             stall_point();
             match taken.epoch.look(Some(&mut taken.seat), key, fingerprint) {
                 (Some(call), Whose::Same) => {
+                    // Where its load is over, the library knows whether it is open still.
                     let post = taken.epoch.post(call.caller);
-                    let wait = post.follow(call, fingerprint, noted)?;
-                    self.count(|counters| &counters.joins);
-                    return Some(Asked::Follows(wait));
+                    if let Some(wait) = post.follow(call, fingerprint, noted) {
+                        self.count(|counters| &counters.joins);
+                        return Some(Asked::Follows(wait));
+                    }
                 }
                 (_, Whose::Other) => {
                     self.pool.clash(&taken.epoch);

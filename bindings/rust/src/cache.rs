@@ -10,7 +10,7 @@
 //! of an era before.
 
 use crate::hash::Fingerprints;
-use crate::sync::lock;
+use crate::sync::{lock, point};
 use crate::{Caller, Error, Group, Loaded, Stamp};
 use std::cell::Cell;
 use std::collections::HashMap;
@@ -36,6 +36,8 @@ const FEWER_PER_ENTRY: u64 = 16;
 const LEAST_SLOTS: u64 = 16_384;
 const COMMON_SLOTS: u64 = 1_048_576;
 const MOST_SLOTS: u64 = 134_217_728;
+/// How many counts of invalidations there are, among which the keys are shared out.
+const INVALIDATIONS: usize = 1024;
 /// How many values a lane remembers.
 const NEAR: usize = 1024;
 /// The queues of a shard.
@@ -546,7 +548,7 @@ impl<V: Send + Sync, E: Send + Sync> CacheBuilder<V, E> {
             shards: (0..shards).map(|_| Mutex::new(Shard::new())).collect(),
             fingerprints: Fingerprints::new(),
             era: AtomicU64::new(0),
-            invalidations: (0..parts).map(|_| AtomicU64::new(0)).collect(),
+            invalidations: (0..INVALIDATIONS).map(|_| AtomicU64::new(0)).collect(),
             weight: AtomicU64::new(0),
             evictions: AtomicU64::new(0),
             loads: AtomicU64::new(0),
@@ -600,6 +602,52 @@ impl<V, E> fmt::Debug for Cache<V, E> {
     fn fmt(&self, f: &mut fmt::Formatter<'_>) -> fmt::Result {
         let weight = self.weight.load(Ordering::Relaxed);
         f.debug_struct("Cache").field("limit", &self.limit).field("weight", &weight).finish()
+    }
+}
+
+/// What was so when a write began, or an insert.
+#[derive(Clone, Copy)]
+struct Since {
+    fingerprint: u64,
+    era: u64,
+    /// The count of invalidations to which the key belongs.
+    invalidations: u64,
+}
+
+/// A write of a key to the store, taken before it. [`Cache::write_token`] returns one.
+///
+/// A token that is dropped does nothing: where the write failed and may yet have been made, call
+/// [`Cache::invalidate`].
+#[must_use = "a token does nothing before its value is inserted"]
+pub struct WriteToken<'a, V, E = Infallible> {
+    cache: &'a Cache<V, E>,
+    key: Box<[u8]>,
+    since: Since,
+}
+
+impl<V: Send + Sync, E: Send + Sync> WriteToken<'_, V, E> {
+    /// Puts the value into the cache after it was written to the store, as [`Cache::insert`] does,
+    /// unless the key was invalidated since the token was taken, by whatever call: the invalidation
+    /// may be of a later write. It invalidates the key in any case. Returns whether the value is kept.
+    ///
+    /// An invalidation of another key counts as one of this key in about one case of a thousand.
+    ///
+    /// ```
+    /// let cache = singleflight::Cache::<u32>::new(100);
+    /// let token = cache.write_token("key");
+    /// // This thread writes 7 to the store. Another one writes 8, and invalidates the key.
+    /// cache.invalidate("key");
+    /// assert!(!token.insert(7));
+    /// assert_eq!(*cache.get_or_load("key", || 8), 8);
+    /// ```
+    pub fn insert(self, value: V) -> bool {
+        self.cache.insert_since(&self.key, self.since, value)
+    }
+}
+
+impl<V, E> fmt::Debug for WriteToken<'_, V, E> {
+    fn fmt(&self, f: &mut fmt::Formatter<'_>) -> fmt::Result {
+        f.debug_struct("WriteToken").finish_non_exhaustive()
     }
 }
 
@@ -780,32 +828,70 @@ impl<V: Send + Sync, E: Send + Sync> Cache<V, E> {
 
     /// Puts a value into the cache after it was written to the store: it invalidates the key, and
     /// then keeps the value, unless the key is invalidated again meanwhile, or a load began after the
-    /// invalidation, whose value is as new. Where two threads may write one key at one time, each
-    /// invalidates it after its write, or they insert in the order of their writes: the cache does
-    /// not know which write was the later one.
+    /// invalidation, whose value is as new.
+    ///
+    /// Returns whether the value is kept. It is not kept either where it weighs too much, or where as
+    /// many loads run as the cache may have ([`CacheBuilder::loads`]). The next call that gets the key
+    /// loads it then.
+    ///
+    /// The cache does not know which of two writes was the later one. Where two threads may write one
+    /// key at one time, one could insert the older value after the other has invalidated the key, and
+    /// the cache would keep it. There each takes a [`Cache::write_token`] before its write, or
+    /// invalidates the key after its write and inserts nothing.
     ///
     /// ```
     /// let cache = singleflight::Cache::<u32>::new(100);
     /// cache.get_or_load("key", || 7);
-    /// cache.insert("key", 8);
+    /// assert!(cache.insert("key", 8));
     /// assert_eq!(cache.get("key").as_deref(), Some(&8));
     /// ```
-    pub fn insert(&self, key: impl AsRef<[u8]>, value: V) {
+    pub fn insert(&self, key: impl AsRef<[u8]>, value: V) -> bool {
         let key = key.as_ref();
+        self.insert_since(key, self.since(key), value)
+    }
+
+    /// Returns a token of a write, to be taken before the value is written to the store. With it
+    /// [`WriteToken::insert`] keeps no value that a later write may have replaced.
+    ///
+    /// ```
+    /// let cache = singleflight::Cache::<u32>::new(100);
+    /// let store = std::sync::atomic::AtomicU32::new(7);
+    /// # use std::sync::atomic::Ordering::SeqCst;
+    /// let token = cache.write_token("key");
+    /// store.store(8, SeqCst);
+    /// assert!(token.insert(8));
+    /// assert_eq!(cache.get("key").as_deref(), Some(&8));
+    /// ```
+    pub fn write_token(&self, key: impl AsRef<[u8]>) -> WriteToken<'_, V, E> {
+        let key = key.as_ref();
+        WriteToken { cache: self, key: key.into(), since: self.since(key) }
+    }
+
+    fn since(&self, key: &[u8]) -> Since {
         let (era, fingerprint) = (self.era(), self.fingerprint(key));
-        let begun = self.invalidations(fingerprint);
-        let own = self.forget(key, fingerprint, era);
-        let name = name(era, key);
+        point();
+        let invalidations = self.invalidations(fingerprint).load(Ordering::SeqCst);
+        Since { fingerprint, era, invalidations }
+    }
+
+    /// Invalidates the key, and keeps the value if nobody else has invalidated the key since. Returns
+    /// whether it is kept.
+    fn insert_since(&self, key: &[u8], since: Since, value: V) -> bool {
+        let (era, fingerprint) = (self.era(), since.fingerprint);
+        self.forget(key, fingerprint, era);
         // The receiver goes with the end of this: nobody waits for it.
-        let (_receiver, job) = self.group.subscribe(&name);
-        let Some(job) = job else { return };
+        let (_receiver, job) = self.group.subscribe(name(era, key));
+        let Some(job) = job else { return false };
         // An invalidation that has begun since may be of a newer write. One that begins from here on
         // ends the call that is led now, so no call that begins after it gets this value.
-        if begun.load(Ordering::SeqCst) != own {
-            return;
+        point();
+        let invalidations = self.invalidations(fingerprint).load(Ordering::SeqCst);
+        if era != since.era || invalidations != since.invalidations + 1 {
+            return false;
         }
         let got = job.run(|| self.count(Ok(value)));
-        self.came(key, fingerprint, era, got, false).ok();
+        let value = got.value.as_ref().as_ref().ok().cloned();
+        value.is_some_and(|value| self.keep(key, fingerprint, era, value, got.stamp()))
     }
 
     /// Forgets the key: a call that begins after this has returned gets no value of it whose load
@@ -831,6 +917,7 @@ impl<V: Send + Sync, E: Send + Sync> Cache<V, E> {
     /// assert!(cache.get("key").is_none() && cache.stats().entries == 0);
     /// ```
     pub fn invalidate_all(&self) {
+        point();
         self.era.fetch_add(1, Ordering::SeqCst);
         self.empty();
     }
@@ -884,6 +971,7 @@ impl<V: Send + Sync, E: Send + Sync> Cache<V, E> {
     }
 
     fn era(&self) -> u64 {
+        point();
         self.era.load(Ordering::SeqCst)
     }
 
@@ -891,10 +979,10 @@ impl<V: Send + Sync, E: Send + Sync> Cache<V, E> {
         &self.lanes[lane_number() & (self.lanes.len() - 1)]
     }
 
-    /// Forgets the key in the era, and takes its entry out. The number of this invalidation.
-    fn forget(&self, key: &[u8], fingerprint: u64, era: u64) -> u64 {
-        let begun = self.invalidations(fingerprint);
-        let own = begun.fetch_add(1, Ordering::SeqCst) + 1;
+    /// Forgets the key in the era, and takes its entry out.
+    fn forget(&self, key: &[u8], fingerprint: u64, era: u64) {
+        point();
+        self.invalidations(fingerprint).fetch_add(1, Ordering::SeqCst);
         self.group.forget(name(era, key));
         let mut shard = lock(self.shard(fingerprint));
         let entry = match shard.find(fingerprint) {
@@ -905,7 +993,6 @@ impl<V: Send + Sync, E: Send + Sync> Cache<V, E> {
         if let Some(entry) = entry {
             self.left(entry);
         }
-        own
     }
 
     fn fingerprint(&self, key: &[u8]) -> u64 {
@@ -1001,7 +1088,7 @@ impl<V: Send + Sync, E: Send + Sync> Cache<V, E> {
         }
         let era = self.era();
         let got = self.group.get_or_load(name(era, key), || self.count(load()));
-        self.came(key, fingerprint, era, got, true)
+        self.came(key, fingerprint, era, got)
     }
 
     async fn get_by_async(
@@ -1016,7 +1103,7 @@ impl<V: Send + Sync, E: Send + Sync> Cache<V, E> {
         let era = self.era();
         let load = async { self.count(load.await) };
         let got = self.group.get_or_load_async(name(era, key), load).await;
-        self.came(key, fingerprint, era, got, true)
+        self.came(key, fingerprint, era, got)
     }
 
     /// What became of a call of the group. Its leader keeps the value.
@@ -1026,7 +1113,6 @@ impl<V: Send + Sync, E: Send + Sync> Cache<V, E> {
         fingerprint: u64,
         era: u64,
         got: Loaded<Outcome<V, E>>,
-        counts: bool,
     ) -> Outcome<V, E> {
         let stamp = got.stamp();
         let outcome = (*got.value).clone();
@@ -1034,18 +1120,18 @@ impl<V: Send + Sync, E: Send + Sync> Cache<V, E> {
             if let Ok(value) = &outcome {
                 self.keep(key, fingerprint, era, value.clone(), stamp);
             }
-        } else if counts {
+        } else {
             lock(&self.lane().0).joins += 1;
         }
         outcome
     }
 
-    /// Keeps a value whose call is current, if there is room for it.
-    fn keep(&self, key: &[u8], fingerprint: u64, era: u64, value: Arc<V>, stamp: Stamp) {
+    /// Keeps a value whose call is current, if there is room for it. Returns whether it is kept.
+    fn keep(&self, key: &[u8], fingerprint: u64, era: u64, value: Arc<V>, stamp: Stamp) -> bool {
         let weight = self.weigher.as_ref().map_or(1, |weigher| weigher(key, &value));
         let until = self.time_to_live.and_then(|time| Instant::now().checked_add(time));
         if weight > self.limit || !self.is_current(stamp) || !self.make_room(fingerprint, weight) {
-            return;
+            return false;
         }
         let not = || AtomicBool::new(false);
         let (key, used) = (key.into(), AtomicU8::new(0));
@@ -1055,13 +1141,14 @@ impl<V: Send + Sync, E: Send + Sync> Cache<V, E> {
         // All was invalidated meanwhile. Whoever begins an era empties this shard later, by its lock.
         if era != self.era() {
             self.weight.fetch_sub(weight, Ordering::SeqCst);
-            return;
+            return false;
         }
         let before = shard.put(entry);
         drop(shard);
         if let Some(before) = before {
             self.left(before);
         }
+        true
     }
 
     /// Takes so much of the limit, for which others leave. Returns whether there was room.

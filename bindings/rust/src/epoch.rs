@@ -228,6 +228,13 @@ impl<T> Epoch<T> {
         self.spent.load(Relaxed) >= self.callers.div_ceil(2)
     }
 
+    /// Whether all its callers are made, and none was put back. One that is in the stash counts as
+    /// taken.
+    pub(crate) fn is_full(&self) -> bool {
+        let seats = lock(&self.seats);
+        seats.made == self.callers && seats.free.is_empty()
+    }
+
     /// How many askings its callers made that led or joined.
     pub(crate) fn askings(&self) -> u64 {
         self.posts().map(|(_, post)| post.counters.leads.get() + post.counters.joins.get()).sum()

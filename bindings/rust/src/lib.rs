@@ -125,7 +125,7 @@ mod wait;
 struct Readme;
 
 use asker::Asker;
-pub use cache::{Cache, CacheBuilder, CacheStats};
+pub use cache::{Cache, CacheBuilder, CacheStats, WriteToken};
 pub use caller::Caller;
 use chan::Handle;
 pub use chan::{Job, Receiver};

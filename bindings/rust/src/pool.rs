@@ -46,11 +46,18 @@
 //!
 //! # Why answers do not go backwards
 //!
-//! A leader's word stays until the library has settled the call. So whoever looks follows it, or
-//! comes after all who can still join. A call whose load is over is not moved: L has settled in the
-//! library, and stalls before its word is 0; another key's call is led at the slot; a run R of L's
-//! key finds that one, loads, and returns a newer answer; now the renewal would enter L, and the
-//! next asker would follow it.
+//! A leader's word stays until the library has settled the call, and before that the leader writes
+//! that its load is over. Whoever looks follows a call whose load is not over. One whose load is
+//! over may have been settled: L has settled in the library, and stalls before its word is 0; a
+//! caller that joined it by a seat returns L's value; whoever asks from now on may not follow L, or
+//! gets a value that was there before it asked. The same holds for a moved call. With a seat one
+//! asks the library, which knows whether L is open. A run closes L in the library first, so that
+//! nobody joins L later and goes back behind the run's answer.
+//!
+//! A call of the library ends the stamp of the call before it at its slot. A run is no call there,
+//! so it ends that stamp itself before its load begins: L is settled, and its leader stalls before
+//! it keeps the value; no seat is free; a run of L's key returns a newer value; now the leader asks
+//! whether its stamp is current.
 
 use crate::epoch::{Epoch, Taken};
 use crate::hash::Fingerprints;
@@ -374,13 +381,14 @@ impl<T> Pool<T> {
         }
     }
 
-    /// One loads beside the library since no caller was free.
+    /// One loads beside the library since no caller was free. Of several, one renews; the others
+    /// find the new epoch here, which has free callers.
     pub(crate) fn grow(&self) {
         let epoch = self.current();
         if epoch.is_worn() {
             // There was no memory before.
             self.renew(&epoch, epoch.places, epoch.callers);
-        } else if self.plan.grows && epoch.callers < MOST_CALLERS {
+        } else if self.plan.grows && epoch.callers < MOST_CALLERS && epoch.is_full() {
             let callers = (epoch.callers * STEP).min(MOST_CALLERS);
             self.renew(&epoch, (epoch.places * STEP).min(MOST_PLACES), callers);
         }
@@ -459,40 +467,37 @@ impl<T> Pool<T> {
         noted: Option<&Noted>,
     ) -> Beside<T> {
         let mut side = lock(&self.side);
-        loop {
-            // A run is taken out before it is settled, and a moved call after that.
-            if let Some(run) = side.runs.get(key).and_then(|run| run.join(noted)) {
-                return Beside::Follow(run);
-            }
-            if let Some(moved) = side.join_moved(fingerprint, noted) {
-                return Beside::Follow(moved);
-            }
-            let alert = self.alert_of(fingerprint);
-            point();
-            alert.fetch_add(1, SeqCst);
-            let epoch = self.current();
-            let (call, whose) = epoch.look(None, key, fingerprint);
-            match (call, whose) {
-                (Some(call), Whose::Same) => {
-                    point();
-                    alert.fetch_sub(1, SeqCst);
-                    if let Some(wait) = epoch.post(call.caller).follow(call, fingerprint, noted) {
-                        return Beside::Follow(wait);
-                    }
-                }
-                (_, Whose::Ended) if has_seat => {
-                    point();
-                    alert.fetch_sub(1, SeqCst);
-                    return Beside::Nothing;
-                }
-                _ => {
-                    let record = noted.map(|noted| noted.record(key, fingerprint, None));
-                    let run = Wait::run(fingerprint, key, record.clone());
-                    side.runs.insert(key.into(), run.clone());
-                    return Beside::Run(run, record);
-                }
-            }
+        // A run is taken out before it is settled, and a moved call after that.
+        if let Some(run) = side.runs.get(key).and_then(|run| run.join(noted)) {
+            return Beside::Follow(run);
         }
+        if let Some(moved) = self.join_moved(&side, fingerprint, noted) {
+            return Beside::Follow(moved);
+        }
+        let alert = self.alert_of(fingerprint);
+        point();
+        alert.fetch_add(1, SeqCst);
+        let epoch = self.current();
+        let (call, whose) = epoch.look(None, key, fingerprint);
+        let followed = call
+            .filter(|_| whose == Whose::Same)
+            .and_then(|call| epoch.post(call.caller).follow(call, fingerprint, noted));
+        if followed.is_some() || has_seat && whose != Whose::Other {
+            point();
+            alert.fetch_sub(1, SeqCst);
+            return followed.map_or(Beside::Nothing, Beside::Follow);
+        }
+        // The run ends the stamp of the key's last value, as a call of the library does, or whoever
+        // has that value could keep it after the run has returned a newer one. A call whose load is
+        // over may be open still. It is closed, or somebody could have the newer value of the run
+        // first, and then join that call. Another key's open call has ended the stamp itself.
+        if let Some(call) = call.filter(|_| whose != Whose::Other) {
+            epoch.forget_call(None, key, call);
+        }
+        let record = noted.map(|noted| noted.record(key, fingerprint, None));
+        let run = Wait::run(fingerprint, key, record.clone());
+        side.runs.insert(key.into(), run.clone());
+        Beside::Run(run, record)
     }
 
     /// Whether a leader of this epoch may load, that has led its call before. Else it settles that
@@ -522,6 +527,27 @@ impl<T> Pool<T> {
             drop(side);
             drop(entered);
         }
+    }
+
+    // Joins a moved call of a key with this fingerprint, unless its load is over: somebody may have
+    // its value then. It is about to be taken out.
+    fn join_moved(
+        &self,
+        side: &Side<T>,
+        fingerprint: u64,
+        noted: Option<&Noted>,
+    ) -> Option<Follower<T>> {
+        let moved = side.moved.get(&fingerprint)?;
+        let epochs = lock(&self.epochs);
+        moved.iter().find_map(|wait| {
+            let call = wait.call?;
+            // The leader's seat keeps its epoch until the call is settled.
+            let epoch = epochs.all.iter().find(|epoch| epoch.number == call.epoch)?;
+            if epoch.post(call.caller).is_over(call.generation) {
+                return None;
+            }
+            wait.join(noted)
+        })
     }
 
     /// A call is settled that was followed.
@@ -782,12 +808,6 @@ impl<T> Drop for Pool<T> {
 }
 
 impl<T> Side<T> {
-    // Joins a moved call of a key with this fingerprint. One that is settled is about to be taken
-    // out.
-    fn join_moved(&self, fingerprint: u64, noted: Option<&Noted>) -> Option<Follower<T>> {
-        self.moved.get(&fingerprint)?.iter().find_map(|wait| wait.join(noted))
-    }
-
     fn unmove(&mut self, wait: &Arc<Wait<T>>) -> bool {
         let Some(moved) = self.moved.get_mut(&wait.fingerprint) else {
             return false;
@@ -872,6 +892,29 @@ mod tests {
         assert!(!pool.is_current_by_any(none), "without a seat the pool itself is asked");
         pool.put(first);
         pool.put(second);
+    }
+
+    // Of those who found no seat, one renews. The others come to that when the new epoch is there.
+    #[test]
+    fn a_pool_grows_where_all_its_seats_are_taken() {
+        let plan = Plan { places: 1, callers: 2, grows: true, calls: 1000 };
+        let pool: Pool<u32> = Pool::open(plan).unwrap();
+        let take = |count| Vec::from_iter((0..count).map(|_| pool.take().expect("a free seat")));
+        let first = take(1);
+        pool.grow();
+        assert_eq!(pool.now(), 1, "one seat is not made");
+        take(1).into_iter().for_each(|taken| pool.put_back(taken));
+        pool.grow();
+        assert_eq!(pool.now(), 1, "one was put back");
+        let second = take(1);
+        assert!(pool.take().is_none(), "all are taken");
+        (0..3).for_each(|_| pool.grow());
+        assert_eq!((pool.now(), pool.current().callers), (2, 16), "it has grown once");
+        let more = take(16);
+        pool.grow();
+        assert_eq!(pool.now(), 3, "all are taken again");
+        first.into_iter().chain(second).chain(more).for_each(|taken| pool.put(taken));
+        assert_eq!(pool.stats().in_use, 0);
     }
 
     // By such a seat one could join a call whose load is over, and go back behind an answer of the

@@ -185,9 +185,16 @@ impl<T> Post<T> {
     }
 
     /// The load of its caller's call is over.
-    pub(crate) fn is_over(&self, generation: u32) {
+    pub(crate) fn ends_load(&self, generation: u32) {
         point();
         self.over.store(word_of(generation), Release);
+    }
+
+    /// Whether the load of the call of this generation is over: then the call may be settled in the
+    /// library, and somebody may have its value.
+    pub(crate) fn is_over(&self, generation: u32) -> bool {
+        point();
+        self.over.load(Acquire) == word_of(generation)
     }
 
     /// Its caller leads no call any more: whether anybody follows the one that it led. Where it led
@@ -229,19 +236,27 @@ impl<T> Post<T> {
         self.word.fetch_update(AcqRel, Acquire, set).is_ok()
     }
 
-    /// Joins the call without a seat, unless it has ended. The leader's exchange with 0 comes after
-    /// the mark, or the mark is not set. And it takes the lock before it counts who followed,
+    /// Joins the call without a seat, unless its load is over. The leader's exchange with 0 comes
+    /// after the mark, or the mark is not set. And it takes the lock before it counts who followed,
     /// so that it counts this one.
+    ///
+    /// Once the load is over, another may have joined by a seat, have its letter, have returned the
+    /// value, and begun this call, all while the leader stalls before its exchange: this call would
+    /// get a value from before it began. Whoever has the value sees that the load is over.
     pub(crate) fn follow(
         &self,
         call: Call,
         fingerprint: u64,
         noted: Option<&Noted>,
     ) -> Option<Follower<T>> {
+        if self.is_over(call.generation) {
+            return None;
+        }
         self.waits_for(call, fingerprint, |wait| wait.join(noted))
     }
 
-    /// The same for one who was counted elsewhere, or has not joined.
+    /// The same for one who has joined in the library, where the call was open then, or has not
+    /// joined.
     pub(crate) fn watch(
         &self,
         call: Call,
@@ -265,19 +280,13 @@ impl<T> Post<T> {
     }
 
     /// Enters the call that the caller asks for, or leads, among those that are moved to the next
-    /// epoch; unless there is none, or a Forget has ended it, or its load is over: then it may
-    /// be settled in the library, and a newer answer may have been returned by a run, which has
-    /// found another key's call at the place since.
+    /// epoch; unless there is none, or a Forget has ended it.
     pub(crate) fn moves(&self, epoch: u32, caller: u32) -> Option<Arc<Wait<T>>> {
         let mut waits = lock(&self.waits);
         loop {
             point();
             let word = self.word.load(Acquire);
             if word == 0 || word & FORGOTTEN != 0 {
-                return None;
-            }
-            point();
-            if self.over.load(Acquire) == word & !FOLLOWED {
                 return None;
             }
             point();

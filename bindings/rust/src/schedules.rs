@@ -5,14 +5,15 @@
 //!
 //! Of each schedule it is checked that it ends, that no load of a key begins while another one runs
 //! that no Forget ended, that no answer is older than one that was returned before its asking
-//! began, or than a Forget that had returned, that a stamp that is current is no older either, and
-//! that all callers of the library are back.
+//! began, or than a Forget that had returned, that a stamp that is current is no older either, that
+//! no caller joins a load whose value somebody had before it asked, and that all callers of the
+//! library are back.
 //!
 //! Others are recorded, and their logs are judged: each is legal in time, by a clock that counts
-//! steps.
+//! steps. Others again play a cache (`cached`).
 //!
-//! `SFLIGHT_SCHEDULES` says how many are drawn, `SFLIGHT_RECORDED` how many are recorded, and
-//! `SFLIGHT_SEED` with which one both begin.
+//! `SFLIGHT_SCHEDULES` says how many are drawn, `SFLIGHT_RECORDED` how many are recorded,
+//! `SFLIGHT_CACHED` how many play a cache, and `SFLIGHT_SEED` with which one each begins.
 
 use crate::asker::Asker;
 use crate::sync::lock;
@@ -31,6 +32,7 @@ use std::sync::{Arc, Mutex};
 use std::task::{Context, Poll, Wake, Waker};
 use std::time::Duration;
 
+mod cached;
 #[path = "../tests/judge/mod.rs"]
 mod judge;
 
@@ -296,6 +298,8 @@ struct Value {
     moment: u64,
     is_counted: bool,
     live: Rc<Cell<i64>>,
+    // When it was returned first, or 0.
+    had: Cell<u64>,
     // Whether its leader has returned and said that nobody joined, and whether somebody has
     // returned it who joined.
     is_alone: Cell<bool>,
@@ -373,6 +377,7 @@ impl World {
             moment,
             is_counted,
             live: self.live.clone(),
+            had: Cell::new(0),
             is_alone: Cell::new(false),
             is_joined: Cell::new(false),
         }
@@ -383,9 +388,27 @@ impl World {
         self.keys[key].returned.get().max(self.keys[key].forgotten.get())
     }
 
+    // When one asks, and what the answer has to be at least.
+    fn asks(&self, key: usize) -> (u64, u64) {
+        (self.tick(), self.least(key))
+    }
+
     // A receiver of the job that its own caller had has not joined.
-    fn returned(&self, key: usize, least: u64, got: &Loaded<Value>, has_joined: bool) {
+    fn returned(
+        &self,
+        key: usize,
+        (asked, least): (u64, u64),
+        got: &Loaded<Value>,
+        has_joined: bool,
+    ) {
         let answer = &got.value;
+        let had = answer.had.get();
+        check(had == 0 || asked < had, || {
+            format!("an answer of {key} that somebody had before it was asked for")
+        });
+        if had == 0 {
+            answer.had.set(self.tick());
+        }
         if got.led && !got.shared() {
             answer.is_alone.set(true);
         }
@@ -466,29 +489,29 @@ impl Actor {
         self.is_grouped || self.random.below(2) == 0
     }
 
-    fn got(&mut self, key: usize, least: u64, got: Loaded<Value>, has_joined: bool) {
-        self.world.returned(key, least, &got, has_joined);
+    fn got(&mut self, key: usize, asked: (u64, u64), got: Loaded<Value>, has_joined: bool) {
+        self.world.returned(key, asked, &got, has_joined);
         self.last.insert(key, (got.value.moment, got.stamp(), got.call()));
     }
 
     fn get(&mut self, key: usize, is_nested: bool, timeout: bool) {
-        let (world, asked, least) = (self.world.clone(), self.world.tick(), self.world.least(key));
+        let (world, asked) = (self.world.clone(), self.world.asks(key));
         let most = [4, 4, 4, 400][self.random.below(4) as usize];
         let steps = self.random.below(most);
         let mut second = self.second.take();
         let load = || {
-            let moment = world.begins(key, asked);
+            let moment = world.begins(key, asked.0);
             (0..steps).for_each(|_| point());
             // A load asks for greater keys alone, so that no two wait for each other.
             if let Some(other) = second.as_mut().filter(|_| is_nested && key + 1 < KEYS) {
-                let (asked, least) = (world.tick(), world.least(key + 1));
+                let asked = world.asks(key + 1);
                 let got = other.get_or_load(NAMES[key + 1], || {
-                    let moment = world.begins(key + 1, asked);
+                    let moment = world.begins(key + 1, asked.0);
                     point();
                     world.ends(key + 1, moment);
                     world.value(moment)
                 });
-                world.returned(key + 1, least, &got, true);
+                world.returned(key + 1, asked, &got, true);
             }
             point();
             world.ends(key, moment);
@@ -504,7 +527,7 @@ impl Actor {
         };
         self.second = second;
         if let Ok(got) = got {
-            self.got(key, least, got, true);
+            self.got(key, asked, got, true);
         }
     }
 
@@ -515,10 +538,10 @@ impl Actor {
                 self.0.ends(self.1, self.2);
             }
         }
-        let (world, asked, least) = (self.world.clone(), self.world.tick(), self.world.least(key));
+        let (world, asked) = (self.world.clone(), self.world.asks(key));
         let (steps, polls) = (self.random.below(3), self.random.below(40));
         let load = async {
-            let running = Load(&world, key, world.begins(key, asked));
+            let running = Load(&world, key, world.begins(key, asked.0));
             let mut left = steps;
             std::future::poll_fn(|context| {
                 left = left.saturating_sub(1);
@@ -541,12 +564,12 @@ impl Actor {
             got = polled(&mut self.random, task.as_mut(), polls);
         }
         if let Some(got) = got {
-            self.got(key, least, got, true);
+            self.got(key, asked, got, true);
         }
     }
 
     fn channel(&mut self, key: usize) {
-        let (world, asked, least) = (self.world.clone(), self.world.tick(), self.world.least(key));
+        let (world, asked) = (self.world.clone(), self.world.asks(key));
         let (is_run, by_group) = (self.random.below(4) > 0, self.by_group());
         let (receiver, job) = match by_group {
             true => self.group.subscribe(NAMES[key]),
@@ -556,12 +579,12 @@ impl Actor {
         let run = |job: crate::Job<'_, Value>| {
             if is_run {
                 let got = job.run(|| {
-                    let moment = world.begins(key, asked);
+                    let moment = world.begins(key, asked.0);
                     point();
                     world.ends(key, moment);
                     world.value(moment)
                 });
-                world.returned(key, least, &got, false);
+                world.returned(key, asked, &got, false);
                 return;
             }
             point();
@@ -576,7 +599,7 @@ impl Actor {
         let mut receives = pin!(receiver);
         for _ in 0..self.random.below(30) {
             if let Ok(got) = receives.try_recv() {
-                self.got(key, least, got, has_joined);
+                self.got(key, asked, got, has_joined);
                 break;
             }
             is_blocked();
@@ -585,7 +608,7 @@ impl Actor {
             self.caller.current_call(NAMES[key]);
         }
         if let Some(Ok(got)) = polled(&mut self.random, receives.as_mut(), 10) {
-            self.got(key, least, got, has_joined);
+            self.got(key, asked, got, has_joined);
         }
     }
 
@@ -624,14 +647,16 @@ impl Actor {
             return self.forget_now(key);
         }
         let Some((moment, stamp, call)) = self.last.get(&key).copied() else { return };
-        let floor = self.world.keys[key].forgotten.get();
+        let floor = self.world.least(key);
         let is_current = match self.by_group() {
             false => self.caller.is_current(stamp),
             true => self.group.is_current(stamp),
         };
         if is_current {
             check(moment >= floor, || {
-                format!("a stamp of {key} from {moment} is current after a Forget from {floor}")
+                format!(
+                    "a stamp of {key} from {moment} is current after a value or a Forget from {floor}"
+                )
             });
             self.world.current.set(self.world.current.get() + 1);
         }
@@ -789,23 +814,8 @@ fn recorded_schedules_are_legal_in_time() {
 }
 
 fn each_schedule(name: &str, count: u64, is_recorded: bool) -> Played {
-    let first = number("SFLIGHT_SEED", 1);
-    let threads = 4;
-    let played: Vec<Played> = std::thread::scope(|scope| {
-        let threads: Vec<_> = (0..threads)
-            .map(|thread| {
-                scope.spawn(move || {
-                    let (mut stacks, mut all) = (Vec::new(), Played::default());
-                    for seed in (first + thread..first + count).step_by(threads as usize) {
-                        if let Err(why) = schedule(seed, &mut stacks, &mut all, is_recorded) {
-                            panic!("SFLIGHT_SEED={seed} {name}=1: {why}");
-                        }
-                    }
-                    all
-                })
-            })
-            .collect();
-        threads.into_iter().map(|thread| thread.join().expect("a schedule that is right")).collect()
+    let played = each_seed(name, count, |seed, stacks, all: &mut Played| {
+        schedule(seed, stacks, all, is_recorded)
     });
     let sum = |part: fn(&Played) -> u64| played.iter().map(part).sum::<u64>();
     let all = Played {
@@ -817,6 +827,32 @@ fn each_schedule(name: &str, count: u64, is_recorded: bool) -> Played {
     };
     println!("{count} schedules: {all:?}");
     all
+}
+
+// Plays the schedule of each seed, in some threads: what each thread has played.
+fn each_seed<R: Default + Send>(
+    name: &str,
+    count: u64,
+    schedule: impl Fn(u64, &mut Vec<Box<[u128]>>, &mut R) -> Result<(), String> + Sync,
+) -> Vec<R> {
+    let (first, schedule) = (number("SFLIGHT_SEED", 1), &schedule);
+    let threads = 4;
+    std::thread::scope(|scope| {
+        let threads: Vec<_> = (0..threads)
+            .map(|thread| {
+                scope.spawn(move || {
+                    let (mut stacks, mut all) = (Vec::new(), R::default());
+                    for seed in (first + thread..first + count).step_by(threads as usize) {
+                        if let Err(why) = schedule(seed, &mut stacks, &mut all) {
+                            panic!("SFLIGHT_SEED={seed} {name}=1: {why}");
+                        }
+                    }
+                    all
+                })
+            })
+            .collect();
+        threads.into_iter().map(|thread| thread.join().expect("a schedule that is right")).collect()
+    })
 }
 
 #[test]

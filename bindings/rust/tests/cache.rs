@@ -415,6 +415,61 @@ fn an_insert_wins_over_what_is_under_way_and_loses_to_what_comes_later() {
 }
 
 #[test]
+fn an_insert_tells_whether_its_value_is_kept() {
+    let cache = Cache::new(10);
+    assert!(cache.insert("key", 1) && cache.insert("key", 2));
+    assert_eq!(cache.get("key").as_deref(), Some(&2));
+    let (cache, _) = counted(3);
+    assert!(cache.insert("key", "abc".into()) && !cache.insert("key", "abcd".into()));
+    assert_eq!(cache.get("key"), None, "an older value is kept");
+    // The only load that may run holds the caller that the insert would need.
+    let cache: Cache<u32> = Cache::builder(10).loads(1).build().unwrap();
+    assert!(cache.insert("key", 1));
+    cache.get_or_load("other", || {
+        assert!(!cache.insert("key", 2), "it is said to be kept");
+        assert_eq!(cache.get("key"), None);
+        1
+    });
+    assert!(cache.insert("key", 3) && cache.get("key").as_deref() == Some(&3));
+}
+
+#[test]
+fn an_insert_by_a_token_loses_to_each_invalidation_since() {
+    type Invalidate = fn(&Cache<u32>);
+    let later: [(&str, Invalidate); 4] = [
+        ("a later write", |cache| cache.invalidate("key")),
+        ("a later insert", |cache| assert!(cache.insert("key", 3))),
+        ("one by a token", |cache| assert!(cache.write_token("key").insert(3))),
+        ("all", |cache| cache.invalidate_all()),
+    ];
+    for (what, invalidate) in later {
+        let cache = Cache::new(100);
+        let token = cache.write_token("key");
+        let others: Vec<_> = (0..50u8).map(|other| cache.write_token([other])).collect();
+        invalidate(&cache);
+        // The value of a later insert goes too: nobody knows which was the later write.
+        assert!(!token.insert(1), "{what}: it is said to be kept");
+        assert_eq!(cache.get("key"), None, "{what}: an older value is kept");
+        assert!(cache.write_token("key").insert(4) && cache.get("key").as_deref() == Some(&4));
+        // Each invalidation counts as one of a few other keys too.
+        let kept = others.into_iter().map(|token| u32::from(token.insert(2))).sum::<u32>();
+        assert!(if what == "all" { kept == 0 } else { kept > 40 }, "{what}: {kept} of 50 are kept");
+    }
+}
+
+#[test]
+fn a_token_may_go_to_another_thread_and_may_be_dropped() {
+    let cache = Cache::new(10);
+    cache.get_or_load("key", || 1);
+    drop(cache.write_token("key"));
+    assert_eq!(cache.get("key").as_deref(), Some(&1), "a token alone does nothing");
+    let token = cache.write_token("key");
+    assert_eq!(format!("{token:?}"), "WriteToken { .. }");
+    std::thread::scope(|scope| scope.spawn(|| assert!(token.insert(2))).join().unwrap());
+    assert_eq!(cache.get("key").as_deref(), Some(&2));
+}
+
+#[test]
 fn errors_are_shared_and_not_kept() {
     let cache = Cache::<u32, String>::builder(10).build().unwrap();
     let (loads, begin) = (AtomicUsize::new(0), Barrier::new(4));
@@ -564,7 +619,7 @@ fn gets_beside_writes(gets: u64, all: bool) {
                 let key = step(&mut state);
                 let version = versions[key].fetch_add(1, SeqCst) + 1;
                 match turn % 8 {
-                    0 => cache.insert(key.to_le_bytes(), (key, version, live.clone())),
+                    0 => drop(cache.insert(key.to_le_bytes(), (key, version, live.clone()))),
                     1 if all => cache.invalidate_all(),
                     _ => cache.invalidate(key.to_le_bytes()),
                 }
@@ -613,7 +668,7 @@ fn an_insert_loses_to_an_invalidation_that_begins_meanwhile() {
     let cache = Arc::new(cache.build().unwrap());
     *own.lock().unwrap() = Arc::downgrade(&cache);
     cache.get_or_load("key", || 1);
-    cache.insert("key", 2);
+    assert!(!cache.insert("key", 2), "it is said to be kept");
     assert_eq!(cache.get("key"), None, "a write that was invalidated meanwhile is kept");
 }
 
@@ -635,6 +690,28 @@ fn what_was_invalidated_while_it_was_put_down_is_not_found() {
     assert_eq!(cache.stats().entries, 1, "the value was put down");
     assert_eq!(cache.get("key"), None);
     assert_eq!(*cache.get_or_load("key", || 3), 3);
+}
+
+// The leader is stopped before it keeps its value: its weigher gets another key, for which it holds
+// the only caller of the library, and so the first key is loaded beside the library.
+#[test]
+fn no_value_is_kept_once_a_newer_one_was_returned() {
+    let own: Arc<Mutex<Weak<Cache<u32>>>> = Arc::default();
+    let weighs = own.clone();
+    let cache = Cache::builder(10).loads(1).weigher(move |_, value| {
+        if *value == 1 {
+            let cache = weighs.lock().unwrap().upgrade().expect("it lives");
+            cache.get_or_load("other", || {
+                assert_eq!(*cache.get_or_load("key", || 2), 2);
+                3
+            });
+        }
+        1
+    });
+    let cache = Arc::new(cache.build().unwrap());
+    *own.lock().unwrap() = Arc::downgrade(&cache);
+    assert_eq!(*cache.get_or_load("key", || 1), 1);
+    assert_eq!(cache.get("key"), None, "a value is kept that was loaded before another");
 }
 
 #[test]

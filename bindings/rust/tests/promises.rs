@@ -78,6 +78,18 @@ fn loads_that_hang_hold_up_no_other_key() {
 }
 
 #[test]
+fn a_load_beside_the_library_ends_the_stamp_before_it() {
+    let group = Group::<u64>::open(16, 1).unwrap();
+    let mut caller = group.caller();
+    let stamp = caller.get_or_load("key", || 1).stamp();
+    assert!(caller.is_current(stamp) && group.is_current(stamp), "it is the last value");
+    // The only caller of the library is taken.
+    let got = group.get_or_load("key", || 2);
+    assert!(*got.value == 2 && got.call().is_none(), "it is loaded beside the library");
+    assert!(!caller.is_current(stamp) && !group.is_current(stamp), "a newer value was returned");
+}
+
+#[test]
 fn one_load_for_more_than_there_are_callers() {
     for group in [Group::<u64>::open(1, 1).unwrap(), Group::open(1024, 4).unwrap(), Group::new()] {
         const THREADS: u64 = 300;
@@ -279,6 +291,28 @@ fn callers_that_are_spent_are_renewed() {
     );
     let stats = group.stats();
     assert!(stats.leads == 30_000 && stats.alone == 0 && stats.in_use == 1, "{stats:?}");
+}
+
+// The first 32 take all callers of the library. One of the others makes the group grow to 256.
+#[test]
+fn a_burst_of_callers_makes_a_group_grow_once() {
+    for _ in 0..20 {
+        const THREADS: u64 = 100;
+        let (group, all) = (Group::<u64>::new(), Barrier::new(THREADS as usize));
+        std::thread::scope(|scope| {
+            for thread in 0..THREADS {
+                let (group, all) = (&group, &all);
+                scope.spawn(move || {
+                    group.get_or_load(thread.to_le_bytes(), || {
+                        all.wait();
+                        thread
+                    })
+                });
+            }
+        });
+        let call = group.get_or_load("after", || 1).call().expect("a caller is free");
+        assert_eq!(call.epoch, 2, "it has grown more than once");
+    }
 }
 
 // A call that is open when its epoch is replaced is joined, forgotten and forgotten by its name.
