@@ -26,7 +26,9 @@ type seat struct {
 	owed     atomic.Int64
 	val      any
 	err      error
-	key      string // of its call, where the library has only a digest of it
+	took     *older                // whose result its call was settled with
+	older    atomic.Pointer[older] // what its call waits for, or waited, in place of its load
+	key      string                // of its call, where the library has only a digest of it
 	epoch    *epoch
 	mu       sync.Mutex // protects waits, and what the wait says
 	waits    *wait

@@ -63,6 +63,7 @@ type run struct {
 	alone                bool // whether a ForgetUnshared in its function said that nobody else has its result
 	unshared             bool // whether its leader was told that nobody has joined
 	others               int  // how many others have its result
+	given                int  // when somebody first had its result; 0 before
 }
 
 type stampOf struct {
@@ -239,6 +240,12 @@ func (w *world) got(key, asked int, v any, shared bool) {
 		return
 	}
 	w.log("has key %d of the run begun at %d", key, it.from)
+	if it.given == 0 {
+		w.now++
+		it.given = w.now
+	} else if asked >= it.given {
+		w.problem("key %d asked for at %d has a result of the run begun at %d, which somebody had at %d", key, asked, it.from, it.given)
+	}
 	if forgotten := w.keys[key].forgotten(asked); it.from < forgotten {
 		w.problem("key %d asked for at %d has a result of a run begun at %d, and was forgotten at %d", key, asked, it.from, forgotten)
 	}
