@@ -513,6 +513,91 @@ func TestCachePutBesideALoad(t *testing.T) {
 	}
 }
 
+// A Put whose function of WithCost panics, or ends its goroutine, is a Forget: the value has left by then.
+func TestCachePutWhoseCostBreaks(t *testing.T) {
+	for how, breaks := range map[string]func(){
+		"panics": func() { panic("no cost") }, "ends the goroutine": runtime.Goexit,
+	} {
+		var puts bool
+		var left []int
+		var c *Cache[string, int]
+		c = newCache(t, 4, func(context.Context, string) (int, error) { return 1, nil },
+			WithCost(func(_ string, v int) int64 {
+				if puts {
+					if v, ok := c.GetIfPresent("key"); ok {
+						t.Error("the older value is current when the cost is asked for", how, v)
+					}
+					breaks()
+				}
+				return 1
+			}), WithOnEvict(func(_ string, v int) { left = append(left, v) }))
+		mustGet(t, c, "key", 1)
+		done := make(chan struct{})
+		go func() {
+			defer close(done)
+			defer func() { recover() }()
+			puts = true
+			c.Put("key", 2)
+			t.Error("it returns", how)
+		}()
+		came(t, done)
+		puts = false
+		if v, ok := c.GetIfPresent("key"); ok {
+			t.Error("the older value is current", how, v)
+		}
+		if len(left) != 1 || left[0] != 1 {
+			t.Error("what has left", how, left)
+		}
+		if !c.Put("key", 3) {
+			t.Error("the next Put keeps its value", how)
+		}
+		mustGet(t, c, "key", 3)
+	}
+}
+
+// A load that began and ended while a Put asked for the cost has the newer value.
+func TestCachePutWhoseCostLoads(t *testing.T) {
+	var c *Cache[string, int]
+	puts := false
+	c = newCache(t, 4, func(context.Context, string) (int, error) { return 2, nil },
+		WithCost(func(string, int) int64 {
+			if puts {
+				puts = false
+				c.Get(always, "key")
+			}
+			return 1
+		}))
+	puts = true
+	if c.Put("key", 1) {
+		t.Error("a Put is kept though a load has begun")
+	}
+	mustGet(t, c, "key", 2)
+}
+
+// A Put pushes two values out, and the function of WithOnEvict panics at the first. It is told of both.
+func TestCachePutWhoseOnEvictPanics(t *testing.T) {
+	told, puts := 0, true
+	c := newCache(t, 2, func(_ context.Context, key string) (int, error) { return 1, nil },
+		WithCost(func(_ string, v int) int64 { return int64(v) }),
+		WithOnEvict(func(string, int) {
+			told++
+			if puts {
+				panic("as it was told")
+			}
+		}))
+	mustGet(t, c, "a", 1)
+	mustGet(t, c, "b", 1)
+	func() {
+		defer func() { recover() }()
+		c.Put("c", 2)
+	}()
+	puts = false
+	if told != 2 {
+		t.Error("told of", told)
+	}
+	mustGet(t, c, "c", 2)
+}
+
 func TestCacheForgetAll(t *testing.T) {
 	left := map[string]int{}
 	o := newOrigin(t, 100, wide, WithOnEvict(func(key string, v page) {

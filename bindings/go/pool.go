@@ -510,10 +510,10 @@ func (p *pool) grows(e *epoch) bool {
 }
 
 // Another key's call is open at the slot. Whether a new epoch has taken the place of this one, since that is so often.
-// The lock is held.
+// Where the user has fixed the number of slots, calls run beside the library instead. The lock is held.
 func (p *pool) meets(e *epoch) bool {
 	e.met++
-	if e.met < 64 || e.met < e.size.places/32 || !p.isWorth(uint64(e.met)) {
+	if e.size.fixed || e.met < 64 || e.met < e.size.places/32 || !p.isWorth(uint64(e.met)) {
 		return false
 	}
 	return p.replace(e.size.wider())
