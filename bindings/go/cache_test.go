@@ -834,6 +834,37 @@ func TestCacheLimitByStep(t *testing.T) {
 }
 
 // Hits of a cache of so many values by least recent use, which makes room for each value.
+// Evictions take a constant number of steps, also where the cache had many more values before, of which the last are
+// anywhere in the table.
+func TestCacheEvictionSteps(t *testing.T) {
+	const small, large, gets = 30000, 300, 2000
+	c := newCache(t, small, number, WithCost(func(_ string, i int) int64 {
+		if i < small {
+			return 1
+		}
+		return small / large
+	}), wide)
+	for i := 0; i < small; i++ {
+		mustGet(t, c, keyNumber(i), i)
+	}
+	// The small values leave. The last stay long: they were found.
+	for i := small; i < small+2*large; i++ {
+		mustGet(t, c, keyNumber(i), i)
+	}
+	clock := &c.p.now.Load().table.clock
+	before, evicted := clock.steps, c.Stats().Evicted
+	for i := small + 2*large; i < small+2*large+gets; i++ {
+		mustGet(t, c, keyNumber(i), i)
+	}
+	evicted = c.Stats().Evicted - evicted
+	if evicted < gets/2 {
+		t.Fatal("evicted", evicted)
+	}
+	if steps := clock.steps - before; steps > 4*evicted {
+		t.Errorf("%d steps for %d evictions", steps, evicted)
+	}
+}
+
 func hitsByLRU(trace []uint64, values int) (hits int) {
 	order, at := list.New(), map[uint64]*list.Element{}
 	for _, key := range trace {
