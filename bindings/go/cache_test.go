@@ -626,6 +626,54 @@ func TestCacheForgetAll(t *testing.T) {
 	}
 }
 
+// Of many ForgetAlls at one time some share an epoch. Each forgets what was loaded before it was called.
+func TestCacheForgetAllsShareEpochs(t *testing.T) {
+	const goroutines = 50
+	makes, goOn := chans()
+	var made atomic.Int64
+	c := newCache(t, 100, number, func(s *sizes) {
+		s.refused = func() bool {
+			switch made.Add(1) {
+			case 2:
+				close(makes)
+				<-goOn
+			}
+			return false
+		}
+	})
+	mustGet(t, c, keyNumber(1), 1)
+	var all sync.WaitGroup
+	forget := func() {
+		defer all.Done()
+		c.ForgetAll()
+		if _, ok := c.GetIfPresent(keyNumber(1)); ok {
+			t.Error("a value that was loaded before")
+		}
+	}
+	all.Add(1)
+	go forget()
+	begun(t, makes)
+	last := &c.writes[len(c.writes)-1]
+	before := last.Load()
+	all.Add(goroutines)
+	for i := 0; i < goroutines; i++ {
+		go forget()
+	}
+	until(t, "all have begun", func() bool { return last.Load() == before+goroutines })
+	close(goOn)
+	all.Wait()
+	// Those that came to look for another when that had ended share one or the other of theirs.
+	if st := c.Stats().Calls; st.Epochs > 2+goroutines/2 {
+		t.Error("epochs", st)
+	}
+	epochs := c.Stats().Calls.Epochs
+	mustGet(t, c, keyNumber(1), 1)
+	c.ForgetAll()
+	if _, ok := c.GetIfPresent(keyNumber(1)); ok || c.Stats().Calls.Epochs != epochs+1 {
+		t.Error("one alone makes its own", c.Stats().Calls)
+	}
+}
+
 // Where there is no memory for a new epoch, a ForgetAll forgets all the same.
 func TestCacheForgetAllWithoutMemory(t *testing.T) {
 	var refuses atomic.Bool

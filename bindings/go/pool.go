@@ -59,9 +59,10 @@ type pool struct {
 	draining   []*epoch // those that were replaced and have calls still, the oldest first
 	size       sizes
 	number     uint64
-	past       tally    // of epochs that are gone
-	tables     []*table // of a cache: those of epochs that were replaced, whose values have not left
-	closing    int      // how many of these were taken, and are not empty yet
+	past       tally         // of epochs that are gone
+	tables     []*table      // of a cache: those of epochs that were replaced, whose values have not left
+	closing    int           // how many of these were taken, and are not empty yet
+	coming     chan struct{} // of a ForgetAll whose epoch is not there yet: closed when it is
 	shut       bool
 	label      string
 	recordings uint16 // how often a recording has begun
