@@ -109,6 +109,9 @@ func (p *pool) lead(
 			p.record(Load{p.label, k.key, took, r.Joiners, r.Err})
 		}
 	}()
+	if a.seat != nil {
+		a.seat.rest(nil)
+	}
 	for a.seat != nil && a.wait != nil {
 		switch a.wait.join(r, k.key, stop, a.late) {
 		case settled:

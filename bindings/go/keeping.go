@@ -224,8 +224,9 @@ func (p *pool) forgetAll() {
 		next.root.close()
 	}
 	p.dropRuns()
-	for _, e := range p.draining {
+	for _, e := range append([]*epoch(nil), p.draining...) {
 		e.forgotten = true
+		p.drain(e)
 	}
 }
 

@@ -159,6 +159,18 @@ func TestJoinersOfOneWhoWaits(t *testing.T) {
 	if st := g.Stats(); st.Leads != 1 || st.Joins != 3 {
 		t.Error("its numbers", st)
 	}
+	// Those who led then lead again, and wait for nothing.
+	for round := 0; round < 20; round++ {
+		started, release := chans()
+		led := g.DoChan("key", heldAny(5, started, release))
+		begun(t, started)
+		joined := g.DoChan("key", value(6))
+		close(release)
+		receive(t, led)
+		if r := receive(t, joined); r.Val != 5 {
+			t.Error("it shares a later result", r)
+		}
+	}
 }
 
 // One who waits for an older call, and leaves, has joined that call and has led none.

@@ -47,6 +47,7 @@ type pool struct {
 	open     atomic.Int64  // those that have not ended
 	book     atomic.Pointer[book]
 	beside   atomic.Uint64 // how many joined without a caller
+	detached atomic.Int64  // seats that the library has forgotten, and goroutines have
 	voids    atomic.Uint64 // calls that were given up before their loads
 	parted   atomic.Uint64 // how many had joined such a call, or another key's, or one that took a result that is too old for them
 	adopts   atomic.Uint64 // calls that took another's result in place of a load, or whose callers left before that
@@ -311,11 +312,17 @@ func (p *pool) leaveStranger(s, leader *seat, k keyed) bool {
 	p.parted.Add(1)
 	acquire(&leader.mu)
 	s.poll(&letter)
+	if letter.code == codePending && leader.isDetached() {
+		leader.mu.Unlock()
+		p.letGo(s, true)
+		return false
+	}
 	if letter.code == codePending {
 		w := leader.wait()
 		w.strangers++
 		w.left = append(w.left, s)
 		s.stranger = true
+		s.rest(leader)
 		// Until then, a caller that asks for a key with this fingerprint looks before it asks.
 		p.alertOf(k.print).Add(1)
 		leader.mu.Unlock()
@@ -1084,6 +1091,10 @@ func (p *pool) settleRun(w *wait, r *Result, k keyed) {
 }
 
 func (p *pool) settleBy(s *seat, r *Result, k keyed, all, watched bool) (out []*item) {
+	if !s.goesOn() {
+		p.settleDetached(s, r, k)
+		return nil
+	}
 	e, crowded, stale := s.epoch, false, false
 	var kept *item
 	var id uint64
@@ -1223,21 +1234,26 @@ func (p *pool) share(s *seat, r *Result, k keyed, joined int64) {
 	if w != nil {
 		close(w.done)
 		for _, left := range w.left {
-			var letter letter
-			left.poll(&letter)
-			p.comesBack(left)
+			p.comesBack(left, false)
 		}
 		owed -= int64(len(w.left))
 	}
 	p.release(s, owed)
 }
 
-// A seat that was left at a call has its letter.
-func (p *pool) comesBack(s *seat) {
+// A seat that was left at a call has its letter; none where the library has forgotten the call.
+func (p *pool) comesBack(s *seat, detached bool) {
 	if s.stranger {
 		s.stranger = false
 		p.alertOf(atomic.LoadUint64(&s.print)).Add(-1)
 	}
+	goesOn := s.goesOn()
+	if detached {
+		p.letGo(s, goesOn)
+		return
+	}
+	var letter letter
+	s.poll(&letter)
 	p.put(s)
 }
 
@@ -1300,17 +1316,26 @@ func (p *pool) join(
 			led.mu.Unlock()
 			break
 		}
+		if led.isDetached() {
+			// It joined then, and nobody would tell it.
+			led.mu.Unlock()
+			p.parted.Add(1)
+			p.letGo(s, true)
+			return again
+		}
 		w := led.wait()
 		if led.lone.Load() == a.call.generation {
 			// It was forgotten as a call that nobody has joined. The seat comes back with its letter.
 			p.parted.Add(1)
 			w.strangers++
 			w.left = append(w.left, s)
+			s.rest(led)
 			led.mu.Unlock()
 			return again
 		}
 		w.waiting++
 		w.joined++
+		s.rest(led)
 		led.mu.Unlock()
 		if !await(w.done, stop) {
 			if a.by != nil {
@@ -1321,6 +1346,13 @@ func (p *pool) join(
 				return how
 			}
 			await(w.done, nil)
+		}
+		if goesOn := s.goesOn(); led.isDetached() {
+			if how = w.read(r, k.key, a.late); how == again && (w.void || w.isLate(a.late)) {
+				p.parted.Add(1)
+			}
+			p.letGo(s, goesOn)
+			return how
 		}
 		s.poll(&letter)
 	}
@@ -1419,6 +1451,9 @@ func (p *pool) stats() Stats {
 	for _, e := range b.epochs {
 		all.plus(e.counts())
 		st.InUse += e.inUse()
+	}
+	if detached := p.detached.Load(); detached > 0 {
+		st.InUse += uint32(detached)
 	}
 	if b.now != nil {
 		st.Made = b.now.made.Load()
