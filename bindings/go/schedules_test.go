@@ -780,6 +780,7 @@ func TestLateWhileSettling(t *testing.T) {
 			// It is stopped when it has joined, and has not looked for its letter.
 			joins++
 			close(joiner.release)
+			close(leader.release)
 			close(release)
 			receive(t, led)
 			g.Close()
