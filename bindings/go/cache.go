@@ -226,7 +226,8 @@ func (c *Cache[K, V]) write(k keyed) (last *atomic.Uint64, number uint64) {
 
 // ForgetAll is Forget of all keys. It takes the time and memory of a new cache, and calls what
 // WithOnEvict has set with each value; without memory, loads run beside the library for a while, as
-// Err tells, and nothing is kept.
+// Err tells, and nothing is kept. Of many at one time some share the new memory. The old memory is
+// freed soon, also while loads of then still run.
 func (c *Cache[K, V]) ForgetAll() {
 	for i := range c.writes {
 		c.writes[i].Add(1)

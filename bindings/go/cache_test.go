@@ -542,6 +542,9 @@ func TestCachePutWhoseCostBreaks(t *testing.T) {
 		}()
 		came(t, done)
 		puts = false
+		if st := c.Stats(); st.Values != 0 {
+			t.Error("the older value is there", how, st)
+		}
 		if v, ok := c.GetIfPresent("key"); ok {
 			t.Error("the older value is current", how, v)
 		}

@@ -137,7 +137,7 @@ func TestAfterAChainOfCalls(t *testing.T) {
 
 // Those who joined while the older call was open share its result with the one who waited.
 func TestJoinersOfOneWhoWaits(t *testing.T) {
-	g := open(t, 8)
+	g := openFixed(t, 8)
 	started, release := chans()
 	older := g.DoChan("key", heldAny(1, started, release))
 	begun(t, started)
@@ -159,15 +159,20 @@ func TestJoinersOfOneWhoWaits(t *testing.T) {
 	if st := g.Stats(); st.Leads != 1 || st.Joins != 3 {
 		t.Error("its numbers", st)
 	}
-	// Those who led then lead again, and wait for nothing.
-	for round := 0; round < 20; round++ {
-		started, release := chans()
-		led := g.DoChan("key", heldAny(5, started, release))
+	// All seats lead again, and wait for nothing.
+	release = make(chan struct{})
+	var led, joined []<-chan Result
+	for i := 0; i < 8; i++ {
+		started := make(chan struct{})
+		led = append(led, g.DoChan(fmt.Sprint("key-", i), heldAny(i, started, release)))
 		begun(t, started)
-		joined := g.DoChan("key", value(6))
-		close(release)
-		receive(t, led)
-		if r := receive(t, joined); r.Val != 5 {
+	}
+	for i := range led {
+		joined = append(joined, g.DoChan(fmt.Sprint("key-", i), value(-1)))
+	}
+	close(release)
+	for i, ch := range joined {
+		if r := receive(t, ch); r.Val != i || receive(t, led[i]).Val != i {
 			t.Error("it shares a later result", r)
 		}
 	}
