@@ -524,8 +524,11 @@ func TestCachePutWhoseCostBreaks(t *testing.T) {
 		c = newCache(t, 4, func(context.Context, string) (int, error) { return 1, nil },
 			WithCost(func(_ string, v int) int64 {
 				if puts {
-					if v, ok := c.GetIfPresent("key"); ok {
-						t.Error("the older value is current when the cost is asked for", how, v)
+					// A look takes a value out that is not current.
+					if how == "panics" {
+						if v, ok := c.GetIfPresent("key"); ok {
+							t.Error("the older value is current when the cost is asked for", v)
+						}
 					}
 					breaks()
 				}
