@@ -13,14 +13,14 @@ type item struct {
 	print uint64 // the fingerprint
 	id    uint64 // of its entry in the library's table
 	name  string // by which the library knows the key
-	fresh bool   // whether it was not found yet, in a clock; see plainTable
-	next  *item  // of its ring of the clock; none where it is in none
-	last  *item
-	stamp Stamp // of the call that loaded it, as the library has it; written before the item is kept
+	stamp Stamp  // of the call that loaded it, as the library has it; written before the item is kept
 	cost  int64
 	born  instant // when its load began, where there is a TTL
 	used  uint32  // whether it was found since a hand last passed it
 	state uint32  // see below
+	fresh bool    // whether it was not found yet, in a clock; see plainTable
+	next  *item   // of its ring of the clock; none where it is in none
+	last  *item
 }
 
 // The state of an item.
