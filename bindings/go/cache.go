@@ -37,7 +37,7 @@ type Cache[K ~string, V any] struct {
 	clock   func() instant // none without a TTL
 	loads   atomic.Uint64
 	errors  atomic.Uint64
-	// By fingerprint: how many Forgets and Puts have begun.
+	// By fingerprint: how many Forgets and Puts have begun, and where values have costs, loads.
 	writes [64]atomic.Uint64
 }
 
@@ -104,8 +104,9 @@ func NewCache[K ~string, V any](
 
 // WithCost sets what a value costs, for a cache of these types: the bytes of a page, say. The
 // function is called once for each load that returned no error and for each Put, before the value
-// is kept, and a panic of it is one of the load or the Put. A value that costs more than the limit,
-// or less than 0, is returned and not kept. By default each value costs 1.
+// is kept, and a panic of it is one of the load or the Put. A Put has forgotten the key by then. A
+// value that costs more than the limit, or less than 0, is returned and not kept. By default each
+// value costs 1.
 func WithCost[K ~string, V any](cost func(key K, value V) int64) Option {
 	return func(s *sizes) { s.forCache("WithCost").cost = cost }
 }
@@ -175,6 +176,10 @@ func (c *Cache[K, V]) run(ctx context.Context, k keyed) (any, error) {
 		n.born = c.clock()
 	}
 	c.loads.Add(1)
+	if c.cost != nil {
+		// A Put may ask for its cost meanwhile, until this load has ended.
+		c.write(k)
+	}
 	failed := true
 	defer func() {
 		if failed {
@@ -212,7 +217,8 @@ func (c *Cache[K, V]) Forget(key K) {
 	c.tidy()
 }
 
-// A Forget or Put of the key begins. A Put keeps nothing if another has begun since it did.
+// A Forget or Put of the key begins, or a load beside which a Put may ask for its cost. A Put keeps nothing if another has
+// begun since it did.
 func (c *Cache[K, V]) write(k keyed) (last *atomic.Uint64, number uint64) {
 	last = &c.writes[k.print%uint64(len(c.writes))]
 	return last, last.Add(1)
@@ -220,7 +226,8 @@ func (c *Cache[K, V]) write(k keyed) (last *atomic.Uint64, number uint64) {
 
 // ForgetAll is Forget of all keys. It takes the time and memory of a new cache, and calls what
 // WithOnEvict has set with each value; without memory, loads run beside the library for a while, as
-// Err tells, and nothing is kept.
+// Err tells, and nothing is kept. Of many at one time some share the new memory. The old memory is
+// freed soon, also while loads of then still run.
 func (c *Cache[K, V]) ForgetAll() {
 	for i := range c.writes {
 		c.writes[i].Add(1)
@@ -241,21 +248,25 @@ func (c *Cache[K, V]) Put(key K, value V) (kept bool) {
 	if c.clock != nil {
 		n.born = c.clock()
 	}
+	var out []*item
+	defer func() {
+		if !kept {
+			if it := c.p.takeOut(c.p.keyed(n.key)); it != nil {
+				out = append(out, it)
+			}
+		}
+		defer c.tidy()
+		c.left(out)
+	}()
+	// The function of WithCost may panic. The older value is not current then.
+	k := c.p.keyed(n.key)
+	last, number := c.write(k)
+	c.p.forget(k.key)
 	if c.cost != nil {
 		n.cost = c.cost(key, value)
 	}
-	k := c.p.keyed(string(key))
-	last, number := c.write(k)
-	c.p.forget(k.key)
-	out := c.p.settleWith(k, &n.item, last, number)
+	out = c.p.settleWith(k, &n.item, last, number)
 	kept = n.isKept()
-	if !kept {
-		c.lost(c.p.takeOut(k))
-	}
-	if len(out) > 0 {
-		c.left(out)
-	}
-	c.tidy()
 	return kept
 }
 

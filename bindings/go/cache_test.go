@@ -513,6 +513,97 @@ func TestCachePutBesideALoad(t *testing.T) {
 	}
 }
 
+// A Put whose function of WithCost panics, or ends its goroutine, is a Forget: the value has left by then.
+func TestCachePutWhoseCostBreaks(t *testing.T) {
+	for how, breaks := range map[string]func(){
+		"panics": func() { panic("no cost") }, "ends the goroutine": runtime.Goexit,
+	} {
+		var puts bool
+		var left []int
+		var c *Cache[string, int]
+		c = newCache(t, 4, func(context.Context, string) (int, error) { return 1, nil },
+			WithCost(func(_ string, v int) int64 {
+				if puts {
+					// A look takes a value out that is not current.
+					if how == "panics" {
+						if v, ok := c.GetIfPresent("key"); ok {
+							t.Error("the older value is current when the cost is asked for", v)
+						}
+					}
+					breaks()
+				}
+				return 1
+			}), WithOnEvict(func(_ string, v int) { left = append(left, v) }))
+		mustGet(t, c, "key", 1)
+		done := make(chan struct{})
+		go func() {
+			defer close(done)
+			defer func() { recover() }()
+			puts = true
+			c.Put("key", 2)
+			t.Error("it returns", how)
+		}()
+		came(t, done)
+		puts = false
+		if st := c.Stats(); st.Values != 0 {
+			t.Error("the older value is there", how, st)
+		}
+		if v, ok := c.GetIfPresent("key"); ok {
+			t.Error("the older value is current", how, v)
+		}
+		if len(left) != 1 || left[0] != 1 {
+			t.Error("what has left", how, left)
+		}
+		if !c.Put("key", 3) {
+			t.Error("the next Put keeps its value", how)
+		}
+		mustGet(t, c, "key", 3)
+	}
+}
+
+// A load that began and ended while a Put asked for the cost has the newer value.
+func TestCachePutWhoseCostLoads(t *testing.T) {
+	var c *Cache[string, int]
+	puts := false
+	c = newCache(t, 4, func(context.Context, string) (int, error) { return 2, nil },
+		WithCost(func(string, int) int64 {
+			if puts {
+				puts = false
+				c.Get(always, "key")
+			}
+			return 1
+		}))
+	puts = true
+	if c.Put("key", 1) {
+		t.Error("a Put is kept though a load has begun")
+	}
+	mustGet(t, c, "key", 2)
+}
+
+// A Put pushes two values out, and the function of WithOnEvict panics at the first. It is told of both.
+func TestCachePutWhoseOnEvictPanics(t *testing.T) {
+	told, puts := 0, true
+	c := newCache(t, 2, func(_ context.Context, key string) (int, error) { return 1, nil },
+		WithCost(func(_ string, v int) int64 { return int64(v) }),
+		WithOnEvict(func(string, int) {
+			told++
+			if puts {
+				panic("as it was told")
+			}
+		}))
+	mustGet(t, c, "a", 1)
+	mustGet(t, c, "b", 1)
+	func() {
+		defer func() { recover() }()
+		c.Put("c", 2)
+	}()
+	puts = false
+	if told != 2 {
+		t.Error("told of", told)
+	}
+	mustGet(t, c, "c", 2)
+}
+
 func TestCacheForgetAll(t *testing.T) {
 	left := map[string]int{}
 	o := newOrigin(t, 100, wide, WithOnEvict(func(key string, v page) {
@@ -538,6 +629,54 @@ func TestCacheForgetAll(t *testing.T) {
 	}
 	if n := o.loads.Load(); n != 100 {
 		t.Error("each is loaded once more", n)
+	}
+}
+
+// Of many ForgetAlls at one time some share an epoch. Each forgets what was loaded before it was called.
+func TestCacheForgetAllsShareEpochs(t *testing.T) {
+	const goroutines = 50
+	makes, goOn := chans()
+	var made atomic.Int64
+	c := newCache(t, 100, number, func(s *sizes) {
+		s.refused = func() bool {
+			switch made.Add(1) {
+			case 2:
+				close(makes)
+				<-goOn
+			}
+			return false
+		}
+	})
+	mustGet(t, c, keyNumber(1), 1)
+	var all sync.WaitGroup
+	forget := func() {
+		defer all.Done()
+		c.ForgetAll()
+		if _, ok := c.GetIfPresent(keyNumber(1)); ok {
+			t.Error("a value that was loaded before")
+		}
+	}
+	all.Add(1)
+	go forget()
+	begun(t, makes)
+	last := &c.writes[len(c.writes)-1]
+	before := last.Load()
+	all.Add(goroutines)
+	for i := 0; i < goroutines; i++ {
+		go forget()
+	}
+	until(t, "all have begun", func() bool { return last.Load() == before+goroutines })
+	close(goOn)
+	all.Wait()
+	// Those that came to look for another when that had ended share one or the other of theirs.
+	if st := c.Stats().Calls; st.Epochs > 2+goroutines/2 {
+		t.Error("epochs", st)
+	}
+	epochs := c.Stats().Calls.Epochs
+	mustGet(t, c, keyNumber(1), 1)
+	c.ForgetAll()
+	if _, ok := c.GetIfPresent(keyNumber(1)); ok || c.Stats().Calls.Epochs != epochs+1 {
+		t.Error("one alone makes its own", c.Stats().Calls)
 	}
 }
 
@@ -749,6 +888,37 @@ func TestCacheLimitByStep(t *testing.T) {
 }
 
 // Hits of a cache of so many values by least recent use, which makes room for each value.
+// Evictions take a constant number of steps, also where the cache had many more values before, of which the last are
+// anywhere in the table.
+func TestCacheEvictionSteps(t *testing.T) {
+	const small, large, gets = 30000, 300, 2000
+	c := newCache(t, small, number, WithCost(func(_ string, i int) int64 {
+		if i < small {
+			return 1
+		}
+		return small / large
+	}), wide)
+	for i := 0; i < small; i++ {
+		mustGet(t, c, keyNumber(i), i)
+	}
+	// The small values leave. The last stay long: they were found.
+	for i := small; i < small+2*large; i++ {
+		mustGet(t, c, keyNumber(i), i)
+	}
+	clock := &c.p.now.Load().table.clock
+	before, evicted := clock.steps, c.Stats().Evicted
+	for i := small + 2*large; i < small+2*large+gets; i++ {
+		mustGet(t, c, keyNumber(i), i)
+	}
+	evicted = c.Stats().Evicted - evicted
+	if evicted < gets/2 {
+		t.Fatal("evicted", evicted)
+	}
+	if steps := clock.steps - before; steps > 4*evicted {
+		t.Errorf("%d steps for %d evictions", steps, evicted)
+	}
+}
+
 func hitsByLRU(trace []uint64, values int) (hits int) {
 	order, at := list.New(), map[uint64]*list.Element{}
 	for _, key := range trace {

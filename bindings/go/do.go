@@ -109,17 +109,22 @@ func (p *pool) lead(
 			p.record(Load{p.label, k.key, took, r.Joiners, r.Err})
 		}
 	}()
+	if a.seat != nil {
+		a.seat.rest(nil)
+	}
 	for a.seat != nil && a.wait != nil {
-		switch a.wait.join(r, k.key, stop) {
+		switch a.wait.join(r, k.key, stop, a.late) {
 		case settled:
 			p.adopts.Add(1)
+			a.seat.took = a.seat.older.Load()
 			returned, adopted = true, true
 			r.Joiners = 0
 			a.take(a.seat)
 			return
 		case left:
 			a.followed(false)
-			// Nobody waits for it any more.
+			// Nobody waits for it any more. It joined the older call, and has left that.
+			p.adopts.Add(1)
 			r.Err = context.Canceled
 			returned = true
 			return

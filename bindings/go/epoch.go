@@ -26,18 +26,22 @@ type seat struct {
 	owed     atomic.Int64
 	val      any
 	err      error
-	key      string // of its call, where the library has only a digest of it
+	took     *older                // whose result its call was settled with
+	older    atomic.Pointer[older] // what its call waits for, or waited, in place of its load
+	key      string                // of its call, where the library has only a digest of it
 	epoch    *epoch
 	mu       sync.Mutex // protects waits, and what the wait says
 	waits    *wait
-	rec      callRecordPointer // of its call, if that is recorded
-	spare    *callRecord       // for its next asking
-	joiners  atomic.Uint32     // how many have joined its call, once that is told; until all have their answers
-	lone     atomic.Uint32     // the generation of its last call that was forgotten as one that nobody has joined
-	hits     atomic.Uint64     // looks of a cache by it that found a value
-	misses   atomic.Uint64     // and those that found none
-	closes   atomic.Uint64     // Forgets by it that closed a call
-	idles    atomic.Uint64     // and those that closed none
+	rec      callRecordPointer    // of its call, if that is recorded
+	spare    *callRecord          // for its next asking
+	joiners  atomic.Uint32        // how many have joined its call, once that is told; until all have their answers
+	lone     atomic.Uint32        // the generation of its last call that was forgotten as one that nobody has joined
+	hits     atomic.Uint64        // looks of a cache by it that found a value
+	misses   atomic.Uint64        // and those that found none
+	closes   atomic.Uint64        // Forgets by it that closed a call
+	rests    atomic.Uint32        // of a cache: see detach
+	led      atomic.Pointer[seat] // whose call it has joined, where it rests
+	idles    atomic.Uint64        // and those that closed none
 }
 
 // A seat that fills whole cache lines, so that two goroutines do not wait for one another's stores.
@@ -299,12 +303,17 @@ func (p *pool) drain(e *epoch) {
 	e.free = nil
 	e.resting.Store(0)
 	if e.gone.Load() < e.made.Load() {
+		p.detach(e)
+	}
+	if e.gone.Load() < e.made.Load() {
 		return
 	}
 	for i, it := range p.draining {
 		if it == e {
 			p.draining = append(p.draining[:i:i], p.draining[i+1:]...)
 			e.root.close()
+			// A load that hangs has the epoch still.
+			e.table = nil
 			p.past.plus(e.counts())
 			p.write(nil)
 		}

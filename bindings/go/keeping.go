@@ -185,17 +185,34 @@ var stopped = func() chan struct{} {
 // The new epoch is there before the runs are dropped and the old epochs are passed over, under one
 // lock. A leader that has to look for a run takes that lock. So it looks before, and its call is of
 // an old epoch; or it finds none.
+//
+// One that finds another whose epoch is not there yet waits for that, and makes none. It may:
+//
+//	A begins, and makes an epoch. B begins, and finds A. A puts the epoch in place, and closes what is older. A and B return.
+//
+// Whatever was loaded or asked for before B was called is of an epoch that A's has replaced, or of a run that A drops,
+// since A does both after B has begun. One that begins after A has done so finds nothing of A, and makes its own. So
+// there is one new epoch at a time, however many ask for one.
 func (p *pool) forgetAll() {
+	p.lock()
+	if coming := p.coming; coming != nil {
+		p.mu.Unlock()
+		await(coming, nil)
+		return
+	}
+	coming := make(chan struct{})
+	p.coming = coming
+	size := p.size
+	p.mu.Unlock()
 	var next *epoch
 	if p.now.Load() != nil {
 		// It takes a while, in which others may have the lock.
-		p.lock()
-		size := p.size
-		p.mu.Unlock()
 		next = p.makeEpoch(size)
 	}
 	p.lock()
+	defer close(coming)
 	defer p.mu.Unlock()
+	p.coming = nil
 	switch {
 	case p.now.Load() != nil:
 		if p.numbered(next) != nil {
@@ -207,8 +224,9 @@ func (p *pool) forgetAll() {
 		next.root.close()
 	}
 	p.dropRuns()
-	for _, e := range p.draining {
+	for _, e := range append([]*epoch(nil), p.draining...) {
 		e.forgotten = true
+		p.drain(e)
 	}
 }
 

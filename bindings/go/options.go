@@ -68,7 +68,8 @@ type Option func(*sizes)
 
 // WithSlots sets how many slots there are, 1 to 134,217,728, of 8 bytes each, once and for all. By
 // default a group begins with 1,024 and takes up to 1,048,576 by itself. Have 1,000 for each call
-// that is open at one time, or 16 for each result in a cache.
+// that is open at one time, or 16 for each result in a cache. However few they are, the group is not
+// made anew for that: where another key's call is open at a slot, a call runs beside the library.
 func WithSlots(n uint32) Option { return func(s *sizes) { s.places, s.fixed = n, true } }
 
 // WithCallers sets how many calls the library may have open at first, 1 to 65,534, of 250 bytes

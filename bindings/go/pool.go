@@ -47,9 +47,10 @@ type pool struct {
 	open     atomic.Int64  // those that have not ended
 	book     atomic.Pointer[book]
 	beside   atomic.Uint64 // how many joined without a caller
+	detached atomic.Int64  // seats that the library has forgotten, and goroutines have
 	voids    atomic.Uint64 // calls that were given up before their loads
-	parted   atomic.Uint64 // how many had joined such a call, or another key's
-	adopts   atomic.Uint64 // calls that took another's result in place of a load
+	parted   atomic.Uint64 // how many had joined such a call, or another key's, or one that took a result that is too old for them
+	adopts   atomic.Uint64 // calls that took another's result in place of a load, or whose callers left before that
 	room     *room         // of a cache
 	missed   atomic.Uint64 // looks of a cache that no seat has counted
 	replaced atomic.Uint32 // whether there are tables
@@ -59,9 +60,10 @@ type pool struct {
 	draining   []*epoch // those that were replaced and have calls still, the oldest first
 	size       sizes
 	number     uint64
-	past       tally    // of epochs that are gone
-	tables     []*table // of a cache: those of epochs that were replaced, whose values have not left
-	closing    int      // how many of these were taken, and are not empty yet
+	past       tally         // of epochs that are gone
+	tables     []*table      // of a cache: those of epochs that were replaced, whose values have not left
+	closing    int           // how many of these were taken, and are not empty yet
+	coming     chan struct{} // of a ForgetAll whose epoch is not there yet: closed when it is
 	shut       bool
 	label      string
 	recordings uint16 // how often a recording has begun
@@ -183,9 +185,51 @@ type asking struct {
 	seat   *seat // leads, or waits for this call of the leader
 	leader *seat
 	call   Call
-	wait   *wait // without a seat: the run that it leads, or the call that it follows; of a leader, the call whose result it takes
+	wait   *wait  // without a seat: the run that it leads, or the call that it follows; of a leader, the call whose result it takes
+	late   *older // what the joined call waits for, if that may have ended before the asking
 	leads  bool
 	noted
+}
+
+// An older call of the key, for which a leader waits in place of its load: an open call of an older epoch, or a run
+// beside the library.
+//
+// The leader takes its result only when its goroutine goes on, and its own call is open until then. A caller may ask
+// meanwhile that knows of the result:
+//
+//	A runs the older call. B leads a newer one, and waits. A settles the older call, has v1, writes v2, and asks.
+//
+// B's call is open, so A joins it, and B settles it with v1. So who joins a call looks at what its leader waits for. If
+// that has ended, it waits for the leader, and asks again if the leader took that result.
+//
+// A leader that finds an older call stores this before it makes sure that the call is open. So who joins and finds nothing
+// here has joined before that, while the older call was open.
+type older struct {
+	seat       *seat // that leads the call, or none
+	generation uint64
+	run        *wait // without a seat
+}
+
+// Itself, if somebody may know the result that a leader takes who waits for it. A seat has no generation from before it
+// settles its call; those who follow a run are told of its end by done. The seat may itself wait for an older call.
+func (o *older) ended() *older {
+	for it := o; it != nil; {
+		if it.seat == nil {
+			select {
+			case <-it.run.done:
+				return o
+			default:
+				return nil
+			}
+		}
+		next := it.seat.older.Load()
+		yield()
+		if atomic.LoadUint64(&it.seat.generation) != it.generation {
+			return o
+		}
+		it = next
+	}
+	return nil
 }
 
 // Asks for the key until it leads or waits. One who may leave follows a call sooner than join it by a caller, since that
@@ -208,7 +252,7 @@ func (p *pool) try(a *asking, k keyed, leaves bool) bool {
 		if found := p.look(e, k); found == foreign {
 			return p.askBeside(a, k, e, false)
 		} else if found.seat != nil {
-			return p.follow(a, found, k) && p.counted()
+			return p.follow(a, found, k, nil) && p.counted()
 		}
 	}
 	s := p.take(e)
@@ -246,7 +290,8 @@ func (p *pool) asked(a *asking, s *seat, code uint8, call Call, k keyed) bool {
 		leader := e.numbered(call.caller)
 		if atomic.LoadUint64(&leader.print) == k.print {
 			call.epoch = e.number
-			*a = asking{seat: s, leader: leader, call: call, noted: a.noted}
+			late := leader.older.Load().ended()
+			*a = asking{seat: s, leader: leader, call: call, late: late, noted: a.noted}
 			return true
 		}
 		// To wait for the load of another key might be to wait for oneself.
@@ -267,11 +312,17 @@ func (p *pool) leaveStranger(s, leader *seat, k keyed) bool {
 	p.parted.Add(1)
 	acquire(&leader.mu)
 	s.poll(&letter)
+	if letter.code == codePending && leader.isDetached() {
+		leader.mu.Unlock()
+		p.letGo(s, true)
+		return false
+	}
 	if letter.code == codePending {
 		w := leader.wait()
 		w.strangers++
 		w.left = append(w.left, s)
 		s.stranger = true
+		s.rest(leader)
 		// Until then, a caller that asks for a key with this fingerprint looks before it asks.
 		p.alertOf(k.print).Add(1)
 		leader.mu.Unlock()
@@ -332,18 +383,22 @@ func (p *pool) lookBy(e *epoch, by *seat, k keyed) found {
 }
 
 // Joins the call without a caller, if it is not about to be settled. The leader first marks that, then settles, and then
-// looks whether it is followed. So either it sees the follower, or that sees the mark.
-func (p *pool) follow(a *asking, it found, k keyed) bool {
+// looks whether it is followed. So either it sees the follower, or that sees the mark. The follower may lead a newer call.
+func (p *pool) follow(a *asking, it found, k keyed, leader *seat) bool {
 	s := it.seat
 	acquire(&s.mu)
 	defer s.mu.Unlock()
+	if leader != nil {
+		leader.older.Store(&older{seat: s, generation: uint64(it.call.generation)})
+		yield()
+	}
 	if s.lone.Load() == it.call.generation || !s.isFollowable(uint64(it.call.generation)) {
 		return false
 	}
 	w := s.wait()
 	w.waiting++
 	w.followers++
-	*a = asking{wait: w, call: it.call, noted: a.noted}
+	*a = asking{wait: w, call: it.call, late: s.older.Load().ended(), noted: a.noted}
 	if a.by != nil {
 		a.follow(s.rec.Load())
 	}
@@ -377,21 +432,27 @@ func (p *pool) confirm(a *asking, s *seat, k keyed, confirmed bool) bool {
 		p.giveUp(s, k)
 		return false
 	}
-	wait, rec := p.runOf(k, s.epoch.number, a.by)
-	*a = asking{seat: s, leads: true, wait: wait, noted: noted{a.by, a.from, rec}}
+	it := p.runOf(k, s.epoch.number, a.noted, s)
+	*a = asking{seat: s, leads: true, wait: it.wait, late: it.late, noted: it.noted}
 	p.mu.Unlock()
 	return true
 }
 
-// Joins the key's run beside the library, or its open call in an epoch older than this number. None where there is none.
-// In its record, if it and the asking are recorded, the asking has a part then. The lock is held.
-func (p *pool) runOf(k keyed, before uint64, by *recorder) (*wait, *callRecord) {
-	a := asking{noted: noted{by: by}}
+// Joins the key's run beside the library, or its open call in an epoch older than this number. No wait where there is
+// none. In its record, if it and the asking are recorded, the asking has a part then. The asking may be that of a leader.
+// The lock is held.
+func (p *pool) runOf(k keyed, before uint64, n noted, leader *seat) asking {
+	n.rec = nil
+	a := asking{noted: n}
 	if w := p.runs[k.key]; w != nil {
+		if leader != nil {
+			leader.older.Store(&older{run: w})
+		}
 		w.waiting++
 		w.followers++
+		a.wait = w
 		a.follow(w.rec)
-		return w, a.rec
+		return a
 	}
 	for _, e := range p.draining {
 		if e.number >= before {
@@ -400,11 +461,11 @@ func (p *pool) runOf(k keyed, before uint64, by *recorder) (*wait, *callRecord) 
 		if e.forgotten {
 			continue
 		}
-		if it := p.lookBy(e, e.root, k); it.seat != nil && p.follow(&a, it, k) {
-			return a.wait, a.rec
+		if it := p.lookBy(e, e.root, k); it.seat != nil && p.follow(&a, it, k, leader) {
+			return a
 		}
 	}
-	return nil, nil
+	return a
 }
 
 // Asks where the library cannot have the call: it follows a call that is open, or runs beside the library; or one asks
@@ -418,8 +479,8 @@ func (p *pool) askBeside(a *asking, k keyed, e *epoch, wants bool) bool {
 	if e == nil && !p.shut && p.alone.Load()%besideTries == besideTries-1 && p.replace(p.size, true) {
 		return false
 	}
-	if w, rec := p.runOf(k, 1<<63, a.by); w != nil {
-		*a = asking{wait: w, noted: noted{a.by, a.from, rec}}
+	if it := p.runOf(k, 1<<63, a.noted, nil); it.wait != nil {
+		*a = asking{wait: it.wait, late: it.late, noted: it.noted}
 		return p.counted()
 	}
 	p.alertOf(k.print).Add(1)
@@ -429,7 +490,7 @@ func (p *pool) askBeside(a *asking, k keyed, e *epoch, wants bool) bool {
 		yield()
 		if it.seat != nil {
 			p.alertOf(k.print).Add(-1)
-			return p.follow(a, it, k) && p.counted()
+			return p.follow(a, it, k, nil) && p.counted()
 		}
 		if wants && p.grows(e) || !wants && p.meets(e) {
 			p.alertOf(k.print).Add(-1)
@@ -457,10 +518,10 @@ func (p *pool) grows(e *epoch) bool {
 }
 
 // Another key's call is open at the slot. Whether a new epoch has taken the place of this one, since that is so often.
-// The lock is held.
+// Where the user has fixed the number of slots, calls run beside the library instead. The lock is held.
 func (p *pool) meets(e *epoch) bool {
 	e.met++
-	if e.met < 64 || e.met < e.size.places/32 || !p.isWorth(uint64(e.met)) {
+	if e.size.fixed || e.met < 64 || e.met < e.size.places/32 || !p.isWorth(uint64(e.met)) {
 		return false
 	}
 	return p.replace(e.size.wider())
@@ -1030,6 +1091,10 @@ func (p *pool) settleRun(w *wait, r *Result, k keyed) {
 }
 
 func (p *pool) settleBy(s *seat, r *Result, k keyed, all, watched bool) (out []*item) {
+	if !s.goesOn() {
+		p.settleDetached(s, r, k)
+		return nil
+	}
 	e, crowded, stale := s.epoch, false, false
 	var kept *item
 	var id uint64
@@ -1110,6 +1175,10 @@ func (p *pool) clear(s *seat) {
 		s.key = ""
 	}
 	s.void = false
+	if s.older.Load() != nil {
+		s.took = nil
+		s.older.Store(nil)
+	}
 	if rec := s.rec.Load(); rec != nil {
 		s.complete(rec)
 	}
@@ -1154,7 +1223,7 @@ func (p *pool) share(s *seat, r *Result, k keyed, joined int64) {
 	r.Shared = r.Joiners > 0
 	s.joiners.Store(uint32(r.Joiners))
 	if w != nil {
-		w.void = s.void
+		w.void, w.took = s.void, s.took
 		w.settle(k.key, *r)
 		if s.ended {
 			w.ended = true
@@ -1165,21 +1234,26 @@ func (p *pool) share(s *seat, r *Result, k keyed, joined int64) {
 	if w != nil {
 		close(w.done)
 		for _, left := range w.left {
-			var letter letter
-			left.poll(&letter)
-			p.comesBack(left)
+			p.comesBack(left, false)
 		}
 		owed -= int64(len(w.left))
 	}
 	p.release(s, owed)
 }
 
-// A seat that was left at a call has its letter.
-func (p *pool) comesBack(s *seat) {
+// A seat that was left at a call has its letter; none where the library has forgotten the call.
+func (p *pool) comesBack(s *seat, detached bool) {
 	if s.stranger {
 		s.stranger = false
 		p.alertOf(atomic.LoadUint64(&s.print)).Add(-1)
 	}
+	goesOn := s.goesOn()
+	if detached {
+		p.letGo(s, goesOn)
+		return
+	}
+	var letter letter
+	s.poll(&letter)
 	p.put(s)
 }
 
@@ -1227,7 +1301,7 @@ func (p *pool) join(
 	r *Result, a *asking, k keyed, stop <-chan struct{}, all bool,
 ) (how outcome) {
 	if a.seat == nil {
-		if how = a.wait.join(r, k.key, stop); how == again && a.wait.void {
+		if how = a.wait.join(r, k.key, stop, a.late); how == again && (a.wait.void || a.wait.isLate(a.late)) {
 			p.parted.Add(1)
 		}
 		a.followed(how == left || how == settled)
@@ -1242,17 +1316,26 @@ func (p *pool) join(
 			led.mu.Unlock()
 			break
 		}
+		if led.isDetached() {
+			// It joined then, and nobody would tell it.
+			led.mu.Unlock()
+			p.parted.Add(1)
+			p.letGo(s, true)
+			return again
+		}
 		w := led.wait()
 		if led.lone.Load() == a.call.generation {
 			// It was forgotten as a call that nobody has joined. The seat comes back with its letter.
 			p.parted.Add(1)
 			w.strangers++
 			w.left = append(w.left, s)
+			s.rest(led)
 			led.mu.Unlock()
 			return again
 		}
 		w.waiting++
 		w.joined++
+		s.rest(led)
 		led.mu.Unlock()
 		if !await(w.done, stop) {
 			if a.by != nil {
@@ -1264,6 +1347,13 @@ func (p *pool) join(
 			}
 			await(w.done, nil)
 		}
+		if goesOn := s.goesOn(); led.isDetached() {
+			if how = w.read(r, k.key, a.late); how == again && (w.void || w.isLate(a.late)) {
+				p.parted.Add(1)
+			}
+			p.letGo(s, goesOn)
+			return how
+		}
 		s.poll(&letter)
 	}
 	if isRaceDetected {
@@ -1273,6 +1363,9 @@ func (p *pool) join(
 	case letter.code == codeOther || len(k.key) > longestKey && led.key != k.key:
 		how = again
 	case led.void || led.lone.Load() == a.call.generation:
+		p.parted.Add(1)
+		how = again
+	case a.late != nil && a.late == led.took:
 		p.parted.Add(1)
 		how = again
 	case led.ended && led.err != nil:
@@ -1358,6 +1451,9 @@ func (p *pool) stats() Stats {
 	for _, e := range b.epochs {
 		all.plus(e.counts())
 		st.InUse += e.inUse()
+	}
+	if detached := p.detached.Load(); detached > 0 {
+		st.InUse += uint32(detached)
 	}
 	if b.now != nil {
 		st.Made = b.now.made.Load()

@@ -57,9 +57,54 @@ func TestLoadsThatHang(t *testing.T) {
 	}
 }
 
-// A key that hangs leaves its slot to others, whose results can then be cached again.
-func TestSlotsOfLoadsThatHang(t *testing.T) {
+// A group of one slot may not grow. However often keys meet there, it stays as it is.
+func TestFixedSlots(t *testing.T) {
+	const calls = 1000
+	started, release := chans()
 	g := onePlace(t, 8)
+	hung := g.DoChan("hangs", heldAny(1, started, release))
+	begun(t, started)
+	for i := 0; i < calls; i++ {
+		g.Do("key", value(i))
+	}
+	if st := g.Stats(); st.Epochs != 1 || st.Alone != calls {
+		t.Error("a group", st)
+	}
+	cached, load := chans()
+	c := newCache(t, 4, func(_ context.Context, key string) (int, error) {
+		if key == "hangs" {
+			close(cached)
+			<-load
+		}
+		return 1, nil
+	}, WithSlots(1))
+	done := make(chan struct{})
+	go func() { c.Get(always, "hangs"); close(done) }()
+	begun(t, cached)
+	for i := 0; i < calls; i++ {
+		c.Get(always, "key")
+	}
+	if st := c.Stats().Calls; st.Epochs != 1 || st.Alone != calls {
+		t.Error("a cache", st)
+	}
+	close(release)
+	close(load)
+	receive(t, hung)
+	came(t, done)
+	_, _, _, stamp := doStamped(g, "key", value(2))
+	if !g.IsStill(stamp) {
+		t.Error("the slot is free again")
+	}
+}
+
+// A key that hangs leaves its slot to others, whose results can then be cached again, where the number of slots is not
+// fixed.
+func TestSlotsOfLoadsThatHang(t *testing.T) {
+	g, err := NewGroup(WithCallers(8), func(s *sizes) { s.places = 1 })
+	if err != nil {
+		t.Fatal(err)
+	}
+	defer g.Close()
 	release := make(chan struct{})
 	hung := g.DoChan("hangs", func() (any, error) { <-release; return 1, nil })
 	until(t, "a result that can be cached", func() bool {

@@ -34,9 +34,7 @@ type provedTable struct {
 	sets    int
 	hints   [][waysOfSet]uint64 // an identity, and in the upper bits a part of the hash; or 0
 	crammed []uint32            // whether one of these hints had to give way to another
-	hands   [2]atomic.Uint64    // over the entries; the second takes fresh items
-	values  atomic.Int64
-	fresh   atomic.Int64
+	clock   clock
 	crowded atomic.Uint64 // how many values had to leave for want of a way
 	ready   atomic.Bool   // whether those before it are empty: all share the limit
 	closed  atomic.Bool   // whether nothing is kept in it any more
@@ -133,8 +131,7 @@ func (t *provedTable) left(id uint64) *item {
 	it := t.leave(id)
 	if it != nil {
 		t.room.left.Add(1)
-		t.values.Add(-1)
-		t.settle(it)
+		t.clock.remove(it)
 	}
 	return it
 }
@@ -214,29 +211,18 @@ func (t *provedTable) isKnown(print uint64) bool {
 	return false
 }
 
-// settle makes the item one that is not fresh. Whether it was.
-func (t *provedTable) settle(it *item) bool {
-	if atomic.SwapUint32(&it.fresh, 0) == 0 {
-		return false
-	}
-	t.fresh.Add(-1)
-	return true
-}
-
 // evict takes one item out, by second chance: see plainTable.
 func (t *provedTable) evict(s *seat) *item {
-	made := t.made.Load()
-	for passed := uint64(0); passed < 4*made; passed++ {
-		hand, fresh := &t.hands[0], uint32(0)
-		if t.fresh.Load()*freshPart > t.values.Load() {
-			hand, fresh = &t.hands[1], 1
+	for steps := t.clock.laps(); steps > 0; steps-- {
+		it, fresh := t.clock.step()
+		if it == nil {
+			return nil
 		}
-		it := (*item)(atomic.LoadPointer(t.entry(hand.Add(1) % made)))
-		if it == nil || atomic.LoadUint32(&it.fresh) != fresh || !it.isKept() {
+		if !it.isKept() {
 			continue
 		}
 		if it.pass() && s.isStill(it.stamp) {
-			if t.settle(it) {
+			if fresh && t.clock.settle(it) {
 				// Where its set is full, the library takes one that was not looked for.
 				cLook(&s.slot, bytesOf(it.name), uintptr(len(it.name)))
 			}
@@ -284,13 +270,9 @@ func (t *provedTable) keep(
 		out = append(out, old)
 	}
 	it.stamp = stamp
-	if !t.isKnown(it.print) {
-		atomic.StoreUint32(&it.fresh, 1)
-		t.fresh.Add(1)
-	}
+	t.clock.add(it, !t.isKnown(it.print))
 	// It may leave again before this goes on.
 	t.room.kept.Add(1)
-	t.values.Add(1)
 	for busy := 0; busy < keepTries; {
 		var other uint64
 		code := cKeep(&s.slot, uint64(it.cost), &other)
@@ -315,8 +297,7 @@ func (t *provedTable) keep(
 		}
 	}
 	t.room.kept.Add(^uint64(0))
-	t.values.Add(-1)
-	t.settle(it)
+	t.clock.remove(it)
 	t.leave(id)
 	return out, false, stale
 }

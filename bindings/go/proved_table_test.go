@@ -111,7 +111,7 @@ func TestProvedTableEntries(t *testing.T) {
 		c.Get(always, keyNumber(i))
 	}
 	table := c.p.now.Load().table
-	if made := table.made.Load(); made > 2 || table.values.Load() != 0 || table.fresh.Load() != 0 {
-		t.Error("entries are used again", made, table.values.Load(), table.fresh.Load())
+	if made := table.made.Load(); made > 2 || table.clock.count() != 0 {
+		t.Error("entries are used again", made, table.clock.count())
 	}
 }

@@ -100,7 +100,7 @@ func (p *pool) endRecording(r *recorder) {
 //
 // The members of a library call are known before its outcome. A call that is given up before its load
 // has no run, and no members. A call that takes the result of an older call gives its members to the
-// older one. Members that asked after the older call had ended are left out. The Forget that closed
+// older one. Members that asked after the older call had ended have left, and are left out. The Forget that closed
 // the newer call does not belong to the older one.
 //
 // The times of an event are wide. A Forget's are those of the whole Forget, and it may close several

@@ -63,6 +63,7 @@ type run struct {
 	alone                bool // whether a ForgetUnshared in its function said that nobody else has its result
 	unshared             bool // whether its leader was told that nobody has joined
 	others               int  // how many others have its result
+	given                int  // when somebody first had its result; 0 before
 }
 
 type stampOf struct {
@@ -239,6 +240,12 @@ func (w *world) got(key, asked int, v any, shared bool) {
 		return
 	}
 	w.log("has key %d of the run begun at %d", key, it.from)
+	if it.given == 0 {
+		w.now++
+		it.given = w.now
+	} else if asked >= it.given {
+		w.problem("key %d asked for at %d has a result of the run begun at %d, which somebody had at %d", key, asked, it.from, it.given)
+	}
 	if forgotten := w.keys[key].forgotten(asked); it.from < forgotten {
 		w.problem("key %d asked for at %d has a result of a run begun at %d, and was forgotten at %d", key, asked, it.from, forgotten)
 	}
@@ -741,5 +748,81 @@ func TestForgetUnsharedWhileSettling(t *testing.T) {
 	}
 	if closed == 0 {
 		t.Error("no call was closed")
+	}
+}
+
+// A leader of an old epoch is stopped at each of its yields while it settles its call. A caller that has joined it, and has
+// its result then, asks again in the new epoch, where the key's call waits for the older one. It has another result.
+func TestLateWhileSettling(t *testing.T) {
+	defer func() { schedule = nil }()
+	early, at := 0, 0
+	for joins, isOver := 0, false; !isOver; {
+		g, s := openStopped(8)
+		leader, joiner := stopAt(at), stopAt(joins)
+		started, release := chans()
+		led := g.DoChan("key", func() (any, error) {
+			close(started)
+			<-release
+			s.stopMe(leader)
+			return 1, nil
+		})
+		begun(t, started)
+		got := make(chan any, 2)
+		go func() {
+			s.stopMe(joiner)
+			v, _, _ := g.Do("key", value(2))
+			got <- v
+			v, _, _ = g.Do("key", value(3))
+			got <- v
+		}()
+		came(t, joiner.stopped)
+		if g.Stats().Joins == 0 {
+			// It is stopped when it has joined, and has not looked for its letter.
+			joins++
+			close(joiner.release)
+			close(leader.release)
+			close(release)
+			receive(t, led)
+			g.Close()
+			continue
+		}
+		p := g.pool()
+		p.lock()
+		p.replace(p.size, true)
+		p.mu.Unlock()
+		waiting := g.DoChan("key", value(4))
+		close(release)
+		var r Result
+		select {
+		case <-leader.stopped:
+		case r = <-led:
+			// It has settled its call in fewer yields.
+			isOver = true
+		}
+		close(joiner.release)
+		var first any
+		if !isOver {
+			select {
+			case first = <-got:
+				early++
+				// It asks again meanwhile.
+				time.Sleep(5 * time.Millisecond)
+			case <-time.After(20 * time.Millisecond):
+			}
+			close(leader.release)
+			r = receive(t, led)
+		}
+		if first == nil {
+			first = came(t, got)
+		}
+		if second := came(t, got); r.Val != 1 || first == 1 && second == 1 {
+			t.Error("it knew the result", at, first, second)
+		}
+		receive(t, waiting)
+		g.Close()
+		at++
+	}
+	if early == 0 {
+		t.Error("nobody had the result while the leader stood")
 	}
 }

@@ -13,12 +13,14 @@ type item struct {
 	print uint64 // the fingerprint
 	id    uint64 // of its entry in the library's table
 	name  string // by which the library knows the key
-	fresh uint32 // whether it was not found yet; see plainTable
 	stamp Stamp  // of the call that loaded it, as the library has it; written before the item is kept
 	cost  int64
 	born  instant // when its load began, where there is a TTL
 	used  uint32  // whether it was found since a hand last passed it
 	state uint32  // see below
+	fresh bool    // whether it was not found yet, in a clock; see plainTable
+	next  *item   // of its ring of the clock; none where it is in none
+	last  *item
 }
 
 // The state of an item.
@@ -63,14 +65,12 @@ func (r *room) values() uint64 {
 
 const (
 	waysOfSet   = 8
-	setsOfBlock = 64
-	waysOfBlock = setsOfBlock * waysOfSet
 	ghostsOfSet = 2
 	// While more than one item in so many is fresh, a fresh one makes room.
 	freshPart = 5
 
-	// The bits of a tag: that there is an item, and that it is fresh.
-	isThere, isFresh = 1, 2
+	// The bit of a tag: that there is an item.
+	isThere = 1
 )
 
 // A plainTable holds the values of a cache which were loaded by the calls of one epoch. It is a
@@ -88,17 +88,14 @@ const (
 type plainTable struct {
 	room    *room
 	sets    []waySet
-	blocks  []atomic.Int32   // how many items so many sets have: the hand passes over those of none
-	hands   [2]atomic.Uint64 // how many ways they passed; the second takes fresh items
-	values  atomic.Int64
-	fresh   atomic.Int64
+	clock   clock
 	crowded atomic.Uint64 // how many current values had to leave for want of a way
 }
 
 type waySet struct {
 	mu     sync.Mutex
 	closed bool // whether nothing is kept in it any more
-	// By way: a part of the hash, so that a look reads no item of another key, and two bits; or 0.
+	// By way: a part of the hash, so that a look reads no item of another key, and a bit; or 0.
 	tags   [waysOfSet]uint32
 	ghosts [ghostsOfSet]uint32 // the tags of those that left last
 	_      [12]byte            // the items have a cache line of their own
@@ -107,17 +104,12 @@ type waySet struct {
 
 func newPlainTable(size sizes, room *room) *plainTable {
 	sets := setsFor(size, room.limit)
-	return &plainTable{
-		room: room, sets: make([]waySet, sets),
-		blocks: make([]atomic.Int32, (sets+setsOfBlock-1)/setsOfBlock),
-	}
+	return &plainTable{room: room, sets: make([]waySet, sets)}
 }
 
-func (t *plainTable) numberOf(print uint64) int { return int(print & uint64(len(t.sets)-1)) }
+func (t *plainTable) set(print uint64) *waySet { return &t.sets[print&uint64(len(t.sets)-1)] }
 
-func (t *plainTable) set(print uint64) *waySet { return &t.sets[t.numberOf(print)] }
-
-func tagOf(print uint64) uint32 { return uint32(print>>32)&^isFresh | isThere }
+func tagOf(print uint64) uint32 { return uint32(print>>32) | isThere }
 
 func (set *waySet) item(way int) *item { return (*item)(atomic.LoadPointer(&set.items[way])) }
 
@@ -125,7 +117,7 @@ func (set *waySet) item(way int) *item { return (*item)(atomic.LoadPointer(&set.
 func (set *waySet) find(k keyed) (*item, int) {
 	tag := tagOf(k.print)
 	for way := range set.tags {
-		if atomic.LoadUint32(&set.tags[way])&^isFresh == tag {
+		if atomic.LoadUint32(&set.tags[way]) == tag {
 			if it := set.item(way); it != nil && it.print == k.print && it.key == k.key {
 				return it, way
 			}
@@ -137,51 +129,33 @@ func (set *waySet) find(k keyed) (*item, int) {
 // put stores the item into the way, in the place of another, or of none. The lock is held.
 func (t *plainTable) put(set *waySet, way int, it *item) (old *item) {
 	tag := tagOf(it.print)
-	fresh := uint32(isFresh)
+	fresh := true
 	for _, ghost := range set.ghosts {
 		if ghost == tag {
-			fresh = 0
+			fresh = false
 		}
 	}
 	if old = set.item(way); old != nil {
 		if old.key == it.key {
-			fresh = 0
+			fresh = false
 		}
 		t.empty(set, way, old)
 	}
-	if fresh != 0 {
-		t.fresh.Add(1)
-	}
-	t.values.Add(1)
-	t.blocks[t.numberOf(it.print)/setsOfBlock].Add(1)
 	t.room.kept.Add(1)
 	atomic.StorePointer(&set.items[way], unsafe.Pointer(it))
-	atomic.StoreUint32(&set.tags[way], tag|fresh)
+	atomic.StoreUint32(&set.tags[way], tag)
+	t.clock.add(it, fresh)
 	return old
 }
 
 // empty takes the item out of the way. The lock is held.
 func (t *plainTable) empty(set *waySet, way int, it *item) {
-	if set.tags[way]&isFresh != 0 {
-		t.fresh.Add(-1)
-	}
+	t.clock.remove(it)
 	copy(set.ghosts[1:], set.ghosts[:])
 	set.ghosts[0] = tagOf(it.print)
 	atomic.StorePointer(&set.items[way], nil)
 	atomic.StoreUint32(&set.tags[way], 0)
-	t.values.Add(-1)
-	t.blocks[t.numberOf(it.print)/setsOfBlock].Add(-1)
 	t.room.left.Add(1)
-}
-
-// settle makes the item one that is not fresh.
-func (t *plainTable) settle(set *waySet, way int, it *item) {
-	acquire(&set.mu)
-	if set.item(way) == it && set.tags[way]&isFresh != 0 {
-		t.fresh.Add(-1)
-		atomic.StoreUint32(&set.tags[way], set.tags[way]&^isFresh)
-	}
-	set.mu.Unlock()
 }
 
 // drop takes the item out of the way, if it is there still.
@@ -343,37 +317,26 @@ func (t *plainTable) reserve(s *seat, cost int64, out *[]*item) bool {
 	}
 }
 
-// evict takes one item out, by second chance: a hand goes over the ways in turn, and takes the
-// first item that is not current, or was not found since it last passed.
+// evict takes one item out, by second chance: the first to which a hand comes that is not current,
+// or was not found since the hand last passed.
 func (t *plainTable) evict(s *seat) *item {
-	ways := uint64(len(t.sets)) * waysOfSet
-	for passed := uint64(0); passed < 4*ways+waysOfBlock; passed++ {
-		hand, fresh := &t.hands[0], uint32(0)
-		if t.fresh.Load()*freshPart > t.values.Load() {
-			hand, fresh = &t.hands[1], isFresh
-		}
-		now := hand.Add(1)
-		at := now % ways
-		if at%waysOfBlock == 0 && t.blocks[at/waysOfBlock].Load() == 0 {
-			hand.CompareAndSwap(now, now+waysOfBlock-1)
-			passed += waysOfBlock - 1
-			continue
-		}
-		set, way := &t.sets[at/waysOfSet], int(at%waysOfSet)
-		if atomic.LoadUint32(&set.tags[way])&(isThere|isFresh) != isThere|fresh {
-			continue
-		}
-		it := set.item(way)
+	for steps := t.clock.laps(); steps > 0; steps-- {
+		it, fresh := t.clock.step()
 		if it == nil {
-			continue
+			return nil
 		}
 		if it.pass() && s.isStill(it.stamp) {
-			if fresh != 0 {
-				t.settle(set, way, it)
+			if fresh {
+				t.clock.settle(it)
 			}
-		} else if t.drop(set, way, it) {
-			t.room.evicted.Add(1)
-			return it
+			continue
+		}
+		set := t.set(it.print)
+		for way := range set.items {
+			if set.item(way) == it && t.drop(set, way, it) {
+				t.room.evicted.Add(1)
+				return it
+			}
 		}
 	}
 	return nil

@@ -26,6 +26,7 @@ type wait struct {
 	key       string      // of the call, once it is settled; of a run from its beginning
 	got       Result      // what it was settled with
 	void      bool        // whether it was given up before its load: those who wait ask again
+	took      *older      // whose result it was settled with
 }
 
 // One who waits leaves. It is settled where the call is; else it has left, and was perhaps the last, so that the load is
@@ -53,26 +54,30 @@ func (w *wait) settle(key string, r Result) {
 	w.settled, w.key, w.got = true, key, r
 }
 
-// One who follows it waits until it is settled, or until stop is closed.
-func (w *wait) join(r *Result, key string, stop <-chan struct{}) outcome {
+// One who follows it waits until it is settled, or until stop is closed. It asks again where the call took the result of
+// the older one for which it was late.
+func (w *wait) join(r *Result, key string, stop <-chan struct{}, late *older) outcome {
 	if !await(w.done, stop) {
 		if how := w.leave(false, nil); how != settled {
 			return how
 		}
 		await(w.done, nil)
 	}
-	return w.read(r, key)
+	return w.read(r, key, late)
 }
 
 // What one who followed it gets, once it is settled.
-func (w *wait) read(r *Result, key string) outcome {
-	if w.void || w.key != key || w.ended && w.got.Err != nil {
+func (w *wait) read(r *Result, key string, late *older) outcome {
+	if w.void || w.key != key || w.ended && w.got.Err != nil || w.isLate(late) {
 		return again
 	}
 	*r = w.got
 	r.Shared = true
 	return settled
 }
+
+// Whether it took the result of the older call for which one was late. It is settled.
+func (w *wait) isLate(late *older) bool { return late != nil && w.took == late }
 
 // How a wait has ended.
 type outcome uint8
