@@ -10,6 +10,6 @@ require (
 )
 
 replace (
-	sf.example/singleflight => ../../bindings/go
-	sf.example/singleflight/peers => ../../bindings/go/peers
+	sf.example/singleflight => ../../go
+	sf.example/singleflight/peers => ../../go/peers
 )

@@ -9,4 +9,4 @@ require (
 	sf.example/singleflight v0.0.0
 )
 
-replace sf.example/singleflight => ../../bindings/go
+replace sf.example/singleflight => ../../go

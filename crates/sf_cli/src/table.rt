@@ -104,7 +104,7 @@ const FLAGS: [Flag; 3] = [
 // What the program is.
 const ABOUT: &str = "Runs, replays and checks calls of singleflight with Forget";
 
-// The version of the packages that are released with it (`bindings/rust/Cargo.toml`).
+// The version of the packages that are released with it (`rust/Cargo.toml`).
 const VERSION: &str = "0.1.0";
 
 // What stands at the end of the program's help.

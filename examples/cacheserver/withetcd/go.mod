@@ -12,7 +12,7 @@ require (
 replace (
 	cacheserver.example => ../
 	google.golang.org/grpc => google.golang.org/grpc v1.26.0
-	sf.example/singleflight => ../../../bindings/go
-	sf.example/singleflight/peers => ../../../bindings/go/peers
-	sf.example/singleflight/peers/etcd => ../../../bindings/go/peers/etcd
+	sf.example/singleflight => ../../../go
+	sf.example/singleflight/peers => ../../../go/peers
+	sf.example/singleflight/peers/etcd => ../../../go/peers/etcd
 )

@@ -1,0 +1,116 @@
+/* A page server over sflight_cache.h: GET /NAME answers a page, which takes 50 ms to make and is
+ * then kept; POST /NAME writes the page anew and forgets it, so that no GET that begins after the
+ * answer gets an older one. Four threads serve; a hundred requests for one missing page make one.
+ *
+ *     cache_server PORT     on 127.0.0.1; port 0 is one that is free, and is printed
+ *
+ * Built and run by tools/check, with c/sflight_cache.c. */
+#include "sflight_cache.h"
+#include <arpa/inet.h>
+#include <pthread.h>
+#include <signal.h>
+#include <stdatomic.h>
+#include <stdio.h>
+#include <stdlib.h>
+#include <string.h>
+#include <sys/socket.h>
+#include <time.h>
+#include <unistd.h>
+
+enum { WORKERS = 4, PAGE = 256, REQUEST = 4096 };
+
+/* The store behind the cache: how often it was written. */
+static atomic_uint revision = 1;
+static sflight_cache *cache;
+static int listener;
+
+static void *make_page(void *context, const uint8_t *name, size_t len, uint64_t *weight) {
+    (void)context;
+    char *page = malloc(PAGE);
+    if (!page) return NULL;
+    unsigned seen = atomic_load(&revision);
+    nanosleep(&(struct timespec){0, 50000000}, NULL);
+    snprintf(page, PAGE, "page %.*s of revision %u\n", (int)(len < 64 ? len : 64), (const char *)name, seen);
+    *weight = strlen(page);
+    return page;
+}
+
+static void drop_page(void *context, void *page) {
+    (void)context;
+    free(page);
+}
+
+static void answer(int client, const char *status, const char *body) {
+    char text[REQUEST];
+    int len = snprintf(text, sizeof text,
+                       "HTTP/1.0 %s\r\nContent-Type: text/plain\r\nContent-Length: %zu\r\n\r\n%s", status,
+                       strlen(body), body);
+    for (int sent = 0; sent < len;) {
+        ssize_t n = write(client, text + sent, (size_t)(len - sent));
+        if (n <= 0) return;
+        sent += (int)n;
+    }
+}
+
+static void serve(sflight_reader *reader, int client) {
+    char text[REQUEST];
+    size_t len = 0;
+    /* A client that sends nothing for a second is let go. */
+    setsockopt(client, SOL_SOCKET, SO_RCVTIMEO, &(struct timeval){1, 0}, sizeof(struct timeval));
+    while (len < sizeof text - 1 && !memchr(text, '\n', len)) {
+        ssize_t n = read(client, text + len, sizeof text - 1 - len);
+        if (n <= 0) return;
+        len += (size_t)n;
+    }
+    text[len] = 0;
+    char method[8], name[256];
+    if (sscanf(text, "%7s /%255[^ \r\n]", method, name) != 2) {
+        answer(client, "400 Bad Request", "a request is GET /NAME or POST /NAME\n");
+        return;
+    }
+    if (strcmp(method, "POST") == 0) {
+        atomic_fetch_add(&revision, 1);
+        sflight_cache_forget(reader, (const uint8_t *)name, strlen(name));
+        answer(client, "200 OK", "written\n");
+        return;
+    }
+    sflight_value page;
+    int code = sflight_cache_get(reader, (const uint8_t *)name, strlen(name), &page);
+    if (code > SFLIGHT_CACHE_JOINED) {
+        answer(client, "503 Service Unavailable", "the page could not be made\n");
+        return;
+    }
+    answer(client, "200 OK", page.at);
+    sflight_cache_release(cache, &page);
+}
+
+static void *work(void *unused) {
+    (void)unused;
+    sflight_reader *reader = sflight_cache_enter(cache);
+    if (!reader) abort();
+    for (int client; (client = accept(listener, NULL, NULL)) >= 0; close(client)) serve(reader, client);
+    sflight_cache_leave(reader);
+    return NULL;
+}
+
+int main(int count, char **words) {
+    struct sockaddr_in address = {.sin_family = AF_INET, .sin_addr.s_addr = htonl(INADDR_LOOPBACK)};
+    socklen_t size = sizeof address;
+    address.sin_port = htons((uint16_t)(count > 1 ? atoi(words[1]) : 8080));
+    signal(SIGPIPE, SIG_IGN);
+    cache = sflight_cache_open(&(sflight_cache_options){
+        .limit = 64 << 20, .entries = 100000, .readers = WORKERS, .load = make_page, .drop = drop_page});
+    listener = socket(AF_INET, SOCK_STREAM, 0);
+    if (!cache || listener < 0 || bind(listener, (struct sockaddr *)&address, size) || listen(listener, 128)
+        || getsockname(listener, (struct sockaddr *)&address, &size)) {
+        perror("cache_server");
+        return 1;
+    }
+    printf("http://127.0.0.1:%d/\n", ntohs(address.sin_port));
+    fflush(stdout);
+    pthread_t threads[WORKERS];
+    for (int i = 0; i < WORKERS; i++)
+        if (pthread_create(&threads[i], NULL, work, NULL)) abort();
+    for (int i = 0; i < WORKERS; i++) pthread_join(threads[i], NULL);
+    return 0;
+}

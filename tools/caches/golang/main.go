@@ -1,0 +1,264 @@
+// Times and hit ratios of caches for Go that load each missing key once: the package's Cache,
+// groupcache's, and ristretto and hashicorp's LRU, each with golang.org/x/sync/singleflight.
+// tools/caches/run runs it.
+package main
+
+import (
+	"context"
+	"fmt"
+	"math/rand"
+	"os"
+	"sort"
+	"strings"
+	"sync"
+	"time"
+
+	"github.com/dgraph-io/ristretto"
+	"github.com/golang/groupcache"
+	lru "github.com/hashicorp/golang-lru"
+	"golang.org/x/sync/singleflight"
+	ours "sf.example/singleflight"
+)
+
+const (
+	rounds = 9
+	gets   = 200000
+	drawn  = 1 << 16
+	page   = "<html></html>"
+)
+
+// A cache that loads: get returns the key's value.
+type cache struct {
+	name string
+	get  func(key string) string
+	wait func() // until what was put is there
+}
+
+type maker func(values int64, load func(key string) string) cache
+
+func check(err error) {
+	if err != nil {
+		panic(err)
+	}
+}
+
+func none() {}
+
+func makeOurs(values int64, load func(key string) string) cache {
+	ctx := context.Background()
+	c, err := ours.NewCache(values, func(_ context.Context, key string) (string, error) {
+		return load(key), nil
+	})
+	check(err)
+	return cache{"singleflight.Cache", func(key string) string {
+		v, err := c.Get(ctx, key)
+		check(err)
+		return v
+	}, none}
+}
+
+var groups int
+
+// groupcache's limit is in bytes of keys and values, all of which have here as many.
+func makeGroupcache(values int64, load func(key string) string) cache {
+	ctx := context.Background()
+	groups++
+	each := int64(len(keyOf(0)) + len(page))
+	g := groupcache.NewGroup(fmt.Sprint("group ", groups), values*each, groupcache.GetterFunc(
+		func(_ context.Context, key string, dest groupcache.Sink) error {
+			return dest.SetString(load(key))
+		}))
+	return cache{"groupcache", func(key string) string {
+		var v string
+		check(g.Get(ctx, key, groupcache.StringSink(&v)))
+		return v
+	}, none}
+}
+
+func makeRistretto(values int64, load func(key string) string) cache {
+	c, err := ristretto.NewCache(&ristretto.Config{
+		NumCounters: 10 * values, MaxCost: values, BufferItems: 64,
+	})
+	check(err)
+	var group singleflight.Group
+	return cache{"ristretto + x/sync", func(key string) string {
+		if v, ok := c.Get(key); ok {
+			return v.(string)
+		}
+		v, err, _ := group.Do(key, func() (any, error) {
+			v := load(key)
+			c.Set(key, v, 1)
+			return v, nil
+		})
+		check(err)
+		return v.(string)
+		// It puts values later, by a goroutine of its own.
+	}, func() { time.Sleep(100 * time.Millisecond) }}
+}
+
+type store interface {
+	Get(key any) (any, bool)
+	Add(key, value any)
+}
+
+// LRU's Add returns whether it evicted.
+type simple struct{ *lru.Cache }
+
+func (s simple) Add(key, value any) { s.Cache.Add(key, value) }
+
+func over(name string, s store, load func(key string) string) cache {
+	var group singleflight.Group
+	return cache{name + " + x/sync", func(key string) string {
+		if v, ok := s.Get(key); ok {
+			return v.(string)
+		}
+		v, err, _ := group.Do(key, func() (any, error) {
+			v := load(key)
+			s.Add(key, v)
+			return v, nil
+		})
+		check(err)
+		return v.(string)
+	}, none}
+}
+
+func makeLRU(values int64, load func(key string) string) cache {
+	c, err := lru.New(int(values))
+	check(err)
+	return over("golang-lru", simple{c}, load)
+}
+
+func make2Q(values int64, load func(key string) string) cache {
+	c, err := lru.New2Q(int(values))
+	check(err)
+	return over("golang-lru 2Q", c, load)
+}
+
+func makeARC(values int64, load func(key string) string) cache {
+	c, err := lru.NewARC(int(values))
+	check(err)
+	return over("golang-lru ARC", c, load)
+}
+
+func keyOf(n uint64) string { return fmt.Sprintf("/page-%06d.html", n) }
+
+func zipf(seed int64, keys, draws int) []string {
+	draw := rand.NewZipf(rand.New(rand.NewSource(seed)), 1.01, 1, uint64(keys-1))
+	all := make([]string, draws)
+	for i := range all {
+		all[i] = keyOf(draw.Uint64())
+	}
+	return all
+}
+
+// Nanoseconds that all goroutines together take, divided by all their gets.
+func round(c cache, lists [][]string) float64 {
+	var ready, done sync.WaitGroup
+	start := make(chan struct{})
+	for _, keys := range lists {
+		ready.Add(1)
+		done.Add(1)
+		go func(keys []string) {
+			defer done.Done()
+			ready.Done()
+			<-start
+			for n, at := 0, 0; n < gets; n++ {
+				if v := c.get(keys[at]); len(v) != len(page) {
+					panic("another value")
+				}
+				if at++; at == len(keys) {
+					at = 0
+				}
+			}
+		}(keys)
+	}
+	ready.Wait()
+	from := time.Now()
+	close(start)
+	done.Wait()
+	return float64(time.Since(from).Nanoseconds()) / float64(gets*len(lists))
+}
+
+// The rounds of all caches alternate.
+func compare(name string, goroutines int, caches []cache, lists func(round, goroutine int) []string) {
+	times := make([][]float64, len(caches))
+	for n := 0; n < rounds; n++ {
+		for i, c := range caches {
+			each := make([][]string, goroutines)
+			for g := range each {
+				each[g] = lists(n, g)
+			}
+			times[i] = append(times[i], round(c, each))
+		}
+	}
+	for i, c := range caches {
+		sort.Float64s(times[i])
+		fmt.Printf("%-22s %-22s %d goroutines: least %4.0f median %4.0f\n",
+			c.name, name, goroutines, times[i][0], times[i][rounds/2])
+	}
+}
+
+func make1(makers []maker, values int64) (all []cache) {
+	for _, m := range makers {
+		all = append(all, m(values, func(string) string { return page }))
+	}
+	return all
+}
+
+func main() {
+	what := strings.Join(os.Args[1:], " ") + " "
+	is := func(part string) bool { return what == " " || strings.Contains(what, part+" ") }
+	quick := []maker{makeOurs, makeGroupcache, makeRistretto, makeLRU}
+	if is("hits") {
+		fmt.Println("A hit: ns, all goroutines together, divided by their gets")
+		for _, goroutines := range []int{1, 4} {
+			one := [][]string{{keyOf(1)}, {keyOf(1)}, {keyOf(1)}, {keyOf(1)}}
+			caches := make1(quick, 4000)
+			for _, c := range caches {
+				c.get(keyOf(1))
+				c.wait()
+			}
+			compare("one key", goroutines, caches, func(_, g int) []string { return one[g] })
+			var many [4][]string
+			for g := range many {
+				many[g] = zipf(int64(g), 1000, drawn)
+			}
+			caches = make1(quick, 4000)
+			for _, c := range caches {
+				for n := uint64(0); n < 1000; n++ {
+					c.get(keyOf(n))
+				}
+				c.wait()
+			}
+			compare("1,000 keys by zipf", goroutines, caches, func(_, g int) []string { return many[g] })
+		}
+	}
+	if is("misses") {
+		fmt.Println("A miss with an empty load, in a full cache of 4,000 values: ns")
+		for _, goroutines := range []int{1, 4} {
+			caches := make1(quick, 4000)
+			var each [4][]string
+			for g := range each {
+				each[g] = make([]string, gets)
+				for n := range each[g] {
+					each[g][n] = keyOf(uint64(g*gets + n))
+				}
+			}
+			compare("a miss", goroutines, caches, func(_, g int) []string { return each[g] })
+		}
+	}
+	if is("ratios") {
+		fmt.Println("Hit ratio of 1,000,000 gets over 100,000 keys by zipf: %")
+		trace := zipf(1, 100000, 1000000)
+		for _, part := range []int64{1000, 5000, 20000} {
+			for _, m := range []maker{makeOurs, makeGroupcache, makeRistretto, makeLRU, make2Q, makeARC} {
+				loads := 0
+				c := m(part, func(string) string { loads++; return page })
+				for _, key := range trace {
+					c.get(key)
+				}
+				fmt.Printf("%-22s %6d values: %.2f\n", c.name, part, 100-float64(loads)/1e4)
+			}
+		}
+	}
+}
