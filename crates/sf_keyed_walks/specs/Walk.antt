@@ -1,0 +1,68 @@
+-- What a walk leaves of the seat's view.
+use Rattle.std.specs.Prelude.{◌≡◌, ◌≢◌, ℕ, ◌*◌, ◌/◌, ◌%◌, ◌<◌, ◌≤◌, ◌^◌, Bool, true, Option, None, Some}
+use Rattle.sf_history.specs.declared.call.CallId.{CallId}
+use Rattle.sf_history.specs.declared.event.Event.TheVariants as event
+use Rattle.sf_keyed_tells.specs.Tells.{call_of}
+use Rattle.sf_keyed_words.specs.declared.rule.KeyedSizes.{KeyedSizes}
+use Rattle.sf_keyed_words.specs.declared.rule.View.{View}
+use Rattle.sf_keyed_words.specs.Rule.{is_open_word, number, word_total, Unmet}
+use Rattle.sf_keyed_words.specs.Plays.{Adds, closes, read_low, read_high}
+use Rattle.sf_keyed_walks.specs.declared.walk.Look.{Look}
+use Rattle.sf_keyed_walks.specs.declared.walk.Look.TheVariants.{Closed, Other, Named}
+
+-- the table has these sizes
+abbrev pub IsLaid : KeyedSizes → ℕ → KeyedSizes → Type 0
+IsLaid key total sizes = (total ≡ word_total key) × (key ≡ sizes) × (word_total sizes < 2 ^ 62) × (0 < sizes.tops) × (sizes.tops ≤ 4294967296) × (sizes.tops ≤ sizes.sides * 4) × (sizes.sides % 16 ≡ 0) × (sizes.cells ≤ 1048576)
+
+-- what an examination of a call leaves
+abbrev pub Examined : View → View → ℕ → ℕ → Look → Type 0
+Examined v w call name Closed = w ≡ closes v
+Examined v w call name (Other held) = (w ≡ read_high (read_low v held.low) held.high) × (number held ≢ name)
+Examined v w call name (Named state) = (w ≡ read_high (read_low v (name % 18446744073709551616)) (name / 18446744073709551616)) × (w.name ≡ name) × (is_open_word state call ≡ true)
+
+-- a walk changes nothing but how far the seat has walked
+pub record Stays (v w : View) : Type 0 where
+  pub sizes : w.sizes ≡ v.sizes
+  pub own : w.own ≡ v.own
+  pub leads : w.leads ≡ v.leads
+  pub ticket : w.ticket ≡ v.ticket
+  pub last : w.last ≡ v.last
+  pub seen : w.seen ≡ v.seen
+
+-- the top and so many side words were looked at, and are of no use
+pub record HasLooked (v : View) (slot top at name : ℕ) (saved : Bool) : Type 0 where
+  pub walks : v.walks ≡ true
+  pub slot_is : v.slot ≡ slot
+  pub top_is : v.top ≡ top
+  pub looked : v.looked ≡ at
+  pub clear : v.clear ≡ true
+  pub other : v.other ≡ true
+  pub unmet : Unmet v.names name
+  pub saved_is : saved ≡ true → v.saved ≡ true
+
+-- a new call of the name is led
+pub record HasLed (v w : View) (own name : ℕ) : Type 0 where
+  pub leads : w.leads ≡ own
+  pub own_is : w.own ≡ 0
+  pub ticket : w.ticket ≡ v.ticket
+  pub adds : Adds v w (event.Lead (own % 1048576) name (call_of own) None)
+
+-- the seat is a holder of the name's open call
+pub record HasJoined (v w : View) (call name : ℕ) : Type 0 where
+  pub ticket : w.ticket ≡ call
+  pub own_is : w.own ≡ v.own
+  pub member : CallId
+  pub adds : Adds v w (event.Enter member.caller name (call_of call) member)
+
+-- the call is settled with this result: with no joiner where the bit is 0, and with some where it is 1
+pub record HasSettled (v w : View) (call : ℕ) (told : Option ℕ) (bit : ℕ) : Type 0 where
+  pub leads : w.leads ≡ 0
+  pub joiners : ℕ
+  pub none : bit ≡ 0 → joiners ≡ 0
+  pub some : bit ≡ 1 → joiners ≢ 0
+  pub adds : Adds v w (event.Settle (call % 1048576) (call_of call) told joiners)
+
+-- the name's open call is closed
+pub record HasClosed (v w : View) (call name : ℕ) : Type 0 where
+  pub own_is : w.own ≡ v.own
+  pub adds : Adds v w (event.Forget 0 name (Some (call_of call)))

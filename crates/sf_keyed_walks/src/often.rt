@@ -1,0 +1,70 @@
+//! Askings and Forgets that are tried again where another came first.
+ghost use Rattle.std.specs.Prelude.{◌≡◌, ◌≢◌, ◌%◌, ◌<◌, ◌^◌, ℕ, None};
+ghost use Rattle.std.specs.Prelude.{nat_eq};
+ghost use Rattle.sf_history.specs.History.{open_call};
+ghost use Rattle.sf_keyed_words.specs.Rule.{number, IsPrefix};
+ghost use Rattle.sf_keyed_walks.specs.Walk.{IsLaid, Stays, HasLed, HasJoined, HasClosed};
+ghost use Rattle.sf_keyed_walks.specs.declared.walk.Asked.TheVariants as asked;
+ghost use Rattle.sf_keyed_walks.specs.declared.walk.Closing.TheVariants as closing;
+
+use crate::walk::{Asked, Closing, ask_once, forget_once};
+use sf_keyed_words::steps::{KeyedSeat, Words};
+use sf_keyed_words::{KeyedSizes, Name};
+
+/// Forgets the name: closes its open call, or finds that it has none. Busy after so many tries.
+pub fn forget_often(
+    words: &Words,
+    seat: &mut KeyedSeat,
+    sizes: KeyedSizes,
+    name: Name,
+    tries: u32,
+) -> Closing
+    requires own { seat.old.table_id ≡ words.now.table_id }
+    requires laid { IsLaid words.now.key words.now.table_id.words sizes }
+    requires sizes { seat.old.me.0.sizes ≡ sizes }
+    ensures own { seat.new.table_id ≡ seat.old.table_id }
+    ensures closed { (call : ℕ) → result ≡ closing.Closed call → HasClosed seat.old.me.0 seat.new.me.0 call (number name) }
+    ensures nothing { result ≡ closing.Nothing → IsPrefix seat.old.me.0.seen seat.new.me.0.seen × (open_call nat_eq seat.new.me.0.seen (number name) ≡ None) }
+    ensures busy { result ≡ closing.Busy → Stays seat.old.me.0 seat.new.me.0 }
+{
+    for at in 0..tries {
+        match forget_once(words, seat, sizes, name) {
+            Closing::Busy => {}
+            Closing::Nothing => return Closing::Nothing,
+            Closing::Closed(call) => return Closing::Closed(call),
+        }
+    }
+    Closing::Busy
+}
+
+/// Asks for the name: joins its open call, or leads the seat's own. Busy after so many tries.
+pub fn ask_often(
+    words: &Words,
+    seat: &mut KeyedSeat,
+    sizes: KeyedSizes,
+    own: u64,
+    name: Name,
+    tries: u32,
+) -> Asked
+    requires own { seat.old.table_id ≡ words.now.table_id }
+    requires laid { IsLaid words.now.key words.now.table_id.words sizes }
+    requires ready { (seat.old.me.0.own ≡ own) × (own < 2 ^ 61) × (own ≢ 0 → own % 1048576 < sizes.cells) }
+    requires idle { (seat.old.me.0.leads ≡ 0) × (seat.old.me.0.ticket ≡ 0) }
+    ensures own { seat.new.table_id ≡ seat.old.table_id }
+    ensures led { result ≡ asked.Led → HasLed seat.old.me.0 seat.new.me.0 own (number name) }
+    ensures joined { (found : ℕ) → result ≡ asked.Joined found → HasJoined seat.old.me.0 seat.new.me.0 found (number name) }
+    ensures kept { result ≢ asked.Led → ((found : ℕ) → result ≢ asked.Joined found) → Stays seat.old.me.0 seat.new.me.0 }
+    ensures no_cell { result ≡ asked.NoCell → own ≡ 0 }
+{
+    for at in 0..tries {
+        match ask_once(words, seat, sizes, own, name) {
+            Asked::Busy => {}
+            Asked::Led => return Asked::Led,
+            Asked::Joined(call) => return Asked::Joined(call),
+            Asked::Full => return Asked::Full,
+            Asked::Sealed => return Asked::Sealed,
+            Asked::NoCell => return Asked::NoCell,
+        }
+    }
+    Asked::Busy
+}

@@ -1,0 +1,15 @@
+pub mod Lasting
+pub mod Seats
+pub mod Loads
+pub mod Results
+pub mod States
+pub mod Claiming
+pub mod Joining
+pub mod Settling
+pub mod Closing
+pub mod Leaving
+pub mod Stores
+pub mod Tops
+pub mod Telling
+pub mod Zeros
+pub mod Seating

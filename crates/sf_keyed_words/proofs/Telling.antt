@@ -1,0 +1,98 @@
+-- Loads that tell what has happened.
+use Rattle.std.proofs.Common.{◌≡◌, ◌≢◌, ℕ, ◌/◌, ◌%◌, ◌<◌, Bool, true, false, cond, eqb, List, None, refl, sym, ◌∙◌, ap, subst, arith}
+use Rattle.std.proofs.lemmas.Bool.{eqb-true}
+use Rattle.std.specs.Prelude.{slice_index, nat_eq}
+use mathlib.Core.Logic.{dite}
+use native.Mathlib.Decide.{ℕ_discrete}
+use Rattle.atomic_table.specs.Table.{Me, keeps, Allows}
+use Rattle.sf_keyed_tells.specs.Tells.{KeyedEvent}
+use Rattle.sf_keyed_laws.specs.Words.{Words}
+use Rattle.sf_keyed_words.specs.declared.rule.KeyedSizes.{KeyedSizes}
+use Rattle.sf_keyed_words.specs.declared.rule.View.{View}
+use Rattle.sf_keyed_words.specs.Rule.{slot_of, state_at, value_at, layout_of, IsView, stake, Holds}
+use Rattle.sf_keyed_words.proofs.Seats.{still}
+use Rattle.sf_keyed_words.proofs.States.{whole}
+use Rattle.sf_history.specs.History.{open_call}
+use Rattle.sf_keyed_laws.specs.Walks.{HasWalked}
+use Rattle.sf_keyed_laws.proofs.Walking.{walks_end, walks_clear}
+use Rattle.sf_keyed_words.specs.Rule.{Unmet}
+use Rattle.sf_keyed_words.specs.Plays.{finds_none, look_settled, takes}
+use Rattle.sf_keyed_words.proofs.Loads.{loads}
+
+-- a view that has seen all
+seen_all : (z : KeyedSizes) (s : Words) (h : List KeyedEvent) (ws : List ℕ) (holder : ℕ → ℕ) (k : ℕ) (v : View) → IsView z s h ws holder k v → IsView z s h ws holder k (record v { seen = h })
+seen_all z s h ws holder k v m = record { seen = whole h; heard = m.heard; look = m.look; walk = m.walk; own = m.own; begun = m.begun; leads = m.leads; ticket = m.ticket; last = m.last }
+
+pub record MayFind (z : KeyedSizes) (v : View) (q : ℕ) : Type 0 where
+  pub below : q < z.tops
+  pub slot_is : v.slot ≡ q
+  pub walks : v.walks ≡ true
+  pub clear : v.clear ≡ true
+  pub looked : v.looked ≡ 16
+  pub other : v.other ≡ true
+  pub sizes : v.sizes ≡ z
+
+pub finds : (z : KeyedSizes) (slots id q : ℕ) (me : Me ℕ View) → MayFind z me.0 q → Allows (Holds z) slots id me q (λ n. n) (λ n after. finds_none me.0 n after.0)
+finds z slots id q me may t p len is fits =
+    let v = me.0 in
+    let y = layout_of z in
+    let s = p.words in
+    let h = p.history in
+    let m = p.seats id v is in
+    let n : ℕ = slice_index t.words q in
+    dite (ℕ_discrete (n / 4) v.top)
+    (λ same.
+    let walk = m.walk may.walks in
+    let none : (k : ℕ) → slot_of v.sizes k ≡ v.slot → Unmet v.names k → open_call nat_eq h k ≡ None = λ k slot unmet.
+    let at_slot : slot_of z k ≡ v.slot = ap (λ (z2 : KeyedSizes). slot_of z2 k) (sym may.sizes) ∙ slot in
+    let was : s.top (slot_of z k) ≡ v.top = ap s.top (at_slot ∙ may.slot_is) ∙ (sym (p.shows.tops q may.below) ∙ same) in
+    let walked : HasWalked y s k v.top v.top 16 = subst (λ b. HasWalked y s k v.top v.top b) may.looked (walks_clear y s k v.top v.but v.looked (walk.walked k at_slot unmet) (m.look.clear may.clear k unmet)) in
+    p.tells.shuts k (walks_end y s k v.top walked was (walk.other may.other k unmet)) in
+    let w : View = record v { seen = h } in (
+      w,
+      keeps,
+      tt,
+      still z t p id q me w is (λ d. refl) (seen_all z s h t.words p.holder id v m),
+      record { won = λ _. (refl, m.seen, none); lost = λ bar. absurd (bar same) },
+    ))
+    (λ differ. (v, keeps, tt, still z t p id q me v is (λ d. refl) m, record { won = λ yes. absurd (differ yes); lost = λ _. refl }))
+
+either_view : (P : View → Type 0) (b : Bool) (v w : View) → P v → (b ≡ true → P w) → P (cond b w v)
+either_view P true v w same other = other refl
+either_view P false v w same other = same
+
+stake_either : (b : Bool) (v w : View) (c : ℕ) → stake c w ≡ stake c v → stake c (cond b w v) ≡ stake c v
+stake_either true v w c is = is
+stake_either false v w c is = refl
+
+pub waits : (z : KeyedSizes) (slots id : ℕ) (me : Me ℕ View) → Allows (Holds z) slots id me (state_at z me.0.ticket) (λ n. n) (λ n after. after.0 ≡ look_settled me.0 n)
+waits z slots id me = loads z slots id (state_at z me.0.ticket) me (look_settled me.0) (λ t p m.
+    let v = me.0 in
+    let n : ℕ = slice_index t.words (state_at z v.ticket) in
+    either_view (IsView z p.words p.history t.words p.holder id) (eqb (n / 2097152 % 2) 1) v (record v { done = true }) m (λ yes.
+    let odd : n / 2097152 % 2 ≡ 1 = eqb-true _ _ yes in
+    record {
+      seen = m.seen;
+      heard = m.heard;
+      look = m.look;
+      walk = m.walk;
+      own = m.own;
+      begun = m.begun;
+      leads = m.leads;
+      ticket = λ any. let o = m.ticket any in record { led = o.led; within = o.within; generation = o.generation; settled = λ _. omega (arith, odd) };
+      last = m.last;
+    })) (λ n c. stake_either (eqb (n / 2097152 % 2) 1) me.0 (record me.0 { done = true }) c refl)
+
+pub takes_allowed : (z : KeyedSizes) (slots id : ℕ) (me : Me ℕ View) → me.0.ticket ≢ 0 → me.0.done ≡ true
+    → Allows (Holds z) slots id me (value_at z me.0.ticket) (λ n. n) (λ n after. takes me.0 n after.0)
+takes_allowed z slots id me any done t p len is fits =
+    let v = me.0 in
+    let m = p.seats id v is in
+    let o = m.ticket any in
+    let w : View = record v { seen = p.history } in (
+      w,
+      keeps,
+      tt,
+      still z t p id (value_at z v.ticket) me w is (λ d. refl) (seen_all z p.words p.history t.words p.holder id v m),
+      record { view = refl; grows = m.seen; result = p.shows.values v.ticket o.led o.generation (o.settled done) },
+    )

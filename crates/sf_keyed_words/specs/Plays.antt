@@ -1,0 +1,127 @@
+-- What each step leaves of the seat's view.
+use Rattle.std.specs.Prelude.{◌≡◌, ◌≢◌, ℕ, ◌+◌, ◌-◌, ◌*◌, ◌/◌, ◌%◌, ◌==◌, ◌&&◌, nat_eq, true, false, cond, List, [], ◌∷◌, ◌++◌, Option, Some, None}
+use Rattle.sf_history.specs.declared.call.CallId.{CallId}
+use Rattle.sf_keyed_tells.specs.Tells.{KeyedEvent}
+use Rattle.sf_history.specs.declared.event.Event.TheVariants as event
+use Rattle.sf_history.specs.History.{open_call, result_of}
+use Rattle.sf_keyed_tells.specs.Tells.{call_of}
+use Rattle.sf_keyed_words.specs.declared.rule.View.{View}
+use Rattle.sf_keyed_words.specs.Rule.{both, slot_of, is_open_word, joined_bit, Unmet, IsPrefix}
+
+-- a walk begins at the call that a slot's top word names
+abbrev pub walk_from : View → ℕ → ℕ → View
+walk_from v p n = record v { walks = true; slot = p; top = n / 4; other = false; saved = false; but = n / 4; clear = false; dead = false; half = false; told = false; names = []; looked = 0 }
+
+-- the next side word names this call
+abbrev pub walk_on : View → ℕ → View
+walk_on v n = record v { but = n / 4; clear = false; dead = false; half = false; told = false; looked = v.looked + 1 }
+
+-- the call that is looked at is closed; the top too is looked at so, before the first side word
+abbrev pub closes : View → View
+closes v = record v { other = cond (v.but == v.top) true v.other; saved = cond (v.but == v.top) true v.saved; clear = true; dead = true }
+
+abbrev pub see_state : View → ℕ → View
+see_state v n = cond (is_open_word n v.but) v (closes v)
+
+-- its name has this lower word, if it is open
+abbrev pub read_low : View → ℕ → View
+read_low v n = record v { half = true; low = n }
+
+-- and then it has this name
+abbrev pub read_as : View → ℕ → View
+read_as v name = record v { other = cond (v.but == v.top) true v.other; clear = true; told = true; name = name; names = name ∷ v.names }
+
+abbrev pub read_high : View → ℕ → View
+read_high v n = read_as v (both v.low n)
+
+abbrev pub begun_as : View → ℕ → View
+begun_as v n = record v { first = true; start = n; named = false }
+
+abbrev pub named_as : View → ℕ → View
+named_as v n = record v { named = true; key = both v.start n }
+
+abbrev pub stored_as : View → ℕ → View
+stored_as v n = record v { stored = true; value = n }
+
+-- the next call of the cell, whose state word this is
+abbrev pub next_call : View → ℕ → ℕ → ℕ
+next_call v at old = (old / 8388608 + 1) * 1048576 + (at - (v.sizes.tops + v.sizes.sides)) / 8
+
+abbrev pub try_claim : View → ℕ → ℕ → ℕ → View
+try_claim v at old n = cond (n == old) (record v { own = next_call v at old; first = false; named = false }) v
+
+abbrev pub try_aside : View → ℕ → ℕ → View
+try_aside v old n = cond (n == old) (record v { saved = true }) v
+
+abbrev pub sealed_by : View → ℕ → ℕ → View
+sealed_by v old n = v
+
+-- the seat has seen more, of which the last is this event
+pub record Adds (v w : View) (x : KeyedEvent) : Type 0 where
+  pub before : List KeyedEvent
+  pub seen : w.seen ≡ (v.seen ++ before) ++ x ∷ []
+
+-- the call is led where the top word was the one expected
+abbrev pub led_view : View → List KeyedEvent → View
+led_view v h = record v { own = 0; first = false; named = false; leads = v.own; stored = false; walks = false; seen = h }
+
+pub record tries_lead (v : View) (old n : ℕ) (w : View) : Type 0 where
+  pub won : n ≡ old → (w ≡ led_view v w.seen) × Adds v w (event.Lead (v.own % 1048576) v.key (call_of v.own) None)
+  pub lost : n ≢ old → w ≡ v
+
+-- a member that no cell can be
+pub record Entered (v w : View) : Type 0 where
+  pub member : CallId
+  pub adds : Adds v w (event.Enter member.caller v.name (call_of v.but) member)
+
+abbrev pub joined_view : View → List KeyedEvent → View
+joined_view v h = record v { ticket = v.but; done = false; seen = h }
+
+pub record tries_join (v : View) (old n : ℕ) (w : View) : Type 0 where
+  pub won : n ≡ old → (w ≡ joined_view v w.seen) × Entered v w
+  pub lost : n ≢ old → w ≡ v
+
+-- the call is settled with this result, and with the number of all that have joined it, which is none where the bit is 0
+pub record Settled (v w : View) (result : Option ℕ) (bit : ℕ) : Type 0 where
+  pub joiners : ℕ
+  pub none : bit ≡ 0 → joiners ≡ 0
+  pub some : bit ≡ 1 → joiners ≢ 0
+  pub adds : Adds v w (event.Settle (v.leads % 1048576) (call_of v.leads) result joiners)
+
+abbrev pub alone_view : View → List KeyedEvent → View
+alone_view v h = record v { own = v.leads + 1048576; first = false; named = false; leads = 0; stored = false; seen = h }
+
+pub record tries_alone (v : View) (old n : ℕ) (w : View) : Type 0 where
+  pub won : n ≡ old → (w ≡ alone_view v w.seen) × Settled v w None 0
+  pub lost : n ≢ old → w ≡ v
+
+abbrev pub settled_view : View → List KeyedEvent → View
+settled_view v h = record v { ticket = v.leads; done = true; leads = 0; stored = false; seen = h }
+
+pub record settles (v : View) (n : ℕ) (w : View) : Type 0 where
+  pub view : w ≡ settled_view v w.seen
+  pub settled : Settled v w (Some v.value) (joined_bit n)
+
+pub record tries_close (v : View) (old n : ℕ) (w : View) : Type 0 where
+  pub won : n ≡ old → (w ≡ record v { seen = w.seen }) × Adds v w (event.Forget 0 v.name (Some (call_of v.but)))
+  pub lost : n ≢ old → w ≡ v
+
+-- the walk's top is the slot's still: none of the names that were not met has an open call
+pub record finds_none (v : View) (n : ℕ) (w : View) : Type 0 where
+  pub won : n / 4 ≡ v.top → (w ≡ record v { seen = w.seen }) × IsPrefix v.seen w.seen × ((k : ℕ) → slot_of v.sizes k ≡ v.slot → Unmet v.names k → open_call nat_eq w.seen k ≡ None)
+  pub lost : n / 4 ≢ v.top → w ≡ v
+
+abbrev pub look_settled : View → ℕ → View
+look_settled v n = cond (n / 2097152 % 2 == 1) (record v { done = true }) v
+
+pub record takes (v : View) (n : ℕ) (w : View) : Type 0 where
+  pub view : w ≡ record v { seen = w.seen }
+  pub grows : IsPrefix v.seen w.seen
+  pub result : result_of w.seen (call_of v.ticket) ≡ Some (Some n)
+
+-- the seat that was the last holder of a settled call has the cell
+abbrev pub lets_go : View → ℕ → View
+lets_go v n = record v { ticket = 0; done = false; last = cond ((n % 1048576 == 1) && (n / 2097152 % 2 == 1)) v.ticket v.last }
+
+abbrev pub given_back : View → ℕ → View
+given_back v n = record v { last = 0 }
