@@ -487,7 +487,9 @@ impl<T, P: Deref<Target = Pool<T>>> Asker<T, P> {
         }
         // The call has ended, so the letter is there.
         let letter = self.taken.as_mut()?.seat.poll()?;
-        self.read(letter, call, noted.cloned()).map(Asked::Settled)
+        let got = self.read(letter, call, noted.cloned())?;
+        self.count(|counters| &counters.joins);
+        Some(Asked::Settled(got))
     }
 
     // Leaves the call that its seat joined: the seat comes back with the letter.
