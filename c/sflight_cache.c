@@ -804,7 +804,10 @@ static bool may_load(sflight_cache *c, const uint8_t *key, size_t len, uint64_t 
     return may;
 }
 
-/* Settles the call that the reader leads. Returns whether others are to be woken. */
+/* Settles the call that the reader leads. Returns whether others are to be woken. Before the word is 0
+ * a reader may have its letter, return the value and get the key again. It finds that the word is the
+ * call's, and asks the library, or waits for the end and looks again: nobody gets the value of a call
+ * but by a letter, so it joins no call that was settled before. */
 static bool settle(sflight_reader *r, uint64_t word, sflight_answer *answer) {
     sflight_finish(&r->slot, word, answer);
     return atomic_exchange(&r->seat->word, 0) == (word_of(r->seat->next - 1) | AWAITED)

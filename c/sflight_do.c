@@ -1406,7 +1406,9 @@ static void serve(sflight_pool *pool, struct seat *seat, const uint8_t *key, siz
     }
 }
 
-/* Settles the call that the seat leads with what was got, or with nothing. */
+/* Settles the call that the seat leads with what was got, or with nothing. Between the library's settling and that of the wait the call
+ * can be followed yet, by its word or in the side table, though its load is over. Whoever does gets nothing that was returned before it asked:
+ * letters bring no value here, so nobody has returned this one before the wait is settled, and a settled wait is not followed. */
 static void settle(sflight_pool *pool, struct seat *seat, const uint8_t *key, size_t len, sflight_got *got) {
     sflight_answer answer = {0};
     atomic_store_explicit(&seat->over, word_of(seat->next - 1), memory_order_release);

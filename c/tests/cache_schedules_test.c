@@ -292,6 +292,60 @@ static void asks_again(uint64_t number) {
     check(live == 0, "each value is dropped once");
 }
 
+/* The leader of a call stops right after the library's settling, by which who joined has its letter. That one
+ * returns the value, and gets the key again, with the alert of a run of another key or without: it joins nothing.
+ * `phase` is 1 once the key is loaded, 2 once the other reader has joined, 3 while the leader stops, and 4 once the
+ * key was got again. */
+static bool stops_leader(int who, const char *where) {
+    if (who == 1 && phase == 1 && strcmp(where, "has asked") == 0) phase = 2;
+    /* It does not sleep, since nobody would wake it. */
+    if (who == 1) return phase == 2 && strcmp(where, "poll") == 0;
+    if (strcmp(where, "has finished") != 0) return false;
+    if (phase == 2) phase = 3;
+    return phase == 3;
+}
+
+static void *load_until_joined(void *context, const uint8_t *name, size_t len, uint64_t *weight) {
+    (void)context;
+    (void)name;
+    (void)len;
+    (void)weight;
+    struct value *value = malloc(sizeof *value);
+    if (!value) abort();
+    *value = (struct value){phase == 0 ? 1 : 2, 0};
+    live++;
+    if (phase == 0) phase = 1;
+    while (phase < 2) point(true);
+    return value;
+}
+
+static void settles_slowly(int number) {
+    while (phase < number) point(true);
+    uint64_t got = get("k");
+    check(got == 1, "the value of the call");
+    if (number == 0) return;
+    check(phase == 3 && get("k") == 2, "who has returned the value does not join its call again");
+    phase = 4;
+}
+
+static void settles(uint64_t number, bool is_alerted) {
+    begin_play(number, 2);
+    few_places = 1;
+    few_callers = 0;
+    phase = 0;
+    drops_get = false;
+    open_cache(load_until_joined, 5);
+    atomic_uint *alert = alert_of(cache, fingerprint_of(cache, (const uint8_t *)"k", 1));
+    if (is_alerted) atomic_fetch_add(alert, 1);
+    play.waits = stops_leader;
+    play_all(settles_slowly);
+    play.waits = NULL;
+    sflight_cache_stats stats = leave_readers();
+    check(stats.loads == 2 && stats.joins == 1 && stats.alone == 0, "two loads, and one that joined");
+    sflight_cache_close(cache);
+    check(live == 0, "each value is dropped once");
+}
+
 /* A call is settled, and its value takes the place of another. The drop function of that one gets a key, whose
  * load in another thread waits for the very call. `phase` is 1 once the first key is loaded, and 2 once the other
  * thread has joined its call. */
@@ -365,6 +419,8 @@ int main(int argc, char **argv) {
     for (uint64_t i = 0; argc == 1 && i < 200; i++) {
         asks_again(i);
         drops_in_order(i);
+        settles(i, false);
+        settles(i, true);
     }
     for (uint64_t i = from; i < from + count && failed == 0; i++) play_at_random(i);
     close_plays();

@@ -153,7 +153,9 @@ static inline unsigned *wakes_of(const pthread_cond_t *condition) {
 static inline int played_broadcast(pthread_cond_t *condition) {
     point(false);
     if (actor >= 0) ++*wakes_of(condition);
-    return pthread_cond_broadcast(condition);
+    int code = pthread_cond_broadcast(condition);
+    point_at("has woken");
+    return code;
 }
 
 /* Every other schedule wakes threads for no reason; in the rest one that nobody wakes sleeps. */

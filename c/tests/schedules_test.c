@@ -370,6 +370,78 @@ static void forgets_in_order(uint64_t number, int actors, bool (*waits)(int, con
     sflight_do_close(pool);
 }
 
+/* The leader of a call stops right after the library's settling, by which all who joined have their letters, and again before what
+ * followed is taken out of the side table. Who asks meanwhile finds the call there, as one that was moved, or without a seat by its slot,
+ * and gets its value if none was returned before. Who has returned the value and asks again gets a newer one. `phase` says how far it is:
+ * 0: the leader is about to ask;
+ * 1: it loads;
+ * 2: another one follows, and, where that is wanted, the pool was renewed;
+ * 3: the call is settled in the library, and the leader stops;
+ * 4: those who follow are woken, and the leader stops;
+ * 5: one of them has asked again. */
+static bool is_to_move;
+static int stopped;
+
+static bool stops_leader(int who, const char *where) {
+    if (who != 0) return false;
+    if (phase == 2 && strcmp(where, "has finished") == 0) phase = 3;
+    if (phase == 3 && strcmp(where, "has finished") == 0) return ++stopped < 500;
+    if (phase == 3 && strcmp(where, "has woken") == 0) phase = 4;
+    return phase == 4 && strcmp(where, "has woken") == 0 && ++stopped < 5000;
+}
+
+static uint64_t loads_until_followed(void *context, const uint8_t *key, size_t len) {
+    (void)context;
+    (void)key;
+    (void)len;
+    if (phase > 0) return 2;
+    phase = 1;
+    until(2);
+    return 1;
+}
+
+static bool is_followed(void) {
+    for (uint32_t i = 0; i < pool->current->callers + 2; i++) {
+        struct wait *wait = pool->current->seats[i].wait;
+        if (wait && wait->followers > 0) return true;
+    }
+    return false;
+}
+
+static void returns_and_asks(int number) {
+    sflight_got got;
+    until(number == 0 ? 0 : number == 1 ? 1 : 3);
+    uint64_t before = get("k", loads_until_followed, NULL, &got);
+    if (number == 0) return;
+    check(before == 1 || number == 3, "who asks while the call is settled gets its value");
+    check(get("k", loads_until_followed, NULL, &got) == 2, "who has returned the value gets a newer one");
+    phase = 5;
+}
+
+static void settles_slowly(int number) {
+    if (number != 2) {
+        returns_and_asks(number);
+        return;
+    }
+    until(1);
+    for (int i = 0; !is_followed() && i < 5000; i++) point(true);
+    if (is_to_move) renew(pool, pool->current->number, pool->current->slots, pool->current->callers);
+    phase = 2;
+}
+
+static void settles(uint64_t number, bool is_moved, uint32_t callers) {
+    const sflight_do_sizes sizes = {.slots = 1, .callers = callers, .is_fixed = true};
+    begin_play(number, 4);
+    open_pool(&sizes);
+    phase = stopped = 0;
+    is_to_move = is_moved;
+    play.waits = stops_leader;
+    play_all(settles_slowly);
+    play.waits = NULL;
+    check(stopped > 0 && phase == 5, "the leader has stopped");
+    sflight_do_close(pool);
+}
+
 /* Keys that differ in their length alone are told apart while one of them is loaded. */
 static uint64_t loads_longer(void *context, const uint8_t *key, size_t len) {
     uint64_t two = 2;
@@ -413,6 +485,8 @@ int main(int argc, char **argv) {
             asks_again(i);
             forgets_in_order(i, 4, stops_forget, forgets_twice);
             forgets_in_order(i, 3, stops_look, renews_meanwhile);
+            settles(i, true, 6);
+            settles(i, false, 1);
         }
     }
     for (uint64_t i = from; i < from + count && failed == 0; i++) play_at_random(i);
