@@ -6,8 +6,8 @@
 //! Of each schedule it is checked that it ends, that no load of a key begins while another one runs
 //! that no Forget ended, that no answer is older than one that was returned before its asking
 //! began, or than a Forget that had returned, that a stamp that is current is no older either, that
-//! no caller joins a load whose value somebody had before it asked, and that all callers of the
-//! library are back.
+//! no caller joins a load whose value somebody had before it asked, that each who joined is counted,
+//! and that all callers of the library are back.
 //!
 //! Others are recorded, and their logs are judged: each is legal in time, by a clock that counts
 //! steps. Others again play a cache (`cached`).
@@ -341,6 +341,8 @@ struct World {
     keys: [Key; KEYS],
     live: Rc<Cell<i64>>,
     loads: Cell<u64>,
+    // Calls that have returned what another one loaded.
+    joined: Cell<u64>,
     current: Cell<u64>,
 }
 
@@ -414,6 +416,7 @@ impl World {
         }
         if !got.led && has_joined {
             answer.is_joined.set(true);
+            self.joined.set(self.joined.get() + 1);
             check(got.shared(), || format!("an answer of {key} that was joined is not shared"));
         }
         check(!answer.is_alone.get() || !answer.is_joined.get(), || {
@@ -780,6 +783,12 @@ fn schedule(
         return Err(format!(
             "{} loads, and not all callers are back: {stats:?}",
             world.loads.get()
+        ));
+    }
+    if stats.joins < world.joined.get() {
+        return Err(format!(
+            "{} have joined, and not all are counted: {stats:?}",
+            world.joined.get()
         ));
     }
     if group.pool.is_alert_anywhere() {
