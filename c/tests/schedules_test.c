@@ -175,7 +175,7 @@ static uint64_t loads_beside(void *context, const uint8_t *key, size_t len) {
 static void stamps_beside(void) {
     const sflight_do_sizes sizes = {.slots = 1024, .callers = 1, .is_fixed = true};
     uint64_t one = 1, met = 0;
-    char other[16];
+    char other[32];
     sflight_got got, outer;
     begin_play(0, 0);
     open_pool(&sizes);
