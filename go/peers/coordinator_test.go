@@ -3,6 +3,7 @@ package peers
 import (
 	"context"
 	"errors"
+	"fmt"
 	"sync"
 	"sync/atomic"
 	"testing"
@@ -467,5 +468,68 @@ func TestForgetsThatAreKept(t *testing.T) {
 	memberOf(b).Keep(context.Background(), "absurd", []byte(`{"from":"b","number":{"start":18446744073709551615},"items":[{"of":3}]}`))
 	if err := forget(b, user); err != nil || keptNow() != 2 {
 		t.Errorf("%v, %d are kept", err, keptNow())
+	}
+}
+
+// A peer forgets, and leaves or dies. One that joins after that, or comes back, uses no name from
+// before.
+func TestForgetsOfPeersThatLeft(t *testing.T) {
+	const count = 40
+	of := func(i int) item { return keyItem("users", fmt.Sprint(i)) }
+	forgetThem := func(by *node) map[string]bool {
+		before := map[string]bool{}
+		for i := 0; i < count; i++ {
+			before[versionOf(by.versions, of(i))] = true
+			if err := forget(by, of(i)); err != nil {
+				t.Fatal(err)
+			}
+		}
+		return before
+	}
+	areFresh := func(before map[string]bool, n *node) {
+		old := 0
+		for i := 0; i < count; i++ {
+			if before[versionOf(n.versions, of(i))] {
+				old++
+			}
+		}
+		if old > 0 {
+			t.Errorf("%s has %d of %d names from before a Forget that returned nil", n.self, old, count)
+		}
+	}
+	m, by := newMesh(), newAgreed()
+	a, b, c := joinAll(t, m, by, time.Minute)
+	// c is paused beyond its lease, b forgets and dies, and c comes back.
+	m.setCut("c", true)
+	old := c.session.Load()
+	by.expire("c", false)
+	before := forgetThem(b)
+	b.close()
+	by.expire("b", true)
+	until(t, func() bool { return len(a.others()) == 0 }, "a does not hear that b is dead")
+	m.setCut("c", false)
+	close(old.m.(*agreedMember).done)
+	until(t, func() bool { return c.session.Load() != old }, "it does not join again")
+	await(t, c.session.Load().ready, "it does not serve again")
+	areFresh(before, c)
+	// d joins, with a name that was never there.
+	d := joins(t, m, by, "d", time.Minute)
+	await(t, d.session.Load().ready, "it does not serve")
+	areFresh(before, d)
+
+	// With lists of their own: first all take b off, then d comes.
+	m = newMesh()
+	a, b, c = beginAll(t, m, time.Minute)
+	before = forgetThem(b)
+	b.close()
+	m.setCut("b", true)
+	for _, n := range []*node{a, c} {
+		setList(n, "a", "c", "d")
+	}
+	d = start(t, m, "d", time.Minute, "a", "c", "d")
+	await(t, d.session.Load().ready, "it does not serve")
+	areFresh(before, d)
+	if versionOf(d.versions, user) != versionOf(a.versions, user) {
+		t.Error("d does not know what a knows of b, which is on no list any more")
 	}
 }
