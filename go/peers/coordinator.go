@@ -24,6 +24,10 @@ type Coordinator interface {
 	Close() error
 }
 
+// Noticer is a Coordinator that has something to say to an operator: Notice returns it, or an empty
+// text. HealthHandler shows it.
+type Noticer interface{ Notice() string }
+
 // Membership is the part of one process in the pool.
 type Membership interface {
 	// Start returns the number of the process.

@@ -8,7 +8,8 @@ import (
 )
 
 // HealthHandler responds with 200 while this process is worth keeping. It responds with 503 once
-// the process has to be restarted: the pool is closed, or another process has this peer's name.
+// the process has to be restarted: the pool is closed, or another process has this peer's name. With
+// 200 it adds what a Noticer among the Coordinators has to say.
 func (p *Pool) HealthHandler() http.Handler {
 	return http.HandlerFunc(func(w http.ResponseWriter, r *http.Request) {
 		err := p.node.session.Load().failure()
@@ -16,6 +17,11 @@ func (p *Pool) HealthHandler() http.Handler {
 			err = ErrClosed
 		}
 		tell(w, err)
+		if noticer, ok := p.node.coordinator.(Noticer); ok && err == nil {
+			if text := noticer.Notice(); text != "" {
+				fmt.Fprintln(w, text)
+			}
+		}
 	})
 }
 

@@ -23,6 +23,13 @@ func TestHealthAndReadiness(t *testing.T) {
 		}
 	}
 	expect("at rest", 200, 200, "ok")
+	plain := a.coordinator
+	a.coordinator = noticer{plain}
+	w := httptest.NewRecorder()
+	if p.HealthHandler().ServeHTTP(w, httptest.NewRequest("GET", "/", nil)); w.Body.String() != "ok\nits data was lost\n" {
+		t.Errorf("health says %q", w.Body)
+	}
+	a.coordinator = plain
 	setList(b, "b", "c")
 	round(a)
 	expect("while b does not know it", 200, 503, "1 peer did not answer")
@@ -46,6 +53,10 @@ func TestHealthAndReadiness(t *testing.T) {
 	n.close()
 	expect("closed", 503, 503, "closed")
 }
+
+type noticer struct{ Coordinator }
+
+func (noticer) Notice() string { return "its data was lost" }
 
 // Stats hold what was asked of the others, and whom they are.
 func TestStats(t *testing.T) {

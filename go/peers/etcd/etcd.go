@@ -5,8 +5,15 @@
 // Below a prefix, etcd has a key for each member, which ends with its lease, and one for each such
 // Forget:
 //
-//	PREFIX/members/NAME   a random text of the process; the key's create revision is the member's start
+//	PREFIX/epoch          a number that grows where etcd's data was lost or restored
+//	PREFIX/begun          the epoch whose predecessors' leases have all ended
+//	PREFIX/members/NAME   EPOCH.TEXT: the epoch in which it joined, and a random text
 //	PREFIX/forgets/ID     a Forget, until all members have it
+//
+// A member's start is the epoch, and then the create revision of its key. Where etcd's revision is
+// less than one that a process has seen, etcd has lost what came after it: the process begins another
+// epoch. A process without an epoch's number cannot tell whether the pool is a new one or etcd has
+// lost it. So nobody joins in an epoch before the leases of the one before have ended.
 package etcd
 
 import (
@@ -18,6 +25,7 @@ import (
 	"net/url"
 	"reflect"
 	"sort"
+	"strconv"
 	"strings"
 	"sync"
 	"sync/atomic"
@@ -25,6 +33,7 @@ import (
 
 	"go.etcd.io/etcd/clientv3"
 	"go.etcd.io/etcd/etcdserver/api/v3rpc/rpctypes"
+	"go.etcd.io/etcd/etcdserver/etcdserverpb"
 	"go.etcd.io/etcd/mvcc/mvccpb"
 	"sf.example/singleflight/peers"
 )
@@ -36,6 +45,43 @@ type Coordinator struct {
 	ttl    time.Duration
 	ctx    context.Context
 	cancel context.CancelFunc
+
+	mu      sync.Mutex // protects the rest
+	most    uint64     // the latest epoch and revision that this process has seen, as a start
+	epoch   uint64     // the epoch that was read last
+	epochAt time.Time  // when it was read first
+	lost    time.Time  // when this process found out that etcd had lost data
+}
+
+// A start has the epoch above so many bits of a revision.
+const revisionBits = 42
+
+const (
+	mostEpoch = 1<<(62-revisionBits) - 1
+	// An epoch may be so much later than the hours since 1970 by this machine's clock.
+	aheadEpoch = 24 * 366
+)
+
+func startAt(epoch uint64, revision int64) uint64 { return epoch<<revisionBits | uint64(revision) }
+
+// saw notes what etcd has shown.
+func (c *Coordinator) saw(start uint64) {
+	c.mu.Lock()
+	defer c.mu.Unlock()
+	if c.most < start {
+		c.most = start
+	}
+}
+
+// Notice returns what an operator should know, or an empty text: that etcd has lost data, so that
+// the pool began anew.
+func (c *Coordinator) Notice() string {
+	c.mu.Lock()
+	defer c.mu.Unlock()
+	if c.lost.IsZero() {
+		return ""
+	}
+	return "etcd: its data was lost or restored, so the pool began anew at " + c.lost.UTC().Format(time.RFC3339)
 }
 
 // Option is an option of New, the same at each peer.
@@ -76,6 +122,8 @@ func New(client *clientv3.Client, prefix string, options ...Option) (*Coordinato
 
 func (c *Coordinator) members() string { return c.prefix + "/members/" }
 func (c *Coordinator) forgets() string { return c.prefix + "/forgets/" }
+func (c *Coordinator) epochs() string  { return c.prefix + "/epoch" }
+func (c *Coordinator) begun() string   { return c.prefix + "/begun" }
 
 // Close ends what Join began. The leases run out by themselves.
 func (c *Coordinator) Close() error {
@@ -87,7 +135,8 @@ func (c *Coordinator) Close() error {
 type member struct {
 	*Coordinator
 	name   string
-	id     string // the text of its key
+	id     string // the random text of its key
+	epoch  uint64
 	lease  clientv3.LeaseID
 	start  uint64
 	ctx    context.Context
@@ -97,14 +146,16 @@ type member struct {
 
 	until atomic.Pointer[time.Time] // when the lease ends unless it is renewed
 
-	mu       sync.Mutex        // protects the rest
+	lock     sync.Mutex        // protects the rest
 	revision int64             // to which the two are as etcd has them
-	list     map[string]uint64 // the starts of the members
+	now      uint64            // the epoch
+	list     map[string]uint64 // the starts of the members of this epoch
 	kept     map[string][]byte
 	isDone   bool
 }
 
-// Join takes a lease, and the key of the name once no other process has it. An earlier process that
+// Join takes a lease, and the key of the name once no other process has it. Where the pool is new, or
+// etcd has lost its data, it waits for the length of a lease first. An earlier process that
 // ended without Leave has it until its lease runs out.
 func (c *Coordinator) Join(ctx context.Context, self string, after uint64) (peers.Membership, error) {
 	random := make([]byte, 16)
@@ -113,6 +164,9 @@ func (c *Coordinator) Join(ctx context.Context, self string, after uint64) (peer
 	}
 	m := &member{Coordinator: c, name: self, id: hex.EncodeToString(random), done: make(chan struct{}), change: make(chan struct{}, 1)}
 	for {
+		if err := m.agree(ctx, after); err != nil {
+			return nil, err
+		}
 		if err := m.await(ctx); err != nil {
 			return nil, err
 		}
@@ -126,10 +180,6 @@ func (c *Coordinator) Join(ctx context.Context, self string, after uint64) (peer
 			break
 		}
 	}
-	if m.start <= after {
-		c.client.Revoke(ctx, m.lease)
-		return nil, fmt.Errorf("etcd: its revision is %d, and a process of this name had the start %d: was its data lost?", m.start, after)
-	}
 	m.ctx, m.cancel = context.WithCancel(c.ctx)
 	within, cancel := context.WithTimeout(ctx, m.ttl)
 	defer cancel()
@@ -142,6 +192,95 @@ func (c *Coordinator) Join(ctx context.Context, self string, after uint64) (peer
 	go m.renew()
 	go m.watch(revision)
 	return m, nil
+}
+
+// agree takes the epoch, once no process can have a lease of an earlier one. It begins another where
+// there is none, or where etcd's revision is less than one that was seen, or than the start that
+// this process has to exceed.
+func (m *member) agree(ctx context.Context, after uint64) error {
+	m.saw(after)
+	for {
+		within, cancel := context.WithTimeout(ctx, m.ttl)
+		got, err := m.client.Txn(within).Then(clientv3.OpGet(m.epochs()), clientv3.OpGet(m.begun())).Commit()
+		cancel()
+		if err != nil {
+			return err
+		}
+		epoch, modified := numberOf(got.Responses[0].GetResponseRange())
+		begun, _ := numberOf(got.Responses[1].GetResponseRange())
+		most, since := m.epochIs(epoch)
+		hours := uint64(time.Now().Unix() / 3600)
+		switch {
+		case epoch > hours+aheadEpoch:
+			return fmt.Errorf("etcd: %s has %d, which is not of this time: delete the key", m.epochs(), epoch)
+		case epoch == 0 || startAt(epoch, got.Header.Revision) < most:
+			next := hours
+			if epoch > 0 && next <= epoch {
+				next = epoch + 1
+			}
+			if known := most >> revisionBits; most > 0 && next <= known {
+				next = known + 1
+			}
+			if next > mostEpoch {
+				return fmt.Errorf("etcd: no epoch is later than that of the start %d", most)
+			}
+			err = m.set(ctx, m.epochs(), modified, next)
+		case begun == epoch:
+			if m.epoch = epoch; most > 0 && epoch != most>>revisionBits {
+				m.mu.Lock()
+				m.lost = time.Now()
+				m.mu.Unlock()
+			}
+			return nil
+		default:
+			// A process with a lease of the epoch before extends that only once it has read that epoch.
+			select {
+			case <-ctx.Done():
+				return ctx.Err()
+			case <-time.After(time.Until(since.Add(m.ttl))):
+			}
+			err = m.set(ctx, m.begun(), modified, epoch)
+		}
+		if err != nil {
+			return err
+		}
+	}
+}
+
+// set stores a number while the epoch's key is still the one that was read.
+func (m *member) set(ctx context.Context, key string, modified int64, to uint64) error {
+	ctx, cancel := context.WithTimeout(ctx, m.ttl)
+	defer cancel()
+	_, err := m.client.Txn(ctx).If(clientv3.Compare(clientv3.ModRevision(m.epochs()), "=", modified)).
+		Then(clientv3.OpPut(key, strconv.FormatUint(to, 10))).Commit()
+	return err
+}
+
+// epochIs notes the epoch, and returns the latest start that was seen, and since when this is the
+// epoch.
+func (c *Coordinator) epochIs(epoch uint64) (most uint64, since time.Time) {
+	c.mu.Lock()
+	defer c.mu.Unlock()
+	if c.epoch != epoch || c.epochAt.IsZero() {
+		c.epoch, c.epochAt = epoch, time.Now()
+	}
+	return c.most, c.epochAt
+}
+
+// numberOf returns the number that a key holds, or 0, and the revision at which it was stored.
+func numberOf(got *etcdserverpb.RangeResponse) (number uint64, modified int64) {
+	if len(got.Kvs) == 0 {
+		return 0, 0
+	}
+	return parse(string(got.Kvs[0].Value)), got.Kvs[0].ModRevision
+}
+
+func parse(text string) uint64 {
+	number, err := strconv.ParseUint(text, 10, 64)
+	if err != nil {
+		return 0
+	}
+	return number
 }
 
 func (m *member) key() string { return m.members() + url.PathEscape(m.name) }
@@ -175,13 +314,15 @@ func (m *member) take(ctx context.Context) (bool, error) {
 		return false, err
 	}
 	m.lease = lease.ID
-	got, err := m.client.Txn(ctx).If(clientv3.Compare(clientv3.CreateRevision(m.key()), "=", 0)).
-		Then(clientv3.OpPut(m.key(), m.id, clientv3.WithLease(lease.ID))).Commit()
+	epoch := strconv.FormatUint(m.epoch, 10)
+	got, err := m.client.Txn(ctx).If(clientv3.Compare(clientv3.CreateRevision(m.key()), "=", 0), clientv3.Compare(clientv3.Value(m.epochs()), "=", epoch)).
+		Then(clientv3.OpPut(m.key(), epoch+"."+m.id, clientv3.WithLease(lease.ID))).Commit()
 	if err != nil || !got.Succeeded {
 		m.client.Revoke(ctx, lease.ID)
 		return false, err
 	}
-	m.start = uint64(got.Header.Revision)
+	m.start = startAt(m.epoch, got.Header.Revision)
+	m.saw(m.start)
 	m.extend(begun)
 	return true, nil
 }
@@ -189,8 +330,12 @@ func (m *member) take(ctx context.Context) (bool, error) {
 // extend takes the lease as renewed at a time before etcd renewed it. A tenth of it is for clocks
 // that do not run alike.
 func (m *member) extend(at time.Time) {
-	until := at.Add(m.ttl - m.ttl/10)
-	m.until.Store(&until)
+	m.lock.Lock()
+	defer m.lock.Unlock()
+	if !m.isDone {
+		until := at.Add(m.ttl - m.ttl/10)
+		m.until.Store(&until)
+	}
 }
 
 // renew renews the lease until the membership ends.
@@ -209,9 +354,11 @@ func (m *member) renew() {
 		switch {
 		case m.ctx.Err() != nil:
 		case err == nil && got.TTL > 0:
-			m.extend(begun)
-			// A watch can miss that a key was removed in the revision that was compacted last.
-			m.read(ctx)
+			// A watch can miss that a key was removed in the revision that was compacted last. And the
+			// lease counts in the epoch alone: one that is restored from a backup may be renewed.
+			if _, err := m.read(ctx); err == nil {
+				m.extend(begun)
+			}
 		case err == nil || errors.Is(err, rpctypes.ErrLeaseNotFound):
 			m.end()
 		}
@@ -221,8 +368,8 @@ func (m *member) renew() {
 
 // end ends the membership.
 func (m *member) end() {
-	m.mu.Lock()
-	defer m.mu.Unlock()
+	m.lock.Lock()
+	defer m.lock.Unlock()
 	if !m.isDone {
 		m.isDone = true
 		now := time.Now().Add(-time.Nanosecond)
@@ -232,25 +379,33 @@ func (m *member) end() {
 	}
 }
 
-// read takes the members and the Forgets as etcd has them, and returns to which revision.
+// read takes the members and the Forgets as etcd has them, and returns to which revision. The
+// membership ends where etcd has lost what was read before.
 func (m *member) read(ctx context.Context) (int64, error) {
+	m.lock.Lock()
+	before := m.revision
+	m.lock.Unlock()
 	got, err := m.client.Get(ctx, m.prefix+"/", clientv3.WithPrefix())
 	if err != nil {
 		return 0, err
 	}
-	if !m.replace(got) {
+	if got.Header.Revision < before || !m.replace(got) {
 		m.end()
+		return 0, errEnded
 	}
 	return got.Header.Revision, nil
 }
 
+var errEnded = errors.New("etcd: the membership has ended")
+
 // replace takes what was read, and tells whether this process is among the members.
 func (m *member) replace(got *clientv3.GetResponse) bool {
-	m.mu.Lock()
-	defer m.mu.Unlock()
+	m.lock.Lock()
+	defer m.lock.Unlock()
 	if got.Header.Revision >= m.revision {
 		list, kept := m.list, m.kept
-		m.revision, m.list, m.kept = got.Header.Revision, map[string]uint64{}, map[string][]byte{}
+		m.revision, m.now, m.list, m.kept = got.Header.Revision, 0, map[string]uint64{}, map[string][]byte{}
+		m.saw(startAt(m.epoch, m.revision))
 		for _, kv := range got.Kvs {
 			m.put(kv)
 		}
@@ -258,16 +413,22 @@ func (m *member) replace(got *clientv3.GetResponse) bool {
 			m.changed()
 		}
 	}
-	return m.list[m.name] == m.start
+	return m.isThere()
 }
+
+// isThere tells whether etcd has this process as a member. The lock is held.
+func (m *member) isThere() bool { return m.list[m.name] == m.start && m.now == m.epoch }
 
 // put takes a key that etcd has. The lock is held.
 func (m *member) put(kv *mvccpb.KeyValue) {
 	key := string(kv.Key)
 	if name := strings.TrimPrefix(key, m.members()); name != key {
-		if name, err := url.PathUnescape(name); err == nil {
-			m.list[name] = uint64(kv.CreateRevision)
+		epoch, _, _ := strings.Cut(string(kv.Value), ".")
+		if name, err := url.PathUnescape(name); err == nil && parse(epoch) == m.epoch {
+			m.list[name] = startAt(m.epoch, kv.CreateRevision)
 		}
+	} else if key == m.epochs() {
+		m.now = parse(string(kv.Value))
 	} else if id := strings.TrimPrefix(key, m.forgets()); id != key {
 		m.kept[id] = kv.Value
 	}
@@ -279,6 +440,9 @@ func (m *member) remove(key string) {
 		if name, err := url.PathUnescape(name); err == nil {
 			delete(m.list, name)
 		}
+	}
+	if key == m.epochs() {
+		m.now = 0
 	}
 	delete(m.kept, strings.TrimPrefix(key, m.forgets()))
 }
@@ -320,7 +484,7 @@ func (m *member) watch(revision int64) {
 
 // follow takes events, and returns the revision of the last.
 func (m *member) follow(events []*clientv3.Event, revision int64) int64 {
-	m.mu.Lock()
+	m.lock.Lock()
 	before := m.revision // events up to this one are in what was read
 	for _, event := range events {
 		if at := event.Kv.ModRevision; at > revision {
@@ -337,10 +501,11 @@ func (m *member) follow(events []*clientv3.Event, revision int64) int64 {
 	}
 	if m.revision < revision {
 		m.revision = revision
+		m.saw(startAt(m.epoch, revision))
 	}
-	mine := m.list[m.name] == m.start
+	mine := m.isThere()
 	m.changed()
-	m.mu.Unlock()
+	m.lock.Unlock()
 	if !mine {
 		m.end()
 	}
@@ -350,8 +515,8 @@ func (m *member) follow(events []*clientv3.Event, revision int64) int64 {
 func (m *member) Start() uint64 { return m.start }
 
 func (m *member) Members() []peers.Member {
-	m.mu.Lock()
-	defer m.mu.Unlock()
+	m.lock.Lock()
+	defer m.lock.Unlock()
 	all := make([]peers.Member, 0, len(m.list))
 	for name, start := range m.list {
 		all = append(all, peers.Member{Name: name, Start: start})
@@ -377,8 +542,8 @@ func (m *member) Keep(ctx context.Context, id string, forget []byte) error {
 }
 
 func (m *member) Kept() map[string][]byte {
-	m.mu.Lock()
-	defer m.mu.Unlock()
+	m.lock.Lock()
+	defer m.lock.Unlock()
 	all := make(map[string][]byte, len(m.kept))
 	for id, forget := range m.kept {
 		all[id] = forget

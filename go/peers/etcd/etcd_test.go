@@ -232,8 +232,15 @@ func TestMembers(t *testing.T) {
 	if time.Now().Before(again.Until()) {
 		t.Errorf("etcd has no lease of a's any more, and a has one for %v", time.Until(again.Until()))
 	}
-	if _, err := two.Join(soon(t), "http://a:1", b.Start()+1<<40); err == nil {
-		t.Error("a start is before one that is known")
+	// A start that is known and that etcd has not reached begins another epoch, for all.
+	after := b.Start() + 1<<40
+	if again, err := two.Join(soon(t), "http://a:1", after); err != nil || again.Start() <= after {
+		t.Errorf("after %d: %v, %v", after, again, err)
+	}
+	select {
+	case <-b.Done():
+	case <-time.After(2 * time.Minute):
+		t.Error("a membership of an earlier epoch does not end")
 	}
 }
 
@@ -241,6 +248,7 @@ func TestMembers(t *testing.T) {
 func TestOneNameAtOneTime(t *testing.T) {
 	t.Parallel()
 	servers := newCluster(t, 1)
+	join(t, servers.coordinator(), "http://first:1")
 	for round := 0; round < 5; round++ {
 		ctx, cancel := context.WithTimeout(context.Background(), ttl/2)
 		joined := make(chan peers.Membership)
@@ -341,6 +349,127 @@ func TestAWatchThatFails(t *testing.T) {
 		return err == nil
 	}, "the server does not come back")
 	until(t, func() bool { return len(a.Kept()) == 2 }, "it does not follow after the server was away")
+}
+
+// wipe replaces the data of the only server: by none, or by a copy.
+func (c *cluster) wipe(from string) {
+	at := c.dataDir()
+	c.kill(0)
+	if err := os.RemoveAll(at); err != nil {
+		c.t.Fatal(err)
+	}
+	if from != "" {
+		if out, err := exec.Command("cp", "-r", from, at).CombinedOutput(); err != nil {
+			c.t.Fatal(string(out))
+		}
+	}
+	c.start(0)
+}
+
+func (c *cluster) dataDir() string { return c.arguments[0][4] }
+
+// etcd comes back without its data, or with that of a backup. Nobody joins while one that joined
+// before may have a lease; starts grow; and the members end, and join again.
+func TestDataThatIsLost(t *testing.T) {
+	for _, restored := range []bool{false, true} {
+		restored := restored
+		t.Run(fmt.Sprint("restored ", restored), func(t *testing.T) {
+			t.Parallel()
+			servers := newCluster(t, 1)
+			a := servers.coordinator()
+			first := join(t, a, "http://a:1")
+			cut := servers.client()
+			silent, err := New(cut, "/test", WithTTL(ttl))
+			if err != nil {
+				t.Fatal(err)
+			}
+			second := join(t, silent, "http://b:1").(*member)
+			backup := ""
+			if restored {
+				backup = t.TempDir() + "/backup"
+				servers.kill(0)
+				if out, err := exec.Command("cp", "-r", servers.dataDir(), backup).CombinedOutput(); err != nil {
+					t.Fatal(string(out))
+				}
+				servers.start(0)
+			}
+			for i := 0; i < 20; i++ {
+				until(t, func() bool {
+					ctx, cancel := context.WithTimeout(context.Background(), time.Second)
+					defer cancel()
+					_, err := servers.client().Put(ctx, "/test/forgets/"+fmt.Sprint(i), "")
+					return err == nil
+				}, "etcd does not come back")
+			}
+			if restored {
+				until(t, func() bool { return len(first.Kept()) == 20 }, "a does not hear of them")
+			}
+			// b hears nothing any more, and has its lease until that ends.
+			servers.kill(0)
+			second.extend(time.Now())
+			cut.Close()
+			lease := second.Until()
+			servers.wipe(backup)
+			var third peers.Membership
+			c := servers.coordinator()
+			until(t, func() bool {
+				ctx, cancel := context.WithTimeout(context.Background(), time.Minute)
+				defer cancel()
+				third, err = c.Join(ctx, "http://c:1", 0)
+				return err == nil
+			}, "nobody joins")
+			if !restored && time.Now().Before(lease) {
+				t.Error("one joins while another that it does not know has a lease")
+			}
+			select {
+			case <-first.Done():
+			case <-time.After(2 * time.Minute):
+				t.Fatal("the membership of a does not end")
+			}
+			again := join(t, a, "http://a:1")
+			if again.Start() <= first.Start() || again.Start() <= second.Start() {
+				t.Errorf("the next start is %d, after %d and %d", again.Start(), first.Start(), second.Start())
+			}
+			if a.Notice() == "" || c.Notice() != "" && !restored {
+				t.Errorf("an operator reads %q and %q", a.Notice(), c.Notice())
+			}
+			until(t, func() bool {
+				select {
+				case <-third.Done():
+					third = join(t, c, "http://c:1")
+				default:
+				}
+				return len(third.Members()) == 2 && len(again.Members()) == 2
+			}, "two members do not know each other")
+		})
+	}
+}
+
+// A pool whose etcd loses its data goes on by itself, with starts that etcd's revision alone would
+// not give.
+func TestAPoolWhoseDataIsLost(t *testing.T) {
+	t.Parallel()
+	servers := newCluster(t, 1)
+	for i := 0; i < 50; i++ {
+		if _, err := servers.client().Put(soon(t), "other", ""); err != nil {
+			t.Fatal(err)
+		}
+	}
+	p := pooltest.New(t, 3, func(s *pooltest.Setting) { s.Coordinators = servers.endpoints })
+	for key := 0; key < pooltest.Keys; key++ {
+		for _, c := range p.Children {
+			p.Get(c, key)
+		}
+	}
+	servers.wipe("")
+	time.Sleep(2 * ttl) // until no lease of before is left
+	for key, c := range p.Children {
+		until(t, func() bool { return p.Forget(c, key) == nil }, "the pool does not answer any more")
+		for _, other := range p.Children {
+			until(t, func() bool { _, err := p.Get(other, key); return err == nil }, "a peer does not answer any more")
+		}
+	}
+	p.CheckStale()
 }
 
 // Processes over three servers of etcd, of which one is killed: nobody gets an answer that is too
