@@ -30,18 +30,52 @@ const (
 )
 
 var (
-	errNone   = errors.New("the origin has no such page")
-	errOrigin = errors.New("the origin did not answer")
+	errNone   = shown("the origin has no such page")
+	errOrigin = shown("the origin did not answer")
+	errTarget = shown("a page has a path that begins with a slash")
 )
 
-// load gets a page from the origin.
-func load(origin string) groupcache.GetterFunc {
-	client := &http.Client{Timeout: originFor}
+// A shown error is one whose text readers may see: it holds no address.
+type shown string
+
+func (s shown) Error() string { return string(s) }
+
+// target returns the URL of a key at the origin. A key is a path with its query, and no other form
+// of a request's target: "x:@inside/path" after the origin's address would be a URL of another host.
+func target(origin *url.URL, key string) (*url.URL, error) {
+	at, err := url.ParseRequestURI(key)
+	if err != nil || !isPath(at) {
+		return nil, errTarget
+	}
+	to := *origin
+	to.Path, to.RawPath = origin.Path+at.Path, origin.EscapedPath()+at.EscapedPath()
+	to.RawQuery, to.ForceQuery = at.RawQuery, at.ForceQuery
+	return &to, nil
+}
+
+func isPath(at *url.URL) bool {
+	return at.Scheme == "" && at.Opaque == "" && at.Host == "" && at.User == nil && strings.HasPrefix(at.Path, "/")
+}
+
+// load gets a page from the origin: from no other address, so it follows no redirect.
+func load(origin string) (groupcache.GetterFunc, error) {
+	base, err := url.Parse(origin)
+	if err != nil || base.Scheme != "http" && base.Scheme != "https" || base.Host == "" || base.RawQuery != "" ||
+		base.Fragment != "" || strings.HasSuffix(origin, "/") {
+		return nil, fmt.Errorf("-origin is no base URL like http://host:9000: %q", origin)
+	}
+	client := &http.Client{Timeout: originFor, CheckRedirect: func(*http.Request, []*http.Request) error { return http.ErrUseLastResponse }}
 	return func(ctx context.Context, key string, dest groupcache.Sink) error {
-		request, err := http.NewRequestWithContext(ctx, http.MethodGet, origin+key, nil)
+		at, err := target(base, key)
 		if err != nil {
 			return err
 		}
+		request, err := http.NewRequestWithContext(ctx, http.MethodGet, base.String(), nil)
+		if err != nil {
+			log.Print(err)
+			return errOrigin
+		}
+		request.URL = at
 		got, err := client.Do(request)
 		if err != nil {
 			log.Print(err)
@@ -52,7 +86,7 @@ func load(origin string) groupcache.GetterFunc {
 			return errNone
 		}
 		if got.StatusCode != http.StatusOK {
-			return fmt.Errorf("the origin answers %s", got.Status)
+			return shown(fmt.Sprintf("the origin answers %d %s", got.StatusCode, http.StatusText(got.StatusCode)))
 		}
 		page, err := io.ReadAll(io.LimitReader(got.Body, mostPage+1))
 		if err != nil {
@@ -60,10 +94,10 @@ func load(origin string) groupcache.GetterFunc {
 			return errOrigin
 		}
 		if len(page) > mostPage {
-			return fmt.Errorf("the page has more than %d bytes", mostPage)
+			return shown(fmt.Sprintf("the page has more than %d bytes", mostPage))
 		}
 		return dest.SetBytes(page)
-	}
+	}, nil
 }
 
 type server struct {
@@ -75,7 +109,11 @@ type server struct {
 
 // ServeHTTP takes a page's path, with its query, as its key.
 func (s *server) ServeHTTP(w http.ResponseWriter, r *http.Request) {
-	key := r.URL.RequestURI()
+	key := r.RequestURI
+	if at, err := url.ParseRequestURI(key); err != nil || !isPath(at) {
+		http.Error(w, errTarget.Error(), http.StatusBadRequest)
+		return
+	}
 	switch r.Method {
 	case http.MethodGet, http.MethodHead:
 		var page groupcache.ByteView
@@ -118,6 +156,7 @@ func (s *server) mayPurge(r *http.Request) bool {
 // refuse tells the reader what went wrong, without addresses, and the log the rest.
 func refuse(w http.ResponseWriter, err error) {
 	var unanswered *peers.Unanswered
+	var text shown
 	code := http.StatusBadGateway
 	switch {
 	case errors.Is(err, errNone):
@@ -133,6 +172,9 @@ func refuse(w http.ResponseWriter, err error) {
 		errors.Is(err, peers.ErrNoLease), errors.Is(err, peers.ErrReplaced):
 		code = http.StatusServiceUnavailable
 		w.Header().Set("Retry-After", "1")
+	case !errors.As(err, &text):
+		log.Print(err)
+		err = errOrigin
 	}
 	http.Error(w, err.Error(), code)
 }
@@ -201,8 +243,9 @@ func (f *Flags) Run(o peers.Options) error {
 	if err != nil {
 		return err
 	}
-	if at, err := url.Parse(f.Origin); err != nil || at.Host == "" || strings.HasSuffix(f.Origin, "/") {
-		return fmt.Errorf("-origin is no base URL like http://host:9000: %q", f.Origin)
+	getter, err := load(f.Origin)
+	if err != nil {
+		return err
 	}
 	s := &server{purgeFor: f.PurgeFor}
 	if s.purger, err = f.networks(); err != nil {
@@ -217,7 +260,7 @@ func (f *Flags) Run(o peers.Options) error {
 	if f.TTL > 0 {
 		options = append(options, peers.WithTTL(f.TTL))
 	}
-	if s.pages, err = s.pool.Cache("pages", f.Bytes, load(f.Origin), options...); err != nil {
+	if s.pages, err = s.pool.Cache("pages", f.Bytes, getter, options...); err != nil {
 		return err
 	}
 	public := &http.Server{Handler: s, ReadHeaderTimeout: 5 * time.Second, ReadTimeout: originFor,
