@@ -101,4 +101,5 @@ func (k keys) open(kind string, to []byte, sealed []byte) ([]byte, error) {
 const (
 	sealRequest = "peers request"
 	sealReply   = "peers reply"
+	sealKept    = "peers kept"
 )

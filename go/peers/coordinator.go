@@ -43,8 +43,8 @@ type Membership interface {
 	Until() time.Time
 	// Done returns a channel that is closed when the membership has ended.
 	Done() <-chan struct{}
-	// Keep stores a Forget for the members that have not acknowledged it, under a name of its own.
-	// It returns ErrNotKept if the Coordinator stores nothing.
+	// Keep stores a Forget for the members that have not acknowledged it, under a name of its own,
+	// which begins with the start of its process and a hyphen. It returns ErrNotKept if the Coordinator stores nothing.
 	Keep(ctx context.Context, id string, forget []byte) error
 	// Kept returns the stored Forgets.
 	Kept() map[string][]byte

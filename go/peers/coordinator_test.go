@@ -2,6 +2,7 @@ package peers
 
 import (
 	"context"
+	"encoding/json"
 	"errors"
 	"fmt"
 	"sync"
@@ -531,5 +532,44 @@ func TestForgetsOfPeersThatLeft(t *testing.T) {
 	areFresh(before, d)
 	if versionOf(d.versions, user) != versionOf(a.versions, user) {
 		t.Error("d does not know what a knows of b, which is on no list any more")
+	}
+}
+
+// One who can write to the Coordinator, and has no key, changes nothing with what looks like a kept
+// Forget.
+func TestKeptForgetsThatAreForged(t *testing.T) {
+	m, by := newMesh(), newAgreed()
+	a, b, c := joinAll(t, m, by, 20*time.Millisecond)
+	session := b.session.Load()
+	plain := []byte(`{"from":"b","number":{"start":2305843009213693952,"count":1,"secret":1},"items":[{"cache":"users","key":"Nw=="}]}`)
+	const id = "2305843009213693952-1-1"
+	seal := func(key, kind, id string) []byte { return keys{[]byte(key)}.seal(kind, []byte(id), plain) }
+	memberOf(a).Keep(context.Background(), id, plain)
+	memberOf(a).Keep(context.Background(), "1", seal("another key of a pool", sealKept, id))
+	memberOf(a).Keep(context.Background(), "2", seal(string(testKeys[0]), sealRequest, id))
+	memberOf(a).Keep(context.Background(), "3", seal(string(testKeys[0]), sealKept, id))
+	for _, n := range []*node{a, b, c} {
+		n.learnKept(n.session.Load())
+	}
+	for _, n := range []*node{b, a, c} {
+		if err := forget(n, user); err != nil {
+			t.Errorf("%s: %v", n.self, err)
+		}
+	}
+	if b.session.Load() != session {
+		t.Error("b had to begin again")
+	}
+	if n := a.versions.startOf("b"); n > mostNumber/2 {
+		t.Errorf("a takes %d as the start of b", n)
+	}
+	// One that is old is taken: it may stand there for long.
+	now := time.Now().Add(-time.Hour)
+	number := number{Start: b.versions.startOf("b"), Count: 99, Secret: 1}
+	text, _ := json.Marshal(kept{"b", number, []wireItem{wireOf(user)}})
+	signature := testKeys.sign(now, []byte(sealKept), []byte(idOf(number)), text)
+	memberOf(a).Keep(context.Background(), idOf(number), append([]byte(signature+"\n"), text...))
+	a.learnKept(a.session.Load())
+	if !a.versions.covers(user, "b", number) {
+		t.Error("a Forget that was kept for an hour is not learned")
 	}
 }

@@ -430,7 +430,12 @@ func (m *member) put(kv *mvccpb.KeyValue) {
 	} else if key == m.epochs() {
 		m.now = parse(string(kv.Value))
 	} else if id := strings.TrimPrefix(key, m.forgets()); id != key {
-		m.kept[id] = kv.Value
+		// The process that stored it had joined before. A later start, which a stranger wrote, would
+		// leave a peer none that is later.
+		start, _, _ := strings.Cut(id, "-")
+		if n, err := strconv.ParseUint(start, 10, 64); err == nil && n < startAt(m.epoch, kv.ModRevision) {
+			m.kept[id] = kv.Value
+		}
 	}
 }
 

@@ -316,6 +316,20 @@ func TestKeptForgets(t *testing.T) {
 		t.Fatal(err)
 	}
 	until(t, func() bool { return len(a.Kept()) == 1 }, "a does not hear that it is dropped")
+	// What is of a process that has not joined yet is none.
+	for _, id := range []string{"2305843009213693952-1-1", fmt.Sprintf("%d-1-1", a.Start()+1<<20), "x", "-1"} {
+		if err := b.Keep(soon(t), id, nil); err != nil {
+			t.Fatal(err)
+		}
+	}
+	if err := a.Refresh(soon(t)); err != nil || len(a.Kept()) != 1 {
+		t.Errorf("%v, %v", a.Kept(), err)
+	}
+	own := fmt.Sprintf("%d-1-1", b.Start())
+	if err := b.Keep(soon(t), own, nil); err != nil {
+		t.Fatal(err)
+	}
+	until(t, func() bool { return a.Kept()[own] != nil || len(a.Kept()) == 2 }, "a does not hear of one of b")
 	if got := names(a); len(got) != 2 {
 		t.Errorf("the members are %v", got)
 	}
