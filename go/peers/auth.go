@@ -77,25 +77,61 @@ func (k keys) verify(now time.Time, text string, parts ...[]byte) error {
 	return nil
 }
 
-// seal puts the signature before the body, as a line. What it answers, or whom it is for, is signed
-// as well.
+// seal puts a line before the body: the body's size and digest, and their signature. What it answers,
+// or whom it is for, is signed as well. So a receiver knows a stranger by the line, before it has
+// read the body.
 func (k keys) seal(kind string, to []byte, body []byte) []byte {
+	return k.sealAt(time.Now(), kind, to, body)
+}
+
+func (k keys) sealAt(now time.Time, kind string, to []byte, body []byte) []byte {
 	if len(k) == 0 {
 		return body
 	}
-	return append([]byte(k.sign(time.Now(), []byte(kind), to, body)+"\n"), body...)
+	of := digestOf(body)
+	return append([]byte(of+":"+k.sign(now, []byte(kind), to, []byte(of))+"\n"), body...)
 }
 
-// open returns the body.
+func digestOf(body []byte) string {
+	sum := sha256.Sum256(body)
+	return strconv.Itoa(len(body)) + "." + base64.RawURLEncoding.EncodeToString(sum[:])
+}
+
+// mostHead is the largest size of the line of seal, with its end.
+const mostHead = 256
+
+// openHead returns the digest that the line gives of the body, and the body's size.
+func (k keys) openHead(kind string, to []byte, line []byte) (digest string, size int, err error) {
+	of, signature, ok := bytes.Cut(line, []byte(":"))
+	if !ok || len(line) >= mostHead {
+		return "", 0, errSignature
+	}
+	err = k.verify(time.Now(), string(signature), []byte(kind), to, of)
+	if err != nil && err != errSkew {
+		return "", 0, err
+	}
+	text, _, _ := bytes.Cut(of, []byte("."))
+	size, bad := strconv.Atoi(string(text))
+	if bad != nil || size < 0 {
+		return "", 0, errSignature
+	}
+	return string(of), size, err
+}
+
+// open returns the body, with errSkew also where the signature is one of another time.
 func (k keys) open(kind string, to []byte, sealed []byte) ([]byte, error) {
 	if len(k) == 0 {
 		return sealed, nil
 	}
-	text, body, ok := bytes.Cut(sealed, []byte("\n"))
-	if !ok || len(text) > 200 {
+	line, body, ok := bytes.Cut(sealed, []byte("\n"))
+	if !ok {
 		return nil, errSignature
 	}
-	return body, k.verify(time.Now(), string(text), []byte(kind), to, body)
+	digest, _, err := k.openHead(kind, to, line)
+	if digest != "" && digest != digestOf(body) {
+		err = errSignature
+	}
+	return body, err
 }
 
 const (

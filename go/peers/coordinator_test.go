@@ -566,8 +566,7 @@ func TestKeptForgetsThatAreForged(t *testing.T) {
 	now := time.Now().Add(-time.Hour)
 	number := number{Start: b.versions.startOf("b"), Count: 99, Secret: 1}
 	text, _ := json.Marshal(kept{"b", number, []wireItem{wireOf(user)}})
-	signature := testKeys.sign(now, []byte(sealKept), []byte(idOf(number)), text)
-	memberOf(a).Keep(context.Background(), idOf(number), append([]byte(signature+"\n"), text...))
+	memberOf(a).Keep(context.Background(), idOf(number), testKeys.sealAt(now, sealKept, []byte(idOf(number)), text))
 	a.learnKept(a.session.Load())
 	if !a.versions.covers(user, "b", number) {
 		t.Error("a Forget that was kept for an hour is not learned")

@@ -1,6 +1,8 @@
 package peers
 
 import (
+	"bufio"
+	"bytes"
 	"context"
 	"crypto/ecdsa"
 	"crypto/elliptic"
@@ -82,14 +84,15 @@ func TestStrangersChangeNothing(t *testing.T) {
 	for name, request := range map[string][]byte{
 		"without a signature": forged, "with another key": stranger.seal(sealRequest, []byte("a"), forged),
 		"for another peer": a.keys.seal(sealRequest, []byte("b"), forged), "of another kind": a.keys.seal(sealReply, []byte("a"), forged),
-		"nothing": {}, "a line": []byte("\n"), "a long line": []byte(strings.Repeat("x", 1000) + "\n"),
+		"another body": append(a.keys.seal(sealRequest, []byte("a"), forged[:len(forged)-1]), ' '),
+		"nothing":      {}, "a line": []byte("\n"), "a long line": []byte(strings.Repeat("x", 1000) + "\n"),
 	} {
 		if got := a.answer(request); got != nil {
 			t.Errorf("%s: %s", name, got)
 		}
 	}
-	if after := a.versions.since(0, 1<<20); after.Change != before.Change || a.figures.strangers.Load() != 7 {
-		t.Errorf("a stranger changed something, or %d of 7 were counted", a.figures.strangers.Load())
+	if after := a.versions.since(0, 1<<20); after.Change != before.Change || a.figures.strangers.Load() != 8 {
+		t.Errorf("a stranger changed something, or %d of 8 were counted", a.figures.strangers.Load())
 	}
 	// Nor does one who answers for a peer: with another key, or with the reply to another request.
 	sealed := a.keys.seal(sealRequest, []byte("b"), []byte(`{"from":"a","to":"b"}`))
@@ -106,6 +109,51 @@ func TestStrangersChangeNothing(t *testing.T) {
 			t.Errorf("%s: %v", name, err)
 		}
 		cancel()
+	}
+}
+
+// A stranger's request is refused by its first line, before its body comes.
+func TestStrangersBodiesAreNotRead(t *testing.T) {
+	m := newMesh()
+	a, b, _ := beginAll(t, m, time.Minute)
+	h := &HTTP{}
+	screen := a.screen
+	h.screen.Store(&screen)
+	h.Serve("a", a.answer)
+	server := httptest.NewServer(h)
+	defer server.Close()
+	forged := keys{[]byte("the key of a stranger")}.seal(sealRequest, []byte("a"), []byte("{}"))
+	ours := b.keys.seal(sealRequest, []byte("a"), []byte(`{"from":"b","to":"a"}`))
+	head, _, _ := bytes.Cut(ours, []byte("\n"))
+	for name, c := range map[string]struct {
+		sent string
+		code int
+	}{
+		"no line": {strings.Repeat("x", 4096), 403}, "another key": {string(forged), 403},
+		"a line alone": {"\n", 403}, "a peer's line and more than its body": {string(head) + "\n" + strings.Repeat("x", 4096), 403},
+		"a peer's": {string(ours), 200},
+	} {
+		conn, err := net.Dial("tcp", strings.TrimPrefix(server.URL, "http://"))
+		if err != nil {
+			t.Fatal(err)
+		}
+		// Of what it announces it sends the begin alone, but for the peer.
+		size := mostRequest
+		if c.code == 200 {
+			size = len(c.sent)
+		}
+		fmt.Fprintf(conn, "POST /_forget HTTP/1.1\r\nHost: a\r\nContent-Length: %d\r\n\r\n%s", size, c.sent)
+		conn.SetReadDeadline(time.Now().Add(time.Minute))
+		got, err := http.ReadResponse(bufio.NewReader(conn), nil)
+		if err != nil {
+			t.Errorf("%s: no reply before its body ends: %v", name, err)
+		} else if got.StatusCode != c.code {
+			t.Errorf("%s: %s", name, got.Status)
+		}
+		conn.Close()
+	}
+	if n := a.figures.strangers.Load(); n != 4 {
+		t.Errorf("%d strangers were counted", n)
 	}
 }
 
