@@ -16,6 +16,7 @@ import (
 	"os/signal"
 	"strconv"
 	"strings"
+	"sync/atomic"
 	"syscall"
 	"time"
 
@@ -24,14 +25,17 @@ import (
 )
 
 const (
-	mostPage  = 1 << 20 // bytes of a page
-	originFor = 10 * time.Second
-	stopFor   = 20 * time.Second
+	mostPage = 1 << 20 // bytes of a page
+	// To the origin: a load waits for one of them.
+	mostConnections = 128
+	originFor       = 10 * time.Second
+	stopFor         = 20 * time.Second
 )
 
 var (
 	errNone   = shown("the origin has no such page")
 	errOrigin = shown("the origin did not answer")
+	errBusy   = shown("too many requests wait for pages")
 	errTarget = shown("a page has a path that begins with a slash")
 )
 
@@ -64,7 +68,9 @@ func load(origin string) (groupcache.GetterFunc, error) {
 		base.Fragment != "" || strings.HasSuffix(origin, "/") {
 		return nil, fmt.Errorf("-origin is no base URL like http://host:9000: %q", origin)
 	}
-	client := &http.Client{Timeout: originFor, CheckRedirect: func(*http.Request, []*http.Request) error { return http.ErrUseLastResponse }}
+	connections := http.DefaultTransport.(*http.Transport).Clone()
+	connections.MaxConnsPerHost, connections.MaxIdleConnsPerHost = mostConnections, mostConnections
+	client := &http.Client{Transport: connections, Timeout: originFor, CheckRedirect: func(*http.Request, []*http.Request) error { return http.ErrUseLastResponse }}
 	return func(ctx context.Context, key string, dest groupcache.Sink) error {
 		at, err := target(base, key)
 		if err != nil {
@@ -105,6 +111,8 @@ type server struct {
 	pages    *peers.Cache
 	purger   []*net.IPNet // from where a PURGE is taken
 	purgeFor time.Duration
+	most     int64 // GETs that run at one time
+	running  atomic.Int64
 }
 
 // ServeHTTP takes a page's path, with its query, as its key.
@@ -116,6 +124,12 @@ func (s *server) ServeHTTP(w http.ResponseWriter, r *http.Request) {
 	}
 	switch r.Method {
 	case http.MethodGet, http.MethodHead:
+		if s.running.Add(1) > s.most {
+			s.running.Add(-1)
+			refuse(w, errBusy)
+			return
+		}
+		defer s.running.Add(-1)
 		var page groupcache.ByteView
 		if err := s.pages.Get(r.Context(), key, groupcache.ByteViewSink(&page)); err != nil {
 			refuse(w, err)
@@ -168,7 +182,7 @@ func refuse(w http.ResponseWriter, err error) {
 		for _, peer := range unanswered.Peers {
 			log.Printf("%v: %s: %v", err, peer.Peer, peer.Err)
 		}
-	case errors.Is(err, context.DeadlineExceeded), errors.Is(err, context.Canceled), errors.Is(err, peers.ErrClosed),
+	case err == errBusy, errors.Is(err, context.DeadlineExceeded), errors.Is(err, context.Canceled), errors.Is(err, peers.ErrClosed),
 		errors.Is(err, peers.ErrNoLease), errors.Is(err, peers.ErrReplaced):
 		code = http.StatusServiceUnavailable
 		w.Header().Set("Retry-After", "1")
@@ -200,7 +214,7 @@ func (s *server) metrics(w http.ResponseWriter, r *http.Request) {
 // Flags are those of both programs.
 type Flags struct {
 	Listen, PeersListen, Self, KeyFile, Origin, PurgeFrom string
-	Bytes                                                 int64
+	Bytes, Most                                           int64
 	TTL, PurgeFor                                         time.Duration
 }
 
@@ -213,6 +227,7 @@ func (f *Flags) Define() {
 	flag.StringVar(&f.Origin, "origin", "http://127.0.0.1:9000", "the origin's base URL")
 	flag.StringVar(&f.PurgeFrom, "purge-from", "127.0.0.0/8,::1/128", "the networks from which a PURGE is taken")
 	flag.Int64Var(&f.Bytes, "bytes", 64<<20, "the bytes of pages and keys to cache")
+	flag.Int64Var(&f.Most, "most", 1000, "the requests for pages that run at one time; more get 503")
 	flag.DurationVar(&f.PurgeFor, "purge-for", 10*time.Second, "how long a PURGE waits for the other peers")
 	flag.DurationVar(&f.TTL, "ttl", 0, "how old a page may get without a PURGE; 0 is for ever")
 }
@@ -247,7 +262,7 @@ func (f *Flags) Run(o peers.Options) error {
 	if err != nil {
 		return err
 	}
-	s := &server{purgeFor: f.PurgeFor}
+	s := &server{purgeFor: f.PurgeFor, most: f.Most}
 	if s.purger, err = f.networks(); err != nil {
 		return err
 	}

@@ -9,6 +9,7 @@ import (
 	"net/http/httptest"
 	"path"
 	"strings"
+	"sync"
 	"testing"
 	"time"
 
@@ -20,10 +21,17 @@ import (
 func TestStrangers(t *testing.T) {
 	inside := httptest.NewServer(http.HandlerFunc(func(w http.ResponseWriter, r *http.Request) { fmt.Fprint(w, "a secret") }))
 	defer inside.Close()
+	held, free := make(chan bool), make(chan bool)
+	var mu sync.Mutex
 	var asked []string
 	origin := httptest.NewServer(http.HandlerFunc(func(w http.ResponseWriter, r *http.Request) {
+		mu.Lock()
 		asked = append(asked, r.Host+" "+r.RequestURI)
+		mu.Unlock()
 		switch path.Base(r.URL.Path) {
+		case "held":
+			held <- true
+			<-free
 		case "away":
 			http.Redirect(w, r, inside.URL, http.StatusFound)
 		case "cut":
@@ -40,7 +48,7 @@ func TestStrangers(t *testing.T) {
 	}
 	defer pool.Close()
 	for name, base := range map[string]string{"bare": "", "below": "/base"} {
-		s := &server{pool: pool, purgeFor: time.Second}
+		s := &server{pool: pool, purgeFor: time.Second, most: 3}
 		getter, err := load(origin.URL + base)
 		if err != nil {
 			t.Fatal(err)
@@ -51,11 +59,48 @@ func TestStrangers(t *testing.T) {
 		public := httptest.NewServer(s)
 		defer public.Close()
 		tryAll(t, public.URL, inside.URL, base)
+		tryMany(t, public.URL, held, free)
 	}
 	for _, at := range asked {
 		if want := strings.TrimPrefix(origin.URL, "http://") + " /"; !strings.HasPrefix(at, want) {
 			t.Errorf("the origin is asked for %s", at)
 		}
+	}
+}
+
+// More requests than may run are refused at once, and those that run are answered.
+func tryMany(t *testing.T, public string, held, free chan bool) {
+	codes := make(chan int)
+	get := func(path string) {
+		got, err := http.Get(public + path)
+		if err != nil {
+			t.Error(err)
+			codes <- 0
+			return
+		}
+		got.Body.Close()
+		if got.StatusCode == http.StatusServiceUnavailable && got.Header.Get("Retry-After") == "" {
+			t.Error("503 without Retry-After")
+		}
+		codes <- got.StatusCode
+	}
+	for i := 0; i < 3; i++ {
+		go get(fmt.Sprintf("/held?%d", i))
+		<-held
+	}
+	go get("/page")
+	if code := <-codes; code != http.StatusServiceUnavailable {
+		t.Errorf("one more than may run gets %d", code)
+	}
+	for i := 0; i < 3; i++ {
+		free <- true
+		if code := <-codes; code != http.StatusOK {
+			t.Errorf("one that runs gets %d", code)
+		}
+	}
+	go get("/page")
+	if code := <-codes; code != http.StatusOK {
+		t.Errorf("after that one gets %d", code)
 	}
 }
 
