@@ -3,8 +3,9 @@ use Rattle.std.proofs.Common.{◌≡◌, ℕ, ◌++◌, ◌∷◌, [], Some, ref
 use Rattle.sf_history.specs.declared.event.Event.TheVariants.{Enter, Forget}
 use Rattle.sf_keyed_tells.specs.Tells.{call_of}
 use Rattle.sf_keyed_words.specs.declared.rule.View.{View}
+use Rattle.sf_keyed_words.specs.Rule.{IsPrefix}
 use Rattle.sf_keyed_words.specs.Plays.{walk_from, walk_on, read_low, read_high}
-use Rattle.sf_keyed_walks.specs.Walk.{Stays, HasJoined, HasClosed}
+use Rattle.sf_keyed_walks.specs.Walk.{Stays, HasJoined, HasClosed, HasNone}
 
 pub stays_top : (v w : View) (p n : ℕ) → w ≡ walk_from v p n → Stays v w
 stays_top v w p n is = subst (Stays v) (sym is) (record { sizes = refl; own = refl; leads = refl; ticket = refl; last = refl; seen = refl })
@@ -27,14 +28,29 @@ stays_both u v w a b = record {
 
 pub closed_from : (u v w : View) (call name : ℕ) → Stays u v → HasClosed v w call name → HasClosed u w call name
 closed_from u v w call name a b = record {
+  sizes = b.sizes ∙ a.sizes;
+  leads = b.leads ∙ a.leads;
+  ticket = b.ticket ∙ a.ticket;
   own_is = b.own_is ∙ a.own;
   adds = record { before = b.adds.before; seen = b.adds.seen ∙ ap (λ l. (l ++ b.adds.before) ++ Forget 0 name (Some (call_of call)) ∷ []) a.seen };
 }
 
 pub joined_from : (u v w : View) (call name : ℕ) → Stays u v → HasJoined v w call name → HasJoined u w call name
 joined_from u v w call name a b = record {
+  sizes = b.sizes ∙ a.sizes;
+  leads = b.leads ∙ a.leads;
   ticket = b.ticket;
   own_is = b.own_is ∙ a.own;
   member = b.member;
   adds = record { before = b.adds.before; seen = b.adds.seen ∙ ap (λ l. (l ++ b.adds.before) ++ Enter b.member.caller name (call_of call) b.member ∷ []) a.seen };
+}
+
+pub none_from : (u v w : View) (name : ℕ) → Stays u v → HasNone v w name → HasNone u w name
+none_from u v w name a b = record {
+  sizes = b.sizes ∙ a.sizes;
+  own_is = b.own_is ∙ a.own;
+  leads = b.leads ∙ a.leads;
+  ticket = b.ticket ∙ a.ticket;
+  grows = subst (λ l. IsPrefix l w.seen) a.seen b.grows;
+  none = b.none;
 }

@@ -1,11 +1,12 @@
 -- What a walk leaves of the seat's view.
-use Rattle.std.specs.Prelude.{◌≡◌, ◌≢◌, ℕ, ◌*◌, ◌/◌, ◌%◌, ◌<◌, ◌≤◌, ◌^◌, Bool, true, Option, None, Some}
+use Rattle.std.specs.Prelude.{◌≡◌, ◌≢◌, ℕ, ◌*◌, ◌/◌, ◌%◌, ◌<◌, ◌≤◌, ◌^◌, nat_eq, Bool, true, Option, None, Some}
 use Rattle.sf_history.specs.declared.call.CallId.{CallId}
 use Rattle.sf_history.specs.declared.event.Event.TheVariants as event
+use Rattle.sf_history.specs.History.{open_call, result_of}
 use Rattle.sf_keyed_tells.specs.Tells.{call_of}
 use Rattle.sf_keyed_words.specs.declared.rule.KeyedSizes.{KeyedSizes}
 use Rattle.sf_keyed_words.specs.declared.rule.View.{View}
-use Rattle.sf_keyed_words.specs.Rule.{is_open_word, number, word_total, Unmet}
+use Rattle.sf_keyed_words.specs.Rule.{is_open_word, number, word_total, Unmet, IsPrefix}
 use Rattle.sf_keyed_words.specs.Plays.{Adds, closes, read_low, read_high}
 use Rattle.sf_keyed_walks.specs.declared.walk.Look.{Look}
 use Rattle.sf_keyed_walks.specs.declared.walk.Look.TheVariants.{Closed, Other, Named}
@@ -42,6 +43,7 @@ pub record HasLooked (v : View) (slot top at name : ℕ) (saved : Bool) : Type 0
 
 -- a new call of the name is led
 pub record HasLed (v w : View) (own name : ℕ) : Type 0 where
+  pub sizes : w.sizes ≡ v.sizes
   pub leads : w.leads ≡ own
   pub own_is : w.own ≡ 0
   pub ticket : w.ticket ≡ v.ticket
@@ -49,13 +51,16 @@ pub record HasLed (v w : View) (own name : ℕ) : Type 0 where
 
 -- the seat is a holder of the name's open call
 pub record HasJoined (v w : View) (call name : ℕ) : Type 0 where
+  pub sizes : w.sizes ≡ v.sizes
   pub ticket : w.ticket ≡ call
   pub own_is : w.own ≡ v.own
+  pub leads : w.leads ≡ v.leads
   pub member : CallId
   pub adds : Adds v w (event.Enter member.caller name (call_of call) member)
 
 -- the call is settled with this result: with no joiner where the bit is 0, and with some where it is 1
 pub record HasSettled (v w : View) (call : ℕ) (told : Option ℕ) (bit : ℕ) : Type 0 where
+  pub sizes : w.sizes ≡ v.sizes
   pub leads : w.leads ≡ 0
   pub joiners : ℕ
   pub none : bit ≡ 0 → joiners ≡ 0
@@ -64,5 +69,41 @@ pub record HasSettled (v w : View) (call : ℕ) (told : Option ℕ) (bit : ℕ) 
 
 -- the name's open call is closed
 pub record HasClosed (v w : View) (call name : ℕ) : Type 0 where
+  pub sizes : w.sizes ≡ v.sizes
   pub own_is : w.own ≡ v.own
+  pub leads : w.leads ≡ v.leads
+  pub ticket : w.ticket ≡ v.ticket
   pub adds : Adds v w (event.Forget 0 name (Some (call_of call)))
+
+-- the seat has seen more, at whose end the name has no open call
+pub record HasNone (v w : View) (name : ℕ) : Type 0 where
+  pub sizes : w.sizes ≡ v.sizes
+  pub own_is : w.own ≡ v.own
+  pub leads : w.leads ≡ v.leads
+  pub ticket : w.ticket ≡ v.ticket
+  pub grows : IsPrefix v.seen w.seen
+  pub none : open_call nat_eq w.seen name ≡ None
+
+-- the seat is a holder of the call no more, and has seen more, in which the call was settled with this value
+pub record HasTaken (v w : View) (call value : ℕ) : Type 0 where
+  pub sizes : w.sizes ≡ v.sizes
+  pub own_is : w.own ≡ v.own
+  pub leads : w.leads ≡ v.leads
+  pub ticket : w.ticket ≡ 0
+  pub grows : IsPrefix v.seen w.seen
+  pub result : result_of w.seen (call_of call) ≡ Some (Some value)
+
+-- the seat is a holder no more
+pub record HasLeft (v w : View) : Type 0 where
+  pub sizes : w.sizes ≡ v.sizes
+  pub own_is : w.own ≡ v.own
+  pub leads : w.leads ≡ v.leads
+  pub ticket : w.ticket ≡ 0
+  pub seen : w.seen ≡ v.seen
+
+-- whatever a walk found, the calls of the seat are as before
+pub record KeepsCalls (v w : View) : Type 0 where
+  pub sizes : w.sizes ≡ v.sizes
+  pub own : w.own ≡ v.own
+  pub leads : w.leads ≡ v.leads
+  pub ticket : w.ticket ≡ v.ticket

@@ -1,15 +1,11 @@
 //! What a leader and a holder do when the run is over.
-ghost use Rattle.std.specs.Prelude.{◌≡◌, ◌≢◌, ◌+◌, ◌/◌, ◌%◌, ◌<◌, ℕ, true, Some, None};
-ghost use Rattle.sf_history.specs.History.{result_of};
-ghost use Rattle.sf_history.specs.declared.event.Event.TheVariants as event;
-ghost use Rattle.sf_keyed_tells.specs.Tells.{call_of};
-ghost use Rattle.sf_keyed_words.specs.Rule.{IsPrefix, joined_bit};
-ghost use Rattle.sf_keyed_words.specs.Plays.{Adds};
-ghost use Rattle.sf_keyed_walks.specs.Walk.{IsLaid, Stays, HasSettled};
+ghost use Rattle.std.specs.Prelude.{◌≡◌, ◌≢◌, ◌+◌, ◌/◌, ◌%◌, ◌<◌, ◌^◌, ℕ, true, Some, None};
+ghost use Rattle.sf_keyed_words.specs.Rule.{joined_bit};
+ghost use Rattle.sf_keyed_walks.specs.Walk.{IsLaid, Stays, HasSettled, HasTaken, HasLeft};
 
 use sf_keyed_words::KeyedSizes;
 use sf_keyed_words::steps::{
-    KeyedSeat, Words, leave, settle, settle_alone, store_value, value_of, wait,
+    KeyedSeat, Words, give_back, leave, settle, settle_alone, store_value, value_of, wait,
 };
 
 /// Settles the call that the seat leads with the value. Returns the call's state as it was; or none where nobody has joined the call and no
@@ -34,29 +30,37 @@ pub fn settle_call(
     if settle_alone(words, seat, at, ready) == ready {
         return None;
     }
-    store_value(
-        words,
-        seat,
-        sizes.tops + sizes.sides + 8 * (call % 1_048_576) + 3,
-        value,
-    );
-    Some(settle(words, seat, at))
+    Some(settle_shared(words, seat, sizes, call, value))
 }
 
-/// What the call was settled with, and whether the seat was its last holder; none where it is not settled yet.
-pub fn take(
+/// Settles the call that the seat leads with the value, which its holders are told. Returns the call's state as it was.
+pub fn settle_shared(
     words: &Words,
     seat: &mut KeyedSeat,
     sizes: KeyedSizes,
     call: u64,
-) -> Option<(u64, bool)>
+    value: u64,
+) -> u64
     requires own { seat.old.table_id ≡ words.now.table_id }
     requires laid { IsLaid words.now.key words.now.table_id.words sizes }
-    requires ticket { (seat.old.me.0.ticket ≡ call) × (call ≢ 0) × (call % 1048576 < sizes.cells) }
+    requires leads { (seat.old.me.0.leads ≡ call) × (call ≢ 0) × (call % 1048576 < sizes.cells) }
+    requires idle { seat.old.me.0.ticket ≡ 0 }
     ensures own { seat.new.table_id ≡ seat.old.table_id }
-    ensures taken { (r : ℕ × _) → result ≡ Some r → (result_of seat.new.me.0.seen (call_of call) ≡ Some (Some r.0)) × IsPrefix seat.old.me.0.seen seat.new.me.0.seen
-        × (seat.new.me.0.ticket ≡ 0) × (r.1 ≡ true → seat.new.me.0.last ≡ call) }
-    ensures pending { result ≡ None → (seat.new.me.0.ticket ≡ call) × (seat.new.me.0.seen ≡ seat.old.me.0.seen) }
+    ensures settled { (seat.new.me.0.ticket ≡ call) × (seat.new.me.0.own ≡ seat.old.me.0.own) × HasSettled seat.old.me.0 seat.new.me.0 call (Some value) (joined_bit result) }
+{
+    let cell = sizes.tops + sizes.sides + 8 * (call % 1_048_576);
+    store_value(words, seat, cell + 3, value);
+    settle(words, seat, cell)
+}
+
+/// What the call was settled with; none where it is not settled yet. The cell is free again if the seat was the last holder.
+pub fn take(words: &Words, seat: &mut KeyedSeat, sizes: KeyedSizes, call: u64) -> Option<u64>
+    requires own { seat.old.table_id ≡ words.now.table_id }
+    requires laid { IsLaid words.now.key words.now.table_id.words sizes }
+    requires ticket { (seat.old.me.0.ticket ≡ call) × (call ≢ 0) × (call < 2 ^ 61) × (call % 1048576 < sizes.cells) }
+    ensures own { seat.new.table_id ≡ seat.old.table_id }
+    ensures taken { (value : ℕ) → result ≡ Some value → HasTaken seat.old.me.0 seat.new.me.0 call value }
+    ensures pending { result ≡ None → Stays seat.old.me.0 seat.new.me.0 }
 {
     let at = sizes.tops + sizes.sides + 8 * (call % 1_048_576);
     if wait(words, seat, at) / 2_097_152 % 2 != 1 {
@@ -67,6 +71,21 @@ pub fn take(
         seat,
         sizes.tops + sizes.sides + 8 * (call % 1_048_576) + 3,
     );
+    leave_call(words, seat, sizes, call);
+    Some(value)
+}
+
+/// Is a holder of the call no more, settled or not. The cell is free again if the seat was the last holder of a settled call.
+pub fn leave_call(words: &Words, seat: &mut KeyedSeat, sizes: KeyedSizes, call: u64)
+    requires own { seat.old.table_id ≡ words.now.table_id }
+    requires laid { IsLaid words.now.key words.now.table_id.words sizes }
+    requires ticket { (seat.old.me.0.ticket ≡ call) × (call ≢ 0) × (call < 2 ^ 61) × (call % 1048576 < sizes.cells) }
+    ensures own { seat.new.table_id ≡ seat.old.table_id }
+    ensures left { HasLeft seat.old.me.0 seat.new.me.0 }
+{
+    let at = sizes.tops + sizes.sides + 8 * (call % 1_048_576);
     let state = leave(words, seat, at);
-    Some((value, state % 1_048_576 == 1 && state / 2_097_152 % 2 == 1))
+    if state % 1_048_576 == 1 && state / 2_097_152 % 2 == 1 {
+        give_back(words, seat, at, call / 1_048_576 * 8_388_608);
+    }
 }

@@ -1,9 +1,7 @@
 //! Askings and Forgets that are tried again where another came first.
 ghost use Rattle.std.specs.Prelude.{◌≡◌, ◌≢◌, ◌%◌, ◌<◌, ◌^◌, ℕ, None};
-ghost use Rattle.std.specs.Prelude.{nat_eq};
-ghost use Rattle.sf_history.specs.History.{open_call};
-ghost use Rattle.sf_keyed_words.specs.Rule.{number, IsPrefix};
-ghost use Rattle.sf_keyed_walks.specs.Walk.{IsLaid, Stays, HasLed, HasJoined, HasClosed};
+ghost use Rattle.sf_keyed_words.specs.Rule.{number};
+ghost use Rattle.sf_keyed_walks.specs.Walk.{IsLaid, Stays, HasLed, HasJoined, HasClosed, HasNone, KeepsCalls};
 ghost use Rattle.sf_keyed_walks.specs.declared.walk.Asked.TheVariants as asked;
 ghost use Rattle.sf_keyed_walks.specs.declared.walk.Closing.TheVariants as closing;
 
@@ -24,8 +22,9 @@ pub fn forget_often(
     requires sizes { seat.old.me.0.sizes ≡ sizes }
     ensures own { seat.new.table_id ≡ seat.old.table_id }
     ensures closed { (call : ℕ) → result ≡ closing.Closed call → HasClosed seat.old.me.0 seat.new.me.0 call (number name) }
-    ensures nothing { result ≡ closing.Nothing → IsPrefix seat.old.me.0.seen seat.new.me.0.seen × (open_call nat_eq seat.new.me.0.seen (number name) ≡ None) }
+    ensures nothing { result ≡ closing.Nothing → HasNone seat.old.me.0 seat.new.me.0 (number name) }
     ensures busy { result ≡ closing.Busy → Stays seat.old.me.0 seat.new.me.0 }
+    ensures calls { KeepsCalls seat.old.me.0 seat.new.me.0 }
 {
     for at in 0..tries {
         match forget_once(words, seat, sizes, name) {
@@ -53,8 +52,9 @@ pub fn ask_often(
     ensures own { seat.new.table_id ≡ seat.old.table_id }
     ensures led { result ≡ asked.Led → HasLed seat.old.me.0 seat.new.me.0 own (number name) }
     ensures joined { (found : ℕ) → result ≡ asked.Joined found → HasJoined seat.old.me.0 seat.new.me.0 found (number name) }
+    ensures cell { (found : ℕ) → result ≡ asked.Joined found → (found ≢ 0) × (found < 2 ^ 61) × (found % 1048576 < sizes.cells) }
     ensures kept { result ≢ asked.Led → ((found : ℕ) → result ≢ asked.Joined found) → Stays seat.old.me.0 seat.new.me.0 }
-    ensures no_cell { result ≡ asked.NoCell → own ≡ 0 }
+    ensures no_cell { (result ≡ asked.NoCell → own ≡ 0) × (result ≡ asked.Led → own ≢ 0) }
 {
     for at in 0..tries {
         match ask_once(words, seat, sizes, own, name) {

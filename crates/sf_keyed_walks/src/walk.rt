@@ -1,10 +1,8 @@
 //! A walk over the slot of a name: an asking, which leads or joins, and a Forget.
 ghost use Rattle.std.specs.Prelude.{◌≡◌, ◌≢◌, ◌+◌, ◌/◌, ◌%◌, ◌<◌, ◌≤◌, ◌^◌, ℕ, true, None};
-ghost use Rattle.sf_history.specs.History.{open_call};
-ghost use Rattle.std.specs.Prelude.{nat_eq};
-ghost use Rattle.sf_keyed_words.specs.Rule.{is_open_word, number, IsPrefix};
+ghost use Rattle.sf_keyed_words.specs.Rule.{is_open_word, number};
 ghost use Rattle.sf_keyed_words.specs.Rule.{slot_of as the_slot_of};
-ghost use Rattle.sf_keyed_walks.specs.Walk.{IsLaid, Examined, Stays, HasLooked, HasLed, HasJoined, HasClosed};
+ghost use Rattle.sf_keyed_walks.specs.Walk.{IsLaid, Examined, Stays, HasLooked, HasLed, HasJoined, HasClosed, HasNone, KeepsCalls};
 ghost use Rattle.sf_keyed_walks.specs.declared.walk.Asked.TheVariants as asked;
 ghost use Rattle.sf_keyed_walks.specs.declared.walk.Closing.TheVariants as closing;
 
@@ -105,6 +103,7 @@ fn join_found(
     ensures own { seat.new.table_id ≡ seat.old.table_id }
     ensures led { (result ≢ asked.Led) × (result ≢ asked.NoCell) }
     ensures joined { (found : ℕ) → result ≡ asked.Joined found → HasJoined seat.old.me.0 seat.new.me.0 found (number name) }
+    ensures cell { (found : ℕ) → result ≡ asked.Joined found → (found ≢ 0) × (found < 2 ^ 61) × (found % 1048576 < sizes.cells) }
     ensures kept { ((found : ℕ) → result ≢ asked.Joined found) → Stays seat.old.me.0 seat.new.me.0 }
 {
     if call == 0 || state % 1_048_576 >= 1_048_575 {
@@ -145,8 +144,9 @@ pub fn ask_once(
     ensures own { seat.new.table_id ≡ seat.old.table_id }
     ensures led { result ≡ asked.Led → HasLed seat.old.me.0 seat.new.me.0 own (number name) }
     ensures joined { (found : ℕ) → result ≡ asked.Joined found → HasJoined seat.old.me.0 seat.new.me.0 found (number name) }
+    ensures cell { (found : ℕ) → result ≡ asked.Joined found → (found ≢ 0) × (found < 2 ^ 61) × (found % 1048576 < sizes.cells) }
     ensures kept { result ≢ asked.Led → ((found : ℕ) → result ≢ asked.Joined found) → Stays seat.old.me.0 seat.new.me.0 }
-    ensures no_cell { result ≡ asked.NoCell → own ≡ 0 }
+    ensures no_cell { (result ≡ asked.NoCell → own ≡ 0) × (result ≡ asked.Led → own ≢ 0) }
 {
     let slot = slot_of(sizes, name);
     let found = look_top(words, seat, slot);
@@ -203,8 +203,9 @@ pub fn forget_once(words: &Words, seat: &mut KeyedSeat, sizes: KeyedSizes, name:
     requires sizes { seat.old.me.0.sizes ≡ sizes }
     ensures own { seat.new.table_id ≡ seat.old.table_id }
     ensures closed { (call : ℕ) → result ≡ closing.Closed call → HasClosed seat.old.me.0 seat.new.me.0 call (number name) }
-    ensures nothing { result ≡ closing.Nothing → IsPrefix seat.old.me.0.seen seat.new.me.0.seen × (open_call nat_eq seat.new.me.0.seen (number name) ≡ None) }
+    ensures nothing { result ≡ closing.Nothing → HasNone seat.old.me.0 seat.new.me.0 (number name) }
     ensures busy { result ≡ closing.Busy → Stays seat.old.me.0 seat.new.me.0 }
+    ensures calls { KeepsCalls seat.old.me.0 seat.new.me.0 }
 {
     let slot = slot_of(sizes, name);
     let found = look_top(words, seat, slot);
@@ -253,6 +254,7 @@ fn close_found(
     ensures closed { (found : ℕ) → result ≡ closing.Closed found → HasClosed seat.old.me.0 seat.new.me.0 found (number name) }
     ensures nothing { result ≢ closing.Nothing }
     ensures busy { result ≡ closing.Busy → Stays seat.old.me.0 seat.new.me.0 }
+    ensures calls { KeepsCalls seat.old.me.0 seat.new.me.0 }
 {
     if call == 0 || state < 4_194_304 {
         return Closing::Busy;

@@ -1,7 +1,8 @@
-use Rattle.std.proofs.Common.{◌/◌, ◌%◌, sym, ◌∙◌, ap, subst}
+use Rattle.std.proofs.Common.{◌/◌, ◌%◌, sym, ◌∙◌, ap}
 use Rattle.sf_keyed_words.specs.declared.rule.KeyedSizes.{KeyedSizes}
-use Rattle.sf_keyed_words.specs.Rule.{number, slot_of, IsPrefix}
-use Rattle.sf_keyed_walks.proofs.Origins.{stays_top, stays_on, stays_read, stays_both, closed_from}
+use Rattle.sf_keyed_words.specs.declared.rule.View.{View}
+use Rattle.sf_keyed_words.specs.Rule.{number, slot_of}
+use Rattle.sf_keyed_walks.proofs.Origins.{stays_top, stays_on, stays_read, stays_both, closed_from, none_from}
 use Rattle.sf_keyed_walks.proofs.walk.forget_once.Goals as goal
 
 pub returns-in-Named-clause-closed : goal.returns-in-Named-clause-closed
@@ -27,7 +28,12 @@ pub returns-then-find_none-top-clause-nothing : goal.returns-then-find_none-top-
 returns-then-find_none-top-clause-nothing c _ =
     let stays = c.loop-at.invariant.1 in
     let looked = c.loop-at.invariant.2 in
-    let found = c.find_none.ensures.view.won (c.if-find_none-top.true ∙ sym looked.top_is) in (
-      subst (λ l. IsPrefix l c.find_none.new.seat.me.0.seen) stays.seen found.1,
-      found.2 (number c.args.name) (ap (λ (z : KeyedSizes). slot_of z (number c.args.name)) (stays.sizes ∙ c.requires.sizes) ∙ (sym c.slot_of-slot.ensures.is ∙ sym looked.slot_is)) looked.unmet,
-    )
+    let found = c.find_none.ensures.view.won (c.if-find_none-top.true ∙ sym looked.top_is) in
+    none_from c.args.seat.now.me.0 c.loop-at.seat.me.0 c.find_none.new.seat.me.0 (number c.args.name) stays (record {
+      sizes = ap (λ (q : View). q.sizes) found.0;
+      own_is = ap (λ (q : View). q.own) found.0;
+      leads = ap (λ (q : View). q.leads) found.0;
+      ticket = ap (λ (q : View). q.ticket) found.0;
+      grows = found.1;
+      none = found.2 (number c.args.name) (ap (λ (z : KeyedSizes). slot_of z (number c.args.name)) (stays.sizes ∙ c.requires.sizes) ∙ (sym c.slot_of-slot.ensures.is ∙ sym looked.slot_is)) looked.unmet;
+    })

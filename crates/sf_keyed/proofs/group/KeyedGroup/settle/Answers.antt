@@ -1,0 +1,119 @@
+use Rattle.std.proofs.Common.{◌≡◌, ℕ, ◌+◌, ◌%◌, ◌<◌, ◌++◌, ◌∷◌, [], Some, None, refl, sym, ◌∙◌, ap, subst}
+use Rattle.std.proofs.lemmas.Bool.{true≢false}
+use Rattle.sf_history.specs.declared.event.Event.TheVariants.{Settle}
+use Rattle.sf_keyed_tells.specs.Tells.{call_of}
+use Rattle.sf_keyed_words.specs.declared.rule.KeyedSizes.{KeyedSizes}
+use Rattle.sf_keyed_words.specs.declared.rule.View.{View}
+use Rattle.sf_keyed.specs.Known.{GroupId, FrontState, FlightState}
+use Rattle.sf_keyed.proofs.Joint.{joint, bit_none, bit_some}
+use Rattle.sf_keyed.proofs.group.KeyedGroup.settle.Goals as goal
+
+pub invariant_of-ticket : goal.invariant_of-ticket
+invariant_of-ticket c =
+    let sh = c.settle_call.ensures.shared c.in-Some.state c.in-Some.is in
+    let new = c.split_ticket-seat.ensures.new in
+    let heard = c.join_flight.ensures.heard in
+    let same = ap (λ (g : GroupId). g.sizes) (ap (λ (f : FrontState). f.group) c.me.view_is ∙ (c.requires.own.0 ∙ (sym c.requires.own.1 ∙ sym (ap (λ (f : FlightState). f.group) c.flight.view_is)))) in
+    let sizes = ap (λ q. q.0.sizes) new ∙ (sh.2.sizes ∙ (ap (λ (v : View). v.sizes) heard.view ∙ same)) in (
+      ap (λ q. q.0.ticket) new ∙ sh.0,
+      c.flight.invariant.1,
+      c.flight.invariant.2,
+      subst (λ (z : KeyedSizes). c.flight.inside.call % 1048576 < z.cells) (sym sizes) c.flight.invariant.3,
+      ap (λ q. q.0.own) new,
+      ap (λ q. q.0.leads) new,
+      ap (λ q. q.1) new,
+    )
+
+pub invariant_of-me-in-Some : goal.invariant_of-me-in-Some
+invariant_of-me-in-Some c =
+    let sh = c.settle_call.ensures.shared c.in-Some.state c.in-Some.is in
+    let left = c.split_ticket-seat.ensures.seat in
+    let heard = c.join_flight.ensures.heard in
+    let sizes = ap (λ (v : View). v.sizes) left ∙ (sh.2.sizes ∙ ap (λ (v : View). v.sizes) heard.view) in (
+      ap (λ (v : View). v.own) left ∙ (sh.1 ∙ sym c.if-me-eq0.true),
+      ap (λ (v : View). v.leads) left ∙ sh.2.leads,
+      ap (λ (v : View). v.ticket) left,
+      c.me.invariant.3,
+      λ some. subst (λ (z : KeyedSizes). c.me.inside.spare % 1048576 < z.cells) (sym sizes) (c.me.invariant.4 some),
+    )
+
+pub returns-in-None : goal.returns-in-None
+returns-in-None c =
+    let al = c.settle_call.ensures.alone c.in-None.is in
+    let heard = c.join_flight.ensures.heard in
+    let own = ap (λ (f : FrontState). f.group) c.me.view_is in
+    let seen = ap (λ (f : FrontState). f.seen) c.me.view_is in
+    let call = ap (λ (f : FlightState). f.call) c.flight.view_is in
+    let x = λ (e : ℕ). Settle (e % 1048576) (call_of e) None al.2.joiners ∷ [] in (
+      record {
+        joiners = al.2.joiners;
+        none = λ _. al.2.none refl;
+        some = λ yes. absurd (true≢false (sym yes));
+        adds = record {
+          group = (λ i. record { table = (c.settle_call.ensures.own ∙ c.join_flight.ensures.own) i; sizes = (al.2.sizes ∙ ap (λ (v : View). v.sizes) heard.view) i }) ∙ own;
+          others = heard.seen.0 ++ al.2.adds.before;
+          seen = subst (λ (e : ℕ). c.settle_call.new.seat.me.0.seen ≡ (c.args.me.now.seen ++ (heard.seen.0 ++ al.2.adds.before)) ++ Settle (e % 1048576) (call_of e) None al.2.joiners ∷ []) call
+              (joint c.args.me.now.seen heard.seen.0 al.2.adds.before (x c.flight.inside.call) c.join_flight.new.seat.me.0.seen c.settle_call.new.seat.me.0.seen (heard.seen.1 ∙ ap (λ l. l ++ heard.seen.0) seen) al.2.adds.seen);
+        };
+      },
+      ap (λ (e : ℕ). e + 1048576) call,
+    )
+
+pub returns-in-Some : goal.returns-in-Some
+returns-in-Some c =
+    let sh = c.settle_call.ensures.shared c.in-Some.state c.in-Some.is in
+    let left = c.split_ticket-seat.ensures.seat in
+    let new = c.split_ticket-seat.ensures.new in
+    let heard = c.join_flight.ensures.heard in
+    let own = ap (λ (f : FrontState). f.group) c.me.view_is in
+    let theirs = ap (λ (f : FlightState). f.group) c.flight.view_is in
+    let seen = ap (λ (f : FrontState). f.seen) c.me.view_is in
+    let call = ap (λ (f : FlightState). f.call) c.flight.view_is in
+    let sizes1 = ap (λ (v : View). v.sizes) heard.view in
+    let to_flight = own ∙ (c.requires.own.0 ∙ sym c.requires.own.1) in (
+      record {
+        joiners = sh.2.joiners;
+        none = λ no. sh.2.none (bit_none c.in-Some.state no);
+        some = λ yes. sh.2.some (bit_some c.in-Some.state yes);
+        adds = record {
+          group = (λ i. record { table = (c.split_ticket-seat.ensures.own.0 ∙ (c.settle_call.ensures.own ∙ c.join_flight.ensures.own)) i; sizes = (ap (λ (v : View). v.sizes) left ∙ (sh.2.sizes ∙ sizes1)) i }) ∙ own;
+          others = heard.seen.0 ++ sh.2.adds.before;
+          seen = ap (λ (v : View). v.seen) left ∙ subst (λ (e : ℕ). c.settle_call.new.seat.me.0.seen ≡ (c.args.me.now.seen ++ (heard.seen.0 ++ sh.2.adds.before)) ++ Settle (e % 1048576) (call_of e) (Some c.args.value) sh.2.joiners ∷ []) call
+              (joint c.args.me.now.seen heard.seen.0 sh.2.adds.before (Settle (c.flight.inside.call % 1048576) (call_of c.flight.inside.call) (Some c.args.value) sh.2.joiners ∷ []) c.join_flight.new.seat.me.0.seen c.settle_call.new.seat.me.0.seen (heard.seen.1 ∙ ap (λ l. l ++ heard.seen.0) seen) sh.2.adds.seen);
+        };
+      },
+      (λ i. record {
+        group = ((λ j. record { table = (c.split_ticket-seat.ensures.own.1 ∙ (ap (λ (g : GroupId). g.table) c.self.view_is ∙ (ap (λ (g : GroupId). g.table) (sym c.requires.own.0) ∙ sym (ap (λ (g : GroupId). g.table) own)))) j; sizes = (ap (λ q. q.0.sizes) new ∙ (sh.2.sizes ∙ sizes1)) j }) ∙ to_flight) i;
+        call = call i;
+      }),
+      ap (λ (f : FrontState). f.spare) c.me.view_is,
+    )
+
+pub returns-else-me-eq0 : goal.returns-else-me-eq0
+returns-else-me-eq0 c =
+    let sh = c.settle_shared-state.ensures.settled in
+    let left = c.split_ticket-seat-else-me-eq0.ensures.seat in
+    let new = c.split_ticket-seat-else-me-eq0.ensures.new in
+    let heard = c.join_flight.ensures.heard in
+    let own = ap (λ (f : FrontState). f.group) c.me.view_is in
+    let seen = ap (λ (f : FrontState). f.seen) c.me.view_is in
+    let call = ap (λ (f : FlightState). f.call) c.flight.view_is in
+    let sizes1 = ap (λ (v : View). v.sizes) heard.view in
+    let to_flight = own ∙ (c.requires.own.0 ∙ sym c.requires.own.1) in (
+      record {
+        joiners = sh.2.joiners;
+        none = λ no. sh.2.none (bit_none c.settle_shared-state.result no);
+        some = λ yes. sh.2.some (bit_some c.settle_shared-state.result yes);
+        adds = record {
+          group = (λ i. record { table = (c.split_ticket-seat-else-me-eq0.ensures.own.0 ∙ (c.settle_shared-state.ensures.own ∙ c.join_flight.ensures.own)) i; sizes = (ap (λ (v : View). v.sizes) left ∙ (sh.2.sizes ∙ sizes1)) i }) ∙ own;
+          others = heard.seen.0 ++ sh.2.adds.before;
+          seen = ap (λ (v : View). v.seen) left ∙ subst (λ (e : ℕ). c.settle_shared-state.new.seat.me.0.seen ≡ (c.args.me.now.seen ++ (heard.seen.0 ++ sh.2.adds.before)) ++ Settle (e % 1048576) (call_of e) (Some c.args.value) sh.2.joiners ∷ []) call
+              (joint c.args.me.now.seen heard.seen.0 sh.2.adds.before (Settle (c.flight.inside.call % 1048576) (call_of c.flight.inside.call) (Some c.args.value) sh.2.joiners ∷ []) c.join_flight.new.seat.me.0.seen c.settle_shared-state.new.seat.me.0.seen (heard.seen.1 ∙ ap (λ l. l ++ heard.seen.0) seen) sh.2.adds.seen);
+        };
+      },
+      (λ i. record {
+        group = ((λ j. record { table = (c.split_ticket-seat-else-me-eq0.ensures.own.1 ∙ (ap (λ (g : GroupId). g.table) c.self.view_is ∙ (ap (λ (g : GroupId). g.table) (sym c.requires.own.0) ∙ sym (ap (λ (g : GroupId). g.table) own)))) j; sizes = (ap (λ q. q.0.sizes) new ∙ (sh.2.sizes ∙ sizes1)) j }) ∙ to_flight) i;
+        call = call i;
+      }),
+      ap (λ (f : FrontState). f.spare) c.me.view_is,
+    )

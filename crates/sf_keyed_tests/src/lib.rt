@@ -1,0 +1,5 @@
+//! Tests of the keyed group: each call once in each of its ways, with values that the group of calls by x/sync would have.
+#![tactic(auto)]
+
+#[cfg(test)]
+mod tests;

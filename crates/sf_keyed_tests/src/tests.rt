@@ -1,0 +1,202 @@
+ghost use Rattle.std.specs.Prelude.{◌≡◌, IfSome};
+
+use sf_keyed::{
+    Asked, Flight, Forgotten, Front, KeyedGroup, KeyedSizes, Name, Refusal, Settled, Ticket,
+};
+use std::test::Fail;
+
+const TRIES: u32 = 10;
+
+const ADA: Name = Name { low: 1, high: 3 };
+
+const BOB: Name = Name { low: 2, high: 3 };
+
+const HALF: Name = Name { low: 1, high: 4 };
+
+// One hash slot, so that all names meet.
+const MEETING: KeyedSizes = KeyedSizes {
+    tops: 1,
+    sides: 16,
+    cells: 32,
+    low_seed: 0x9E37_79B9_7F4A_7C15,
+    high_seed: 0xC2B2_AE3D_27D4_EB4F,
+};
+
+fn lead(group: &KeyedGroup, me: &mut Front, name: Name) -> Option<Flight>
+    requires { me.old.group ≡ group.now }
+    ensures own { me.new.group ≡ group.now }
+    ensures flight { IfSome result (λ flight. flight.group ≡ group.now) }
+{
+    match group.ask(me, name, TRIES) {
+        Asked::Led(flight) => Some(flight),
+        Asked::Joined(ticket) => {
+            group.leave(me, ticket);
+            None
+        }
+        Asked::Refused(_) => None,
+    }
+}
+
+fn join(group: &KeyedGroup, me: &mut Front, name: Name) -> Option<Ticket>
+    requires { me.old.group ≡ group.now }
+    ensures own { me.new.group ≡ group.now }
+    ensures ticket { IfSome result (λ ticket. ticket.group ≡ group.now) }
+{
+    match group.ask(me, name, TRIES) {
+        Asked::Joined(ticket) => Some(ticket),
+        Asked::Led(flight) => {
+            group.settle(me, flight, 0);
+            None
+        }
+        Asked::Refused(_) => None,
+    }
+}
+
+#[test]
+fn one_leads_again_and_again(rt: HostRuntime) -> Result<(), Fail> {
+    let (group, mut me) = KeyedGroup::new(rt.alloc(), MEETING)?;
+    assert!(rt;
+        matches!(
+            group.ask(&mut me, ADA, TRIES),
+            Asked::Refused(Refusal::NoCell)
+        )
+    );
+    assert!(rt; group.claim(&mut me, 0));
+    for _ in 0..3 {
+        let Some(flight) = lead(&group, &mut me, ADA) else {
+            panic!(rt; "no call of the name was open")
+        };
+        assert!(rt; matches!(group.settle(&mut me, flight, 7), Settled::Alone));
+        assert!(rt; group.claim(&mut me, 5));
+    }
+    Ok(())
+}
+
+#[test]
+fn who_joins_gets_the_value_once_it_is_there(rt: HostRuntime) -> Result<(), Fail> {
+    let (group, mut me) = KeyedGroup::new(rt.alloc(), MEETING)?;
+    let mut other = group.another(&mut me);
+    assert!(rt; group.claim(&mut me, 0));
+    let Some(flight) = lead(&group, &mut me, ADA) else {
+        panic!(rt; "no call of the name was open")
+    };
+    let Some(ticket) = join(&group, &mut other, ADA) else {
+        panic!(rt; "the name's call was open")
+    };
+    let ticket = match group.take(&mut other, ticket) {
+        Ok(_) => panic!(rt; "the call was not settled"),
+        Err(back) => back,
+    };
+    match group.settle(&mut me, flight, 7) {
+        Settled::Told(mine, joined) => {
+            assert!(rt; joined);
+            group.leave(&mut me, mine);
+        }
+        Settled::Alone => panic!(rt; "one had joined"),
+    }
+    match group.take(&mut other, ticket) {
+        Ok(value) => assert!(rt; value == 7),
+        Err(_) => panic!(rt; "the call was settled"),
+    }
+    // The cell is free again.
+    assert!(rt; group.claim(&mut other, 0));
+    Ok(())
+}
+
+#[test]
+fn who_joined_and_left_counts(rt: HostRuntime) -> Result<(), Fail> {
+    let (group, mut me) = KeyedGroup::new(rt.alloc(), MEETING)?;
+    let mut other = group.another(&mut me);
+    assert!(rt; group.claim(&mut me, 0));
+    let Some(flight) = lead(&group, &mut me, ADA) else {
+        panic!(rt; "no call of the name was open")
+    };
+    let Some(ticket) = join(&group, &mut other, ADA) else {
+        panic!(rt; "the name's call was open")
+    };
+    group.leave(&mut other, ticket);
+    match group.settle(&mut me, flight, 7) {
+        Settled::Told(_, joined) => assert!(rt; joined),
+        Settled::Alone => panic!(rt; "one had joined"),
+    }
+    Ok(())
+}
+
+#[test]
+fn a_forget_has_the_next_lead_anew(rt: HostRuntime) -> Result<(), Fail> {
+    let (group, mut me) = KeyedGroup::new(rt.alloc(), MEETING)?;
+    let mut other = group.another(&mut me);
+    assert!(rt; group.forget(&mut other, ADA, TRIES) == Forgotten::Nothing);
+    assert!(rt; group.claim(&mut me, 0) && group.claim(&mut other, 1));
+    let Some(old) = lead(&group, &mut me, ADA) else {
+        panic!(rt; "no call of the name was open")
+    };
+    assert!(rt; group.forget(&mut other, BOB, TRIES) == Forgotten::Nothing);
+    assert!(rt; matches!(group.forget(&mut other, ADA, TRIES), Forgotten::Closed(_)));
+    let Some(new) = lead(&group, &mut other, ADA) else {
+        panic!(rt; "the name's call was closed")
+    };
+    match group.settle(&mut me, old, 1) {
+        Settled::Told(mine, joined) => {
+            assert!(rt; !joined);
+            group.leave(&mut me, mine);
+        }
+        Settled::Alone => panic!(rt; "a Forget had closed the call"),
+    }
+    let Some(ticket) = join(&group, &mut me, ADA) else {
+        panic!(rt; "the newer call was open")
+    };
+    group.settle(&mut other, new, 2);
+    match group.take(&mut me, ticket) {
+        Ok(value) => assert!(rt; value == 2),
+        Err(_) => panic!(rt; "the call was settled"),
+    }
+    Ok(())
+}
+
+#[test]
+fn names_that_meet_keep_apart(rt: HostRuntime) -> Result<(), Fail> {
+    let (group, mut me) = KeyedGroup::new(rt.alloc(), MEETING)?;
+    let mut other = group.another(&mut me);
+    let mut third = group.another(&mut me);
+    assert!(rt;
+        group.claim(&mut me, 0) && group.claim(&mut other, 1) && group.claim(&mut third, 2)
+    );
+    let Some(ada) = lead(&group, &mut me, ADA) else {
+        panic!(rt; "no call of the name was open")
+    };
+    let Some(bob) = lead(&group, &mut other, BOB) else {
+        panic!(rt; "no call of the name was open")
+    };
+    let Some(half) = lead(&group, &mut third, HALF) else {
+        panic!(rt; "no call of the name was open")
+    };
+    let Some(ticket) = join(&group, &mut third, ADA) else {
+        panic!(rt; "the name's call was open")
+    };
+    assert!(rt; matches!(group.settle(&mut other, bob, 2), Settled::Alone));
+    assert!(rt; matches!(group.settle(&mut third, half, 3), Settled::Alone));
+    group.settle(&mut me, ada, 1);
+    match group.take(&mut third, ticket) {
+        Ok(value) => assert!(rt; value == 1),
+        Err(_) => panic!(rt; "the call was settled"),
+    }
+    Ok(())
+}
+
+#[test]
+fn a_slot_has_seventeen_open_calls(rt: HostRuntime) -> Result<(), Fail> {
+    let (group, mut me) = KeyedGroup::new(rt.alloc(), MEETING)?;
+    for n in 0..18u64 {
+        assert!(rt; group.claim(&mut me, n));
+        let asked = group.ask(&mut me, Name { low: n, high: 0 }, TRIES);
+        assert!(rt;
+            match asked {
+                Asked::Led(_) => n < 17,
+                Asked::Refused(Refusal::Full) => n == 17,
+                _ => false,
+            }
+        );
+    }
+    Ok(())
+}
