@@ -52,6 +52,37 @@ fn join(group: &KeyedGroup, me: &mut Front, name: Name) -> Option<Ticket>
     }
 }
 
+// Leads a call of the name and settles it. Returns whether nobody else had to do with it.
+fn leads_alone(group: &KeyedGroup, me: &mut Front, name: Name) -> bool
+    requires { me.old.group ≡ group.now }
+    ensures { me.new.group ≡ group.now }
+{
+    match lead(group, me, name) {
+        Some(flight) => matches!(group.settle(me, flight, 7), Settled::Alone),
+        None => false,
+    }
+}
+
+// Leads a call of the name with this number, and leaves it open. Returns whether it led.
+fn leaves_open(group: &KeyedGroup, me: &mut Front, n: u64) -> bool
+    requires { me.old.group ≡ group.now }
+    ensures { me.new.group ≡ group.now }
+{
+    group.claim(me, n) && lead(group, me, Name { low: n, high: 0 }).is_some()
+}
+
+// Leaves four calls open, from the name with this number on.
+fn leaves_four_open(group: &KeyedGroup, me: &mut Front, n: u8) -> bool
+    requires { me.old.group ≡ group.now }
+    ensures { me.new.group ≡ group.now }
+{
+    let n = n as u64;
+    leaves_open(group, me, n)
+        && leaves_open(group, me, n + 1)
+        && leaves_open(group, me, n + 2)
+        && leaves_open(group, me, n + 3)
+}
+
 #[test]
 fn one_leads_again_and_again(rt: HostRuntime) -> Result<(), Fail> {
     let (group, mut me) = KeyedGroup::new(rt.alloc(), MEETING)?;
@@ -62,13 +93,9 @@ fn one_leads_again_and_again(rt: HostRuntime) -> Result<(), Fail> {
         )
     );
     assert!(rt; group.claim(&mut me, 0));
-    for _ in 0..3 {
-        let Some(flight) = lead(&group, &mut me, ADA) else {
-            panic!(rt; "no call of the name was open")
-        };
-        assert!(rt; matches!(group.settle(&mut me, flight, 7), Settled::Alone));
-        assert!(rt; group.claim(&mut me, 5));
-    }
+    assert!(rt; leads_alone(&group, &mut me, ADA));
+    assert!(rt; group.claim(&mut me, 5) && leads_alone(&group, &mut me, ADA));
+    assert!(rt; leads_alone(&group, &mut me, BOB));
     Ok(())
 }
 
@@ -187,16 +214,15 @@ fn names_that_meet_keep_apart(rt: HostRuntime) -> Result<(), Fail> {
 #[test]
 fn a_slot_has_seventeen_open_calls(rt: HostRuntime) -> Result<(), Fail> {
     let (group, mut me) = KeyedGroup::new(rt.alloc(), MEETING)?;
-    for n in 0..18u64 {
-        assert!(rt; group.claim(&mut me, n));
-        let asked = group.ask(&mut me, Name { low: n, high: 0 }, TRIES);
-        assert!(rt;
-            match asked {
-                Asked::Led(_) => n < 17,
-                Asked::Refused(Refusal::Full) => n == 17,
-                _ => false,
-            }
-        );
-    }
+    assert!(rt; leaves_four_open(&group, &mut me, 0) && leaves_four_open(&group, &mut me, 4));
+    assert!(rt; leaves_four_open(&group, &mut me, 8) && leaves_four_open(&group, &mut me, 12));
+    assert!(rt; leaves_open(&group, &mut me, 16) && group.claim(&mut me, 17));
+    let last = Name { low: 17, high: 0 };
+    assert!(rt;
+        matches!(
+            group.ask(&mut me, last, TRIES),
+            Asked::Refused(Refusal::Full)
+        )
+    );
     Ok(())
 }
