@@ -371,8 +371,8 @@ static void forgets_in_order(uint64_t number, int actors, bool (*waits)(int, con
 }
 
 /* The leader of a call stops right after the library's settling, by which all who joined have their letters, and again before what
- * followed is taken out of the side table. Who asks meanwhile finds the call there, as one that was moved, or without a seat by its slot,
- * and gets its value if none was returned before. Who has returned the value and asks again gets a newer one. `phase` says how far it is:
+ * followed is taken out of the side table. A caller that asks meanwhile finds the call there, as one that was moved, or without a seat by its slot,
+ * and gets its value if none was returned before. A caller that has returned the value and asks again gets a newer one. `phase` says how far it is:
  * 0: the leader is about to ask;
  * 1: it loads;
  * 2: another one follows, and, where that is wanted, the pool was renewed;
