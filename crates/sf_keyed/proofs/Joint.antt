@@ -1,9 +1,9 @@
--- What was added after something was heard, and what the bit of a state says.
-use Rattle.std.proofs.Common.{◌≡◌, ℕ, ◌/◌, ◌%◌, ◌++◌, eqb, eq-eqb, true, false, List, sym, ◌∙◌, ap, arith, append_assoc}
-use Rattle.std.proofs.lemmas.Bool.{true≢false, eqb-true}
-use mathlib.Core.Logic.{dite}
-use native.Mathlib.Decide.{ℕ_discrete}
-use Rattle.sf_keyed_tells.specs.Tells.{KeyedEvent}
+-- What was added after something was heard, and what is open.
+use Rattle.std.proofs.Common.{◌≡◌, ℕ, ◌++◌, Bool, true, false, List, Option, Some, None, sym, ◌∙◌, ap, append_assoc}
+use Rattle.std.proofs.lemmas.Bool.{true≢false}
+use Rattle.sf_history.specs.declared.call.CallId.{CallId}
+use Rattle.sf_keyed_tells.proofs.Telling.{call_number}
+use Rattle.sf_keyed_tells.specs.Tells.{KeyedEvent, call_of}
 
 pub joint : (a more b x w1 w2 : List KeyedEvent) → w1 ≡ a ++ more → w2 ≡ (w1 ++ b) ++ x → w2 ≡ (a ++ (more ++ b)) ++ x
 joint a more b x w1 w2 p q = q ∙ ap (λ l. l ++ x) (ap (λ l. l ++ b) p ∙ append_assoc a more b)
@@ -11,10 +11,17 @@ joint a more b x w1 w2 p q = q ∙ ap (λ l. l ++ x) (ap (λ l. l ++ b) p ∙ ap
 pub two_parts : (a more b w1 w2 : List KeyedEvent) → w1 ≡ a ++ more → w2 ≡ w1 ++ b → w2 ≡ a ++ (more ++ b)
 two_parts a more b w1 w2 p q = q ∙ (ap (λ l. l ++ b) p ∙ append_assoc a more b)
 
-pub bit_none : (n : ℕ) → eqb (n / 1048576 % 2) 1 ≡ false → n / 1048576 % 2 ≡ 0
-bit_none n isnt1 = dite (ℕ_discrete (n / 1048576 % 2) 1)
-    (λ one. absurd (true≢false (sym (eq-eqb (n / 1048576 % 2) 1 one) ∙ isnt1)))
-    (λ isnt. omega (arith, isnt))
+abbrev call_in : Option CallId → CallId
+call_in (Some c) = c
+call_in None = record { caller = 0; generation = 0 }
 
-pub bit_some : (n : ℕ) → eqb (n / 1048576 % 2) 1 ≡ true → n / 1048576 % 2 ≡ 1
-bit_some n is = eqb-true (n / 1048576 % 2) 1 is
+abbrev is_there : Option CallId → Bool
+is_there (Some c) = true
+is_there None = false
+
+-- what is open is not this call
+pub not_open : (o : Option CallId) (e : ℕ) → o ≡ None → o ≡ Some (call_of e) → ⊥
+not_open o e none is = true≢false (ap is_there (sym is ∙ none))
+
+pub other_open : (o : Option CallId) (d e : ℕ) → o ≡ Some (call_of d) → (d ≡ e → ⊥) → o ≡ Some (call_of e) → ⊥
+other_open o d e there apart is = apart (call_number d e (ap call_in (sym there ∙ is)))

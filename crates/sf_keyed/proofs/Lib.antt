@@ -1,1 +1,3 @@
 pub mod Joint
+mod Headlines
+pub mod Naming

@@ -9,13 +9,29 @@ pub record GroupId : Type 0 where
   pub table : TableId
   pub sizes : KeyedSizes
 
--- what a caller has seen: a beginning of the group's one history; and its spare cell, as the call that would be led there next, or 0
+-- What a caller has met, which causes of refusals are said of: how many exchanges it has lost, each since a word was changed by others between
+-- its load of it and the exchange; the top word of the slot that it walked from last; how many of the calls were open that this walk looked at, at the top
+-- and at 16 side words; and the state word that it looked at last, and where a free cell's lay
+pub record Met : Type 0 where
+  pub lost : ℕ
+  pub top : ℕ
+  pub opened : ℕ
+  pub state : ℕ
+  pub place : ℕ
+
+-- what a caller has seen: a beginning of the group's one history; its spare cell, as the call that would be led there next, or 0; and what it has met
 pub record FrontState : Type 0 where
   pub group : GroupId
   pub seen : List KeyedEvent
   pub spare : ℕ
+  pub met : Met
 
--- a call that is led, and what had been seen when it was
+-- a call that is led, or held
 pub record FlightState : Type 0 where
   pub group : GroupId
   pub call : ℕ
+
+-- what somebody had seen
+pub record NoteState : Type 0 where
+  pub group : GroupId
+  pub seen : List KeyedEvent

@@ -1,2 +1,4 @@
 pub mod Calls
 pub mod Known
+pub mod Headline
+pub mod Names

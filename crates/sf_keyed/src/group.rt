@@ -1,15 +1,15 @@
 //! The group, the tokens of its callers, and its calls. None of them waits, and none takes memory but `new`.
-ghost use Rattle.std.specs.Prelude.{◌≡◌, ◌≢◌, ◌≤◌, ◌<◌, ◌*◌, ◌%◌, ◌^◌, ◌↔◌, IfErr, IfOk, IsTrue};
-ghost use Rattle.sf_keyed_words.specs.Rule.{number, word_total};
+ghost use Rattle.std.specs.Prelude.{◌≡◌, ◌≢◌, ◌≤◌, ◌<◌, ◌*◌, ◌/◌, ◌%◌, ◌^◌, true, false, IfErr, IfOk};
+ghost use Rattle.sf_keyed_words.specs.Rule.{number, word_total, joined_bit, is_forgotten, IsPrefix};
 ghost use Rattle.sf_keyed_walks.specs.Walk.{IsLaid};
-ghost use Rattle.sf_keyed.specs.Calls.{IsAsked, IsForgotten, IsSettled, IsTaken, Sees};
+ghost use Rattle.sf_keyed.specs.Calls.{IsAsked, IsClaimed, IsEnded, IsForgotten, IsSettled, IsTaken, Sees};
 
 use atomic_table::Table;
-use sf_keyed_walks::answer::{leave_call, settle_call, settle_shared, take};
+use sf_keyed_walks::answer::{leave_call, settle_call, take};
 use sf_keyed_walks::often;
-use sf_keyed_words::moving::{join_flight, join_ticket, split_flight, split_ticket};
+use sf_keyed_words::moving::{join_flight, join_note, join_ticket, split_flight, split_ticket};
 use sf_keyed_words::opening::{open, share};
-use sf_keyed_words::steps::{KeyedSeat, claim};
+use sf_keyed_words::steps::{KeyedSeat, claim, look_cell};
 use sf_keyed_words::{KeyedSizes, Law, Name, View};
 use std::alloc::{AllocError, Global};
 use std::marker::Model;
@@ -45,7 +45,7 @@ impl Model for Front {
 
     ghost Value = { FrontState };
 
-    ghost view = { λ f. record { group = record { table = f.seat.table_id; sizes = f.seat.me.0.sizes }; seen = f.seat.me.0.seen; spare = f.spare } };
+    ghost view = { λ f. record { group = record { table = f.seat.table_id; sizes = f.seat.me.0.sizes }; seen = f.seat.me.0.seen; spare = f.spare; met = record { lost = f.seat.me.0.lost; top = f.seat.me.0.found; opened = f.seat.me.0.opened; state = f.seat.me.0.state; place = f.seat.me.0.place } } };
 
     ghost invariant = { λ f. (f.seat.me.0.own ≡ f.spare) × (f.seat.me.0.leads ≡ 0) × (f.seat.me.0.ticket ≡ 0) × (f.spare < 2 ^ 61) × (f.spare ≢ 0 → f.spare % 1048576 < f.seat.me.0.sizes.cells) };
 }
@@ -87,6 +87,41 @@ impl Model for Ticket {
     ghost invariant = { λ f. (f.seat.me.0.ticket ≡ f.call) × (f.call ≢ 0) × (f.call < 2 ^ 61) × (f.call % 1048576 < f.seat.me.0.sizes.cells) × (f.seat.me.0.own ≡ 0) × (f.seat.me.0.leads ≡ 0) × (f.seat.me.1 ≡ []) };
 }
 
+/// What a caller has seen, for another caller.
+#[derive(Drop)]
+pub struct Note {
+    seat: KeyedSeat,
+}
+
+impl Model for Note {
+    ghost use Rattle.std.specs.Prelude.{◌≡◌, []};
+    ghost use Rattle.sf_keyed.specs.Known.{NoteState};
+
+    ghost Value = { NoteState };
+
+    ghost view = { λ n. record { group = record { table = n.seat.table_id; sizes = n.seat.me.0.sizes }; seen = n.seat.me.0.seen } };
+
+    ghost invariant = { λ n. (n.seat.me.0.own ≡ 0) × (n.seat.me.0.leads ≡ 0) × (n.seat.me.0.ticket ≡ 0) × (n.seat.me.1 ≡ []) };
+}
+
+impl Flight {
+    /// The call's number: its cell in the lower 20 bits, and above it the cell's generation.
+    pub fn call(&self) -> u64
+        ensures { result ≡ self.now.call }
+    {
+        self.call
+    }
+}
+
+impl Ticket {
+    /// The call's number: its cell in the lower 20 bits, and above it the cell's generation.
+    pub fn call(&self) -> u64
+        ensures { result ≡ self.now.call }
+    {
+        self.call
+    }
+}
+
 /// How an asking ended.
 #[derive(Drop)]
 pub enum Asked {
@@ -101,14 +136,40 @@ pub enum Asked {
 /// Why nothing was done.
 #[derive(Clone, Copy, Debug, PartialEq, Eq)]
 pub enum Refusal {
-    /// Others were first at each try.
+    /// In each try others changed a word between its load and the exchange.
     Busy,
-    /// All side words of the name's slot had open calls.
+    /// The name's slot and all its side words had open calls.
     Full,
     /// The slot is sealed: the group has grown.
     Sealed,
     /// The name has no open call, and the caller no spare cell.
     NoCell,
+    /// The name's open call has 1,048,575 holders, which is as many as can be counted.
+    Crowded,
+}
+
+/// How a claim of a cell ended.
+#[derive(Clone, Copy, Debug, PartialEq, Eq)]
+pub enum Claim {
+    /// The caller has a spare cell.
+    Ready,
+    /// The cell has a call, or a holder.
+    InUse,
+    /// The cell has had its last call, the 2,199,023,255,550th: it is passed over for good.
+    Worn,
+    /// Others claimed the cell first.
+    Busy,
+}
+
+/// Who is told of a Settle.
+#[derive(Clone, Copy, Debug, PartialEq, Eq)]
+pub struct Audience {
+    /// How many hold the call: the one who settles it, and all who joined and have not left.
+    pub holders: u64,
+    /// Whether somebody joined the call, also one who has left since.
+    pub joined: bool,
+    /// Whether a Forget had closed the call.
+    pub forgotten: bool,
 }
 
 /// How a Settle ended.
@@ -116,33 +177,54 @@ pub enum Refusal {
 pub enum Settled {
     /// Nobody has joined the call, and no Forget has closed it: nobody is told the value, and the caller has the cell to spare.
     Alone,
-    /// The value is told to whoever holds the call, and somebody has joined it or not.
-    Told(Ticket, bool),
+    /// The value is told to whoever holds the call.
+    Told(Ticket, Audience),
 }
 
-/// How a Forget ended.
+/// How a Forget of a name ended.
 #[derive(Clone, Copy, Debug, PartialEq, Eq)]
 pub enum Forgotten {
     /// It closed the name's open call, which has this number.
     Closed(u64),
     /// At a moment during the call the name had no open call.
     Nothing,
-    /// Others were first at each try, and nothing was done.
+    /// In each try others changed a word between its load and the exchange, and nothing was done.
+    Busy,
+}
+
+/// How a Forget of one call ended.
+#[derive(Clone, Copy, Debug, PartialEq, Eq)]
+pub enum Ended {
+    /// It closed the call.
+    Closed,
+    /// At a moment during the Forget the call was not the name's open call, and never will be again.
+    Gone,
+    /// In each try others changed a word between its load and the exchange, and nothing was done.
     Busy,
 }
 
 // The state of a cell that has had its last call but one: 2 ^ 41 - 2 of them.
 const LAST_STATE: u64 = 18_446_744_073_692_774_400;
 
-// The generation that a cell's last call but one has.
-const LAST_GENERATION: u64 = 2_199_023_255_551;
+// What a state word says of those who are told of a Settle.
+fn told_by(state: u64) -> Audience
+    ensures holders { result.holders ≡ state % 1048576 }
+    ensures joined { (result.joined ≡ true → joined_bit state ≡ 1) × (result.joined ≡ false → joined_bit state ≡ 0) }
+    ensures forgotten { result.forgotten ≡ is_forgotten state }
+{
+    Audience {
+        holders: state % 1_048_576,
+        joined: state / 1_048_576 % 2 == 1,
+        forgotten: state / 2_097_152 % 4 != 2,
+    }
+}
 
 impl KeyedGroup {
     /// A group of these sizes, and its first caller. Refused where there is no memory.
     pub fn new(alloc: Global, sizes: KeyedSizes) -> Result<(KeyedGroup, Front), AllocError>
         requires tops { (0 < sizes.tops) × (sizes.tops ≤ 4294967296) × (sizes.tops ≤ sizes.sides * 4) }
         requires sides { sizes.sides % 16 ≡ 0 }
-        requires cells { sizes.cells ≤ 1048576 }
+        requires cells { (0 < sizes.cells) × (sizes.cells ≤ 1048576) }
         requires total { word_total sizes < 2 ^ 60 }
         ensures group { IfOk result (λ made. made.0.sizes ≡ sizes) }
         ensures front { IfOk result (λ made. (made.1.group ≡ made.0) × (made.1.spare ≡ 0)) }
@@ -155,7 +237,7 @@ impl KeyedGroup {
     /// at the name's slot meanwhile.
     pub fn ask(&self, me: &mut Front, name: Name, tries: u32) -> Asked
         requires own { me.old.group ≡ self.now }
-        ensures { IsAsked me.old me.new (number name) result }
+        ensures { IsAsked me.old me.new (number name) tries result }
     {
         let words = &self.table.shared;
         match often::ask_often(words, &mut me.seat, self.sizes, me.spare, name, tries) {
@@ -173,6 +255,7 @@ impl KeyedGroup {
             sf_keyed_walks::walk::Asked::Full => Asked::Refused(Refusal::Full),
             sf_keyed_walks::walk::Asked::Sealed => Asked::Refused(Refusal::Sealed),
             sf_keyed_walks::walk::Asked::NoCell => Asked::Refused(Refusal::NoCell),
+            sf_keyed_walks::walk::Asked::Crowded => Asked::Refused(Refusal::Crowded),
         }
     }
 
@@ -180,40 +263,68 @@ impl KeyedGroup {
     /// meanwhile, or join the call.
     pub fn forget(&self, me: &mut Front, name: Name, tries: u32) -> Forgotten
         requires own { me.old.group ≡ self.now }
-        ensures { IsForgotten me.old me.new (number name) result }
+        ensures { IsForgotten me.old me.new (number name) tries result }
     {
-        match often::forget_often(&self.table.shared, &mut me.seat, self.sizes, name, tries) {
+        match often::forget_often(
+            &self.table.shared,
+            &mut me.seat,
+            self.sizes,
+            name,
+            None,
+            tries,
+        ) {
             sf_keyed_walks::walk::Closing::Closed(call) => Forgotten::Closed(call),
             sf_keyed_walks::walk::Closing::Nothing => Forgotten::Nothing,
+            sf_keyed_walks::walk::Closing::Other(_) => Forgotten::Busy,
             sf_keyed_walks::walk::Closing::Busy => Forgotten::Busy,
         }
     }
 
-    /// Takes a free cell for the next call that the caller leads, if it has none to spare: the cell of this number, counted from 0 and
-    /// on from the last to the first. Returns whether the caller has a spare cell then. A cell that is taken, or has had its last
-    /// call, is passed over by asking for the next one.
-    pub fn claim(&self, me: &mut Front, cell: u64) -> bool
+    /// Forgets one call of the name: closes it if it is the name's open call, and no other call. It tries so often.
+    pub fn forget_call(&self, me: &mut Front, name: Name, call: u64, tries: u32) -> Ended
         requires own { me.old.group ≡ self.now }
-        ensures { (me.new.group ≡ me.old.group) × (me.new.seen ≡ me.old.seen) × (IsTrue result ↔ (me.new.spare ≢ 0)) × (me.old.spare ≢ 0 → me.new.spare ≡ me.old.spare) }
+        ensures { IsEnded me.old me.new (number name) call tries result }
+    {
+        match often::forget_often(
+            &self.table.shared,
+            &mut me.seat,
+            self.sizes,
+            name,
+            Some(call),
+            tries,
+        ) {
+            sf_keyed_walks::walk::Closing::Closed(_) => Ended::Closed,
+            sf_keyed_walks::walk::Closing::Nothing => Ended::Gone,
+            sf_keyed_walks::walk::Closing::Other(_) => Ended::Gone,
+            sf_keyed_walks::walk::Closing::Busy => Ended::Busy,
+        }
+    }
+
+    /// Takes a free cell for the next call that the caller leads, unless it has one to spare: the cell of this number, counted from 0 and
+    /// on from the last to the first.
+    pub fn claim(&self, me: &mut Front, cell: u64) -> Claim
+        requires own { me.old.group ≡ self.now }
+        ensures stays { (me.new.group ≡ me.old.group) × (me.new.seen ≡ me.old.seen) }
+        ensures claimed { IsClaimed me.old me.new cell result }
     {
         if me.spare != 0 {
-            return true;
-        }
-        if self.sizes.cells == 0 {
-            return false;
+            return Claim::Ready;
         }
         let words = &self.table.shared;
         let cell = cell % self.sizes.cells;
         let at = self.sizes.tops + self.sizes.sides + 8 * cell;
-        let old = words.peek(at as usize);
-        if old % 8_388_608 != 0 || old >= LAST_STATE {
-            return false;
+        let old = look_cell(words, &mut me.seat, at);
+        if old % 8_388_608 != 0 {
+            return Claim::InUse;
+        }
+        if old >= LAST_STATE {
+            return Claim::Worn;
         }
         if claim(words, &mut me.seat, at, cell, old) != old {
-            return false;
+            return Claim::Busy;
         }
         me.spare = (old / 8_388_608 + 1) * 1_048_576 + cell;
-        true
+        Claim::Ready
     }
 
     /// Settles the call with the value, for good. It cannot fail. The caller that settles holds the call too where its value is told, since
@@ -225,23 +336,16 @@ impl KeyedGroup {
         let words = &self.table.shared;
         let Flight { seat, call } = flight;
         join_flight(words, &mut me.seat, seat);
-        if me.spare == 0 && call / 1_048_576 < LAST_GENERATION {
-            match settle_call(words, &mut me.seat, self.sizes, call, value) {
-                None => {
-                    me.spare = call + 1_048_576;
-                    Settled::Alone
-                }
-                Some(state) => {
-                    let seat = split_ticket(words, &mut me.seat);
-                    let ticket = Ticket { seat, call };
-                    Settled::Told(ticket, state / 1_048_576 % 2 == 1)
-                }
+        match settle_call(words, &mut me.seat, self.sizes, me.spare, call, value) {
+            None => {
+                me.spare = call + 1_048_576;
+                Settled::Alone
             }
-        } else {
-            let state = settle_shared(words, &mut me.seat, self.sizes, call, value);
-            let seat = split_ticket(words, &mut me.seat);
-            let ticket = Ticket { seat, call };
-            Settled::Told(ticket, state / 1_048_576 % 2 == 1)
+            Some(state) => {
+                let seat = split_ticket(words, &mut me.seat);
+                let ticket = Ticket { seat, call };
+                Settled::Told(ticket, told_by(state))
+            }
         }
     }
 
@@ -249,7 +353,7 @@ impl KeyedGroup {
     pub fn take(&self, me: &mut Front, ticket: Ticket) -> Result<u64, Ticket>
         requires own { (me.old.group ≡ self.now) × (ticket.group ≡ self.now) }
         ensures taken { IfOk result (λ value. IsTaken me.old me.new ticket value) }
-        ensures pending { IfErr result (λ back. (back ≡ ticket) × Sees me.old me.new × (me.new.spare ≡ me.old.spare)) }
+        ensures pending { IfErr result (λ back. (back ≡ ticket) × Sees me.old me.new × (me.new.spare ≡ me.old.spare) × (me.new.met.state / 2097152 % 2 ≡ 0)) }
     {
         let words = &self.table.shared;
         let Ticket { seat, call } = ticket;
@@ -282,5 +386,26 @@ impl KeyedGroup {
     {
         let seat = share(&self.table.shared, &mut me.seat);
         Front { seat, spare: 0 }
+    }
+
+    /// What this caller has seen, for another caller: whatever happened before it was told, the other has seen once it has learned it.
+    pub fn tell(&self, me: &mut Front) -> Note
+        requires own { me.old.group ≡ self.now }
+        ensures same { me.new ≡ me.old }
+        ensures note { (result.group ≡ self.now) × (result.seen ≡ me.old.seen) }
+    {
+        Note {
+            seat: share(&self.table.shared, &mut me.seat),
+        }
+    }
+
+    /// Learns what another caller had seen. Both are beginnings of one history.
+    pub fn learn(&self, me: &mut Front, note: Note)
+        requires own { (me.old.group ≡ self.now) × (note.group ≡ self.now) }
+        ensures sees { Sees me.old me.new × (me.new.spare ≡ me.old.spare) }
+        ensures learned { IsPrefix note.seen me.new.seen }
+    {
+        let Note { seat } = note;
+        join_note(&self.table.shared, &mut me.seat, seat);
     }
 }

@@ -6,6 +6,12 @@
 #![tactic(auto)]
 
 mod group;
+pub mod laws;
+pub mod names;
 
-pub use group::{Asked, Flight, Forgotten, Front, KeyedGroup, Refusal, Settled, Ticket};
+pub use group::{
+    Asked, Audience, Claim, Ended, Flight, Forgotten, Front, KeyedGroup, Note, Refusal, Settled,
+    Ticket,
+};
+pub use names::Names;
 pub use sf_keyed_words::{KeyedSizes, Name};

@@ -1,7 +1,8 @@
 ghost use Rattle.std.specs.Prelude.{◌≡◌, IfSome};
 
 use sf_keyed::{
-    Asked, Flight, Forgotten, Front, KeyedGroup, KeyedSizes, Name, Refusal, Settled, Ticket,
+    Asked, Claim, Ended, Flight, Forgotten, Front, KeyedGroup, KeyedSizes, Name, Refusal, Settled,
+    Ticket,
 };
 use std::test::Fail;
 
@@ -63,12 +64,20 @@ fn leads_alone(group: &KeyedGroup, me: &mut Front, name: Name) -> bool
     }
 }
 
+// Whether the caller has a spare cell then.
+fn claims(group: &KeyedGroup, me: &mut Front, cell: u64) -> bool
+    requires { me.old.group ≡ group.now }
+    ensures { me.new.group ≡ group.now }
+{
+    group.claim(me, cell) == Claim::Ready
+}
+
 // Leads a call of the name with this number, and leaves it open. Returns whether it led.
 fn leaves_open(group: &KeyedGroup, me: &mut Front, n: u64) -> bool
     requires { me.old.group ≡ group.now }
     ensures { me.new.group ≡ group.now }
 {
-    group.claim(me, n) && lead(group, me, Name { low: n, high: 0 }).is_some()
+    claims(group, me, n) && lead(group, me, Name { low: n, high: 0 }).is_some()
 }
 
 // Leaves four calls open, from the name with this number on.
@@ -92,9 +101,9 @@ fn one_leads_again_and_again(rt: HostRuntime) -> Result<(), Fail> {
             Asked::Refused(Refusal::NoCell)
         )
     );
-    assert!(rt; group.claim(&mut me, 0));
+    assert!(rt; claims(&group, &mut me, 0));
     assert!(rt; leads_alone(&group, &mut me, ADA));
-    assert!(rt; group.claim(&mut me, 5) && leads_alone(&group, &mut me, ADA));
+    assert!(rt; claims(&group, &mut me, 5) && leads_alone(&group, &mut me, ADA));
     assert!(rt; leads_alone(&group, &mut me, BOB));
     Ok(())
 }
@@ -103,7 +112,7 @@ fn one_leads_again_and_again(rt: HostRuntime) -> Result<(), Fail> {
 fn who_joins_gets_the_value_once_it_is_there(rt: HostRuntime) -> Result<(), Fail> {
     let (group, mut me) = KeyedGroup::new(rt.alloc(), MEETING)?;
     let mut other = group.another(&mut me);
-    assert!(rt; group.claim(&mut me, 0));
+    assert!(rt; claims(&group, &mut me, 0));
     let Some(flight) = lead(&group, &mut me, ADA) else {
         panic!(rt; "no call of the name was open")
     };
@@ -115,8 +124,8 @@ fn who_joins_gets_the_value_once_it_is_there(rt: HostRuntime) -> Result<(), Fail
         Err(back) => back,
     };
     match group.settle(&mut me, flight, 7) {
-        Settled::Told(mine, joined) => {
-            assert!(rt; joined);
+        Settled::Told(mine, on) => {
+            assert!(rt; on.joined && !on.forgotten && on.holders == 2);
             group.leave(&mut me, mine);
         }
         Settled::Alone => panic!(rt; "one had joined"),
@@ -126,7 +135,7 @@ fn who_joins_gets_the_value_once_it_is_there(rt: HostRuntime) -> Result<(), Fail
         Err(_) => panic!(rt; "the call was settled"),
     }
     // The cell is free again.
-    assert!(rt; group.claim(&mut other, 0));
+    assert!(rt; claims(&group, &mut other, 0));
     Ok(())
 }
 
@@ -134,7 +143,7 @@ fn who_joins_gets_the_value_once_it_is_there(rt: HostRuntime) -> Result<(), Fail
 fn who_joined_and_left_counts(rt: HostRuntime) -> Result<(), Fail> {
     let (group, mut me) = KeyedGroup::new(rt.alloc(), MEETING)?;
     let mut other = group.another(&mut me);
-    assert!(rt; group.claim(&mut me, 0));
+    assert!(rt; claims(&group, &mut me, 0));
     let Some(flight) = lead(&group, &mut me, ADA) else {
         panic!(rt; "no call of the name was open")
     };
@@ -143,7 +152,7 @@ fn who_joined_and_left_counts(rt: HostRuntime) -> Result<(), Fail> {
     };
     group.leave(&mut other, ticket);
     match group.settle(&mut me, flight, 7) {
-        Settled::Told(_, joined) => assert!(rt; joined),
+        Settled::Told(_, on) => assert!(rt; on.joined && on.holders == 1),
         Settled::Alone => panic!(rt; "one had joined"),
     }
     Ok(())
@@ -154,7 +163,7 @@ fn a_forget_has_the_next_lead_anew(rt: HostRuntime) -> Result<(), Fail> {
     let (group, mut me) = KeyedGroup::new(rt.alloc(), MEETING)?;
     let mut other = group.another(&mut me);
     assert!(rt; group.forget(&mut other, ADA, TRIES) == Forgotten::Nothing);
-    assert!(rt; group.claim(&mut me, 0) && group.claim(&mut other, 1));
+    assert!(rt; claims(&group, &mut me, 0) && claims(&group, &mut other, 1));
     let Some(old) = lead(&group, &mut me, ADA) else {
         panic!(rt; "no call of the name was open")
     };
@@ -164,8 +173,8 @@ fn a_forget_has_the_next_lead_anew(rt: HostRuntime) -> Result<(), Fail> {
         panic!(rt; "the name's call was closed")
     };
     match group.settle(&mut me, old, 1) {
-        Settled::Told(mine, joined) => {
-            assert!(rt; !joined);
+        Settled::Told(mine, on) => {
+            assert!(rt; !on.joined && on.forgotten);
             group.leave(&mut me, mine);
         }
         Settled::Alone => panic!(rt; "a Forget had closed the call"),
@@ -187,7 +196,7 @@ fn names_that_meet_keep_apart(rt: HostRuntime) -> Result<(), Fail> {
     let mut other = group.another(&mut me);
     let mut third = group.another(&mut me);
     assert!(rt;
-        group.claim(&mut me, 0) && group.claim(&mut other, 1) && group.claim(&mut third, 2)
+        claims(&group, &mut me, 0) && claims(&group, &mut other, 1) && claims(&group, &mut third, 2)
     );
     let Some(ada) = lead(&group, &mut me, ADA) else {
         panic!(rt; "no call of the name was open")
@@ -216,7 +225,7 @@ fn a_slot_has_seventeen_open_calls(rt: HostRuntime) -> Result<(), Fail> {
     let (group, mut me) = KeyedGroup::new(rt.alloc(), MEETING)?;
     assert!(rt; leaves_four_open(&group, &mut me, 0) && leaves_four_open(&group, &mut me, 4));
     assert!(rt; leaves_four_open(&group, &mut me, 8) && leaves_four_open(&group, &mut me, 12));
-    assert!(rt; leaves_open(&group, &mut me, 16) && group.claim(&mut me, 17));
+    assert!(rt; leaves_open(&group, &mut me, 16) && claims(&group, &mut me, 17));
     let last = Name { low: 17, high: 0 };
     assert!(rt;
         matches!(
@@ -224,5 +233,53 @@ fn a_slot_has_seventeen_open_calls(rt: HostRuntime) -> Result<(), Fail> {
             Asked::Refused(Refusal::Full)
         )
     );
+    Ok(())
+}
+
+#[test]
+fn a_cell_in_use_is_passed_over(rt: HostRuntime) -> Result<(), Fail> {
+    let (group, mut me) = KeyedGroup::new(rt.alloc(), MEETING)?;
+    let mut other = group.another(&mut me);
+    assert!(rt; group.claim(&mut me, 3) == Claim::Ready);
+    assert!(rt; group.claim(&mut other, 3) == Claim::InUse);
+    assert!(rt; group.claim(&mut other, 4 + 32) == Claim::Ready);
+    Ok(())
+}
+
+#[test]
+fn a_forget_of_one_call_leaves_the_next_open(rt: HostRuntime) -> Result<(), Fail> {
+    let (group, mut me) = KeyedGroup::new(rt.alloc(), MEETING)?;
+    assert!(rt; claims(&group, &mut me, 0));
+    let Some(first) = lead(&group, &mut me, ADA) else {
+        panic!(rt; "no call of the name was open")
+    };
+    let old = first.call();
+    assert!(rt; group.forget_call(&mut me, BOB, old, TRIES) == Ended::Gone);
+    assert!(rt; group.forget_call(&mut me, ADA, 0, TRIES) == Ended::Gone);
+    assert!(rt; group.forget_call(&mut me, ADA, old, TRIES) == Ended::Closed);
+    assert!(rt; claims(&group, &mut me, 1));
+    let Some(second) = lead(&group, &mut me, ADA) else {
+        panic!(rt; "the name's call was closed")
+    };
+    assert!(rt; group.forget_call(&mut me, ADA, old, TRIES) == Ended::Gone);
+    let mut other = group.another(&mut me);
+    let Some(ticket) = join(&group, &mut other, ADA) else {
+        panic!(rt; "the newer call was open")
+    };
+    assert!(rt; ticket.call() == second.call());
+    group.leave(&mut other, ticket);
+    group.settle(&mut me, first, 1);
+    group.settle(&mut me, second, 2);
+    Ok(())
+}
+
+#[test]
+fn what_was_learned_was_seen(rt: HostRuntime) -> Result<(), Fail> {
+    let (group, mut me) = KeyedGroup::new(rt.alloc(), MEETING)?;
+    let mut other = group.another(&mut me);
+    assert!(rt; claims(&group, &mut me, 0) && leads_alone(&group, &mut me, ADA));
+    let note = group.tell(&mut me);
+    group.learn(&mut other, note);
+    assert!(rt; group.forget(&mut other, ADA, TRIES) == Forgotten::Nothing);
     Ok(())
 }

@@ -1,20 +1,23 @@
 -- What was added since an earlier view, where the steps between changed nothing but the walk.
-use Rattle.std.proofs.Common.{◌≡◌, ℕ, ◌++◌, ◌∷◌, [], Some, refl, sym, ◌∙◌, ap, subst}
+use Rattle.std.proofs.Common.{◌≡◌, ℕ, ◌+◌, None, false, ◌++◌, ◌∷◌, [], Option, Some, ◌≤◌, refl, sym, ◌∙◌, ap, subst, arith}
 use Rattle.sf_history.specs.declared.event.Event.TheVariants.{Enter, Forget}
 use Rattle.sf_keyed_tells.specs.Tells.{call_of}
 use Rattle.sf_keyed_words.specs.declared.rule.View.{View}
-use Rattle.sf_keyed_words.specs.Rule.{IsPrefix}
-use Rattle.sf_keyed_words.specs.Plays.{walk_from, walk_on, read_low, read_high}
-use Rattle.sf_keyed_walks.specs.Walk.{Stays, HasJoined, HasClosed, HasNone}
+use Rattle.sf_keyed_words.specs.Rule.{joined_bit, is_forgotten, IsPrefix}
+use Rattle.sf_keyed_words.specs.Plays.{walk_from, walk_on, met_open, met_closed, read_low, read_high, stored_as, settles, Settled, alone_view}
+use Rattle.sf_keyed_walks.specs.Walk.{Stays, HasJoined, HasClosed, HasNone, HasOther, HasSettled}
 
 pub stays_top : (v w : View) (p n : ℕ) → w ≡ walk_from v p n → Stays v w
-stays_top v w p n is = subst (Stays v) (sym is) (record { sizes = refl; own = refl; leads = refl; ticket = refl; last = refl; seen = refl })
+stays_top v w p n is = subst (Stays v) (sym is) (record { sizes = refl; own = refl; leads = refl; ticket = refl; last = refl; seen = refl; lost = omega arith })
 
 pub stays_on : (v w : View) (n : ℕ) → w ≡ walk_on v n → Stays v w
-stays_on v w n is = subst (Stays v) (sym is) (record { sizes = refl; own = refl; leads = refl; ticket = refl; last = refl; seen = refl })
+stays_on v w n is = subst (Stays v) (sym is) (record { sizes = refl; own = refl; leads = refl; ticket = refl; last = refl; seen = refl; lost = omega arith })
 
-pub stays_read : (v w : View) (low high : ℕ) → w ≡ read_high (read_low v low) high → Stays v w
-stays_read v w low high is = subst (Stays v) (sym is) (record { sizes = refl; own = refl; leads = refl; ticket = refl; last = refl; seen = refl })
+pub stays_closed : (v w : View) (n : ℕ) → w ≡ met_closed v n → Stays v w
+stays_closed v w n is = subst (Stays v) (sym is) (record { sizes = refl; own = refl; leads = refl; ticket = refl; last = refl; seen = refl; lost = omega arith })
+
+pub stays_read : (v w : View) (n low high : ℕ) → w ≡ read_high (read_low (met_open v n) low) high → Stays v w
+stays_read v w n low high is = subst (Stays v) (sym is) (record { sizes = refl; own = refl; leads = refl; ticket = refl; last = refl; seen = refl; lost = omega arith })
 
 pub stays_both : (u v w : View) → Stays u v → Stays v w → Stays u w
 stays_both u v w a b = record {
@@ -24,6 +27,7 @@ stays_both u v w a b = record {
   ticket = b.ticket ∙ a.ticket;
   last = b.last ∙ a.last;
   seen = b.seen ∙ a.seen;
+  lost = let x = a.lost in let y = b.lost in omega (arith, x, y);
 }
 
 pub closed_from : (u v w : View) (call name : ℕ) → Stays u v → HasClosed v w call name → HasClosed u w call name
@@ -32,7 +36,7 @@ closed_from u v w call name a b = record {
   leads = b.leads ∙ a.leads;
   ticket = b.ticket ∙ a.ticket;
   own_is = b.own_is ∙ a.own;
-  adds = record { before = b.adds.before; seen = b.adds.seen ∙ ap (λ l. (l ++ b.adds.before) ++ Forget 0 name (Some (call_of call)) ∷ []) a.seen };
+  adds = record { before = b.adds.before; seen = b.adds.seen ∙ ap (λ l. (l ++ b.adds.before) ++ Forget 0 name (Some (call_of call)) ∷ []) a.seen; legal = b.adds.legal };
 }
 
 pub joined_from : (u v w : View) (call name : ℕ) → Stays u v → HasJoined v w call name → HasJoined u w call name
@@ -42,7 +46,7 @@ joined_from u v w call name a b = record {
   ticket = b.ticket;
   own_is = b.own_is ∙ a.own;
   member = b.member;
-  adds = record { before = b.adds.before; seen = b.adds.seen ∙ ap (λ l. (l ++ b.adds.before) ++ Enter b.member.caller name (call_of call) b.member ∷ []) a.seen };
+  adds = record { before = b.adds.before; seen = b.adds.seen ∙ ap (λ l. (l ++ b.adds.before) ++ Enter b.member.caller name (call_of call) b.member ∷ []) a.seen; legal = b.adds.legal };
 }
 
 pub none_from : (u v w : View) (name : ℕ) → Stays u v → HasNone v w name → HasNone u w name
@@ -51,6 +55,39 @@ none_from u v w name a b = record {
   own_is = b.own_is ∙ a.own;
   leads = b.leads ∙ a.leads;
   ticket = b.ticket ∙ a.ticket;
-  grows = subst (λ l. IsPrefix l w.seen) a.seen b.grows;
+  grows = record { seen = subst (λ l. IsPrefix l w.seen) a.seen b.grows.seen; legal = b.grows.legal };
   none = b.none;
 }
+
+pub other_from : (u v w : View) (call name : ℕ) (only : Option ℕ) → Stays u v → HasOther v w call name only → HasOther u w call name only
+other_from u v w call name only a b = record {
+  sizes = b.sizes ∙ a.sizes;
+  own_is = b.own_is ∙ a.own;
+  leads = b.leads ∙ a.leads;
+  ticket = b.ticket ∙ a.ticket;
+  grows = record { seen = subst (λ l. IsPrefix l w.seen) a.seen b.grows.seen; legal = b.grows.legal };
+  other = b.other;
+  apart = b.apart;
+}
+
+-- a Settle whose value was stored just before
+pub settled_from : (v w : View) (call value n : ℕ) → v.leads ≡ call → settles (stored_as v value) n w
+    → (w.ticket ≡ call) × (w.own ≡ v.own) × (w.state ≡ n) × HasSettled v w call (Some value) (joined_bit n) (is_forgotten n)
+settled_from v w call value n leads is =
+    let view = is.view in
+    let s = is.settled in (
+      ap (λ (q : View). q.ticket) view ∙ leads,
+      ap (λ (q : View). q.own) view,
+      ap (λ (q : View). q.state) view,
+      subst (λ e. HasSettled v w e (Some value) (joined_bit n) (is_forgotten n)) leads
+          (record { sizes = ap (λ (q : View). q.sizes) view; leads = ap (λ (q : View). q.leads) view; joiners = s.joiners; none = s.none; some = s.some; adds = record { before = s.adds.before; seen = s.adds.seen; legal = s.adds.legal }; was = s.was }),
+    )
+
+-- a Settle of a call that nobody has joined
+pub alone_from : (v w : View) (call : ℕ) → v.leads ≡ call → v.ticket ≡ 0 → w ≡ alone_view v w.seen → Settled v w None 0 false → (w.own ≡ call + 1048576) × (w.ticket ≡ 0) × HasSettled v w call None 0 false
+alone_from v w call leads idle view s = (
+  ap (λ (q : View). q.own) view ∙ ap (λ e. e + 1048576) leads,
+  ap (λ (q : View). q.ticket) view ∙ idle,
+  subst (λ e. HasSettled v w e None 0 false) leads
+      (record { sizes = ap (λ (q : View). q.sizes) view; leads = ap (λ (q : View). q.leads) view; joiners = s.joiners; none = s.none; some = s.some; adds = s.adds; was = s.was }),
+)

@@ -1,7 +1,7 @@
 //! Askings and Forgets that are tried again where another came first.
-ghost use Rattle.std.specs.Prelude.{◌≡◌, ◌≢◌, ◌%◌, ◌<◌, ◌^◌, ℕ, None};
+ghost use Rattle.std.specs.Prelude.{◌≡◌, ◌≢◌, ◌+◌, ◌/◌, ◌%◌, ◌<◌, ◌≤◌, ◌^◌, ℕ, Some, None};
 ghost use Rattle.sf_keyed_words.specs.Rule.{number};
-ghost use Rattle.sf_keyed_walks.specs.Walk.{IsLaid, Stays, HasLed, HasJoined, HasClosed, HasNone, KeepsCalls};
+ghost use Rattle.sf_keyed_walks.specs.Walk.{IsLaid, Stays, HasLed, HasJoined, HasClosed, HasNone, HasOther, KeepsCalls};
 ghost use Rattle.sf_keyed_walks.specs.declared.walk.Asked.TheVariants as asked;
 ghost use Rattle.sf_keyed_walks.specs.declared.walk.Closing.TheVariants as closing;
 
@@ -9,26 +9,30 @@ use crate::walk::{Asked, Closing, ask_once, forget_once};
 use sf_keyed_words::steps::{KeyedSeat, Words};
 use sf_keyed_words::{KeyedSizes, Name};
 
-/// Forgets the name: closes its open call, or finds that it has none. Busy after so many tries.
+/// Forgets the name: closes its open call, or finds that it has none. If `only` is a call, it closes that call alone. Busy after so many
+/// tries, in each of which an exchange was lost to others.
 pub fn forget_often(
     words: &Words,
     seat: &mut KeyedSeat,
     sizes: KeyedSizes,
     name: Name,
+    only: Option<u64>,
     tries: u32,
 ) -> Closing
     requires own { seat.old.table_id ≡ words.now.table_id }
     requires laid { IsLaid words.now.key words.now.table_id.words sizes }
     requires sizes { seat.old.me.0.sizes ≡ sizes }
     ensures own { seat.new.table_id ≡ seat.old.table_id }
-    ensures closed { (call : ℕ) → result ≡ closing.Closed call → HasClosed seat.old.me.0 seat.new.me.0 call (number name) }
+    ensures closed { (call : ℕ) → result ≡ closing.Closed call → HasClosed seat.old.me.0 seat.new.me.0 call (number name) × ((wanted : ℕ) → only ≡ Some wanted → call ≡ wanted) }
     ensures nothing { result ≡ closing.Nothing → HasNone seat.old.me.0 seat.new.me.0 (number name) }
-    ensures busy { result ≡ closing.Busy → Stays seat.old.me.0 seat.new.me.0 }
+    ensures other { (call : ℕ) → result ≡ closing.Other call → HasOther seat.old.me.0 seat.new.me.0 call (number name) only × (only ≢ None) }
+    ensures busy { result ≡ closing.Busy → Stays seat.old.me.0 seat.new.me.0 × (seat.old.me.0.lost + tries ≤ seat.new.me.0.lost) }
     ensures calls { KeepsCalls seat.old.me.0 seat.new.me.0 }
 {
     for at in 0..tries {
-        match forget_once(words, seat, sizes, name) {
+        match forget_once(words, seat, sizes, name, only) {
             Closing::Busy => {}
+            Closing::Other(call) => return Closing::Other(call),
             Closing::Nothing => return Closing::Nothing,
             Closing::Closed(call) => return Closing::Closed(call),
         }
@@ -36,7 +40,8 @@ pub fn forget_often(
     Closing::Busy
 }
 
-/// Asks for the name: joins its open call, or leads the seat's own. Busy after so many tries.
+/// Asks for the name: joins its open call, or leads the seat's own. Busy after so many tries, in each of which an exchange was lost to
+/// others.
 pub fn ask_often(
     words: &Words,
     seat: &mut KeyedSeat,
@@ -47,6 +52,7 @@ pub fn ask_often(
 ) -> Asked
     requires own { seat.old.table_id ≡ words.now.table_id }
     requires laid { IsLaid words.now.key words.now.table_id.words sizes }
+    requires sizes { seat.old.me.0.sizes ≡ sizes }
     requires ready { (seat.old.me.0.own ≡ own) × (own < 2 ^ 61) × (own ≢ 0 → own % 1048576 < sizes.cells) }
     requires idle { (seat.old.me.0.leads ≡ 0) × (seat.old.me.0.ticket ≡ 0) }
     ensures own { seat.new.table_id ≡ seat.old.table_id }
@@ -55,6 +61,10 @@ pub fn ask_often(
     ensures cell { (found : ℕ) → result ≡ asked.Joined found → (found ≢ 0) × (found < 2 ^ 61) × (found % 1048576 < sizes.cells) }
     ensures kept { result ≢ asked.Led → ((found : ℕ) → result ≢ asked.Joined found) → Stays seat.old.me.0 seat.new.me.0 }
     ensures no_cell { (result ≡ asked.NoCell → own ≡ 0) × (result ≡ asked.Led → own ≢ 0) }
+    ensures busy { result ≡ asked.Busy → seat.old.me.0.lost + tries ≤ seat.new.me.0.lost }
+    ensures full { result ≡ asked.Full → seat.new.me.0.opened ≡ 17 }
+    ensures sealed { result ≡ asked.Sealed → seat.new.me.0.found / 2 % 2 ≡ 1 }
+    ensures crowded { result ≡ asked.Crowded → 1048575 ≤ seat.new.me.0.state % 1048576 }
 {
     for at in 0..tries {
         match ask_once(words, seat, sizes, own, name) {
@@ -64,6 +74,7 @@ pub fn ask_often(
             Asked::Full => return Asked::Full,
             Asked::Sealed => return Asked::Sealed,
             Asked::NoCell => return Asked::NoCell,
+            Asked::Crowded => return Asked::Crowded,
         }
     }
     Asked::Busy

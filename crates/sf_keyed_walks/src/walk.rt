@@ -1,31 +1,49 @@
 //! A walk over the slot of a name: an asking, which leads or joins, and a Forget.
-ghost use Rattle.std.specs.Prelude.{◌≡◌, ◌≢◌, ◌+◌, ◌/◌, ◌%◌, ◌<◌, ◌≤◌, ◌^◌, ℕ, true, None};
-ghost use Rattle.sf_keyed_words.specs.Rule.{is_open_word, number};
+ghost use Rattle.std.specs.Prelude.{◌≡◌, ◌≢◌, ◌+◌, ◌/◌, ◌%◌, ◌<◌, ◌≤◌, ◌^◌, ℕ, true, false, Some, None};
+ghost use Rattle.sf_keyed_words.specs.Rule.{is_open_call, number};
 ghost use Rattle.sf_keyed_words.specs.Rule.{slot_of as the_slot_of};
-ghost use Rattle.sf_keyed_walks.specs.Walk.{IsLaid, Examined, Stays, HasLooked, HasLed, HasJoined, HasClosed, HasNone, KeepsCalls};
+ghost use Rattle.sf_keyed_walks.specs.Walk.{IsLaid, Examined, Stays, HasLooked, MetNone, Shown, Began, WentThrough, HasMet, HasLed, HasJoined, HasClosed, HasNone, HasOther, KeepsCalls};
+ghost use Rattle.sf_keyed_walks.specs.declared.walk.Walked.{Walked as WalkedFields};
+ghost use Rattle.sf_keyed_walks.specs.declared.walk.Way.TheVariants as way;
 ghost use Rattle.sf_keyed_walks.specs.declared.walk.Asked.TheVariants as asked;
 ghost use Rattle.sf_keyed_walks.specs.declared.walk.Closing.TheVariants as closing;
 
 use sf_keyed_words::steps::{
-    KeyedSeat, Words, close, find_none, join, lead, look_side, look_top, read, read_low, see,
-    set_aside, store_high, store_low,
+    KeyedSeat, Words, close, confirm, find_none, join, lead, look_side, look_top, read, read_low,
+    see, set_aside, store_high, store_low,
 };
 use sf_keyed_words::{KeyedSizes, Name};
 
 // How many side words a slot has.
 const SIDES: u64 = 16;
 
-/// What is known of a call that was looked at: it is closed; it has another name, if it is open; or it has the name, and
-/// this state.
+/// What is known of a call that was looked at, whose state was this: it is closed; it has another name, if it is open; or it has the name.
 #[derive(Clone, Copy)]
 pub enum Look {
-    Closed,
-    Other(Name),
+    Closed(u64),
+    Other(Name, u64),
     Named(u64),
 }
 
+/// What a walk has shown: whether the top has to be set aside yet, whether it has met a call of the slot that may be open, and whether
+/// another took a side word first.
+#[derive(Clone, Copy)]
+pub struct Walked {
+    pub aside: bool,
+    pub marks: bool,
+    pub taken: bool,
+}
+
+/// How a walk ended: it met a call of the name, in this state, or came to the end, from this top word.
+#[derive(Clone, Copy)]
+enum Way {
+    Met(u64, u64),
+    Through(u64, Walked),
+}
+
 /// How an asking ended: a new call is led; the name's open call is joined; another came first; the side words have open calls
-/// all; the slot is sealed; or the name has no open call, and the seat has no cell for a new one.
+/// all; the slot is sealed; the name has no open call, and the seat has no cell for a new one; or the name's open call has as many
+/// holders as its state word can count.
 #[derive(Clone, Copy)]
 pub enum Asked {
     Led,
@@ -34,21 +52,23 @@ pub enum Asked {
     Full,
     Sealed,
     NoCell,
+    Crowded,
 }
 
-/// How a Forget ended: it closed this call; the name had none; or another came first.
+/// How a Forget ended: it closed this call; the name had none; the name had this other open call; or another came first.
 #[derive(Clone, Copy)]
 pub enum Closing {
     Closed(u64),
     Nothing,
+    Other(u64),
     Busy,
 }
 
-// Whether a state word says that the call is open.
+// Whether a state word says that the call is some call, and open.
 fn is_open(state: u64, call: u64) -> bool
-    ensures { result ≡ is_open_word state call }
+    ensures { result ≡ is_open_call state call }
 {
-    state / 8_388_608 == call / 1_048_576 && state / 2_097_152 % 4 == 2
+    call != 0 && state / 8_388_608 == call / 1_048_576 && state / 2_097_152 % 4 == 2
 }
 
 // The slot of a name.
@@ -75,14 +95,14 @@ fn examine(words: &Words, seat: &mut KeyedSeat, sizes: KeyedSizes, call: u64, na
     let cell = call % 1_048_576;
     let state = see(words, seat, sizes.tops + sizes.sides + 8 * cell);
     if !is_open(state, call) {
-        return Look::Closed;
+        return Look::Closed(state);
     }
     let low = read_low(words, seat, sizes.tops + sizes.sides + 8 * cell + 1);
     let high = read(words, seat, sizes.tops + sizes.sides + 8 * cell + 2);
     if low == name.low && high == name.high {
         Look::Named(state)
     } else {
-        Look::Other(Name { low, high })
+        Look::Other(Name { low, high }, state)
     }
 }
 
@@ -97,34 +117,156 @@ fn join_found(
 ) -> Asked
     requires own { seat.old.table_id ≡ words.now.table_id }
     requires laid { IsLaid words.now.key words.now.table_id.words sizes }
-    requires call { (seat.old.me.0.but ≡ call) × (call % 1048576 < sizes.cells) }
-    requires named { (seat.old.me.0.told ≡ true) × (seat.old.me.0.name ≡ number name) × (is_open_word state call ≡ true) }
+    requires met { HasMet sizes seat.old.me.0 call state (number name) }
     requires idle { seat.old.me.0.ticket ≡ 0 }
     ensures own { seat.new.table_id ≡ seat.old.table_id }
-    ensures led { (result ≢ asked.Led) × (result ≢ asked.NoCell) }
+    ensures led { (result ≢ asked.Led) × (result ≢ asked.NoCell) × (result ≢ asked.Full) × (result ≢ asked.Sealed) }
     ensures joined { (found : ℕ) → result ≡ asked.Joined found → HasJoined seat.old.me.0 seat.new.me.0 found (number name) }
     ensures cell { (found : ℕ) → result ≡ asked.Joined found → (found ≢ 0) × (found < 2 ^ 61) × (found % 1048576 < sizes.cells) }
     ensures kept { ((found : ℕ) → result ≢ asked.Joined found) → Stays seat.old.me.0 seat.new.me.0 }
+    ensures busy { result ≡ asked.Busy → seat.old.me.0.lost < seat.new.me.0.lost }
+    ensures crowded { result ≡ asked.Crowded → 1048575 ≤ seat.new.me.0.state % 1048576 }
 {
-    if call == 0 || state % 1_048_576 >= 1_048_575 {
-        return Asked::Busy;
+    if state % 1_048_576 >= 1_048_575 {
+        return Asked::Crowded;
     }
     let new = if state / 1_048_576 % 2 == 0 {
         state + 1_048_577
     } else {
         state + 1
     };
-    if join(
-        words,
-        seat,
-        sizes.tops + sizes.sides + 8 * (call % 1_048_576),
-        state,
-        new,
-    ) == state
-    {
+    let at = sizes.tops + sizes.sides + 8 * (call % 1_048_576);
+    if join(words, seat, at, state, new) == state {
         Asked::Joined(call)
     } else {
         Asked::Busy
+    }
+}
+
+// Looks at the slot's top word, and at its call.
+fn look_first(
+    words: &Words,
+    seat: &mut KeyedSeat,
+    sizes: KeyedSizes,
+    slot: u64,
+    name: Name,
+    leads: bool,
+) -> Way
+    requires own { seat.old.table_id ≡ words.now.table_id }
+    requires laid { IsLaid words.now.key words.now.table_id.words sizes }
+    requires sizes { seat.old.me.0.sizes ≡ sizes }
+    requires slot { slot < sizes.tops }
+    ensures own { seat.new.table_id ≡ seat.old.table_id }
+    ensures stays { Stays seat.old.me.0 seat.new.me.0 }
+    ensures met { (call state : ℕ) → result ≡ way.Met call state → HasMet sizes seat.new.me.0 call state (number name) }
+    ensures began { (found : ℕ) (on : WalkedFields) → result ≡ way.Through found on → Began sizes slot found (number name) seat.new.me.0 leads on }
+{
+    let found = look_top(words, seat, slot);
+    match examine(words, seat, sizes, found / 4, name) {
+        Look::Named(state) => Way::Met(found / 4, state),
+        Look::Other(held, _) => {
+            let marks = slot_of(sizes, held) == slot;
+            Way::Through(
+                found,
+                Walked {
+                    aside: leads,
+                    marks,
+                    taken: false,
+                },
+            )
+        }
+        Look::Closed(_) => Way::Through(
+            found,
+            Walked {
+                aside: false,
+                marks: false,
+                taken: false,
+            },
+        ),
+    }
+}
+
+// Looks at the slot's side words, after the top word, which was this. Where the top has to be set aside yet, it is, in place of a closed call.
+fn walk_sides(
+    words: &Words,
+    seat: &mut KeyedSeat,
+    sizes: KeyedSizes,
+    slot: u64,
+    found: u64,
+    name: Name,
+    before: Walked,
+) -> Way
+    requires own { seat.old.table_id ≡ words.now.table_id }
+    requires laid { IsLaid words.now.key words.now.table_id.words sizes }
+    requires sizes { seat.old.me.0.sizes ≡ sizes }
+    requires slot { slot < sizes.tops }
+    requires top { HasLooked seat.old.me.0 slot found 0 (number name) }
+    requires opened { before.aside ≡ true → seat.old.me.0.opened ≡ 1 }
+    requires marks { before.marks ≡ false → MetNone sizes slot seat.old.me.0 }
+    requires taken { before.taken ≡ false }
+    ensures own { seat.new.table_id ≡ seat.old.table_id }
+    ensures stays { Stays seat.old.me.0 seat.new.me.0 }
+    ensures met { (call state : ℕ) → result ≡ way.Met call state → HasMet sizes seat.new.me.0 call state (number name) }
+    ensures through { (top : ℕ) (on : WalkedFields) → result ≡ way.Through top on → (top ≡ found) × HasLooked seat.new.me.0 slot found 16 (number name) × Shown sizes slot 16 seat.old.me.0 seat.new.me.0 before.aside on }
+{
+    let first = sizes.tops + slot / 64 * 16;
+    let mut on = before;
+    for at in 0..SIDES {
+        let named = look_side(words, seat, first + at);
+        let call = named / 4;
+        if call == found / 4 {
+            on.aside = false;
+        }
+        match examine(words, seat, sizes, call, name) {
+            Look::Named(state) => return Way::Met(call, state),
+            Look::Other(held, _) => {
+                if slot_of(sizes, held) == slot {
+                    on.marks = true;
+                }
+            }
+            Look::Closed(_) => {
+                if on.aside {
+                    if set_aside(words, seat, first + at, at, named, found / 4 * 4) == named {
+                        on.aside = false;
+                    } else {
+                        on.taken = true;
+                    }
+                }
+            }
+        }
+    }
+    Way::Through(found, on)
+}
+
+// Walks over the slot's words for the name. The side words of a slot whose top is not marked have no call of it, and are passed over, unless
+// the top has to be set aside so that a call may be led.
+fn walk_slot(
+    words: &Words,
+    seat: &mut KeyedSeat,
+    sizes: KeyedSizes,
+    slot: u64,
+    name: Name,
+    leads: bool,
+) -> Way
+    requires own { seat.old.table_id ≡ words.now.table_id }
+    requires laid { IsLaid words.now.key words.now.table_id.words sizes }
+    requires sizes { seat.old.me.0.sizes ≡ sizes }
+    requires slot { slot < sizes.tops }
+    ensures own { seat.new.table_id ≡ seat.old.table_id }
+    ensures stays { Stays seat.old.me.0 seat.new.me.0 }
+    ensures met { (call state : ℕ) → result ≡ way.Met call state → HasMet sizes seat.new.me.0 call state (number name) }
+    ensures through { (found : ℕ) (on : WalkedFields) → result ≡ way.Through found on → WentThrough sizes slot found (number name) seat.new.me.0 leads on }
+    ensures taken { (found : ℕ) (on : WalkedFields) → result ≡ way.Through found on → on.taken ≡ true → seat.old.me.0.lost < seat.new.me.0.lost }
+{
+    match look_first(words, seat, sizes, slot, name, leads) {
+        Way::Met(call, state) => Way::Met(call, state),
+        Way::Through(found, on) => {
+            if found % 2 == 1 || on.aside {
+                walk_sides(words, seat, sizes, slot, found, name, on)
+            } else {
+                Way::Through(found, on)
+            }
+        }
     }
 }
 
@@ -139,6 +281,7 @@ pub fn ask_once(
 ) -> Asked
     requires own { seat.old.table_id ≡ words.now.table_id }
     requires laid { IsLaid words.now.key words.now.table_id.words sizes }
+    requires sizes { seat.old.me.0.sizes ≡ sizes }
     requires ready { (seat.old.me.0.own ≡ own) × (own < 2 ^ 61) × (own ≢ 0 → own % 1048576 < sizes.cells) }
     requires idle { (seat.old.me.0.leads ≡ 0) × (seat.old.me.0.ticket ≡ 0) }
     ensures own { seat.new.table_id ≡ seat.old.table_id }
@@ -147,39 +290,52 @@ pub fn ask_once(
     ensures cell { (found : ℕ) → result ≡ asked.Joined found → (found ≢ 0) × (found < 2 ^ 61) × (found % 1048576 < sizes.cells) }
     ensures kept { result ≢ asked.Led → ((found : ℕ) → result ≢ asked.Joined found) → Stays seat.old.me.0 seat.new.me.0 }
     ensures no_cell { (result ≡ asked.NoCell → own ≡ 0) × (result ≡ asked.Led → own ≢ 0) }
+    ensures busy { result ≡ asked.Busy → seat.old.me.0.lost < seat.new.me.0.lost }
+    ensures full { result ≡ asked.Full → seat.new.me.0.opened ≡ 17 }
+    ensures sealed { result ≡ asked.Sealed → seat.new.me.0.found / 2 % 2 ≡ 1 }
+    ensures crowded { result ≡ asked.Crowded → 1048575 ≤ seat.new.me.0.state % 1048576 }
 {
     let slot = slot_of(sizes, name);
-    let found = look_top(words, seat, slot);
-    let top = found / 4;
-    if top % 1_048_576 >= sizes.cells {
-        return Asked::Busy;
-    }
-    let mut saved = false;
-    match examine(words, seat, sizes, top, name) {
-        Look::Named(state) => return join_found(words, seat, sizes, top, name, state),
-        Look::Other(_) => {}
-        Look::Closed => saved = true,
-    }
-    let first = sizes.tops + slot / 64 * 16;
-    for at in 0..SIDES {
-        let named = look_side(words, seat, first + at);
-        let call = named / 4;
-        if call % 1_048_576 >= sizes.cells {
-            return Asked::Busy;
-        }
-        match examine(words, seat, sizes, call, name) {
-            Look::Named(state) => return join_found(words, seat, sizes, call, name, state),
-            Look::Other(_) => {}
-            Look::Closed => {
-                if !saved && set_aside(words, seat, first + at, at, named, top * 4) == named {
-                    saved = true;
-                }
+    match walk_slot(words, seat, sizes, slot, name, true) {
+        Way::Met(call, state) => join_found(words, seat, sizes, call, name, state),
+        Way::Through(found, on) => {
+            if !on.aside {
+                lead_after(words, seat, sizes, slot, found, own, name, on)
+            } else if on.taken {
+                Asked::Busy
+            } else {
+                Asked::Full
             }
         }
     }
-    if !saved {
-        return Asked::Full;
-    }
+}
+
+// Leads the seat's own call at the end of a walk, from this top word.
+fn lead_after(
+    words: &Words,
+    seat: &mut KeyedSeat,
+    sizes: KeyedSizes,
+    slot: u64,
+    found: u64,
+    own: u64,
+    name: Name,
+    on: Walked,
+) -> Asked
+    requires own { seat.old.table_id ≡ words.now.table_id }
+    requires laid { IsLaid words.now.key words.now.table_id.words sizes }
+    requires slot { (slot < sizes.tops) × (the_slot_of sizes (number name) ≡ slot) }
+    requires ready { (seat.old.me.0.own ≡ own) × (own < 2 ^ 61) × (own ≢ 0 → own % 1048576 < sizes.cells) }
+    requires idle { (seat.old.me.0.leads ≡ 0) × (seat.old.me.0.ticket ≡ 0) }
+    requires through { WentThrough sizes slot found (number name) seat.old.me.0 true on }
+    requires saved { on.aside ≡ false }
+    ensures own { seat.new.table_id ≡ seat.old.table_id }
+    ensures led { result ≡ asked.Led → HasLed seat.old.me.0 seat.new.me.0 own (number name) }
+    ensures others { ((call : ℕ) → result ≢ asked.Joined call) × (result ≢ asked.Full) × (result ≢ asked.Crowded) }
+    ensures kept { result ≢ asked.Led → Stays seat.old.me.0 seat.new.me.0 }
+    ensures no_cell { (result ≡ asked.NoCell → own ≡ 0) × (result ≡ asked.Led → own ≢ 0) }
+    ensures busy { result ≡ asked.Busy → seat.old.me.0.lost < seat.new.me.0.lost }
+    ensures sealed { result ≡ asked.Sealed → seat.new.me.0.found / 2 % 2 ≡ 1 }
+{
     if found / 2 % 2 != 0 {
         return Asked::Sealed;
     }
@@ -189,55 +345,68 @@ pub fn ask_once(
     let cell = sizes.tops + sizes.sides + 8 * (own % 1_048_576);
     store_low(words, seat, cell + 1, name.low);
     store_high(words, seat, cell + 2, name.high);
-    if lead(words, seat, slot, found, own * 4 + 1) == found {
+    let new = if on.marks { own * 4 + 1 } else { own * 4 };
+    if lead(words, seat, slot, found, new) == found {
         Asked::Led
     } else {
         Asked::Busy
     }
 }
 
-/// Forgets the name, once: closes its open call, or finds that it has none.
-pub fn forget_once(words: &Words, seat: &mut KeyedSeat, sizes: KeyedSizes, name: Name) -> Closing
+/// Forgets the name, once: closes its open call, or finds that it has none. If `only` is a call, it closes that call alone.
+pub fn forget_once(
+    words: &Words,
+    seat: &mut KeyedSeat,
+    sizes: KeyedSizes,
+    name: Name,
+    only: Option<u64>,
+) -> Closing
     requires own { seat.old.table_id ≡ words.now.table_id }
     requires laid { IsLaid words.now.key words.now.table_id.words sizes }
     requires sizes { seat.old.me.0.sizes ≡ sizes }
     ensures own { seat.new.table_id ≡ seat.old.table_id }
-    ensures closed { (call : ℕ) → result ≡ closing.Closed call → HasClosed seat.old.me.0 seat.new.me.0 call (number name) }
+    ensures closed { (call : ℕ) → result ≡ closing.Closed call → HasClosed seat.old.me.0 seat.new.me.0 call (number name) × ((wanted : ℕ) → only ≡ Some wanted → call ≡ wanted) }
     ensures nothing { result ≡ closing.Nothing → HasNone seat.old.me.0 seat.new.me.0 (number name) }
-    ensures busy { result ≡ closing.Busy → Stays seat.old.me.0 seat.new.me.0 }
+    ensures other { (call : ℕ) → result ≡ closing.Other call → HasOther seat.old.me.0 seat.new.me.0 call (number name) only × (only ≢ None) }
+    ensures busy { result ≡ closing.Busy → Stays seat.old.me.0 seat.new.me.0 × (seat.old.me.0.lost < seat.new.me.0.lost) }
     ensures calls { KeepsCalls seat.old.me.0 seat.new.me.0 }
 {
     let slot = slot_of(sizes, name);
-    let found = look_top(words, seat, slot);
-    let top = found / 4;
-    if top % 1_048_576 >= sizes.cells {
-        return Closing::Busy;
+    match walk_slot(words, seat, sizes, slot, name, false) {
+        Way::Met(call, state) => close_found(words, seat, sizes, call, name, state, only),
+        Way::Through(found, on) => none_after(words, seat, sizes, slot, found, name, on),
     }
-    match examine(words, seat, sizes, top, name) {
-        Look::Named(state) => return close_found(words, seat, sizes, top, name, state),
-        Look::Other(_) => {}
-        Look::Closed => {}
-    }
-    let first = sizes.tops + slot / 64 * 16;
-    for at in 0..SIDES {
-        let call = look_side(words, seat, first + at) / 4;
-        if call % 1_048_576 >= sizes.cells {
-            return Closing::Busy;
-        }
-        match examine(words, seat, sizes, call, name) {
-            Look::Named(state) => return close_found(words, seat, sizes, call, name, state),
-            Look::Other(_) => {}
-            Look::Closed => {}
-        }
-    }
-    if find_none(words, seat, slot) / 4 == top {
+}
+
+// Looks at the top word again, at the end of a walk from this one.
+fn none_after(
+    words: &Words,
+    seat: &mut KeyedSeat,
+    sizes: KeyedSizes,
+    slot: u64,
+    found: u64,
+    name: Name,
+    on: Walked,
+) -> Closing
+    requires own { seat.old.table_id ≡ words.now.table_id }
+    requires laid { IsLaid words.now.key words.now.table_id.words sizes }
+    requires sizes { seat.old.me.0.sizes ≡ sizes }
+    requires slot { (slot < sizes.tops) × (the_slot_of sizes (number name) ≡ slot) }
+    requires through { WentThrough sizes slot found (number name) seat.old.me.0 false on }
+    ensures own { seat.new.table_id ≡ seat.old.table_id }
+    ensures others { ((call : ℕ) → result ≢ closing.Closed call) × ((call : ℕ) → result ≢ closing.Other call) }
+    ensures nothing { result ≡ closing.Nothing → HasNone seat.old.me.0 seat.new.me.0 (number name) }
+    ensures busy { result ≡ closing.Busy → Stays seat.old.me.0 seat.new.me.0 × (seat.old.me.0.lost < seat.new.me.0.lost) }
+    ensures calls { KeepsCalls seat.old.me.0 seat.new.me.0 }
+{
+    if find_none(words, seat, slot) == found {
         Closing::Nothing
     } else {
         Closing::Busy
     }
 }
 
-// Closes the open call of the name that the seat is looking at, in this state.
+// Closes the open call of the name that the seat is looking at, in this state, unless it is to be another.
 fn close_found(
     words: &Words,
     seat: &mut KeyedSeat,
@@ -245,27 +414,29 @@ fn close_found(
     call: u64,
     name: Name,
     state: u64,
+    only: Option<u64>,
 ) -> Closing
     requires own { seat.old.table_id ≡ words.now.table_id }
     requires laid { IsLaid words.now.key words.now.table_id.words sizes }
-    requires call { (seat.old.me.0.but ≡ call) × (call % 1048576 < sizes.cells) }
-    requires named { (seat.old.me.0.told ≡ true) × (seat.old.me.0.name ≡ number name) × (is_open_word state call ≡ true) }
+    requires met { HasMet sizes seat.old.me.0 call state (number name) }
     ensures own { seat.new.table_id ≡ seat.old.table_id }
-    ensures closed { (found : ℕ) → result ≡ closing.Closed found → HasClosed seat.old.me.0 seat.new.me.0 found (number name) }
+    ensures closed { (found : ℕ) → result ≡ closing.Closed found → HasClosed seat.old.me.0 seat.new.me.0 found (number name) × ((wanted : ℕ) → only ≡ Some wanted → found ≡ wanted) }
     ensures nothing { result ≢ closing.Nothing }
-    ensures busy { result ≡ closing.Busy → Stays seat.old.me.0 seat.new.me.0 }
+    ensures other { (found : ℕ) → result ≡ closing.Other found → HasOther seat.old.me.0 seat.new.me.0 found (number name) only × (only ≢ None) }
+    ensures busy { result ≡ closing.Busy → Stays seat.old.me.0 seat.new.me.0 × (seat.old.me.0.lost < seat.new.me.0.lost) }
     ensures calls { KeepsCalls seat.old.me.0 seat.new.me.0 }
 {
-    if call == 0 || state < 4_194_304 {
-        return Closing::Busy;
+    let at = sizes.tops + sizes.sides + 8 * (call % 1_048_576);
+    if let Some(wanted) = only {
+        if wanted != call {
+            return if is_open(confirm(words, seat, at), call) {
+                Closing::Other(call)
+            } else {
+                Closing::Busy
+            };
+        }
     }
-    if close(
-        words,
-        seat,
-        sizes.tops + sizes.sides + 8 * (call % 1_048_576),
-        state,
-    ) == state
-    {
+    if close(words, seat, at, state) == state {
         Closing::Closed(call)
     } else {
         Closing::Busy

@@ -12,8 +12,8 @@ use Rattle.sf_lists.proofs.Functions.{put_here, put_else}
 use Rattle.sf_keyed_words.specs.declared.rule.KeyedSizes.{KeyedSizes}
 use Rattle.sf_keyed_words.specs.declared.rule.View.{View}
 use Rattle.sf_keyed_words.specs.Rule.{state_at, gen_of, ready_word, IsView, held_at, stake, Holds}
-use Rattle.sf_keyed_words.specs.Plays.{next_call, try_claim}
-use Rattle.sf_keyed_words.proofs.Seats.{made, still, view_away, held_here, held_else}
+use Rattle.sf_keyed_words.specs.Plays.{loses, next_call, try_claim}
+use Rattle.sf_keyed_words.proofs.Seats.{losing, made, still, view_away, held_here, held_else}
 use Rattle.sf_keyed_words.proofs.States.{state_set, shows_state, none_held, last_never, moved, away_state, whole, open_parts, shut_from, ready_tag, ready_held}
 
 pub record MayClaim (z : KeyedSizes) (v : View) (c old new : ℕ) : Type 0 where
@@ -102,17 +102,17 @@ claim_won z id c old new me may t p is found =
             ticket = mine.ticket;
             last = mine.last;
           }),
-      sym (ap (λ b. cond b (record v { own = next_call v i old; first = false; named = false }) v) (eq-eqb _ old found) ∙ ap (λ n. record v { own = n; first = false; named = false }) named),
+      sym (ap (λ b. cond b (record v { own = next_call v i old; first = false; named = false }) (loses v)) (eq-eqb _ old found) ∙ ap (λ n. record v { own = n; first = false; named = false }) named),
     )
 
 claim_lost : (z : KeyedSizes) (id c old : ℕ) (me : Me ℕ View) → (t : State ℕ View) → Holds z t → get_elem? t.views id ≡ some me.0
     → slice_index t.words (z.tops + z.sides + 8 * c) ≢ old → Outcome z id c old me t (slice_index t.words (z.tops + z.sides + 8 * c))
 claim_lost z id c old me t p is differ = (
-  me.0,
+  loses me.0,
   keeps,
   tt,
-  still z t p id (z.tops + z.sides + 8 * c) me me.0 is (λ d. refl) (p.seats id me.0 is),
-  sym (ap (λ b. cond b (record me.0 { own = next_call me.0 (z.tops + z.sides + 8 * c) old; first = false; named = false }) me.0) (ne_eqb _ old differ)),
+  still z t p id (z.tops + z.sides + 8 * c) me (loses me.0) is (λ d. refl) (losing z p.words p.history t.words p.holder id me.0 (p.seats id me.0 is)),
+  sym (ap (λ b. cond b (record me.0 { own = next_call me.0 (z.tops + z.sides + 8 * c) old; first = false; named = false }) (loses me.0)) (ne_eqb _ old differ)),
 )
 
 pub claims : (z : KeyedSizes) (slots id c old new : ℕ) (me : Me ℕ View) → MayClaim z me.0 c old new

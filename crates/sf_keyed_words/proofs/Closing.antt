@@ -22,9 +22,9 @@ use Rattle.sf_keyed_words.specs.Rule.{state_at, layout_of, is_open_word, IsView,
 use Rattle.sf_keyed_words.proofs.Lasting.{look_lasts, walk_lasts}
 use Rattle.sf_history.proofs.Members.{joined_kept}
 use Rattle.sf_keyed_words.proofs.Results.{forget_members, plain_settled, result_kept, says_on}
-use Rattle.sf_keyed_words.proofs.Seats.{made, still, view_away}
+use Rattle.sf_keyed_words.proofs.Seats.{losing, made, still, view_away}
 use Rattle.sf_keyed_words.proofs.States.{state_set, shows_state, own_never, last_never, moved, away_state, whole, one_more, one_call, open_parts, shut_from}
-use Rattle.sf_keyed_words.specs.Plays.{tries_close}
+use Rattle.sf_keyed_words.specs.Plays.{loses, tries_close}
 use Rattle.sf_keyed_words.proofs.Joining.{open_found}
 use Rattle.sf_keyed_words.proofs.Settling.{closed_led}
 
@@ -120,7 +120,7 @@ close_won z id old new me may t p is found =
             last = mine.last;
           }),
       record {
-        won = λ _. (refl, record { before = m.seen.0; seen = ap (λ l. l ++ x ∷ []) m.seen.1 });
+        won = λ _. (refl, record { before = m.seen.0; seen = ap (λ l. l ++ x ∷ []) m.seen.1; legal = tells.legal });
         lost = λ bar. absurd (bar found);
       },
     )
@@ -128,10 +128,10 @@ close_won z id old new me may t p is found =
 close_lost : (z : KeyedSizes) (id old : ℕ) (me : Me ℕ View) → (t : State ℕ View) → Holds z t → get_elem? t.views id ≡ some me.0
     → slice_index t.words (state_at z me.0.but) ≢ old → Outcome z id old me t (slice_index t.words (state_at z me.0.but))
 close_lost z id old me t p is differ = (
-  me.0,
+  loses me.0,
   keeps,
   tt,
-  still z t p id (state_at z me.0.but) me me.0 is (λ d. refl) (p.seats id me.0 is),
+  still z t p id (state_at z me.0.but) me (loses me.0) is (λ d. refl) (losing z p.words p.history t.words p.holder id me.0 (p.seats id me.0 is)),
   record { won = λ yes. absurd (differ yes); lost = λ _. refl },
 )
 

@@ -18,9 +18,9 @@ use Rattle.sf_keyed_tells.proofs.Telling.{by_bool, enter_tells}
 use Rattle.sf_keyed_words.specs.declared.rule.KeyedSizes.{KeyedSizes}
 use Rattle.sf_keyed_words.specs.declared.rule.View.{View}
 use Rattle.sf_keyed_words.specs.Rule.{state_at, is_open_word, IsView, held_at, KeyedTable, Holds}
-use Rattle.sf_keyed_words.specs.Plays.{tries_join, joined_view}
+use Rattle.sf_keyed_words.specs.Plays.{loses, tries_join, joined_view}
 use Rattle.sf_keyed_words.proofs.Results.{enter_members, plain_settled, result_kept, other_joined, now_joined}
-use Rattle.sf_keyed_words.proofs.Seats.{made, still, view_away, held_here, held_else}
+use Rattle.sf_keyed_words.proofs.Seats.{losing, made, still, view_away, held_here, held_else}
 use Rattle.sf_keyed_words.proofs.States.{state_set, shows_state, own_never, last_never, moved, away_state, whole, one_more, one_call, open_parts, open_from, shut_from}
 
 pub record MayJoin (z : KeyedSizes) (v : View) (old new : ℕ) : Type 0 where
@@ -145,7 +145,7 @@ join_won z id old new me may t p is found =
             last = mine.last;
           }),
       record {
-        won = λ _. (refl, record { member = mem; adds = record { before = m.seen.0; seen = ap (λ l. l ++ x ∷ []) m.seen.1 } });
+        won = λ _. (refl, record { member = mem; adds = record { before = m.seen.0; seen = ap (λ l. l ++ x ∷ []) m.seen.1; legal = tells.legal } });
         lost = λ no. absurd (no found);
       },
     )
@@ -153,10 +153,10 @@ join_won z id old new me may t p is found =
 join_lost : (z : KeyedSizes) (id old : ℕ) (me : Me ℕ View) → (t : State ℕ View) → Holds z t → get_elem? t.views id ≡ some me.0
     → slice_index t.words (state_at z me.0.but) ≢ old → Outcome z id old me t (slice_index t.words (state_at z me.0.but))
 join_lost z id old me t p is differ = (
-  me.0,
+  loses me.0,
   keeps,
   tt,
-  still z t p id (state_at z me.0.but) me me.0 is (λ d. refl) (p.seats id me.0 is),
+  still z t p id (state_at z me.0.but) me (loses me.0) is (λ d. refl) (losing z p.words p.history t.words p.holder id me.0 (p.seats id me.0 is)),
   record { won = λ yes. absurd (differ yes); lost = λ _. refl },
 )
 

@@ -11,9 +11,10 @@ use Rattle.sf_keyed_laws.specs.Walks.{IsOther}
 use Rattle.sf_keyed_laws.proofs.Walking.{walks_begin, walks_go_on, walks_clear}
 use Rattle.sf_keyed_words.specs.declared.rule.KeyedSizes.{KeyedSizes}
 use Rattle.sf_keyed_words.specs.declared.rule.View.{View}
-use Rattle.sf_keyed_words.specs.Rule.{state_at, name_at, high_at, both, layout_of, sides_from, is_open_word, Unmet, IsForeign, IsView, KeyedTable, Holds, stake}
-use Rattle.sf_keyed_words.specs.Plays.{read_low, read_high, walk_from, walk_on, closes, see_state}
+use Rattle.sf_keyed_words.specs.Rule.{state_at, name_at, high_at, both, layout_of, sides_from, is_open_call, Unmet, IsForeign, IsView, KeyedTable, Holds, stake}
+use Rattle.sf_keyed_words.specs.Plays.{HasCell, read_low, read_high, look_cell, walk_from, walks_from, walk_on, walks_on, met_open, met_closed, see_state}
 use Rattle.sf_keyed_words.proofs.Seats.{still}
+use Rattle.sf_keyed_words.proofs.States.{open_call_from}
 
 -- a load, by which the seat's view becomes w of the number found
 pub loads : (z : KeyedSizes) (slots id i : ℕ) (me : Me ℕ View) (w : ℕ → View)
@@ -24,8 +25,22 @@ loads z slots id i me w right same t p len is fits =
     let v : View = w (slice_index t.words i) in
     (v, keeps, tt, still z t p id i me v is (same (slice_index t.words i)) (right t p (p.seats id me.0 is)), refl)
 
-pub looks_at_top : (z : KeyedSizes) (slots id i : ℕ) (me : Me ℕ View) → i < z.tops → Allows (Holds z) slots id me i (λ n. n) (λ n after. after.0 ≡ walk_from me.0 i n)
-looks_at_top z slots id i me below = loads z slots id i me (walk_from me.0 i) (λ t p m.
+-- a load of a word that names a call, which has a cell
+loads_named : (z : KeyedSizes) (slots id i : ℕ) (me : Me ℕ View) (w : ℕ → View) → me.0.sizes ≡ z
+    → ((t : State ℕ View) (p : KeyedTable z t) → IsView z p.words p.history t.words p.holder id me.0 → IsView z p.words p.history t.words p.holder id (w (slice_index t.words i)))
+    → ((t : State ℕ View) (p : KeyedTable z t) → IsLedIfAny p.words (slice_index t.words i / 4))
+    → ((n c : ℕ) → stake c (w n) ≡ stake c me.0)
+    → Allows (Holds z) slots id me i (λ n. n) (λ n after. (after.0 ≡ w n) × HasCell me.0 n)
+loads_named z slots id i me w sizes right named same t p len is fits =
+    let n : ℕ = slice_index t.words i in
+    let v : View = w n in
+    let cell : HasCell me.0 n = subst (λ (y : KeyedSizes). 0 < y.cells → n / 4 % 1048576 < y.cells) (sym sizes) (λ some. dite (ℕ_discrete (n / 4) 0)
+    (λ none. omega (arith, none, some))
+    (λ any. p.shows.within (n / 4) (named t p any))) in
+    (v, keeps, tt, still z t p id i me v is (same n) (right t p (p.seats id me.0 is)), (refl, cell))
+
+pub looks_at_top : (z : KeyedSizes) (slots id i : ℕ) (me : Me ℕ View) → me.0.sizes ≡ z → i < z.tops → Allows (Holds z) slots id me i (λ n. n) (λ n after. walks_from me.0 i n after.0)
+looks_at_top z slots id i me sizes below = loads_named z slots id i me (walk_from me.0 i) sizes (λ t p m.
     let n : ℕ = slice_index t.words i in
     let named : IsLedIfAny p.words (n / 4) = subst (IsLedIfAny p.words) (sym (p.shows.tops i below)) (p.keeps.tops i) in
     record {
@@ -49,11 +64,17 @@ looks_at_top z slots id i me below = loads z slots id i me (walk_from me.0 i) (�
         other = λ no. absurd (true≢false (sym no));
         saved = λ no. absurd (true≢false (sym no));
       };
-    }) (λ n c. refl)
+    }) (λ t p. subst (IsLedIfAny p.words) (sym (p.shows.tops i below)) (p.keeps.tops i)) (λ n c. refl)
 
-pub looks_aside : (z : KeyedSizes) (slots id : ℕ) (me : Me ℕ View) → me.0.walks ≡ true → me.0.clear ≡ true → sides_from me.0.slot + me.0.looked < z.sides
-    → Allows (Holds z) slots id me (z.tops + (sides_from me.0.slot + me.0.looked)) (λ n. n) (λ n after. after.0 ≡ walk_on me.0 n)
-looks_aside z slots id me walks clear below = loads z slots id (z.tops + (sides_from me.0.slot + me.0.looked)) me (walk_on me.0) (λ t p m.
+-- a fact of the call that is looked at is one of the top, where that is looked at
+at_top : (P : ℕ → Type 0) (a b : ℕ) (c : Bool) → P a → (c ≡ true → P b) → cond (eqb a b) true c ≡ true → P b
+at_top P a b c here there is = dite (ℕ_discrete a b)
+    (λ same. subst P same here)
+    (λ apart. there (sym (ap (λ x. cond x true c) (ne_eqb a b apart)) ∙ is))
+
+pub looks_aside : (z : KeyedSizes) (slots id : ℕ) (me : Me ℕ View) → me.0.sizes ≡ z → me.0.walks ≡ true → me.0.clear ≡ true → me.0.looked < 16 → sides_from me.0.slot + me.0.looked < z.sides
+    → Allows (Holds z) slots id me (z.tops + (sides_from me.0.slot + me.0.looked)) (λ n. n) (λ n after. walks_on me.0 n after.0)
+looks_aside z slots id me sizes walks clear small below = loads_named z slots id (z.tops + (sides_from me.0.slot + me.0.looked)) me (walk_on me.0) sizes (λ t p m.
     let v = me.0 in
     let d : ℕ = slice_index t.words (z.tops + (sides_from v.slot + v.looked)) / 4 in
     let walk = m.walk walks in
@@ -78,9 +99,9 @@ looks_aside z slots id me walks clear below = loads z slots id (z.tops + (sides_
         walked = λ k slot unmet. walks_go_on (layout_of z) p.words k v.top d v.looked
             (walks_clear (layout_of z) p.words k v.top v.but v.looked (walk.walked k slot unmet) (m.look.clear clear k unmet)) (subst (λ q. p.words.side (sides_from q + v.looked) ≡ d) (sym slot) side);
         other = walk.other;
-        saved = walk.saved;
+        saved = at_top (λ e. p.words.led e ≡ true → p.words.closed e ≡ false → IsAside (layout_of z) p.words v.slot 0 e) d v.top v.saved (λ led live. record { at = v.looked; after = omega arith; within = small; names = side }) walk.saved;
       };
-    }) (λ n c. refl)
+    }) (λ t p. subst (IsLedIfAny p.words) (sym (p.shows.sides (sides_from me.0.slot + me.0.looked) below)) (p.keeps.sides (sides_from me.0.slot + me.0.looked))) (λ n c. refl)
 
 -- either the view stays, or the test says no
 pub by_test : (P : View → Type 0) (b : Bool) (v w : View) → P v → (b ≡ false → P w) → P (cond b v w)
@@ -91,20 +112,16 @@ pub same_stake : (b : Bool) (v w : View) (c : ℕ) → stake c w ≡ stake c v �
 same_stake true v w c is = refl
 same_stake false v w c is = is
 
--- a fact of the call that is looked at is one of the top, where that is looked at
-at_top : (P : ℕ → Type 0) (a b : ℕ) (c : Bool) → P a → (c ≡ true → P b) → cond (eqb a b) true c ≡ true → P b
-at_top P a b c here there is = dite (ℕ_discrete a b)
-    (λ same. subst P same here)
-    (λ apart. there (sym (ap (λ x. cond x true c) (ne_eqb a b apart)) ∙ is))
-
 pub sees : (z : KeyedSizes) (slots id : ℕ) (me : Me ℕ View)
     → Allows (Holds z) slots id me (state_at z me.0.but) (λ n. n) (λ n after. after.0 ≡ see_state me.0 n)
 sees z slots id me = loads z slots id (state_at z me.0.but) me (see_state me.0) (λ t p m.
     let v = me.0 in
     let s = p.words in
     let n : ℕ = slice_index t.words (state_at z v.but) in
-    by_test (IsView z p.words p.history t.words p.holder id) (is_open_word n v.but) v (closes v) m (λ shut.
-    let dead : s.led v.but ≡ true → s.closed v.but ≡ false → ⊥ = λ led live. true≢false (sym ((p.shows.live v.but led live).0) ∙ shut) in
+    by_test (IsView z p.words p.history t.words p.holder id) (is_open_call n v.but) (met_open v n) (met_closed v n)
+    (record { seen = m.seen; heard = m.heard; look = m.look; walk = m.walk; own = m.own; begun = m.begun; leads = m.leads; ticket = m.ticket; last = m.last })
+    (λ shut.
+    let dead : s.led v.but ≡ true → s.closed v.but ≡ false → ⊥ = λ led live. true≢false (sym (open_call_from n v.but (λ q. true≢false (sym led ∙ (ap s.led q ∙ p.keeps.none))) (p.shows.live v.but led live).0) ∙ shut) in
     record {
       seen = m.seen;
       heard = m.heard;
@@ -126,7 +143,10 @@ sees z slots id me = loads z slots id (state_at z me.0.but) me (see_state me.0) 
         other = at_top (IsForeign s v.names) v.but v.top v.other (λ k unmet led live. absurd (dead led live)) walk.other;
         saved = at_top (λ e. s.led e ≡ true → s.closed e ≡ false → IsAside (layout_of z) s v.slot 0 e) v.but v.top v.saved (λ led live. absurd (dead led live)) walk.saved;
       };
-    })) (λ n c. same_stake (is_open_word n me.0.but) me.0 (closes me.0) c refl)
+    })) (λ n c. same_stake (is_open_call n me.0.but) (met_open me.0 n) (met_closed me.0 n) c refl)
+
+pub looks_at_cell : (z : KeyedSizes) (slots id i : ℕ) (me : Me ℕ View) → Allows (Holds z) slots id me i (λ n. n) (λ n after. after.0 ≡ look_cell me.0 i n)
+looks_at_cell z slots id i me = loads z slots id i me (look_cell me.0 i) (λ t p m. record { seen = m.seen; heard = m.heard; look = m.look; walk = m.walk; own = m.own; begun = m.begun; leads = m.leads; ticket = m.ticket; last = m.last }) (λ n c. refl)
 
 pub reads_low : (z : KeyedSizes) (slots id : ℕ) (me : Me ℕ View)
     → Allows (Holds z) slots id me (name_at z me.0.but) (λ n. n) (λ n after. after.0 ≡ read_low me.0 n)

@@ -13,12 +13,13 @@ use Rattle.sf_history.specs.declared.call.CallId.{CallId}
 use Rattle.sf_keyed_tells.specs.Tells.{KeyedEvent}
 use Rattle.sf_history.specs.declared.event.Event.TheVariants.{Lead, Enter, Forget, ForgetCall, Settle, Handed}
 use Rattle.sf_history.specs.Calls.{same_call}
-use Rattle.sf_history.specs.History.{names, IsNew, enters, joined, settles, is_settled, result_in, result_of}
+use Rattle.sf_history.specs.History.{names, IsNew, open_call, enters, joined, settles, is_settled, result_in, result_of}
 use Rattle.sf_history.proofs.Members.{joined_kept, joined_push}
 use Rattle.sf_history.specs.Legal.{IsLegal}
 use Rattle.sf_history.proofs.LegalHistories.{same_call_is, same_call_self, settled_named}
-use Rattle.sf_keyed_tells.specs.Tells.{call_of}
-use Rattle.sf_keyed_tells.proofs.Telling.{by_bool, apart_calls}
+use Rattle.sf_keyed_laws.specs.Words.{Words}
+use Rattle.sf_keyed_tells.specs.Tells.{call_of, Tells}
+use Rattle.sf_keyed_tells.proofs.Telling.{by_bool, apart_calls, call_number}
 
 pub result_kept : (h : List KeyedEvent) (e : KeyedEvent) (c : CallId) (v : Option ℕ) → result_of h c ≡ Some v → result_of (h ++ e ∷ []) c ≡ Some v
 result_kept h e c v is = ap (option_and_then result_in) (find-append (settles c) h (e ∷ [])) ∙ at (find (settles c) h) (find (settles c) (e ∷ [])) is
@@ -41,6 +42,26 @@ pub result_settled : (h : List KeyedEvent) (a : ℕ) (c : CallId) (v : Option �
 result_settled h a c v joiners isnt =
     ap (option_and_then result_in) (find-append (settles c) h (Settle a c v joiners ∷ []) ∙ (ap (λ (o : Option KeyedEvent). option_or o (find (settles c) (Settle a c v joiners ∷ []))) (find_none h c isnt)
     ∙ ap (λ (t : Bool). cond t (Some (Settle a c v joiners)) None) (same_call_self c)))
+
+pub either_closed : (b : Bool) → (b ≡ false → ⊥) → b ≡ true
+either_closed true never = refl
+either_closed false never = absurd (never refl)
+
+-- a closed call is no key's open call
+abbrev call_in : Option CallId → CallId
+call_in (Some c) = c
+call_in None = record { caller = 0; generation = 0 }
+
+abbrev is_some_call : Option CallId → Bool
+is_some_call (Some c) = true
+is_some_call None = false
+
+pub shut_call : (s : Words) (h : List KeyedEvent) (e k : ℕ) → Tells s h → s.closed e ≡ true → open_call nat_eq h k ≡ Some (call_of e) → ⊥
+shut_call s h e k tells shut is =
+    let none : open_call nat_eq h k ≡ None = tells.shuts k (λ d led live key.
+    let same : Some (call_of d) ≡ Some (call_of e) = sym (tells.opens d led live) ∙ (ap (open_call nat_eq h) key ∙ is) in
+    true≢false (sym shut ∙ (ap s.closed (sym (call_number d e (ap call_in same))) ∙ live))) in
+    true≢false (ap is_some_call (sym is ∙ none))
 
 -- a call that is new is not settled
 pub new_unsettled : (h : List KeyedEvent) (c : CallId) → IsLegal nat_eq h → IsNew h c → is_settled h c ≡ false

@@ -261,5 +261,5 @@ hears z slots id i me t p len is fits =
       tt,
       still z t p id i me w is (λ d. refl)
           (record { seen = whole p.history; heard = m.heard; look = m.look; walk = m.walk; own = m.own; begun = m.begun; leads = m.leads; ticket = m.ticket; last = m.last }),
-      record { view = refl; seen = m.seen; heard = m.heard },
+      record { view = refl; seen = m.seen; heard = m.heard; legal = p.tells.legal },
     )

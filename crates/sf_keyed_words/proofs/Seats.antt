@@ -16,6 +16,7 @@ use Rattle.sf_keyed_tells.specs.Tells.{call_of, Tells}
 use Rattle.sf_keyed_words.specs.declared.rule.KeyedSizes.{KeyedSizes}
 use Rattle.sf_keyed_words.specs.declared.rule.View.{View}
 use Rattle.sf_keyed_words.proofs.Results.{says_on}
+use Rattle.sf_keyed_words.specs.Plays.{loses}
 use Rattle.sf_keyed_words.specs.Rule.{state_at, name_at, high_at, value_at, NameIs, layout_of, held_of, Shows, IsOwn, IsLeads, IsTicket, IsLast, IsLook, IsWalk, IsView, IsPrefix, held_at, stake, KeyedTable, Holds}
 
 -- the seats after one has a new view
@@ -64,6 +65,10 @@ sum_two f (x ∷ xs) (suc i) (suc j) v u apart e g = let b = sum_by-cons f x xs 
 
 balance : (a b s t p q : ℕ) → a + p ≡ b + q → b ≡ s → t + p ≡ s + q → a ≡ t
 balance a b s t p q x y e = omega arith
+
+-- a seat that has lost an exchange knows what it knew
+pub losing : (z : KeyedSizes) (s : Words) (h : List KeyedEvent) (ws : List ℕ) (holder : ℕ → ℕ) (k : ℕ) (v : View) → IsView z s h ws holder k v → IsView z s h ws holder k (loses v)
+losing z s h ws holder k v m = record { seen = m.seen; heard = m.heard; look = m.look; walk = m.walk; own = m.own; begun = m.begun; leads = m.leads; ticket = m.ticket; last = m.last }
 
 -- the table after a step that changes no word
 pub still : (z : KeyedSizes) (t : State ℕ View) (p : KeyedTable z t) (id i : ℕ) (me : Me ℕ View) (w : View) → get_elem? t.views id ≡ some me.0 → ((c : ℕ) → stake c w ≡ stake c me.0)

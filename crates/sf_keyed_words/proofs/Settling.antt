@@ -1,5 +1,5 @@
 -- The leader settles its call: for its holders, or, where nobody else holds it, so that its cell is ready for the next.
-use Rattle.std.proofs.Common.{◌*◌, ◌≡◌, ◌≢◌, ℕ, ◌+◌, ◌/◌, ◌%◌, ◌<◌, true, false, eqb, List, [], ◌∷◌, ◌++◌, Some, None, set, refl, sym, ◌∙◌, ap, subst, arith, mod-eq_of_lt}
+use Rattle.std.proofs.Common.{◌*◌, ◌≡◌, ◌≢◌, ℕ, ◌+◌, ◌/◌, ◌%◌, ◌<◌, true, false, cond, eqb, eq-eqb, ne_eqb, List, [], ◌∷◌, ◌++◌, Some, None, set, refl, sym, ◌∙◌, ap, subst, arith, mod-eq_of_lt}
 use Rattle.std.proofs.lemmas.Bool.{true≢false}
 use Rattle.std.specs.Prelude.{slice_index}
 use prog.Atomic.{either}
@@ -18,16 +18,16 @@ use Rattle.sf_history.specs.History.{joined, result_of}
 use Rattle.sf_keyed_laws.specs.Words.{Words}
 use Rattle.sf_keyed_laws.specs.Steps.{Step, closes, closed_one}
 use Rattle.sf_keyed_laws.proofs.Walking.{steps_keep, still_open}
-use Rattle.sf_keyed_tells.specs.Tells.{call_of}
-use Rattle.sf_keyed_tells.proofs.Telling.{settle_tells}
+use Rattle.sf_keyed_tells.specs.Tells.{call_of, Tells}
+use Rattle.sf_keyed_tells.proofs.Telling.{by_bool, settle_tells}
 use Rattle.sf_keyed_words.specs.declared.rule.KeyedSizes.{KeyedSizes}
 use Rattle.sf_keyed_words.specs.declared.rule.View.{View}
-use Rattle.sf_keyed_words.specs.Rule.{state_at, value_at, layout_of, gen_of, ready_word, IsLeads, IsView, held_at, stake, Holds}
+use Rattle.sf_keyed_words.specs.Rule.{state_at, value_at, layout_of, gen_of, is_open_word, is_forgotten, ready_word, IsLeads, IsView, held_at, stake, KeyedTable, Holds}
 use Rattle.sf_keyed_words.proofs.Lasting.{look_lasts, walk_lasts}
-use Rattle.sf_keyed_words.proofs.Results.{settle_members, other_settled, result_kept, result_settled}
+use Rattle.sf_keyed_words.proofs.Results.{either_closed, shut_call, settle_members, other_settled, result_kept, result_settled}
 use Rattle.sf_keyed_words.proofs.Seats.{made, still, view_away, held_here, held_else, sum_one, sum_two}
-use Rattle.sf_keyed_words.proofs.States.{state_set, shows_state, own_never, last_never, moved, away_state, whole, one_more, one_call, open_parts, shut_from, ready_gen, ready_tag, ready_bit, ready_held}
-use Rattle.sf_keyed_words.specs.Plays.{settles, settled_view, tries_alone, alone_view}
+use Rattle.sf_keyed_words.proofs.States.{state_set, shows_state, own_never, last_never, moved, away_state, whole, one_more, one_call, open_parts, open_from, shut_from, ready_gen, ready_tag, ready_bit, ready_held}
+use Rattle.sf_keyed_words.specs.Plays.{WasForgotten, settles, settled_view, tries_alone, alone_view}
 
 -- a call that is closed, or that was, was led
 pub closed_led : (s : Words) (e d : ℕ) → s.led e ≡ true → ((f : ℕ) → s.closed f ≡ true → s.led f ≡ true) → put s.closed e true d ≡ true → s.led d ≡ true
@@ -39,6 +39,20 @@ unled v = record v { leads = 0; stored = false }
 
 unled_view : (z : KeyedSizes) (s : Words) (h : List KeyedEvent) (ws : List ℕ) (holder : ℕ → ℕ) (k : ℕ) (v : View) → IsView z s h ws holder k v → IsView z s h ws holder k (unled v)
 unled_view z s h ws holder k v m = record { seen = m.seen; heard = m.heard; look = m.look; walk = m.walk; own = m.own; begun = m.begun; leads = λ no. absurd (no refl); ticket = m.ticket; last = m.last }
+
+-- what the state word says of a Forget
+was_forgotten : (z : KeyedSizes) (t : State ℕ View) (p : KeyedTable z t) (e : ℕ) → p.words.led e ≡ true → gen_of (slice_index t.words (state_at z e)) ≡ e / 1048576
+    → WasForgotten p.history e (is_forgotten (slice_index t.words (state_at z e)))
+was_forgotten z t p e led gen =
+    let s = p.words in
+    let old : ℕ = slice_index t.words (state_at z e) in
+    dite (ℕ_discrete (old / 2097152 % 4) 2)
+    (λ two.
+    let live : s.closed e ≡ false = by_bool (s.closed e) (λ shut. true≢false (sym (open_from old e gen two) ∙ p.shows.shut e led shut)) in
+    subst (WasForgotten p.history e) (sym (ap (λ b. cond b false true) (eq-eqb (old / 2097152 % 4) 2 two))) (s.key_of e, p.tells.opens e led live))
+    (λ isnt.
+    let shut : s.closed e ≡ true = either_closed (s.closed e) (λ live. isnt (open_parts old e (p.shows.live e led live).0).1) in
+    subst (WasForgotten p.history e) (sym (ap (λ b. cond b false true) (ne_eqb (old / 2097152 % 4) 2 isnt))) (λ k. shut_call s p.history e k p.tells shut))
 
 pub record MaySettle (z : KeyedSizes) (v : View) : Type 0 where
   pub leads_one : v.leads ≢ 0
@@ -73,6 +87,7 @@ settles_allowed z slots id me may t p len is fits =
     let j : ℕ = joined h (call_of e) in
     let x : KeyedEvent = Settle (e % 1048576) (call_of e) (Some v.value) j in
     let h2 : List KeyedEvent = h ++ x ∷ [] in
+    let tells : Tells s2 h2 = settle_tells y s e (Some v.value) h p.keeps lead.led lead.unsettled p.tells in
     let ws : List ℕ = set t.words i new in
     let st = state_set z t.words c new cell p.shows.size in
     let away = away_state z s s2 h h2 t.words ws p.holder p.holder c new st (λ k apart. refl) (λ d. refl) (λ d apart before. other_settled h e d (Some v.value) j (λ q. apart (ap (λ k. k % 1048576) (sym q))) before) (λ d _. joined_kept h x (call_of d) refl) in
@@ -91,12 +106,12 @@ settles_allowed z slots id me may t p len is fits =
     view in
     let mine = far id (unled v) (λ any here o. any refl) (unled_view z s h t.words p.holder id v m) in
     let same : (d : ℕ) → held_at d v.own + held_at d v.leads + held_at d v.ticket ≡ held_at d v.own + held_at d 0 + held_at d v.leads = λ d. let a : held_at d v.ticket ≡ 0 = ap (held_at d) may.idle in let b : held_at d 0 ≡ 0 = refl in omega (arith, a, b) in
-    let w : View = settled_view v h2 in
+    let w : View = record (settled_view v h2) { state = old } in
     let one : (d : ℕ) → d % 1048576 ≡ c → old / 8388608 ≡ d / 1048576 → d ≡ e = λ d here g. one_call d e c (old / 8388608) here refl g gen in (
       w,
       keeps,
       tt,
-      made z t p id i new me w s2 h2 p.holder (steps_keep y s step p.keeps) (settle_tells y s e (Some v.value) h p.keeps lead.led lead.unsettled p.tells) (settle_members h (e % 1048576) (call_of e) (Some v.value) j p.members)
+      made z t p id i new me w s2 h2 p.holder (steps_keep y s step p.keeps) tells (settle_members h (e % 1048576) (call_of e) (Some v.value) j p.members)
           (shows_state z s h h2 t.words ws c old new (put s.closed e true) cell st p.shows refl
           (λ d here led opened. let o = open_parts _ d (p.shows.live d led (still_open s e d opened)).0 in
           let a : old / 8388608 ≡ d / 1048576 = sym (ap (λ n. n / 8388608) (was d here)) ∙ o.0 in
@@ -127,7 +142,16 @@ settles_allowed z slots id me may t p len is fits =
             };
             last = mine.last;
           }),
-      record { view = refl; settled = record { joiners = j; none = lead.joins.0; some = lead.joins.1; adds = record { before = m.seen.0; seen = ap (λ l. l ++ x ∷ []) m.seen.1 } } },
+      record {
+        view = refl;
+        settled = record {
+          joiners = j;
+          none = lead.joins.0;
+          some = lead.joins.1;
+          adds = record { before = m.seen.0; seen = ap (λ l. l ++ x ∷ []) m.seen.1; legal = tells.legal };
+          was = subst (λ l. WasForgotten l e (is_forgotten old)) m.seen.1 (was_forgotten z t p e lead.led gen);
+        };
+      },
     )
 
 pub record MayAlone (z : KeyedSizes) (v : View) (old new : ℕ) : Type 0 where
@@ -170,6 +194,8 @@ alone_won z id old new me may t p is found =
     let j : ℕ = joined h (call_of e) in
     let x : KeyedEvent = Settle (e % 1048576) (call_of e) None j in
     let h2 : List KeyedEvent = h ++ x ∷ [] in
+    let tells : Tells s2 h2 = settle_tells y s e None h p.keeps lead.led lead.unsettled p.tells in
+    let live : s.closed e ≡ false = by_bool (s.closed e) (λ shut. true≢false (sym (open_from old e gen two) ∙ (ap (λ n. is_open_word n e) (sym found) ∙ p.shows.shut e lead.led shut))) in
     let ws : List ℕ = set t.words i new in
     let st = state_set z t.words c new cell p.shows.size in
     let away = away_state z s s2 h h2 t.words ws p.holder p.holder c new st (λ k apart. refl) (λ d. refl) (λ d apart before. other_settled h e d None j (λ q. apart (ap (λ k. k % 1048576) (sym q))) before) (λ d _. joined_kept h x (call_of d) refl) in
@@ -201,7 +227,7 @@ alone_won z id old new me may t p is found =
       w,
       keeps,
       tt,
-      made z t p id i new me w s2 h2 p.holder (steps_keep y s step p.keeps) (settle_tells y s e None h p.keeps lead.led lead.unsettled p.tells) (settle_members h (e % 1048576) (call_of e) None j p.members)
+      made z t p id i new me w s2 h2 p.holder (steps_keep y s step p.keeps) tells (settle_members h (e % 1048576) (call_of e) None j p.members)
           (shows_state z s h h2 t.words ws c old new (put s.closed e true) cell st p.shows found
           (λ d here led opened. let o = open_parts _ d (p.shows.live d led (still_open s e d opened)).0 in
           let a : old / 8388608 ≡ d / 1048576 = sym (ap (λ n. n / 8388608) (was d here)) ∙ o.0 in
@@ -236,7 +262,7 @@ alone_won z id old new me may t p is found =
             last = mine.last;
           }),
       record {
-        won = λ _. (refl, record { joiners = j; none = λ _. lead.joins.0 bit; some = λ no. absurd (omega (arith, no)); adds = record { before = m.seen.0; seen = ap (λ l. l ++ x ∷ []) m.seen.1 } });
+        won = λ _. (refl, record { joiners = j; none = λ _. lead.joins.0 bit; some = λ no. absurd (omega (arith, no)); adds = record { before = m.seen.0; seen = ap (λ l. l ++ x ∷ []) m.seen.1; legal = tells.legal }; was = subst (λ l. WasForgotten l e false) m.seen.1 (s.key_of e, p.tells.opens e lead.led live) });
         lost = λ no. absurd (no found);
       },
     )

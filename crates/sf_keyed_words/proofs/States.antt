@@ -1,5 +1,5 @@
 -- What a change of a cell's state word leaves of the others.
-use Rattle.std.proofs.Common.{◌*◌, ◌≡◌, ◌≢◌, ℕ, ◌+◌, ◌/◌, ◌%◌, ◌<◌, ◌≤◌, Bool, true, false, eqb, eq-eqb, List, [], ◌∷◌, ◌++◌, Option, Some, set, length, refl, sym, ◌∙◌, ap, subst, arith, append-nil}
+use Rattle.std.proofs.Common.{◌*◌, ◌≡◌, ◌≢◌, ℕ, ◌+◌, ◌/◌, ◌%◌, ◌<◌, ◌≤◌, Bool, true, false, cond, eqb, eq-eqb, ne_eqb, List, [], ◌∷◌, ◌++◌, Option, Some, set, length, refl, sym, ◌∙◌, ap, subst, arith, append-nil}
 use Rattle.std.proofs.lemmas.Bool.{true≢false, and_parts, and_from, eqb-true}
 use Rattle.std.proofs.lemmas.List.{length-set, get_or-set_same, get_or-set_other}
 use Rattle.std.specs.Prelude.{slice_index}
@@ -15,7 +15,7 @@ use Rattle.sf_keyed_tells.specs.Tells.{call_of}
 use Rattle.sf_keyed_tells.proofs.Telling.{by_bool}
 use Rattle.sf_keyed_words.specs.declared.rule.KeyedSizes.{KeyedSizes}
 use Rattle.sf_keyed_words.specs.declared.rule.View.{View}
-use Rattle.sf_keyed_words.specs.Rule.{side_at, state_at, name_at, high_at, value_at, word_total, gen_of, tag_of, held_of, is_open_word, ready_word, Shows, IsOwn, IsLast, IsPrefix, held_at, stake, KeyedTable}
+use Rattle.sf_keyed_words.specs.Rule.{side_at, state_at, name_at, high_at, value_at, word_total, gen_of, tag_of, held_of, is_open_word, is_open_call, ready_word, Shows, IsOwn, IsLast, IsPrefix, held_at, stake, KeyedTable}
 use Rattle.sf_keyed_words.proofs.Seats.{name_kept, sum_one, held_here, Away}
 
 -- what an open state word says
@@ -24,6 +24,14 @@ open_parts n e is = let b = and_parts (eqb (n / 8388608) (e / 1048576)) (eqb (n 
 
 pub open_from : (n e : ℕ) → n / 8388608 ≡ e / 1048576 → n / 2097152 % 4 ≡ 2 → is_open_word n e ≡ true
 open_from n e a b = and_from (eqb (n / 8388608) (e / 1048576)) (eqb (n / 2097152 % 4) 2) (eq-eqb (n / 8388608) (e / 1048576) a) (eq-eqb (n / 2097152 % 4) 2 b)
+
+pub open_call_from : (n e : ℕ) → e ≢ 0 → is_open_word n e ≡ true → is_open_call n e ≡ true
+open_call_from n e any is = ap (λ b. cond b false (is_open_word n e)) (ne_eqb e 0 any) ∙ is
+
+pub open_call_parts : (n e : ℕ) → is_open_call n e ≡ true → (e ≢ 0) × (is_open_word n e ≡ true)
+open_call_parts n e is = dite (ℕ_discrete e 0)
+    (λ none. absurd (true≢false (sym is ∙ ap (λ b. cond b false (is_open_word n e)) (eq-eqb e 0 none))))
+    (λ any. (any, sym (ap (λ b. cond b false (is_open_word n e)) (ne_eqb e 0 any)) ∙ is))
 
 pub shut_from : (n e : ℕ) → (n / 8388608 ≡ e / 1048576 → n / 2097152 % 4 ≡ 2 → ⊥) → is_open_word n e ≡ false
 shut_from n e never = by_bool (is_open_word n e) (λ is. let b = open_parts n e is in never b.0 b.1)
@@ -90,6 +98,7 @@ shows_state z s h h2 ws ws2 c old x closed2 lt st sh found live shut same only g
       sh.coming e inside (omega (arith, new, was, gens, later)))
       (λ apart. sh.coming e inside (subst (λ n. n / 8388608 < e / 1048576) (st.apart e apart) later));
   seals = λ p q yes. ap (λ n. n / 2 % 2) (st.else p (λ e. omega arith)) ∙ sh.seals p q yes;
+  marks = λ p q even. sh.marks p q (sym (ap (λ n. n % 2) (st.else p (λ e. omega arith))) ∙ even);
   values = λ e led gen odd. dite (ℕ_discrete (e % 1048576) c)
       (λ here. values e here led (sym (ap gen_of (st.at e here)) ∙ gen) (sym (ap (λ n. n / 2097152 % 4 % 2) (st.at e here)) ∙ odd) ∙ ap (λ n. Some (Some n)) (sym (st.value e)))
       (λ apart. results e _ (sh.values e led (sym (ap gen_of (st.apart e apart)) ∙ gen) (sym (ap (λ n. n / 2097152 % 4 % 2) (st.apart e apart)) ∙ odd)) ∙ ap (λ n. Some (Some n)) (sym (st.value e)));

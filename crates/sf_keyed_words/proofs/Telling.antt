@@ -1,6 +1,6 @@
 -- Loads that tell what has happened.
-use Rattle.std.proofs.Common.{◌≡◌, ◌≢◌, ℕ, ◌/◌, ◌%◌, ◌<◌, Bool, true, false, cond, eqb, List, None, refl, sym, ◌∙◌, ap, subst, arith}
-use Rattle.std.proofs.lemmas.Bool.{eqb-true}
+use Rattle.std.proofs.Common.{◌≡◌, ◌≢◌, ℕ, ◌/◌, ◌%◌, ◌<◌, Bool, true, false, cond, eqb, List, Some, None, refl, sym, ◌∙◌, ap, subst, arith}
+use Rattle.std.proofs.lemmas.Bool.{true≢false, eqb-true}
 use Rattle.std.specs.Prelude.{slice_index, nat_eq}
 use mathlib.Core.Logic.{dite}
 use native.Mathlib.Decide.{ℕ_discrete}
@@ -9,14 +9,16 @@ use Rattle.sf_keyed_tells.specs.Tells.{KeyedEvent}
 use Rattle.sf_keyed_laws.specs.Words.{Words}
 use Rattle.sf_keyed_words.specs.declared.rule.KeyedSizes.{KeyedSizes}
 use Rattle.sf_keyed_words.specs.declared.rule.View.{View}
-use Rattle.sf_keyed_words.specs.Rule.{slot_of, state_at, value_at, layout_of, IsView, stake, Holds}
-use Rattle.sf_keyed_words.proofs.Seats.{still}
-use Rattle.sf_keyed_words.proofs.States.{whole}
+use Rattle.sf_keyed_words.specs.Rule.{slot_of, state_at, value_at, layout_of, is_open_call, IsView, stake, Holds}
+use Rattle.sf_keyed_words.proofs.Seats.{losing, still}
+use Rattle.sf_keyed_words.proofs.States.{open_call_parts, whole}
 use Rattle.sf_history.specs.History.{open_call}
 use Rattle.sf_keyed_laws.specs.Walks.{HasWalked}
-use Rattle.sf_keyed_laws.proofs.Walking.{walks_end, walks_clear}
+use Rattle.sf_keyed_laws.proofs.Walking.{walks_end, walks_clear, unmarked_is_walked}
 use Rattle.sf_keyed_words.specs.Rule.{Unmet}
-use Rattle.sf_keyed_words.specs.Plays.{finds_none, look_settled, takes}
+use Rattle.sf_keyed_words.specs.Plays.{loses, confirms, finds_none, look_settled, takes}
+use Rattle.sf_keyed_words.proofs.Joining.{open_found}
+use Rattle.sf_keyed_tells.specs.Tells.{call_of}
 use Rattle.sf_keyed_words.proofs.Loads.{loads}
 
 -- a view that has seen all
@@ -28,7 +30,8 @@ pub record MayFind (z : KeyedSizes) (v : View) (q : ℕ) : Type 0 where
   pub slot_is : v.slot ≡ q
   pub walks : v.walks ≡ true
   pub clear : v.clear ≡ true
-  pub looked : v.looked ≡ 16
+  pub looked : v.found % 2 ≡ 1 → v.looked ≡ 16
+  pub top_is : v.found / 4 ≡ v.top
   pub other : v.other ≡ true
   pub sizes : v.sizes ≡ z
 
@@ -40,22 +43,63 @@ finds z slots id q me may t p len is fits =
     let h = p.history in
     let m = p.seats id v is in
     let n : ℕ = slice_index t.words q in
-    dite (ℕ_discrete (n / 4) v.top)
+    dite (ℕ_discrete n v.found)
     (λ same.
     let walk = m.walk may.walks in
     let none : (k : ℕ) → slot_of v.sizes k ≡ v.slot → Unmet v.names k → open_call nat_eq h k ≡ None = λ k slot unmet.
     let at_slot : slot_of z k ≡ v.slot = ap (λ (z2 : KeyedSizes). slot_of z2 k) (sym may.sizes) ∙ slot in
-    let was : s.top (slot_of z k) ≡ v.top = ap s.top (at_slot ∙ may.slot_is) ∙ (sym (p.shows.tops q may.below) ∙ same) in
-    let walked : HasWalked y s k v.top v.top 16 = subst (λ b. HasWalked y s k v.top v.top b) may.looked (walks_clear y s k v.top v.but v.looked (walk.walked k at_slot unmet) (m.look.clear may.clear k unmet)) in
+    let was : s.top (slot_of z k) ≡ v.top = ap s.top (at_slot ∙ may.slot_is) ∙ (sym (p.shows.tops q may.below) ∙ (ap (λ b. b / 4) same ∙ may.top_is)) in
+    let walked : HasWalked y s k v.top v.top 16 = dite (ℕ_discrete (v.found % 2) 1)
+    (λ odd. subst (λ b. HasWalked y s k v.top v.top b) (may.looked odd) (walks_clear y s k v.top v.but v.looked (walk.walked k at_slot unmet) (m.look.clear may.clear k unmet)))
+    (λ isnt. unmarked_is_walked y s k v.top p.keeps was (ap s.marked (at_slot ∙ may.slot_is) ∙ p.shows.marks q may.below (let even : n % 2 ≡ v.found % 2 = ap (λ b. b % 2) same in omega (arith, even, isnt)))) in
     p.tells.shuts k (walks_end y s k v.top walked was (walk.other may.other k unmet)) in
     let w : View = record v { seen = h } in (
       w,
       keeps,
       tt,
       still z t p id q me w is (λ d. refl) (seen_all z s h t.words p.holder id v m),
-      record { won = λ _. (refl, m.seen, none); lost = λ bar. absurd (bar same) },
+      record { won = λ _. (refl, record { seen = m.seen; legal = p.tells.legal }, none); lost = λ bar. absurd (bar same) },
     ))
-    (λ differ. (v, keeps, tt, still z t p id q me v is (λ d. refl) m, record { won = λ yes. absurd (differ yes); lost = λ _. refl }))
+    (λ differ. (
+      loses v,
+      keeps,
+      tt,
+      still z t p id q me (loses v) is (λ d. refl) (losing z s h t.words p.holder id v m),
+      record { won = λ yes. absurd (differ yes); lost = λ _. refl },
+    ))
+
+by_cases : {X : Type 0} → (b : Bool) → (b ≡ true → X) → (b ≡ false → X) → X
+by_cases true here there = here refl
+by_cases false here there = there refl
+
+-- a second look at a call that is open still
+pub confirms_allowed : (z : KeyedSizes) (slots id : ℕ) (me : Me ℕ View) → me.0.told ≡ true → Allows (Holds z) slots id me (state_at z me.0.but) (λ n. n) (λ n after. confirms me.0 n after.0)
+confirms_allowed z slots id me told t p len is fits =
+    let v = me.0 in
+    let s = p.words in
+    let h = p.history in
+    let m = p.seats id v is in
+    let i : ℕ = state_at z v.but in
+    let n : ℕ = slice_index t.words i in
+    by_cases (is_open_call n v.but)
+    (λ yes.
+    let parts = open_call_parts n v.but yes in
+    let f = open_found z t p id n v m parts.0 parts.1 told refl in
+    let opened : open_call nat_eq h v.name ≡ Some (call_of v.but) = ap (open_call nat_eq h) (sym f.key) ∙ p.tells.opens v.but f.led f.live in
+    let w : View = record v { seen = h } in (
+      w,
+      keeps,
+      tt,
+      still z t p id i me w is (λ d. refl) (seen_all z s h t.words p.holder id v m),
+      record { won = λ _. (refl, record { seen = m.seen; legal = p.tells.legal }, opened); lost = λ no. absurd (true≢false (sym yes ∙ no)) },
+    ))
+    (λ no. (
+      loses v,
+      keeps,
+      tt,
+      still z t p id i me (loses v) is (λ d. refl) (losing z s h t.words p.holder id v m),
+      record { won = λ yes. absurd (true≢false (sym yes ∙ no)); lost = λ _. refl },
+    ))
 
 either_view : (P : View → Type 0) (b : Bool) (v w : View) → P v → (b ≡ true → P w) → P (cond b w v)
 either_view P true v w same other = other refl
@@ -69,7 +113,8 @@ pub waits : (z : KeyedSizes) (slots id : ℕ) (me : Me ℕ View) → Allows (Hol
 waits z slots id me = loads z slots id (state_at z me.0.ticket) me (look_settled me.0) (λ t p m.
     let v = me.0 in
     let n : ℕ = slice_index t.words (state_at z v.ticket) in
-    either_view (IsView z p.words p.history t.words p.holder id) (eqb (n / 2097152 % 2) 1) v (record v { done = true }) m (λ yes.
+    either_view (IsView z p.words p.history t.words p.holder id) (eqb (n / 2097152 % 2) 1) (record v { state = n }) (record v { done = true })
+    (record { seen = m.seen; heard = m.heard; look = m.look; walk = m.walk; own = m.own; begun = m.begun; leads = m.leads; ticket = m.ticket; last = m.last }) (λ yes.
     let odd : n / 2097152 % 2 ≡ 1 = eqb-true _ _ yes in
     record {
       seen = m.seen;
@@ -81,7 +126,7 @@ waits z slots id me = loads z slots id (state_at z me.0.ticket) me (look_settled
       leads = m.leads;
       ticket = λ any. let o = m.ticket any in record { led = o.led; within = o.within; generation = o.generation; settled = λ _. omega (arith, odd) };
       last = m.last;
-    })) (λ n c. stake_either (eqb (n / 2097152 % 2) 1) me.0 (record me.0 { done = true }) c refl)
+    })) (λ n c. stake_either (eqb (n / 2097152 % 2) 1) (record me.0 { state = n }) (record me.0 { done = true }) c refl)
 
 pub takes_allowed : (z : KeyedSizes) (slots id : ℕ) (me : Me ℕ View) → me.0.ticket ≢ 0 → me.0.done ≡ true
     → Allows (Holds z) slots id me (value_at z me.0.ticket) (λ n. n) (λ n after. takes me.0 n after.0)
@@ -94,5 +139,5 @@ takes_allowed z slots id me any done t p len is fits =
       keeps,
       tt,
       still z t p id (value_at z v.ticket) me w is (λ d. refl) (seen_all z p.words p.history t.words p.holder id v m),
-      record { view = refl; grows = m.seen; result = p.shows.values v.ticket o.led o.generation (o.settled done) },
+      record { view = refl; grows = record { seen = m.seen; legal = p.tells.legal }; result = p.shows.values v.ticket o.led o.generation (o.settled done) },
     )

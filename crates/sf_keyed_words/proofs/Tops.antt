@@ -14,24 +14,24 @@ use Rattle.sf_lists.proofs.Functions.{put_here, put_else}
 use Rattle.sf_keyed_tells.specs.Tells.{KeyedEvent}
 use Rattle.sf_history.specs.declared.event.Event.TheVariants.{Lead}
 use Rattle.sf_keyed_laws.specs.Words.{Words}
-use Rattle.sf_keyed_laws.specs.Steps.{Step, Leads, leads, sets_aside, SetsAside, seals, led_on, aside_at, sealed_at}
+use Rattle.sf_keyed_laws.specs.Steps.{Step, HasNoOpen, Leads, leads, sets_aside, SetsAside, seals, led_on, aside_at, sealed_at}
 use Rattle.sf_keyed_laws.proofs.Walking.{steps_keep}
-use Rattle.sf_keyed_tells.specs.Tells.{call_of}
+use Rattle.sf_keyed_tells.specs.Tells.{call_of, Tells}
 use Rattle.sf_keyed_tells.proofs.Telling.{by_bool, lead_tells}
 use Rattle.sf_keyed_words.specs.declared.rule.KeyedSizes.{KeyedSizes}
 use Rattle.sf_keyed_words.specs.declared.rule.View.{View}
 use Rattle.sf_keyed_words.specs.Rule.{slot_of, side_at, state_at, name_at, high_at, NameIs, value_at, layout_of, sides_from, gen_of, held_of, is_open_word, IsOwn, IsLeads, IsLook, IsWalk, IsView, held_at, stake, KeyedTable, Holds}
 use Rattle.sf_keyed_words.proofs.Lasting.{look_lasts, walk_lasts}
 use Rattle.sf_history.proofs.Members.{joined_kept}
-use Rattle.sf_keyed_words.proofs.Results.{lead_members, plain_settled, new_unsettled, new_unjoined, result_kept}
-use Rattle.sf_keyed_words.proofs.Seats.{name_kept, made, still, view_away, Away}
+use Rattle.sf_keyed_words.proofs.Results.{either_closed, lead_members, plain_settled, new_unsettled, new_unjoined, result_kept}
+use Rattle.sf_keyed_words.proofs.Seats.{name_kept, losing, made, still, view_away, Away}
 use Rattle.sf_keyed_words.proofs.States.{last_never, whole, one_more, open_from, ready_gen, ready_tag, ready_bit}
 use Rattle.std.proofs.lemmas.List.{length-set, get_or-set_same, get_or-set_other}
 use Rattle.sf_keyed_laws.specs.Words.{IsAside}
 use Rattle.sf_keyed_laws.specs.Walks.{HasWalked}
-use Rattle.sf_keyed_laws.proofs.Walking.{walks_end, walks_clear}
+use Rattle.sf_keyed_laws.proofs.Walking.{walks_end, walks_clear, unmarked_is_walked}
 use Rattle.sf_keyed_words.specs.Rule.{Unmet}
-use Rattle.sf_keyed_words.specs.Plays.{tries_lead, led_view, try_aside, sealed_by}
+use Rattle.sf_keyed_words.specs.Plays.{tries_lead, led_view, loses, try_aside, sealed_by}
 use Rattle.sf_keyed_words.proofs.Lasting.{led_lasts}
 use Rattle.sf_keyed_words.proofs.Stores.{unowned, unowned_view}
 
@@ -83,31 +83,37 @@ pub record MayLead (z : KeyedSizes) (v : View) (p old new : ℕ) : Type 0 where
   pub unsealed : old / 2 % 2 ≡ 0
   pub walks : v.walks ≡ true
   pub clear : v.clear ≡ true
-  pub looked : v.looked ≡ 16
+  pub looked : old % 2 ≡ 1 → v.looked ≡ 16
   pub other : v.other ≡ true
   pub saved : v.saved ≡ true
   pub unmet : Unmet v.names v.key
+  pub mark : new % 2 ≡ 0 → (k : ℕ) → slot_of z k ≡ p → Unmet v.names k
   pub idle : v.leads ≡ 0
 
 -- so the step is a lead
 is_lead : (z : KeyedSizes) (t : State ℕ View) (p : KeyedTable z t) (id : ℕ) (v : View) (q old new : ℕ) → MayLead z v q old new → IsView z p.words p.history t.words p.holder id v
-    → slice_index t.words q ≡ old → Leads (layout_of z) p.words v.own v.key v.top true
+    → slice_index t.words q ≡ old → Leads (layout_of z) p.words v.own v.key v.top (eqb (new % 2) 1)
 is_lead z t p id v q old new may m found =
     let y = layout_of z in
     let s = p.words in
     let own = m.own may.call in
     let walk = m.walk may.walks in
     let unsealed = may.unsealed in
-    let was : s.top (slot_of z v.key) ≡ v.top = ap s.top may.slot ∙ (sym (p.shows.tops q may.below) ∙ (ap (λ n. n / 4) found ∙ may.old_is)) in
-    let walked : HasWalked y s v.key v.top v.top 16 =
-    subst (λ n. HasWalked y s v.key v.top v.top n) may.looked (walks_clear y s v.key v.top v.but v.looked (walk.walked v.key (may.slot ∙ sym may.slot_is) may.unmet) (m.look.clear may.clear v.key may.unmet)) in
+    let top : (k : ℕ) → slot_of z k ≡ q → s.top (slot_of z k) ≡ v.top = λ k slot. ap s.top slot ∙ (sym (p.shows.tops q may.below) ∙ (ap (λ n. n / 4) found ∙ may.old_is)) in
+    let none : (k : ℕ) → slot_of z k ≡ q → Unmet v.names k → HasNoOpen s k = λ k slot unmet.
+    let walked : HasWalked y s k v.top v.top 16 = dite (ℕ_discrete (old % 2) 1)
+    (λ odd. subst (λ n. HasWalked y s k v.top v.top n) (may.looked odd) (walks_clear y s k v.top v.but v.looked (walk.walked k (slot ∙ sym may.slot_is) unmet) (m.look.clear may.clear k unmet)))
+    (λ isnt. unmarked_is_walked y s k v.top p.keeps (top k slot) (ap s.marked slot ∙ p.shows.marks q may.below (let even : slice_index t.words q % 2 ≡ old % 2 = ap (λ n. n % 2) found in omega (arith, even, isnt)))) in
+    walks_end y s k v.top walked (top k slot) (walk.other may.other k unmet) in
     record {
       call = may.call;
       new = own.new;
-      was = was;
+      was = top v.key may.slot;
       unsealed = ap s.sealed may.slot ∙ by_bool (s.sealed q) (λ yes. let one = p.shows.seals q may.below yes in let two : slice_index t.words q / 2 % 2 ≡ 0 = ap (λ n. n / 2 % 2) found ∙ unsealed in omega (arith, one, two));
-      none = walks_end y s v.key v.top walked was (walk.other may.other v.key may.unmet);
-      clean = λ no. absurd (true≢false no);
+      none = none v.key may.slot may.unmet;
+      clean = λ no e led live here. none (s.key_of e) (here ∙ may.slot)
+          (may.mark (dite (ℕ_discrete (new % 2) 1) (λ one. absurd (true≢false (sym (eq-eqb (new % 2) 1 one) ∙ no))) (λ isnt. omega (arith, isnt))) (s.key_of e) (here ∙ may.slot))
+          e led live refl;
       saved = λ led live. subst (λ k. IsAside y s k 0 v.top) (may.slot_is ∙ sym may.slot) (walk.saved may.saved led live);
     }
 
@@ -127,12 +133,14 @@ lead_won z id q old new me may t p is found =
     let own = m.own may.call in
     let below = may.below in
     let inside : q < z.tops + z.sides = omega (arith, below) in
-    let lead : Leads y s e v.key v.top true = is_lead z t p id v q old new may m found in
-    let step : Step y s = leads e v.key v.top true lead in
-    let s2 : Words = led_on y s e v.key true in
+    let mark : Bool = eqb (new % 2) 1 in
+    let lead : Leads y s e v.key v.top mark = is_lead z t p id v q old new may m found in
+    let step : Step y s = leads e v.key v.top mark lead in
+    let s2 : Words = led_on y s e v.key mark in
     let x : KeyedEvent = Lead (e % 1048576) v.key (call_of e) None in
     let h2 : List KeyedEvent = h ++ x ∷ [] in
     let fresh : s.closed e ≡ false = by_bool (s.closed e) (λ yes. true≢false (sym (p.shows.only e yes) ∙ own.new)) in
+    let tells : Tells s2 h2 = lead_tells y s e v.key v.top mark h lead fresh p.tells in
     let ws : List ℕ = set t.words q new in
     let fr = front z t.words q new inside p.shows.size in
     let two : slice_index t.words (state_at z e) / 2097152 % 4 ≡ 2 = ap (λ n. n / 2097152 % 4) own.state ∙ ready_tag e in
@@ -167,7 +175,7 @@ lead_won z id q old new me may t p is found =
       w,
       keeps,
       tt,
-      made z t p id q new me w s2 h2 p.holder (steps_keep y s step p.keeps) (lead_tells y s e v.key v.top true h lead fresh p.tells) (lead_members h e v.key p.members)
+      made z t p id q new me w s2 h2 p.holder (steps_keep y s step p.keeps) tells (lead_members h e v.key p.members)
           (record {
             size = fr.size ∙ p.shows.size;
             tops = λ k lt. dite (ℕ_discrete k q)
@@ -196,6 +204,11 @@ lead_won z id q old new me may t p is found =
             seals = λ k lt yes. dite (ℕ_discrete k q)
                 (λ here. absurd (true≢false (sym yes ∙ (ap s.sealed (here ∙ sym slot) ∙ lead.unsealed))))
                 (λ apart. ap (λ n. n / 2 % 2) (fr.else k apart) ∙ p.shows.seals k lt yes);
+            marks = λ k lt even. dite (ℕ_discrete k q)
+                (λ here. ap (put s.marked (slot_of z v.key) mark) (here ∙ sym slot) ∙ (put_here s.marked (slot_of z v.key) mark ∙ ne_eqb (new % 2) 1 (λ one.
+                let same : slice_index ws k % 2 ≡ new % 2 = ap (λ j. slice_index ws j % 2) here ∙ ap (λ n. n % 2) fr.here in
+                omega (arith, same, one, even))))
+                (λ apart. put_else s.marked (slot_of z v.key) mark k (λ b. apart (b ∙ slot)) ∙ p.shows.marks k lt (sym (ap (λ n. n % 2) (fr.else k apart)) ∙ even));
             values = λ d led g odd. dite (ℕ_discrete d e)
                 (λ here. let o : slice_index t.words (state_at z e) / 2097152 % 4 % 2 ≡ 1 = sym (ap (λ k. slice_index ws (state_at z k) / 2097152 % 4 % 2) here ∙ ap (λ n. n / 2097152 % 4 % 2) (fr.state e)) ∙ odd in absurd (omega (arith, two, o)))
                 (λ apart. result_kept h x (call_of d) _ (p.shows.values d (sym (put_else s.led e true d apart) ∙ led) (sym (ap gen_of (fr.state d)) ∙ g) (sym (ap (λ n. n / 2097152 % 4 % 2) (fr.state d)) ∙ odd)) ∙ ap (λ n. Some (Some n)) (sym (fr.value d)));
@@ -226,7 +239,7 @@ lead_won z id q old new me may t p is found =
             last = mine.last;
           }),
       record {
-        won = λ _. (refl, record { before = m.seen.0; seen = ap (λ l. l ++ x ∷ []) m.seen.1 });
+        won = λ _. (refl, record { before = m.seen.0; seen = ap (λ l. l ++ x ∷ []) m.seen.1; legal = tells.legal });
         lost = λ bar. absurd (bar found);
       },
     )
@@ -234,10 +247,10 @@ lead_won z id q old new me may t p is found =
 lead_lost : (z : KeyedSizes) (id q old : ℕ) (me : Me ℕ View) → (t : State ℕ View) → Holds z t → get_elem? t.views id ≡ some me.0
     → slice_index t.words q ≢ old → Outcome z id q old me t (slice_index t.words q)
 lead_lost z id q old me t p is differ = (
-  me.0,
+  loses me.0,
   keeps,
   tt,
-  still z t p id q me me.0 is (λ d. refl) (p.seats id me.0 is),
+  still z t p id q me (loses me.0) is (λ d. refl) (losing z p.words p.history t.words p.holder id me.0 (p.seats id me.0 is)),
   record { won = λ yes. absurd (differ yes); lost = λ _. refl },
 )
 
@@ -292,6 +305,9 @@ seal_won z id q old new me may t p is found =
             seals = λ k lt yes. dite (ℕ_discrete k q)
                 (λ here. ap (λ j. slice_index ws j / 2 % 2) here ∙ (ap (λ n. n / 2 % 2) fr.here ∙ flag))
                 (λ apart. ap (λ n. n / 2 % 2) (fr.else k apart) ∙ p.shows.seals k lt (sym (put_else s.sealed q true k apart) ∙ yes));
+            marks = λ k lt even. dite (ℕ_discrete k q)
+                (λ here. ap s.marked here ∙ p.shows.marks q below (let same : slice_index ws k % 2 ≡ new % 2 = ap (λ j. slice_index ws j % 2) here ∙ ap (λ n. n % 2) fr.here in let was : slice_index t.words q % 2 ≡ old % 2 = ap (λ n. n % 2) found in omega (arith, same, was, new_is, even)))
+                (λ apart. p.shows.marks k lt (sym (ap (λ n. n % 2) (fr.else k apart)) ∙ even));
             values = λ d led g odd. p.shows.values d led (sym (ap gen_of (fr.state d)) ∙ g) (sym (ap (λ n. n / 2097152 % 4 % 2) (fr.state d)) ∙ odd) ∙ ap (λ n. Some (Some n)) (sym (fr.value d));
           })
           is
@@ -306,10 +322,6 @@ pub seals_allowed : (z : KeyedSizes) (slots id q old new : ℕ) (me : Me ℕ Vie
 seals_allowed z slots id q old new me may t p len is fits =
     exchanged (slice_index t.words q) old new (Sealed z id q old me t) (seal_won z id q old new me may t p is)
     (λ differ. (me.0, keeps, tt, still z t p id q me me.0 is (λ d. refl) (p.seats id me.0 is), refl))
-
-either_closed : (b : Bool) → (b ≡ false → ⊥) → b ≡ true
-either_closed true never = refl
-either_closed false never = absurd (never refl)
 
 -- the top is set aside, in place of a dead call
 pub record MayAside (z : KeyedSizes) (v : View) (j old new : ℕ) : Type 0 where
@@ -366,6 +378,7 @@ aside_won z id j old new me may t p is found =
             only = p.shows.only;
             coming = λ d in_cells later. p.shows.coming d in_cells (subst (λ n. n / 8388608 < d / 1048576) (fr.state d) later);
             seals = λ k lt yes. ap (λ n. n / 2 % 2) (fr.else k (λ b. omega (arith, lt, b))) ∙ p.shows.seals k lt yes;
+            marks = λ k lt even. p.shows.marks k lt (sym (ap (λ n. n % 2) (fr.else k (λ b. omega (arith, lt, b)))) ∙ even);
             values = λ d led g odd. p.shows.values d led (sym (ap gen_of (fr.state d)) ∙ g) (sym (ap (λ n. n / 2097152 % 4 % 2) (fr.state d)) ∙ odd) ∙ ap (λ n. Some (Some n)) (sym (fr.value d));
           })
           is
@@ -382,11 +395,17 @@ aside_won z id j old new me may t p is found =
             ticket = mine.ticket;
             last = mine.last;
           }),
-      sym (ap (λ b. cond b w v) (eq-eqb _ old found)),
+      sym (ap (λ b. cond b w (loses v)) (eq-eqb _ old found)),
     )
 
 pub asides_allowed : (z : KeyedSizes) (slots id j old new : ℕ) (me : Me ℕ View) → MayAside z me.0 j old new
     → Allows (Holds z) slots id me (z.tops + j) (λ n. either (eqb n old) new n) (λ n after. after.0 ≡ try_aside me.0 old n)
 asides_allowed z slots id j old new me may t p len is fits =
     exchanged (slice_index t.words (z.tops + j)) old new (Asided z id j old me t) (aside_won z id j old new me may t p is)
-    (λ differ. (me.0, keeps, tt, still z t p id (z.tops + j) me me.0 is (λ d. refl) (p.seats id me.0 is), sym (ap (λ b. cond b (record me.0 { saved = true }) me.0) (ne_eqb _ old differ))))
+    (λ differ. (
+      loses me.0,
+      keeps,
+      tt,
+      still z t p id (z.tops + j) me (loses me.0) is (λ d. refl) (losing z p.words p.history t.words p.holder id me.0 (p.seats id me.0 is)),
+      sym (ap (λ b. cond b (record me.0 { saved = true }) (loses me.0)) (ne_eqb _ old differ)),
+    ))

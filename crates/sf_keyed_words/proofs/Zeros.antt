@@ -49,6 +49,7 @@ opens z words zeros = record {
     only = λ e shut. absurd (true≢false (sym shut));
     coming = λ e _ _. refl;
     seals = λ p _ yes. absurd (true≢false (sym yes));
+    marks = λ p _ _. refl;
     values = λ e led _ _. absurd (true≢false (sym led));
   };
   counts = λ i lt. ap held_of (zero_at (z.tops + z.sides + 8 * i) (omega (arith, lt)));

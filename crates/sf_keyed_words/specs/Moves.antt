@@ -1,5 +1,6 @@
 -- What moves between seats: a flight, a ticket, and what is seen.
-use Rattle.std.specs.Prelude.{◌≡◌, false}
+use Rattle.std.specs.Prelude.{◌≡◌, nat_eq, false}
+use Rattle.sf_history.specs.Legal.{IsLegal}
 use Rattle.sf_keyed_words.specs.declared.rule.View.{View}
 use Rattle.sf_keyed_words.specs.Rule.{first_view, note_of, IsPrefix}
 
@@ -36,3 +37,4 @@ pub record has_heard (v w : View) : Type 0 where
   pub view : w ≡ record v { seen = w.seen }
   pub seen : IsPrefix v.seen w.seen
   pub heard : IsPrefix v.heard w.seen
+  pub legal : IsLegal nat_eq w.seen

@@ -74,11 +74,19 @@ held_of n = n % 1048576
 abbrev pub is_open_word : ℕ → ℕ → Bool
 is_open_word n e = (n / 8388608 == e / 1048576) && (n / 2097152 % 4 == 2)
 
+-- the call is some call, and open
+abbrev pub is_open_call : ℕ → ℕ → Bool
+is_open_call n e = cond (e == 0) false (is_open_word n e)
+
+-- a Forget has closed the call, which is not settled
+abbrev pub is_forgotten : ℕ → Bool
+is_forgotten n = cond (n / 2097152 % 4 == 2) false true
+
 -- the call is open, and its one holder has it alone
 abbrev pub ready_word : ℕ → ℕ
 ready_word e = e / 1048576 * 8388608 + 4194305
 
--- the words are those of this group: a top or side word has its call's number from bit 2 on, and a top word's second bit says that its slot is sealed
+-- the words are those of this group: a top or side word has its call's number from bit 2 on; a top word's second bit says that its slot is sealed, and its first one that it is marked
 pub record Shows (z : KeyedSizes) (s : Words) (h : List KeyedEvent) (ws : List ℕ) : Type 0 where
   pub size : length ws ≡ word_total z
   pub tops : (p : ℕ) → p < z.tops → slice_index ws p / 4 ≡ s.top p
@@ -89,6 +97,7 @@ pub record Shows (z : KeyedSizes) (s : Words) (h : List KeyedEvent) (ws : List �
   pub only : (e : ℕ) → s.closed e ≡ true → s.led e ≡ true
   pub coming : (e : ℕ) → e % 1048576 < z.cells → gen_of (slice_index ws (state_at z e)) < e / 1048576 → s.led e ≡ false
   pub seals : (p : ℕ) → p < z.tops → s.sealed p ≡ true → slice_index ws p / 2 % 2 ≡ 1
+  pub marks : (p : ℕ) → p < z.tops → slice_index ws p % 2 ≡ 0 → s.marked p ≡ false
   pub values : (e : ℕ) → s.led e ≡ true → gen_of (slice_index ws (state_at z e)) ≡ e / 1048576 → tag_of (slice_index ws (state_at z e)) % 2 ≡ 1
       → result_of h (call_of e) ≡ Some (Some (slice_index ws (value_at z e)))
 
@@ -193,7 +202,7 @@ abbrev pub Holds : KeyedSizes → State ℕ View → Type 0
 Holds z t = KeyedTable z t
 
 abbrev pub first_view : KeyedSizes → View
-first_view z = record { sizes = z; own = 0; first = false; start = 0; named = false; key = 0; leads = 0; stored = false; value = 0; ticket = 0; done = false; last = 0; walks = false; slot = 0; top = 0; other = false; saved = false; but = 0; clear = false; dead = false; half = false; low = 0; told = false; name = 0; names = []; looked = 0; seen = []; heard = [] }
+first_view z = record { sizes = z; own = 0; first = false; start = 0; named = false; key = 0; leads = 0; stored = false; value = 0; ticket = 0; done = false; last = 0; walks = false; slot = 0; found = 0; top = 0; other = false; saved = false; but = 0; clear = false; dead = false; half = false; low = 0; told = false; name = 0; names = []; looked = 0; aside = 0; opened = 0; counted = false; state = 0; place = 0; lost = 0; seen = []; heard = [] }
 
 -- a new seat that has seen what another has
 abbrev pub note_of : View → View

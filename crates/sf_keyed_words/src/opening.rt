@@ -1,5 +1,5 @@
 //! The opening of a keyed group's table.
-ghost use Rattle.std.specs.Prelude.{◌≡◌, ◌<◌, ◌^◌, IfOk};
+ghost use Rattle.std.specs.Prelude.{◌≡◌, ◌<◌, ◌^◌, [], IfOk};
 ghost use Rattle.sf_keyed_words.specs.Rule.{word_total, first_view, note_of};
 
 use crate::rule::{KeyedSizes, Law, Shares, View};
@@ -28,7 +28,7 @@ pub fn share(words: &Words, seat: &mut KeyedSeat) -> KeyedSeat
     requires words { 0 < words.now.table_id.words }
     ensures own { (seat.new.table_id ≡ seat.old.table_id) × (result.table_id ≡ words.now.table_id) }
     ensures seat { seat.new.me.0 ≡ seat.old.me.0 }
-    ensures new { result.me.0 ≡ note_of seat.old.me.0 }
+    ensures new { result.me ≡ (note_of seat.old.me.0, []) }
 {
     words.split_seat::<Shares>(seat)
 }

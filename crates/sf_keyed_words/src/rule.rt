@@ -27,10 +27,13 @@ pub struct Name {
 /// that was stored for it; a call that it is a holder of, and whether that was seen settled; and a settled call whose cell it
 /// has as the last holder.
 ///
-/// How far it has walked from a slot: the call that was the top, and whether that is seen to be no open call of a name that
-/// was not met, and to be closed or aside; and how many side words it has looked at. The call that it is just looking at:
-/// whether it is no open call of a name that was not met, whether it is closed, and the lower word of the name, and the name, that it has if it is open. And
-/// the names that it has met.
+/// How far it has walked from a slot: the top word and the call that it names, and whether that is seen to be no open call of a name that
+/// was not met, and to be closed or aside; how many side words it has looked at, and the last of them; and how many of the calls were open.
+/// The call that it is just looking at: whether it is no open call of a name that was not met, whether it is closed, whether it was
+/// counted among the open ones, and the lower word of the name, and the name, that it has if it is open. And the names that it has met.
+///
+/// The state word that it looked at last, and where a free cell's lies; and how often an exchange of its found another word than the
+/// one that it had looked at.
 ///
 /// What has happened so far; and what another seat had seen that was joined with this one, until the next load.
 pub struct View {
@@ -48,6 +51,7 @@ pub struct View {
     pub last: u64,
     pub walks: bool,
     pub slot: u64,
+    pub found: u64,
     pub top: u64,
     pub other: bool,
     pub saved: bool,
@@ -60,6 +64,12 @@ pub struct View {
     pub name: u64,
     pub names: LinkedList<u64>,
     pub looked: u64,
+    pub aside: u64,
+    pub opened: u64,
+    pub counted: bool,
+    pub state: u64,
+    pub place: u64,
+    pub lost: u64,
     pub seen: LinkedList<Event<u64, Option<u64>>>,
     pub heard: LinkedList<Event<u64, Option<u64>>>,
 }
@@ -153,20 +163,18 @@ impl Play<u8, View> for Hears {
 pub struct LooksAtTop;
 
 impl Play<u8, View> for LooksAtTop {
-    ghost use Rattle.std.specs.Prelude.{◌≡◌};
-    ghost use Rattle.sf_keyed_words.specs.Plays.{walk_from};
+    ghost use Rattle.sf_keyed_words.specs.Plays.{walks_from};
 
-    ghost then = { λ step before word after. after.0 ≡ walk_from before.0 step.word word };
+    ghost then = { λ step before word after. walks_from before.0 step.word word after.0 };
 }
 
 /// A load of the next side word.
 pub struct LooksAside;
 
 impl Play<u8, View> for LooksAside {
-    ghost use Rattle.std.specs.Prelude.{◌≡◌};
-    ghost use Rattle.sf_keyed_words.specs.Plays.{walk_on};
+    ghost use Rattle.sf_keyed_words.specs.Plays.{walks_on};
 
-    ghost then = { λ step before word after. after.0 ≡ walk_on before.0 word };
+    ghost then = { λ step before word after. walks_on before.0 word after.0 };
 }
 
 /// A load of the state of the call that is looked at.
@@ -177,6 +185,25 @@ impl Play<u8, View> for Sees {
     ghost use Rattle.sf_keyed_words.specs.Plays.{see_state};
 
     ghost then = { λ step before word after. after.0 ≡ see_state before.0 word };
+}
+
+/// A second load of that state, after the name.
+pub struct Confirms;
+
+impl Play<u8, View> for Confirms {
+    ghost use Rattle.sf_keyed_words.specs.Plays.{confirms};
+
+    ghost then = { λ step before word after. confirms before.0 word after.0 };
+}
+
+/// A load of a cell's state, before the cell is claimed.
+pub struct LooksAtCell;
+
+impl Play<u8, View> for LooksAtCell {
+    ghost use Rattle.std.specs.Prelude.{◌≡◌};
+    ghost use Rattle.sf_keyed_words.specs.Plays.{look_cell};
+
+    ghost then = { λ step before word after. after.0 ≡ look_cell before.0 step.word word };
 }
 
 /// A load of the lower word of the name of the call that the seat is looking at.

@@ -1,12 +1,13 @@
 //! The steps on the table, each on one word, and what they leave of the seat's view.
-ghost use Rattle.std.specs.Prelude.{◌≡◌, ◌≢◌, ◌+◌, ◌*◌, ◌/◌, ◌%◌, ◌<◌, ◌≤◌, true};
+ghost use Rattle.std.specs.Prelude.{◌≡◌, ◌≢◌, ℕ, ◌+◌, ◌*◌, ◌/◌, ◌%◌, ◌<◌, ◌≤◌, true};
 ghost use Rattle.sf_keyed_words.specs.Rule.{word_total, is_open_word, joined_bit, ready_word, sides_from, slot_of, Unmet};
-ghost use Rattle.sf_keyed_words.specs.Plays.{walk_from, walk_on, see_state, read_low, read_high, begun_as, named_as, stored_as, try_claim, tries_lead, try_aside, sealed_by, tries_join, settles, tries_alone, tries_close, finds_none, look_settled, takes, lets_go, given_back};
+ghost use Rattle.sf_keyed_words.specs.Plays.{look_cell as the_look_cell};
+ghost use Rattle.sf_keyed_words.specs.Plays.{walks_from, walks_on, see_state, confirms, read_low, read_high, begun_as, named_as, stored_as, try_claim, tries_lead, try_aside, sealed_by, tries_join, settles, tries_alone, tries_close, finds_none, look_settled, takes, lets_go, given_back};
 
 use crate::rule::{
-    Begins, Claims, Closes, FindsNone, GivesBack, Joins, KeyedSizes, Law, Leads, Lets, LooksAside,
-    LooksAtTop, Names, Reads, ReadsLow, Seals, Sees, SetsAside, Settles, SettlesAlone, Stores,
-    Takes, View, Waits,
+    Begins, Claims, Closes, Confirms, FindsNone, GivesBack, Joins, KeyedSizes, Law, Leads, Lets,
+    LooksAside, LooksAtCell, LooksAtTop, Names, Reads, ReadsLow, Seals, Sees, SetsAside, Settles,
+    SettlesAlone, Stores, Takes, View, Waits,
 };
 use atomic_table::{Seat, Shared};
 
@@ -18,9 +19,10 @@ pub type KeyedSeat = Seat<u8, View>;
 pub fn look_top(words: &Words, seat: &mut KeyedSeat, slot: u64) -> u64
     requires own { seat.old.table_id ≡ words.now.table_id }
     requires size { words.now.table_id.words ≡ word_total words.now.key }
+    requires sizes { seat.old.me.0.sizes ≡ words.now.key }
     requires slot { slot < words.now.key.tops }
     ensures own { seat.new.table_id ≡ seat.old.table_id }
-    ensures view { seat.new.me.0 ≡ walk_from seat.old.me.0 slot result }
+    ensures view { walks_from seat.old.me.0 slot result seat.new.me.0 }
 {
     words.load::<LooksAtTop>(seat, slot as usize)
 }
@@ -29,10 +31,11 @@ pub fn look_top(words: &Words, seat: &mut KeyedSeat, slot: u64) -> u64
 pub fn look_side(words: &Words, seat: &mut KeyedSeat, at: u64) -> u64
     requires own { seat.old.table_id ≡ words.now.table_id }
     requires size { words.now.table_id.words ≡ word_total words.now.key }
-    requires walks { (seat.old.me.0.walks ≡ true) × (seat.old.me.0.clear ≡ true) }
+    requires sizes { seat.old.me.0.sizes ≡ words.now.key }
+    requires walks { (seat.old.me.0.walks ≡ true) × (seat.old.me.0.clear ≡ true) × (seat.old.me.0.looked < 16) }
     requires at { (at ≡ words.now.key.tops + (sides_from seat.old.me.0.slot + seat.old.me.0.looked)) × (sides_from seat.old.me.0.slot + seat.old.me.0.looked < words.now.key.sides) }
     ensures own { seat.new.table_id ≡ seat.old.table_id }
-    ensures view { seat.new.me.0 ≡ walk_on seat.old.me.0 result }
+    ensures view { walks_on seat.old.me.0 result seat.new.me.0 }
 {
     words.load::<LooksAside>(seat, at as usize)
 }
@@ -46,6 +49,29 @@ pub fn see(words: &Words, seat: &mut KeyedSeat, at: u64) -> u64
     ensures view { seat.new.me.0 ≡ see_state seat.old.me.0 result }
 {
     words.load::<Sees>(seat, at as usize)
+}
+
+/// Loads that state again, after the name: where the call is open still, it is the open call of the name.
+pub fn confirm(words: &Words, seat: &mut KeyedSeat, at: u64) -> u64
+    requires own { seat.old.table_id ≡ words.now.table_id }
+    requires size { words.now.table_id.words ≡ word_total words.now.key }
+    requires at { (at ≡ words.now.key.tops + words.now.key.sides + 8 * (seat.old.me.0.but % 1048576)) × (seat.old.me.0.but % 1048576 < words.now.key.cells) }
+    requires told { seat.old.me.0.told ≡ true }
+    ensures own { seat.new.table_id ≡ seat.old.table_id }
+    ensures view { confirms seat.old.me.0 result seat.new.me.0 }
+{
+    words.load::<Confirms>(seat, at as usize)
+}
+
+/// Loads the state of the cell that is to be claimed.
+pub fn look_cell(words: &Words, seat: &mut KeyedSeat, at: u64) -> u64
+    requires own { seat.old.table_id ≡ words.now.table_id }
+    requires size { words.now.table_id.words ≡ word_total words.now.key }
+    requires at { at < words.now.table_id.words }
+    ensures own { seat.new.table_id ≡ seat.old.table_id }
+    ensures view { seat.new.me.0 ≡ the_look_cell seat.old.me.0 at result }
+{
+    words.load::<LooksAtCell>(seat, at as usize)
 }
 
 /// Loads the lower word of the name of the call that is looked at.
@@ -108,14 +134,15 @@ pub fn store_value(words: &Words, seat: &mut KeyedSeat, at: u64, value: u64)
 }
 
 /// Leads the seat's own call: at the end of a walk that met no open call of the name, the top word names it, if that is still
-/// what it was.
+/// what it was. A slot whose top is not marked needs no walk over side words. The new top is marked where other calls of the slot may be open.
 pub fn lead(words: &Words, seat: &mut KeyedSeat, slot: u64, old: u64, new: u64) -> u64
     requires own { seat.old.table_id ≡ words.now.table_id }
     requires size { words.now.table_id.words ≡ word_total words.now.key }
     requires slot { (slot < words.now.key.tops) × (slot_of words.now.key seat.old.me.0.key ≡ slot) × (seat.old.me.0.slot ≡ slot) }
     requires call { (seat.old.me.0.own ≢ 0) × (seat.old.me.0.named ≡ true) × (new / 4 ≡ seat.old.me.0.own) }
-    requires top { (old / 4 ≡ seat.old.me.0.top) × (old / 2 % 2 ≡ 0) }
-    requires walked { (seat.old.me.0.walks ≡ true) × (seat.old.me.0.clear ≡ true) × (seat.old.me.0.looked ≡ 16) }
+    requires top { (old ≡ seat.old.me.0.found) × (old / 4 ≡ seat.old.me.0.top) × (old / 2 % 2 ≡ 0) }
+    requires walked { (seat.old.me.0.walks ≡ true) × (seat.old.me.0.clear ≡ true) × (old % 2 ≡ 1 → seat.old.me.0.looked ≡ 16) }
+    requires mark { new % 2 ≡ 0 → (name : ℕ) → slot_of words.now.key name ≡ slot → Unmet seat.old.me.0.names name }
     requires other { (seat.old.me.0.other ≡ true) × (seat.old.me.0.saved ≡ true) × Unmet seat.old.me.0.names seat.old.me.0.key }
     requires idle { seat.old.me.0.leads ≡ 0 }
     ensures own { seat.new.table_id ≡ seat.old.table_id }
@@ -142,7 +169,7 @@ pub fn set_aside(words: &Words, seat: &mut KeyedSeat, at: u64, side: u64, old: u
     requires size { words.now.table_id.words ≡ word_total words.now.key }
     requires at { (at ≡ words.now.key.tops + (sides_from seat.old.me.0.slot + side)) × (sides_from seat.old.me.0.slot + side < words.now.key.sides) × (side < 16) }
     requires walks { (seat.old.me.0.walks ≡ true) × (seat.old.me.0.dead ≡ true) }
-    requires calls { (old / 4 ≡ seat.old.me.0.but) × (new / 4 ≡ seat.old.me.0.top) }
+    requires calls { (old ≡ seat.old.me.0.aside) × (old / 4 ≡ seat.old.me.0.but) × (new / 4 ≡ seat.old.me.0.top) }
     ensures own { seat.new.table_id ≡ seat.old.table_id }
     ensures view { seat.new.me.0 ≡ try_aside seat.old.me.0 old result }
 {
@@ -155,7 +182,8 @@ pub fn find_none(words: &Words, seat: &mut KeyedSeat, slot: u64) -> u64
     requires size { words.now.table_id.words ≡ word_total words.now.key }
     requires sizes { seat.old.me.0.sizes ≡ words.now.key }
     requires slot { (slot < words.now.key.tops) × (seat.old.me.0.slot ≡ slot) }
-    requires walked { (seat.old.me.0.walks ≡ true) × (seat.old.me.0.clear ≡ true) × (seat.old.me.0.looked ≡ 16) × (seat.old.me.0.other ≡ true) }
+    requires walked { (seat.old.me.0.walks ≡ true) × (seat.old.me.0.clear ≡ true) × (seat.old.me.0.found % 2 ≡ 1 → seat.old.me.0.looked ≡ 16) × (seat.old.me.0.other ≡ true) }
+    requires top { seat.old.me.0.found / 4 ≡ seat.old.me.0.top }
     ensures own { seat.new.table_id ≡ seat.old.table_id }
     ensures view { finds_none seat.old.me.0 result seat.new.me.0 }
 {
@@ -190,7 +218,7 @@ pub fn claim(words: &Words, seat: &mut KeyedSeat, at: u64, cell: u64, old: u64) 
     requires own { seat.old.table_id ≡ words.now.table_id }
     requires size { words.now.table_id.words ≡ word_total words.now.key }
     requires at { (at ≡ words.now.key.tops + words.now.key.sides + 8 * cell) × (cell < words.now.key.cells) × (cell < 1048576) }
-    requires free { (old % 8388608 ≡ 0) × (old < 18446744073701163008) }
+    requires free { (old % 8388608 ≡ 0) × (old < 18446744073701163008) × (old ≡ seat.old.me.0.state) }
     requires sizes { seat.old.me.0.sizes ≡ words.now.key }
     requires idle { seat.old.me.0.own ≡ 0 }
     ensures own { seat.new.table_id ≡ seat.old.table_id }
@@ -205,7 +233,7 @@ pub fn join(words: &Words, seat: &mut KeyedSeat, at: u64, old: u64, new: u64) ->
     requires size { words.now.table_id.words ≡ word_total words.now.key }
     requires at { (at ≡ words.now.key.tops + words.now.key.sides + 8 * (seat.old.me.0.but % 1048576)) × (seat.old.me.0.but % 1048576 < words.now.key.cells) }
     requires call { (seat.old.me.0.but ≢ 0) × (seat.old.me.0.told ≡ true) }
-    requires opened { is_open_word old seat.old.me.0.but ≡ true }
+    requires opened { (is_open_word old seat.old.me.0.but ≡ true) × (old ≡ seat.old.me.0.state) }
     requires more { (new / 2097152 ≡ old / 2097152) × (joined_bit new ≡ 1) × (new % 1048576 ≡ old % 1048576 + 1) }
     requires idle { seat.old.me.0.ticket ≡ 0 }
     ensures own { seat.new.table_id ≡ seat.old.table_id }
@@ -246,7 +274,7 @@ pub fn close(words: &Words, seat: &mut KeyedSeat, at: u64, old: u64) -> u64
     requires size { words.now.table_id.words ≡ word_total words.now.key }
     requires at { (at ≡ words.now.key.tops + words.now.key.sides + 8 * (seat.old.me.0.but % 1048576)) × (seat.old.me.0.but % 1048576 < words.now.key.cells) }
     requires call { (seat.old.me.0.but ≢ 0) × (seat.old.me.0.told ≡ true) }
-    requires opened { (is_open_word old seat.old.me.0.but ≡ true) × (4194304 ≤ old) }
+    requires opened { (is_open_word old seat.old.me.0.but ≡ true) × (old ≡ seat.old.me.0.state) × (4194304 ≤ old) }
     ensures own { seat.new.table_id ≡ seat.old.table_id }
     ensures view { tries_close seat.old.me.0 old result seat.new.me.0 }
 {

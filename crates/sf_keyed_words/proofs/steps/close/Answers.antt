@@ -13,7 +13,7 @@ compare_exchange-requires c =
     let size = c.requires.size in
     let is = c.requires.at.0 in
     let lt = c.requires.at.1 in
-    let two = c.requires.opened.1 in
+    let two = c.requires.opened.2 in
     let enough : (c.args.old - 4194304) + 4194304 ≡ c.args.old = omega (arith, two) in
     let may : MayClose words.key seat.me.0 c.args.old (c.args.old - 4194304) = record { cell = c.requires.at.1; some_call = c.requires.call.0; told = c.requires.call.1; opened = c.requires.opened.0; new_is = enough } in (
       c.requires.own,

@@ -1,6 +1,8 @@
 use Rattle.std.proofs.Common.{◌≡◌, ◌%◌, ◌<◌, ◌++◌, ◌∷◌, [], sym, ◌∙◌, ap, subst}
 use Rattle.sf_keyed_words.specs.declared.rule.KeyedSizes.{KeyedSizes}
 use Rattle.sf_keyed_words.specs.declared.rule.View.{View}
+use Rattle.std.specs.Prelude.{nat_eq}
+use Rattle.sf_history.specs.Legal.{IsLegal}
 use Rattle.sf_history.specs.declared.event.Event.TheVariants.{Enter}
 use Rattle.sf_keyed_tells.specs.Tells.{call_of}
 use Rattle.sf_keyed_words.specs.Rule.{number}
@@ -49,6 +51,7 @@ returns-in-Joined c =
           group = (λ i. record { table = (c.split_ticket-seat.ensures.own.0 ∙ table) i; sizes = (ap (λ (v : View). v.sizes) left ∙ j.sizes) i }) ∙ own;
           others = j.adds.before;
           seen = ap (λ (v : View). v.seen) left ∙ (j.adds.seen ∙ ap (λ l. (l ++ j.adds.before) ++ Enter j.member.caller (number c.args.name) (call_of c.in-Joined.call) j.member ∷ []) seen);
+          legal = subst (IsLegal nat_eq) (sym (ap (λ (v : View). v.seen) left)) j.adds.legal;
         };
       },
       (λ i. record { table = (c.split_ticket-seat.ensures.own.1 ∙ (ap (λ (g : GroupId). g.table) c.self.view_is ∙ (ap (λ (g : GroupId). g.table) (sym c.requires.own) ∙ sym (ap (λ (g : GroupId). g.table) own)))) i; sizes = (ap (λ q. q.0.sizes) new ∙ j.sizes) i }) ∙ own,

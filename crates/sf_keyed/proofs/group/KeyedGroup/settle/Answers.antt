@@ -1,11 +1,16 @@
-use Rattle.std.proofs.Common.{◌≡◌, ℕ, ◌+◌, ◌%◌, ◌<◌, ◌++◌, ◌∷◌, [], Some, None, refl, sym, ◌∙◌, ap, subst}
+use Rattle.std.proofs.Common.{◌≡◌, ℕ, ◌+◌, ◌%◌, ◌<◌, ◌++◌, ◌∷◌, [], Some, None, true, false, refl, sym, ◌∙◌, ap, subst}
 use Rattle.std.proofs.lemmas.Bool.{true≢false}
+use Rattle.std.specs.Prelude.{nat_eq}
+use Rattle.sf_history.specs.Legal.{IsLegal}
 use Rattle.sf_history.specs.declared.event.Event.TheVariants.{Settle}
 use Rattle.sf_keyed_tells.specs.Tells.{call_of}
 use Rattle.sf_keyed_words.specs.declared.rule.KeyedSizes.{KeyedSizes}
 use Rattle.sf_keyed_words.specs.declared.rule.View.{View}
+use Rattle.sf_keyed_words.specs.Plays.{WasForgotten}
+use Rattle.sf_keyed_words.specs.Rule.{is_forgotten}
 use Rattle.sf_keyed.specs.Known.{GroupId, FrontState, FlightState}
-use Rattle.sf_keyed.proofs.Joint.{joint, bit_none, bit_some}
+use Rattle.sf_keyed.specs.Calls.{SettledBy}
+use Rattle.sf_keyed.proofs.Joint.{joint, two_parts}
 use Rattle.sf_keyed.proofs.group.KeyedGroup.settle.Goals as goal
 
 pub invariant_of-ticket : goal.invariant_of-ticket
@@ -14,7 +19,7 @@ invariant_of-ticket c =
     let new = c.split_ticket-seat.ensures.new in
     let heard = c.join_flight.ensures.heard in
     let same = ap (λ (g : GroupId). g.sizes) (ap (λ (f : FrontState). f.group) c.me.view_is ∙ (c.requires.own.0 ∙ (sym c.requires.own.1 ∙ sym (ap (λ (f : FlightState). f.group) c.flight.view_is)))) in
-    let sizes = ap (λ q. q.0.sizes) new ∙ (sh.2.sizes ∙ (ap (λ (v : View). v.sizes) heard.view ∙ same)) in (
+    let sizes = ap (λ q. q.0.sizes) new ∙ (sh.3.sizes ∙ (ap (λ (v : View). v.sizes) heard.view ∙ same)) in (
       ap (λ q. q.0.ticket) new ∙ sh.0,
       c.flight.invariant.1,
       c.flight.invariant.2,
@@ -29,9 +34,9 @@ invariant_of-me-in-Some c =
     let sh = c.settle_call.ensures.shared c.in-Some.state c.in-Some.is in
     let left = c.split_ticket-seat.ensures.seat in
     let heard = c.join_flight.ensures.heard in
-    let sizes = ap (λ (v : View). v.sizes) left ∙ (sh.2.sizes ∙ ap (λ (v : View). v.sizes) heard.view) in (
-      ap (λ (v : View). v.own) left ∙ (sh.1 ∙ sym c.if-me-eq0.true),
-      ap (λ (v : View). v.leads) left ∙ sh.2.leads,
+    let sizes = ap (λ (v : View). v.sizes) left ∙ (sh.3.sizes ∙ ap (λ (v : View). v.sizes) heard.view) in (
+      ap (λ (v : View). v.own) left ∙ sh.1,
+      ap (λ (v : View). v.leads) left ∙ sh.3.leads,
       ap (λ (v : View). v.ticket) left,
       c.me.invariant.3,
       λ some. subst (λ (z : KeyedSizes). c.me.inside.spare % 1048576 < z.cells) (sym sizes) (c.me.invariant.4 some),
@@ -44,7 +49,8 @@ returns-in-None c =
     let own = ap (λ (f : FrontState). f.group) c.me.view_is in
     let seen = ap (λ (f : FrontState). f.seen) c.me.view_is in
     let call = ap (λ (f : FlightState). f.call) c.flight.view_is in
-    let x = λ (e : ℕ). Settle (e % 1048576) (call_of e) None al.2.joiners ∷ [] in (
+    let x = λ (e : ℕ). Settle (e % 1048576) (call_of e) None al.2.joiners ∷ [] in
+    let first = heard.seen.1 ∙ ap (λ l. l ++ heard.seen.0) seen in (
       record {
         joiners = al.2.joiners;
         none = λ _. al.2.none refl;
@@ -53,9 +59,13 @@ returns-in-None c =
           group = (λ i. record { table = (c.settle_call.ensures.own ∙ c.join_flight.ensures.own) i; sizes = (al.2.sizes ∙ ap (λ (v : View). v.sizes) heard.view) i }) ∙ own;
           others = heard.seen.0 ++ al.2.adds.before;
           seen = subst (λ (e : ℕ). c.settle_call.new.seat.me.0.seen ≡ (c.args.me.now.seen ++ (heard.seen.0 ++ al.2.adds.before)) ++ Settle (e % 1048576) (call_of e) None al.2.joiners ∷ []) call
-              (joint c.args.me.now.seen heard.seen.0 al.2.adds.before (x c.flight.inside.call) c.join_flight.new.seat.me.0.seen c.settle_call.new.seat.me.0.seen (heard.seen.1 ∙ ap (λ l. l ++ heard.seen.0) seen) al.2.adds.seen);
+              (joint c.args.me.now.seen heard.seen.0 al.2.adds.before (x c.flight.inside.call) c.join_flight.new.seat.me.0.seen c.settle_call.new.seat.me.0.seen first al.2.adds.seen);
+          legal = al.2.adds.legal;
         };
+        was = subst (λ l. WasForgotten l c.args.flight.call false) (two_parts c.args.me.now.seen heard.seen.0 al.2.adds.before c.join_flight.new.seat.me.0.seen (c.join_flight.new.seat.me.0.seen ++ al.2.adds.before) first refl)
+            (subst (λ e. WasForgotten (c.join_flight.new.seat.me.0.seen ++ al.2.adds.before) e false) call al.2.was);
       },
+      sym (ap (λ (f : FrontState). f.spare) c.me.view_is) ∙ (c.settle_call.ensures.ready c.in-None.is).0,
       ap (λ (e : ℕ). e + 1048576) call,
     )
 
@@ -70,49 +80,27 @@ returns-in-Some c =
     let seen = ap (λ (f : FrontState). f.seen) c.me.view_is in
     let call = ap (λ (f : FlightState). f.call) c.flight.view_is in
     let sizes1 = ap (λ (v : View). v.sizes) heard.view in
-    let to_flight = own ∙ (c.requires.own.0 ∙ sym c.requires.own.1) in (
+    let to_flight = own ∙ (c.requires.own.0 ∙ sym c.requires.own.1) in
+    let first = heard.seen.1 ∙ ap (λ l. l ++ heard.seen.0) seen in
+    let told = c.told_by.ensures in (
       record {
-        joiners = sh.2.joiners;
-        none = λ no. sh.2.none (bit_none c.in-Some.state no);
-        some = λ yes. sh.2.some (bit_some c.in-Some.state yes);
+        joiners = sh.3.joiners;
+        none = λ no_bit. sh.3.none (told.joined.1 no_bit);
+        some = λ bit. sh.3.some (told.joined.0 bit);
         adds = record {
-          group = (λ i. record { table = (c.split_ticket-seat.ensures.own.0 ∙ (c.settle_call.ensures.own ∙ c.join_flight.ensures.own)) i; sizes = (ap (λ (v : View). v.sizes) left ∙ (sh.2.sizes ∙ sizes1)) i }) ∙ own;
-          others = heard.seen.0 ++ sh.2.adds.before;
-          seen = ap (λ (v : View). v.seen) left ∙ subst (λ (e : ℕ). c.settle_call.new.seat.me.0.seen ≡ (c.args.me.now.seen ++ (heard.seen.0 ++ sh.2.adds.before)) ++ Settle (e % 1048576) (call_of e) (Some c.args.value) sh.2.joiners ∷ []) call
-              (joint c.args.me.now.seen heard.seen.0 sh.2.adds.before (Settle (c.flight.inside.call % 1048576) (call_of c.flight.inside.call) (Some c.args.value) sh.2.joiners ∷ []) c.join_flight.new.seat.me.0.seen c.settle_call.new.seat.me.0.seen (heard.seen.1 ∙ ap (λ l. l ++ heard.seen.0) seen) sh.2.adds.seen);
+          group = (λ i. record { table = (c.split_ticket-seat.ensures.own.0 ∙ (c.settle_call.ensures.own ∙ c.join_flight.ensures.own)) i; sizes = (ap (λ (v : View). v.sizes) left ∙ (sh.3.sizes ∙ sizes1)) i }) ∙ own;
+          others = heard.seen.0 ++ sh.3.adds.before;
+          seen = ap (λ (v : View). v.seen) left ∙ subst (λ (e : ℕ). c.settle_call.new.seat.me.0.seen ≡ (c.args.me.now.seen ++ (heard.seen.0 ++ sh.3.adds.before)) ++ Settle (e % 1048576) (call_of e) (Some c.args.value) sh.3.joiners ∷ []) call
+              (joint c.args.me.now.seen heard.seen.0 sh.3.adds.before (Settle (c.flight.inside.call % 1048576) (call_of c.flight.inside.call) (Some c.args.value) sh.3.joiners ∷ []) c.join_flight.new.seat.me.0.seen c.settle_call.new.seat.me.0.seen first sh.3.adds.seen);
+          legal = subst (IsLegal nat_eq) (sym (ap (λ (v : View). v.seen) left)) sh.3.adds.legal;
         };
+        was = subst (WasForgotten (c.args.me.now.seen ++ (heard.seen.0 ++ sh.3.adds.before)) c.args.flight.call) (sym told.forgotten)
+            (subst (λ l. WasForgotten l c.args.flight.call (is_forgotten c.in-Some.state)) (two_parts c.args.me.now.seen heard.seen.0 sh.3.adds.before c.join_flight.new.seat.me.0.seen (c.join_flight.new.seat.me.0.seen ++ sh.3.adds.before) first refl)
+            (subst (λ e. WasForgotten (c.join_flight.new.seat.me.0.seen ++ sh.3.adds.before) e (is_forgotten c.in-Some.state)) call sh.3.was));
       },
+      told.holders ∙ ap (λ n. n % 1048576) (sym (ap (λ (v : View). v.state) left ∙ sh.2)),
       (λ i. record {
-        group = ((λ j. record { table = (c.split_ticket-seat.ensures.own.1 ∙ (ap (λ (g : GroupId). g.table) c.self.view_is ∙ (ap (λ (g : GroupId). g.table) (sym c.requires.own.0) ∙ sym (ap (λ (g : GroupId). g.table) own)))) j; sizes = (ap (λ q. q.0.sizes) new ∙ (sh.2.sizes ∙ sizes1)) j }) ∙ to_flight) i;
-        call = call i;
-      }),
-      ap (λ (f : FrontState). f.spare) c.me.view_is,
-    )
-
-pub returns-else-me-eq0 : goal.returns-else-me-eq0
-returns-else-me-eq0 c =
-    let sh = c.settle_shared-state.ensures.settled in
-    let left = c.split_ticket-seat-else-me-eq0.ensures.seat in
-    let new = c.split_ticket-seat-else-me-eq0.ensures.new in
-    let heard = c.join_flight.ensures.heard in
-    let own = ap (λ (f : FrontState). f.group) c.me.view_is in
-    let seen = ap (λ (f : FrontState). f.seen) c.me.view_is in
-    let call = ap (λ (f : FlightState). f.call) c.flight.view_is in
-    let sizes1 = ap (λ (v : View). v.sizes) heard.view in
-    let to_flight = own ∙ (c.requires.own.0 ∙ sym c.requires.own.1) in (
-      record {
-        joiners = sh.2.joiners;
-        none = λ no. sh.2.none (bit_none c.settle_shared-state.result no);
-        some = λ yes. sh.2.some (bit_some c.settle_shared-state.result yes);
-        adds = record {
-          group = (λ i. record { table = (c.split_ticket-seat-else-me-eq0.ensures.own.0 ∙ (c.settle_shared-state.ensures.own ∙ c.join_flight.ensures.own)) i; sizes = (ap (λ (v : View). v.sizes) left ∙ (sh.2.sizes ∙ sizes1)) i }) ∙ own;
-          others = heard.seen.0 ++ sh.2.adds.before;
-          seen = ap (λ (v : View). v.seen) left ∙ subst (λ (e : ℕ). c.settle_shared-state.new.seat.me.0.seen ≡ (c.args.me.now.seen ++ (heard.seen.0 ++ sh.2.adds.before)) ++ Settle (e % 1048576) (call_of e) (Some c.args.value) sh.2.joiners ∷ []) call
-              (joint c.args.me.now.seen heard.seen.0 sh.2.adds.before (Settle (c.flight.inside.call % 1048576) (call_of c.flight.inside.call) (Some c.args.value) sh.2.joiners ∷ []) c.join_flight.new.seat.me.0.seen c.settle_shared-state.new.seat.me.0.seen (heard.seen.1 ∙ ap (λ l. l ++ heard.seen.0) seen) sh.2.adds.seen);
-        };
-      },
-      (λ i. record {
-        group = ((λ j. record { table = (c.split_ticket-seat-else-me-eq0.ensures.own.1 ∙ (ap (λ (g : GroupId). g.table) c.self.view_is ∙ (ap (λ (g : GroupId). g.table) (sym c.requires.own.0) ∙ sym (ap (λ (g : GroupId). g.table) own)))) j; sizes = (ap (λ q. q.0.sizes) new ∙ (sh.2.sizes ∙ sizes1)) j }) ∙ to_flight) i;
+        group = ((λ j. record { table = (c.split_ticket-seat.ensures.own.1 ∙ (ap (λ (g : GroupId). g.table) c.self.view_is ∙ (ap (λ (g : GroupId). g.table) (sym c.requires.own.0) ∙ sym (ap (λ (g : GroupId). g.table) own)))) j; sizes = (ap (λ q. q.0.sizes) new ∙ (sh.3.sizes ∙ sizes1)) j }) ∙ to_flight) i;
         call = call i;
       }),
       ap (λ (f : FrontState). f.spare) c.me.view_is,

@@ -13,10 +13,12 @@ returns-in-Some-clause-taken c =
     let own = ap (λ (f : FrontState). f.group) c.me.view_is in
     let seen = ap (λ (f : FrontState). f.seen) c.me.view_is in
     let call = ap (λ (f : FlightState). f.call) c.ticket.view_is in
+    let more = taken.grows.seen in
     record {
       sees = record {
         group = (λ i. record { table = (c.take.ensures.own ∙ c.join_ticket.ensures.own) i; sizes = (taken.sizes ∙ ap (λ (v : View). v.sizes) heard.view) i }) ∙ own;
-        seen = (heard.seen.0 ++ taken.grows.0, two_parts c.args.me.now.seen heard.seen.0 taken.grows.0 c.join_ticket.new.seat.me.0.seen c.take.new.seat.me.0.seen (heard.seen.1 ∙ ap (λ l. l ++ heard.seen.0) seen) taken.grows.1);
+        seen = (heard.seen.0 ++ more.0, two_parts c.args.me.now.seen heard.seen.0 more.0 c.join_ticket.new.seat.me.0.seen c.take.new.seat.me.0.seen (heard.seen.1 ∙ ap (λ l. l ++ heard.seen.0) seen) more.1);
+        legal = taken.grows.legal;
       };
       spare = ap (λ (f : FrontState). f.spare) c.me.view_is;
       result = subst (λ (e : ℕ). result_of c.take.new.seat.me.0.seen (call_of e) ≡ Some (Some c.in-Some.value)) call taken.result;

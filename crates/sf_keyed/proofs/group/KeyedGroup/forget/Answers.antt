@@ -1,0 +1,53 @@
+use Rattle.std.proofs.Common.{◌≡◌, ◌≢◌, ℕ, ◌+◌, ◌≤◌, ◌++◌, ◌∷◌, [], Option, Some, None, Bool, true, false, refl, sym, ◌∙◌, ap, subst}
+use Rattle.std.proofs.lemmas.Bool.{true≢false}
+use Rattle.std.specs.Prelude.{nat_eq}
+use Rattle.sf_history.specs.declared.call.CallId.{CallId}
+use Rattle.sf_history.specs.History.{open_call}
+use Rattle.sf_history.specs.declared.event.Event.TheVariants.{Forget}
+use Rattle.sf_keyed_tells.specs.Tells.{call_of}
+use Rattle.sf_keyed_tells.proofs.Telling.{call_number}
+use Rattle.sf_keyed_words.specs.Rule.{number}
+use Rattle.sf_keyed.specs.Known.{FrontState}
+use Rattle.sf_keyed.specs.Calls.{IsForgotten, AddsTo}
+use Rattle.sf_keyed.proofs.group.KeyedGroup.forget.Goals as goal
+use Rattle.sf_keyed.proofs.group.KeyedGroup.forget.Goals.{in-Closed, in-Nothing, in-Other, in-Busy}
+
+pub returns : goal.returns
+returns c =
+    let own = ap (λ (f : FrontState). f.group) c.me.view_is in
+    let seen = ap (λ (f : FrontState). f.seen) c.me.view_is in
+    let spare = ap (λ (f : FrontState). f.spare) c.me.view_is in
+    let lost = ap (λ (f : FrontState). f.met.lost) c.me.view_is in
+    let table = c.forget_often.ensures.own in
+    let after : FrontState = Rattle.sf_keyed.specs.contracts.group.Front.the_view (record { seat = c.forget_often.new.seat; spare = c.me.inside.spare }) in
+    elim c.match-forget_often.branch [
+      | in-Closed w ↦
+          let f = (c.forget_often.ensures.closed w.in-Closed.call w.in-Closed.is).0 in
+          subst (IsForgotten c.args.me.now after (number c.args.name) c.args.tries) (sym w.result-is) (
+            record {
+              group = (λ i. record { table = table i; sizes = f.sizes i }) ∙ own;
+              others = f.adds.before;
+              seen = f.adds.seen ∙ ap (λ l. (l ++ f.adds.before) ++ Forget 0 (number c.args.name) (Some (call_of w.in-Closed.call)) ∷ []) seen;
+              legal = f.adds.legal;
+            },
+            spare,
+          )
+      | in-Nothing w ↦
+          let f = c.forget_often.ensures.nothing w.in-Nothing.is in
+          subst (IsForgotten c.args.me.now after (number c.args.name) c.args.tries) (sym w.result-is) (
+            record {
+              group = (λ i. record { table = table i; sizes = f.sizes i }) ∙ own;
+              seen = (f.grows.seen.0, f.grows.seen.1 ∙ ap (λ l. l ++ f.grows.seen.0) seen);
+              legal = f.grows.legal;
+            },
+            f.none,
+            spare,
+          )
+      | in-Other w ↦ absurd ((c.forget_often.ensures.other w.in-Other.field-0 w.in-Other.is).1 refl)
+      | in-Busy w ↦
+          let f = c.forget_often.ensures.busy w.in-Busy.is in
+          subst (IsForgotten c.args.me.now after (number c.args.name) c.args.tries) (sym w.result-is) (
+            record { group = (λ i. record { table = table i; sizes = f.0.sizes i }) ∙ own; seen = f.0.seen ∙ seen; spare = spare },
+            subst (λ n. n + c.args.tries ≤ c.forget_often.new.seat.me.0.lost) lost f.1,
+          )
+    ]

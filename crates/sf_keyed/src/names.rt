@@ -1,0 +1,97 @@
+//! Names of keys: a short key is its own name, a longer one has a keyed digest.
+ghost use Rattle.std.specs.Prelude.{◌≡◌, ◌≤◌, ◌<◌, length};
+ghost use Rattle.sf_keyed_words.specs.Rule.{number};
+ghost use Rattle.sf_keyed.specs.Names.{short_name as the_short_name};
+ghost use Rattle.sf_keyed.specs.Names.{long_name as the_long_name};
+ghost use Rattle.sf_keyed.specs.Names.{ShortKeysApart, ShortNamesBelowLongOnes};
+
+use core::hash::{Hasher, keyed_hasher};
+use sf_keyed_words::Name;
+use std::io;
+use std::random::RandomSource;
+
+// How many bytes a key may have that is its own name.
+const SHORT: usize = 15;
+
+/// The seeds of the names of keys, which are to be drawn at random and kept secret, so that nobody can choose two keys of one name.
+#[derive(Clone, Copy)]
+pub struct Names {
+    /// The first half of the seed of a digest's lower word.
+    pub seed0: u64,
+    /// The other half.
+    pub seed1: u64,
+    /// The first half of the seed of its upper word.
+    pub seed2: u64,
+    /// The other half.
+    pub seed3: u64,
+}
+
+impl Names {
+    /// Names by seeds from the system.
+    pub fn new(rt: &impl RandomSource) -> io::Result<Names> {
+        let mut low = [0; 16];
+        rt.fill_bytes(&mut low)?;
+        let mut high = [0; 16];
+        rt.fill_bytes(&mut high)?;
+        let low = u128::from_le_bytes(low);
+        let high = u128::from_le_bytes(high);
+        Ok(Names {
+            seed0: (low & 0xFFFF_FFFF_FFFF_FFFF) as u64,
+            seed1: (low >> 64) as u64,
+            seed2: (high & 0xFFFF_FFFF_FFFF_FFFF) as u64,
+            seed3: (high >> 64) as u64,
+        })
+    }
+
+    /// The key's name. A key of at most 15 bytes is its own name, so that different ones have different names. A longer key has a digest
+    /// of 127 bits: two SipHash-1-3, by different seeds.
+    pub fn of(&self, key: &[u8]) -> Name
+        ensures short { length key.now ≤ 15 → number result ≡ the_short_name key.now }
+        ensures long { 15 < length key.now → number result ≡ the_long_name self.now key.now }
+    {
+        if key.len() <= SHORT {
+            short_name(key)
+        } else {
+            self.long_name(key)
+        }
+    }
+
+    fn long_name(&self, key: &[u8]) -> Name
+        ensures { number result ≡ the_long_name self.now key.now }
+    {
+        let mut low = keyed_hasher(self.seed0, self.seed1);
+        low.write(key);
+        let mut high = keyed_hasher(self.seed2, self.seed3);
+        high.write(key);
+        Name {
+            low: low.finish(),
+            high: high.finish() % 0x8000_0000_0000_0000 + 0x8000_0000_0000_0000,
+        }
+    }
+}
+
+// A key's bytes, and above them its length.
+fn short_name(key: &[u8]) -> Name
+    requires { length key.now ≤ 15 }
+    ensures { number result ≡ the_short_name key.now }
+{
+    let mut bytes = 0u128;
+    for at in 0..key.len() {
+        bytes = bytes * 256 + key[key.len() - 1 - at] as u128;
+    }
+    let name = bytes + key.len() as u128 * 0x0100_0000_0000_0000_0000_0000_0000_0000;
+    Name {
+        low: (name % 0x1_0000_0000_0000_0000) as u64,
+        high: (name / 0x1_0000_0000_0000_0000) as u64,
+    }
+}
+
+/// Different keys of at most 15 bytes have different names.
+pub fn short_keys_apart()
+    ensures { ShortKeysApart }
+{}
+
+/// No key of at most 15 bytes has the name of a longer key.
+pub fn short_names_below_long_ones()
+    ensures { ShortNamesBelowLongOnes }
+{}
