@@ -13,7 +13,7 @@ import (
 )
 
 func main() {
-	log.SetFlags(0)
+	log.SetFlags(log.LstdFlags | log.LUTC)
 	var f server.Flags
 	f.Define()
 	all := flag.String("peers", "http://127.0.0.1:8001", "the base URLs of all peers, by commas: the same list at each")

@@ -48,8 +48,8 @@ type Membership interface {
 	Keep(ctx context.Context, id string, forget []byte) error
 	// Kept returns the stored Forgets.
 	Kept() map[string][]byte
-	// Drop removes the stored Forget of this id.
-	Drop(ctx context.Context, id string) error
+	// Drop removes the stored Forgets of these ids.
+	Drop(ctx context.Context, ids ...string) error
 	// Leave ends the membership at once.
 	Leave(ctx context.Context) error
 }
@@ -182,5 +182,5 @@ func (m staticMember) Until() time.Time                           { return time.
 func (m staticMember) Done() <-chan struct{}                      { return nil }
 func (m staticMember) Keep(context.Context, string, []byte) error { return ErrNotKept }
 func (m staticMember) Kept() map[string][]byte                    { return nil }
-func (m staticMember) Drop(context.Context, string) error         { return nil }
+func (m staticMember) Drop(context.Context, ...string) error      { return nil }
 func (m staticMember) Leave(context.Context) error                { return nil }

@@ -9,6 +9,7 @@ import (
 	"sync/atomic"
 	"testing"
 	"time"
+	"unsafe"
 )
 
 // agreed is a Coordinator with leases within this process, as etcd's is: one list, starts that
@@ -135,10 +136,12 @@ func (m *agreedMember) Kept() map[string][]byte {
 	return all
 }
 
-func (m *agreedMember) Drop(ctx context.Context, id string) error {
+func (m *agreedMember) Drop(ctx context.Context, ids ...string) error {
 	m.mu.Lock()
 	defer m.mu.Unlock()
-	delete(m.kept, id)
+	for _, id := range ids {
+		delete(m.kept, id)
+	}
 	m.changed()
 	return nil
 }
@@ -228,6 +231,30 @@ func TestWithoutALease(t *testing.T) {
 	m.mu.Unlock()
 	if err := forget(b, user); err != ErrNoLease {
 		t.Errorf("a Forget whose peer has no lease at its end: %v", err)
+	}
+}
+
+// A lease ends by both clocks: the one that goes on while the machine sleeps, and the other one.
+func TestALeaseByBothClocks(t *testing.T) {
+	now := time.Now()
+	until := now.Add(time.Minute)
+	if isAfter(now, until) || !isAfter(until.Add(1), until) {
+		t.Error("it does not end after its time")
+	}
+	// The machine slept for an hour: the clock on the wall is past that time, and the other one is not.
+	slept := now
+	*(*uint64)(unsafe.Pointer(&slept)) += 3600 << 30 // the seconds of time.Time's wall
+	if slept.Sub(now) != 0 || slept.Round(0).Sub(now.Round(0)) != time.Hour {
+		t.Fatalf("this is another time: %v", slept)
+	}
+	if !isAfter(slept, until) {
+		t.Error("it does not end while the machine sleeps")
+	}
+	// The clock on the wall was set back by an hour.
+	set := now.Add(2 * time.Minute)
+	*(*uint64)(unsafe.Pointer(&set)) -= 3600 << 30
+	if !isAfter(set, until) {
+		t.Error("it does not end where the clock on the wall is set back")
 	}
 }
 

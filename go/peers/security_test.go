@@ -20,7 +20,10 @@ import (
 	"net/http"
 	"net/http/httptest"
 	"net/url"
+	"runtime"
 	"strings"
+	"sync"
+	"sync/atomic"
 	"testing"
 	"time"
 
@@ -78,7 +81,7 @@ func TestSignatures(t *testing.T) {
 func TestStrangersChangeNothing(t *testing.T) {
 	m := newMesh()
 	a, b, _ := beginAll(t, m, time.Minute)
-	before := a.versions.since(0, 1<<20)
+	before := a.versions.since(0, 1<<20, nil)
 	forged := []byte(`{"from":"b","start":1,"to":"a","number":{"start":1,"count":1},"items":[{"of":3}]}`)
 	stranger := keys{[]byte("the key of a stranger")}
 	for name, request := range map[string][]byte{
@@ -91,7 +94,7 @@ func TestStrangersChangeNothing(t *testing.T) {
 			t.Errorf("%s: %s", name, got)
 		}
 	}
-	if after := a.versions.since(0, 1<<20); after.Change != before.Change || a.figures.strangers.Load() != 8 {
+	if after := a.versions.since(0, 1<<20, nil); after.Change != before.Change || a.figures.strangers.Load() != 8 {
 		t.Errorf("a stranger changed something, or %d of 8 were counted", a.figures.strangers.Load())
 	}
 	// Nor does one who answers for a peer: with another key, or with the reply to another request.
@@ -103,7 +106,7 @@ func TestStrangersChangeNothing(t *testing.T) {
 		m.mu.Lock()
 		m.routes["a>b"] = func([]byte) []byte { return reply }
 		m.mu.Unlock()
-		ctx, cancel := context.WithTimeout(context.Background(), 10*time.Millisecond)
+		ctx, cancel := context.WithTimeout(context.Background(), 250*time.Millisecond)
 		var unanswered *Unanswered
 		if err := a.forget(ctx, "Forget", user); !errors.As(err, &unanswered) || !errors.Is(unanswered.Peers[0].Err, errSignature) {
 			t.Errorf("%s: %v", name, err)
@@ -157,11 +160,139 @@ func TestStrangersBodiesAreNotRead(t *testing.T) {
 	}
 }
 
+// A thousand strangers, each of whom sends 64 KB and no end, cost what their connections cost.
+func TestThousandStrangers(t *testing.T) {
+	const many, each = 1000, 64 << 10
+	a, _, _ := beginAll(t, newMesh(), time.Minute)
+	h := &HTTP{}
+	screen := a.screen
+	h.screen.Store(&screen)
+	h.Serve("a", a.answer)
+	server := httptest.NewUnstartedServer(h)
+	server.Config.ErrorLog = log.New(io.Discard, "", 0)
+	server.Start()
+	defer server.Close()
+	signed := a.keys.seal(sealRequest, []byte("a"), []byte("{}"))
+	line, _, _ := bytes.Cut(signed, []byte("\n"))
+	bodies := [][]byte{bytes.Repeat([]byte("x"), each), append([]byte(strings.Repeat("x", len(line))+"\n"), make([]byte, each)...), line}
+	before := memory()
+	for i := 0; i < many; i++ {
+		conn, err := net.Dial("tcp", strings.TrimPrefix(server.URL, "http://"))
+		if err != nil {
+			t.Fatal(err)
+		}
+		defer conn.Close()
+		go fmt.Fprintf(conn, "POST /_forget HTTP/1.1\r\nHost: a\r\nContent-Length: %d\r\n\r\n%s", mostRequest, bodies[i%len(bodies)])
+	}
+	until(t, func() bool { return a.figures.strangers.Load() >= many*2/3-1 }, "not all are refused")
+	took := memory() - before
+	t.Logf("%d connections took %d KB each", many, took/many>>10)
+	if took > many*each/2 {
+		t.Errorf("%d connections took %d MB", many, took>>20)
+	}
+}
+
+// What is refused is logged with the address and the time, and not without bound.
+func TestRefusedRequestsAreLogged(t *testing.T) {
+	a, _, _ := beginAll(t, newMesh(), time.Minute)
+	var lines []string
+	var mu sync.Mutex
+	a.log = func(msg string, args ...interface{}) {
+		mu.Lock()
+		defer mu.Unlock()
+		lines = append(lines, msg+fmt.Sprint(args...))
+	}
+	p := &Pool{node: a}
+	h := &HTTP{}
+	screen := a.screen
+	h.screen.Store(&screen)
+	h.Serve("a", a.answer)
+	p.direct = h
+	send := func(path string) {
+		r := httptest.NewRequest("POST", path, strings.NewReader("x\n"))
+		r.RemoteAddr = "192.0.2.7:1234"
+		p.ServeHTTP(httptest.NewRecorder(), r)
+	}
+	send(forgetPath)
+	send(enginePath + "values/x")
+	p.byTLS = true
+	send(forgetPath)
+	today := time.Now().UTC().Format("2006-01-02")
+	for i, line := range lines {
+		if !strings.Contains(line, "192.0.2.7:1234") || !strings.Contains(line, today) {
+			t.Errorf("%d: %q", i, line)
+		}
+	}
+	if len(lines) != 3 {
+		t.Errorf("%d lines", len(lines))
+	}
+	for i := 0; i < 1000; i++ {
+		send(forgetPath)
+	}
+	if len(lines) > 5*mostRefused {
+		t.Errorf("%d lines of 1,000 requests", len(lines))
+	}
+	var r refusals
+	now := time.Now()
+	for i := 0; i < mostRefused+7; i++ {
+		if log, left := r.note(now); log != (i < mostRefused) || left != 0 {
+			t.Errorf("%d: %v, %d", i, log, left)
+		}
+	}
+	if log, left := r.note(now.Add(time.Second)); !log || left != 7 {
+		t.Errorf("a second later: %v, %d", log, left)
+	}
+}
+
+// memory returns the bytes that this process has for its heap and its goroutines.
+func memory() int64 {
+	var m runtime.MemStats
+	runtime.GC()
+	runtime.ReadMemStats(&m)
+	return int64(m.HeapInuse + m.StackInuse)
+}
+
+// However many requests there are at one time, the connections to a peer are bounded.
+func TestConnectionsAreBounded(t *testing.T) {
+	var open, most atomic.Int64
+	server := httptest.NewUnstartedServer(http.HandlerFunc(func(http.ResponseWriter, *http.Request) { time.Sleep(50 * time.Millisecond) }))
+	server.Config.ConnState = func(_ net.Conn, state http.ConnState) {
+		switch state {
+		case http.StateNew:
+			if now := open.Add(1); now > most.Load() {
+				most.Store(now)
+			}
+		case http.StateClosed:
+			open.Add(-1)
+		}
+	}
+	server.Start()
+	defer server.Close()
+	client := &http.Client{Transport: connections(nil)}
+	var all sync.WaitGroup
+	for i := 0; i < 3*mostConnections; i++ {
+		all.Add(1)
+		go func() {
+			defer all.Done()
+			got, err := client.Get(server.URL)
+			if err != nil {
+				t.Error(err)
+				return
+			}
+			got.Body.Close()
+		}()
+	}
+	all.Wait()
+	if most.Load() > mostConnections || most.Load() < mostConnections/2 {
+		t.Errorf("%d connections for %d requests, of which there may be %d", most.Load(), 3*mostConnections, mostConnections)
+	}
+}
+
 // What a peer of the pool may not send, either.
 func TestBadRequestsChangeNothing(t *testing.T) {
 	m := newMesh()
 	a, b, _ := beginAll(t, m, time.Minute)
-	before := a.versions.since(0, 1<<20)
+	before := a.versions.since(0, 1<<20, nil)
 	start := b.versions.startOf("b")
 	of := func(fields string) string { return fmt.Sprintf(`{"from":"b","start":%d,"to":"a",%s}`, start, fields) }
 	number := fmt.Sprintf(`"number":{"start":%d,"count":99,"secret":1}`, start)
@@ -193,7 +324,7 @@ func TestBadRequestsChangeNothing(t *testing.T) {
 			t.Errorf("%s: %+v", request, got)
 		}
 	}
-	if after := a.versions.since(0, 1<<20); after.Change != before.Change {
+	if after := a.versions.since(0, 1<<20, nil); after.Change != before.Change {
 		t.Error("a bad request changes something")
 	}
 	if err := forget(b, user); err != nil {

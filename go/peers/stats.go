@@ -38,33 +38,87 @@ type figures struct {
 	forgets, unanswered, strangers atomic.Uint64
 
 	mu    sync.Mutex // protects the rest
-	peers map[string]*PeerStats
+	peers map[string]*peerFigures
 }
 
-func (f *figures) of(peer string, change func(*PeerStats)) {
+type peerFigures struct {
+	PeerStats
+	tries   time.Duration // what a try takes of late, of those that timed out what they had
+	silent  int           // rounds of askings in a row that it did not answer
+	looking bool          // whether a request looks whether a silent one answers again
+}
+
+func (f *figures) of(peer string, change func(*peerFigures)) {
 	f.mu.Lock()
 	defer f.mu.Unlock()
 	if f.peers == nil {
-		f.peers = map[string]*PeerStats{}
+		f.peers = map[string]*peerFigures{}
 	}
 	p := f.peers[peer]
 	if p == nil {
-		p = &PeerStats{Name: peer}
+		p = &peerFigures{PeerStats: PeerStats{Name: peer}}
 		f.peers[peer] = p
 	}
 	change(p)
 }
 
-func (f *figures) seen(peer string) { f.of(peer, func(p *PeerStats) { p.Seen = time.Now() }) }
+func (f *figures) seen(peer string) { f.of(peer, func(p *peerFigures) { p.Seen = time.Now() }) }
 
-func (f *figures) retried(peer string) { f.of(peer, func(p *PeerStats) { p.Retries++ }) }
-
-func (f *figures) acknowledged(peer string, took time.Duration) {
-	f.of(peer, func(p *PeerStats) {
-		p.Acknowledged++
-		p.Took += took
+func (f *figures) retried(peer string, took time.Duration) {
+	f.of(peer, func(p *peerFigures) {
+		p.Retries++
+		p.tries = smooth(p.tries, took)
 	})
 }
+
+func (f *figures) acknowledged(peer string, took, try time.Duration) {
+	f.of(peer, func(p *peerFigures) {
+		p.Acknowledged++
+		p.Took += took
+		p.tries = smooth(p.tries, try)
+	})
+}
+
+// mostSilent is how many rounds of askings a peer may be silent before it is asked for no values.
+const mostSilent = 2
+
+// asked notes whether a peer has answered in a round, or with a value.
+func (f *figures) asked(peer string, answered bool) {
+	f.of(peer, func(p *peerFigures) {
+		if p.silent++; answered {
+			p.silent = 0
+		}
+	})
+}
+
+// mayAsk tells whether a peer is asked for a value: one that is silent by one request at a time, which
+// looks whether it answers again. The caller calls end when its request has ended.
+func (f *figures) mayAsk(peer string) (may bool, end func()) {
+	end = func() {}
+	f.of(peer, func(p *peerFigures) {
+		if may = p.silent < mostSilent || !p.looking; may && p.silent >= mostSilent {
+			p.looking = true
+			end = func() { f.of(peer, func(p *peerFigures) { p.looking = false }) }
+		}
+	})
+	return may, end
+}
+
+// limit returns how long the first try may take: several times what tries take of late, so that a
+// peer that is slow does not get each request twice.
+func (f *figures) limit(peer string) (limit time.Duration) {
+	f.of(peer, func(p *peerFigures) { limit = 8 * p.tries })
+	if limit < firstTry {
+		return firstTry
+	}
+	if limit > longestTry {
+		return longestTry
+	}
+	return limit
+}
+
+// longestTry bounds the time of a first try.
+const longestTry = 4 * time.Second
 
 // Stats returns the numbers of this peer.
 func (p *Pool) Stats() Stats {
@@ -87,7 +141,7 @@ func (p *Pool) Stats() Stats {
 	n.mu.Unlock()
 	for _, member := range known {
 		one := PeerStats{Name: member.Name}
-		n.figures.of(member.Name, func(p *PeerStats) { one = *p })
+		n.figures.of(member.Name, func(p *peerFigures) { one = p.PeerStats })
 		one.Start, one.OtherList = member.Start, lists[member.Name]
 		s.Peers = append(s.Peers, one)
 	}

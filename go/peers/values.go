@@ -39,6 +39,11 @@ func (o owner) RoundTrip(r *http.Request) (*http.Response, error) {
 	defer cancel()
 	r = r.Clone(ctx)
 	to := baseOf(r.URL)
+	may, end := o.node.figures.mayAsk(to)
+	if !may {
+		return nil, errSilent
+	}
+	defer end()
 	r.Header.Set(fromHeader, o.node.self)
 	r.Header.Set(startHeader, strconv.FormatUint(o.node.versions.startOf(o.node.self), 10))
 	r.Header.Set(toHeader, to)
@@ -65,9 +70,12 @@ func (o owner) RoundTrip(r *http.Request) (*http.Response, error) {
 			return nil, fmt.Errorf("peers: the owner's reply: %w", err)
 		}
 	}
+	o.node.figures.asked(to, true)
 	got.Body = io.NopCloser(bytes.NewReader(body))
 	return got, nil
 }
+
+var errSilent = errors.New("peers: the owner is silent, and another request looks whether it answers")
 
 // valueParts is what is signed of a request for a value.
 func valueParts(r *http.Request) [][]byte {
@@ -125,7 +133,7 @@ func (p *Pool) checkValue(r *http.Request) (int, error) {
 	n := p.node
 	if len(n.keys) > 0 {
 		if err := n.keys.verify(time.Now(), r.Header.Get(signHeader), valueParts(r)...); err != nil {
-			n.figures.strangers.Add(1)
+			n.stranger(r.RemoteAddr, err)
 			return http.StatusForbidden, fmt.Errorf("peers: no peer of this pool: %w", err)
 		}
 	}

@@ -4,6 +4,7 @@ package server
 
 import (
 	"context"
+	"crypto/tls"
 	"errors"
 	"flag"
 	"fmt"
@@ -109,6 +110,7 @@ func load(origin string) (groupcache.GetterFunc, error) {
 type server struct {
 	pool     *peers.Pool
 	pages    *peers.Cache
+	refused  refusals
 	purger   []*net.IPNet // from where a PURGE is taken
 	purgeFor time.Duration
 	most     int64 // GETs that run at one time
@@ -141,6 +143,7 @@ func (s *server) ServeHTTP(w http.ResponseWriter, r *http.Request) {
 		}
 	case "PURGE":
 		if !s.mayPurge(r) {
+			s.refused.note(time.Now(), fmt.Sprintf("a PURGE that is refused: %s", r.RemoteAddr))
 			http.Error(w, "no PURGE from this address", http.StatusForbidden)
 			return
 		}
@@ -214,7 +217,9 @@ func (s *server) metrics(w http.ResponseWriter, r *http.Request) {
 // Flags are those of both programs.
 type Flags struct {
 	Listen, PeersListen, Self, KeyFile, Origin, PurgeFrom string
+	PeersTLS                                              TLSFiles
 	Bytes, Most                                           int64
+	Connections                                           int
 	TTL, PurgeFor                                         time.Duration
 }
 
@@ -225,9 +230,11 @@ func (f *Flags) Define() {
 	flag.StringVar(&f.Self, "self", "http://127.0.0.1:8001", "the base URL at which the others reach that")
 	flag.StringVar(&f.KeyFile, "key-file", "", "a file with the secret that all peers share, of at least 16 bytes")
 	flag.StringVar(&f.Origin, "origin", "http://127.0.0.1:9000", "the origin's base URL")
-	flag.StringVar(&f.PurgeFrom, "purge-from", "127.0.0.0/8,::1/128", "the networks from which a PURGE is taken")
+	flag.StringVar(&f.PurgeFrom, "purge-from", "127.0.0.0/8,::1/128", "the networks from which a PURGE is taken; none if it is empty, as behind a proxy")
+	f.PeersTLS.Define("peers", "between peers, who then have https in -self and -peers")
 	flag.Int64Var(&f.Bytes, "bytes", 64<<20, "the bytes of pages and keys to cache")
 	flag.Int64Var(&f.Most, "most", 1000, "the requests for pages that run at one time; more get 503")
+	flag.IntVar(&f.Connections, "connections", 2000, "the public connections at one time; more wait")
 	flag.DurationVar(&f.PurgeFor, "purge-for", 10*time.Second, "how long a PURGE waits for the other peers")
 	flag.DurationVar(&f.TTL, "ttl", 0, "how old a page may get without a PURGE; 0 is for ever")
 }
@@ -241,6 +248,9 @@ func (f *Flags) key() ([]byte, error) {
 }
 
 func (f *Flags) networks() (all []*net.IPNet, err error) {
+	if f.PurgeFrom == "" {
+		return nil, nil
+	}
 	for _, text := range strings.Split(f.PurgeFrom, ",") {
 		_, network, err := net.ParseCIDR(text)
 		if err != nil {
@@ -262,11 +272,21 @@ func (f *Flags) Run(o peers.Options) error {
 	if err != nil {
 		return err
 	}
+	config, err := f.PeersTLS.Config()
+	if err != nil {
+		return err
+	}
+	if config != nil && len(config.Certificates) == 0 {
+		return errors.New("-peers-ca needs -peers-cert and -peers-key")
+	}
+	if f.Connections < 1 {
+		return errors.New("-connections is 1 or more")
+	}
 	s := &server{purgeFor: f.PurgeFor, most: f.Most}
 	if s.purger, err = f.networks(); err != nil {
 		return err
 	}
-	o.Self, o.Keys = f.Self, [][]byte{key}
+	o.Self, o.Keys, o.TLS = f.Self, [][]byte{key}, config
 	o.Log = func(msg string, args ...interface{}) { log.Print(msg, " ", fmt.Sprint(args...)) }
 	if s.pool, err = peers.New(o); err != nil {
 		return err
@@ -287,7 +307,7 @@ func (f *Flags) Run(o peers.Options) error {
 	mux.HandleFunc("/metrics", s.metrics)
 	mux.Handle("/healthz", s.pool.HealthHandler())
 	mux.Handle("/readyz", s.pool.ReadyHandler())
-	inner.Handler = mux
+	inner.Handler, inner.TLSConfig = mux, config
 	return f.serve(s.pool, public, inner)
 }
 
@@ -301,7 +321,10 @@ func (f *Flags) serve(pool *peers.Pool, public, inner *http.Server) error {
 		return err
 	}
 	failed := make(chan error, 2)
-	go func() { failed <- public.Serve(outside) }()
+	if inner.TLSConfig != nil {
+		inside = tls.NewListener(inside, inner.TLSConfig)
+	}
+	go func() { failed <- public.Serve(limit(outside, f.Connections)) }()
 	go func() { failed <- inner.Serve(inside) }()
 	end := make(chan os.Signal, 1)
 	signal.Notify(end, os.Interrupt, syscall.SIGTERM)

@@ -8,7 +8,12 @@
 //	PREFIX/epoch          a number that grows where etcd's data was lost or restored
 //	PREFIX/begun          the epoch whose predecessors' leases have all ended
 //	PREFIX/members/NAME   EPOCH.TEXT: the epoch in which it joined, and a random text
+//	PREFIX/guards/NAME    the same, under a lease of its own
 //	PREFIX/forgets/ID     a Forget, until all members have it
+//
+// A process is a member while it has one of its two keys, and renews both leases or none. So one that
+// loses one of them, as where an operator revokes a lease or deletes a key, ends while the others
+// still wait for it.
 //
 // A member's start is the epoch, and then the create revision of its key. Where etcd's revision is
 // less than one that a process has seen, etcd has lost what came after it: the process begins another
@@ -121,6 +126,7 @@ func New(client *clientv3.Client, prefix string, options ...Option) (*Coordinato
 }
 
 func (c *Coordinator) members() string { return c.prefix + "/members/" }
+func (c *Coordinator) guards() string  { return c.prefix + "/guards/" }
 func (c *Coordinator) forgets() string { return c.prefix + "/forgets/" }
 func (c *Coordinator) epochs() string  { return c.prefix + "/epoch" }
 func (c *Coordinator) begun() string   { return c.prefix + "/begun" }
@@ -137,7 +143,7 @@ type member struct {
 	name   string
 	id     string // the random text of its key
 	epoch  uint64
-	lease  clientv3.LeaseID
+	leases []clientv3.LeaseID // of its key and its guard
 	start  uint64
 	ctx    context.Context
 	cancel context.CancelFunc
@@ -149,7 +155,7 @@ type member struct {
 	lock     sync.Mutex        // protects the rest
 	revision int64             // to which the two are as etcd has them
 	now      uint64            // the epoch
-	list     map[string]uint64 // the starts of the members of this epoch
+	keys     map[string]uint64 // the starts of the keys and the guards of this epoch, by etcd's keys
 	kept     map[string][]byte
 	isDone   bool
 }
@@ -186,7 +192,7 @@ func (c *Coordinator) Join(ctx context.Context, self string, after uint64) (peer
 	revision, err := m.read(within)
 	if err != nil {
 		m.end()
-		c.client.Revoke(c.ctx, m.lease)
+		m.revoke(c.ctx)
 		return nil, err
 	}
 	go m.renew()
@@ -283,17 +289,28 @@ func parse(text string) uint64 {
 	return number
 }
 
-func (m *member) key() string { return m.members() + url.PathEscape(m.name) }
+func (m *member) key() string   { return m.members() + url.PathEscape(m.name) }
+func (m *member) guard() string { return m.guards() + url.PathEscape(m.name) }
 
 // await returns once no process has the name.
 func (m *member) await(ctx context.Context) error {
 	ctx, cancel := context.WithTimeout(clientv3.WithRequireLeader(ctx), m.ttl)
 	defer cancel()
-	got, err := m.client.Get(ctx, m.key())
+	for _, key := range []string{m.key(), m.guard()} {
+		if err := m.awaitNo(ctx, key); err != nil {
+			return err
+		}
+	}
+	return nil
+}
+
+// awaitNo returns once etcd has no such key.
+func (m *member) awaitNo(ctx context.Context, key string) error {
+	got, err := m.client.Get(ctx, key)
 	if err != nil || len(got.Kvs) == 0 {
 		return err
 	}
-	for w := range m.client.Watch(ctx, m.key(), clientv3.WithRev(got.Header.Revision+1), clientv3.WithFilterPut()) {
+	for w := range m.client.Watch(ctx, key, clientv3.WithRev(got.Header.Revision+1), clientv3.WithFilterPut()) {
 		if err := w.Err(); err != nil {
 			return err
 		}
@@ -306,25 +323,43 @@ func (m *member) await(ctx context.Context) error {
 	return fmt.Errorf("etcd: another process has the name %s", m.name)
 }
 
-// take takes a lease and the key, and tells whether nobody was faster.
+// take takes two leases, and the key and its guard, and tells whether nobody was faster.
 func (m *member) take(ctx context.Context) (bool, error) {
 	begun := time.Now()
-	lease, err := m.client.Grant(ctx, int64(m.ttl/time.Second))
-	if err != nil {
-		return false, err
+	m.leases = nil
+	for len(m.leases) < 2 {
+		lease, err := m.client.Grant(ctx, int64(m.ttl/time.Second))
+		if err != nil {
+			m.revoke(ctx)
+			return false, err
+		}
+		m.leases = append(m.leases, lease.ID)
 	}
-	m.lease = lease.ID
 	epoch := strconv.FormatUint(m.epoch, 10)
-	got, err := m.client.Txn(ctx).If(clientv3.Compare(clientv3.CreateRevision(m.key()), "=", 0), clientv3.Compare(clientv3.Value(m.epochs()), "=", epoch)).
-		Then(clientv3.OpPut(m.key(), epoch+"."+m.id, clientv3.WithLease(lease.ID))).Commit()
+	isNew := func(key string) clientv3.Cmp { return clientv3.Compare(clientv3.CreateRevision(key), "=", 0) }
+	put := func(key string, by clientv3.LeaseID) clientv3.Op {
+		return clientv3.OpPut(key, epoch+"."+m.id, clientv3.WithLease(by))
+	}
+	got, err := m.client.Txn(ctx).If(isNew(m.key()), isNew(m.guard()), clientv3.Compare(clientv3.Value(m.epochs()), "=", epoch)).
+		Then(put(m.key(), m.leases[0]), put(m.guard(), m.leases[1])).Commit()
 	if err != nil || !got.Succeeded {
-		m.client.Revoke(ctx, lease.ID)
+		m.revoke(ctx)
 		return false, err
 	}
 	m.start = startAt(m.epoch, got.Header.Revision)
 	m.saw(m.start)
 	m.extend(begun)
 	return true, nil
+}
+
+// revoke ends the leases.
+func (m *member) revoke(ctx context.Context) (err error) {
+	for _, lease := range m.leases {
+		if _, bad := m.client.Revoke(ctx, lease); bad != nil && !errors.Is(bad, rpctypes.ErrLeaseNotFound) {
+			err = bad
+		}
+	}
+	return err
 }
 
 // extend takes the lease as renewed at a time before etcd renewed it. A tenth of it is for clocks
@@ -350,20 +385,34 @@ func (m *member) renew() {
 		}
 		begun := time.Now()
 		ctx, cancel := context.WithTimeout(m.ctx, m.ttl/5)
-		got, err := m.client.KeepAliveOnce(ctx, m.lease)
-		switch {
+		switch gone, err := m.renewAll(ctx); {
 		case m.ctx.Err() != nil:
-		case err == nil && got.TTL > 0:
+		case gone:
+			m.end()
+		case err == nil:
 			// A watch can miss that a key was removed in the revision that was compacted last. And the
 			// lease counts in the epoch alone: one that is restored from a backup may be renewed.
 			if _, err := m.read(ctx); err == nil {
 				m.extend(begun)
 			}
-		case err == nil || errors.Is(err, rpctypes.ErrLeaseNotFound):
-			m.end()
 		}
 		cancel()
 	}
+}
+
+// renewAll renews the leases, and tells whether one is gone. Then the other one is not renewed, which
+// the other members wait for.
+func (m *member) renewAll(ctx context.Context) (gone bool, err error) {
+	for _, lease := range m.leases {
+		got, err := m.client.KeepAliveOnce(ctx, lease)
+		if errors.Is(err, rpctypes.ErrLeaseNotFound) || err == nil && got.TTL <= 0 {
+			return true, nil
+		}
+		if err != nil {
+			return false, err
+		}
+	}
+	return false, nil
 }
 
 // end ends the membership.
@@ -403,29 +452,42 @@ func (m *member) replace(got *clientv3.GetResponse) bool {
 	m.lock.Lock()
 	defer m.lock.Unlock()
 	if got.Header.Revision >= m.revision {
-		list, kept := m.list, m.kept
-		m.revision, m.now, m.list, m.kept = got.Header.Revision, 0, map[string]uint64{}, map[string][]byte{}
+		keys, kept := m.keys, m.kept
+		m.revision, m.now, m.keys, m.kept = got.Header.Revision, 0, map[string]uint64{}, map[string][]byte{}
 		m.saw(startAt(m.epoch, m.revision))
 		for _, kv := range got.Kvs {
 			m.put(kv)
 		}
-		if !reflect.DeepEqual(list, m.list) || !reflect.DeepEqual(kept, m.kept) {
+		if !reflect.DeepEqual(keys, m.keys) || !reflect.DeepEqual(kept, m.kept) {
 			m.changed()
 		}
 	}
 	return m.isThere()
 }
 
-// isThere tells whether etcd has this process as a member. The lock is held.
-func (m *member) isThere() bool { return m.list[m.name] == m.start && m.now == m.epoch }
+// isThere tells whether etcd has both keys of this process. The lock is held.
+func (m *member) isThere() bool {
+	return m.keys[m.key()] == m.start && m.keys[m.guard()] == m.start && m.now == m.epoch
+}
+
+// nameOf returns the member whose key or guard this is.
+func (m *member) nameOf(key string) (name string, ok bool) {
+	for _, prefix := range []string{m.members(), m.guards()} {
+		if strings.HasPrefix(key, prefix) {
+			name, err := url.PathUnescape(key[len(prefix):])
+			return name, err == nil
+		}
+	}
+	return "", false
+}
 
 // put takes a key that etcd has. The lock is held.
 func (m *member) put(kv *mvccpb.KeyValue) {
 	key := string(kv.Key)
-	if name := strings.TrimPrefix(key, m.members()); name != key {
+	if _, ok := m.nameOf(key); ok {
 		epoch, _, _ := strings.Cut(string(kv.Value), ".")
-		if name, err := url.PathUnescape(name); err == nil && parse(epoch) == m.epoch {
-			m.list[name] = startAt(m.epoch, kv.CreateRevision)
+		if parse(epoch) == m.epoch {
+			m.keys[key] = startAt(m.epoch, kv.CreateRevision)
 		}
 	} else if key == m.epochs() {
 		m.now = parse(string(kv.Value))
@@ -441,11 +503,7 @@ func (m *member) put(kv *mvccpb.KeyValue) {
 
 // remove takes away a key that etcd does not have any more. The lock is held.
 func (m *member) remove(key string) {
-	if name := strings.TrimPrefix(key, m.members()); name != key {
-		if name, err := url.PathUnescape(name); err == nil {
-			delete(m.list, name)
-		}
-	}
+	delete(m.keys, key)
 	if key == m.epochs() {
 		m.now = 0
 	}
@@ -522,8 +580,14 @@ func (m *member) Start() uint64 { return m.start }
 func (m *member) Members() []peers.Member {
 	m.lock.Lock()
 	defer m.lock.Unlock()
-	all := make([]peers.Member, 0, len(m.list))
-	for name, start := range m.list {
+	starts := map[string]uint64{}
+	for key, start := range m.keys {
+		if name, ok := m.nameOf(key); ok && starts[name] < start {
+			starts[name] = start
+		}
+	}
+	all := make([]peers.Member, 0, len(starts))
+	for name, start := range starts {
 		all = append(all, peers.Member{Name: name, Start: start})
 	}
 	sort.Slice(all, func(i, j int) bool { return all[i].Name < all[j].Name })
@@ -556,13 +620,23 @@ func (m *member) Kept() map[string][]byte {
 	return all
 }
 
-func (m *member) Drop(ctx context.Context, id string) error {
-	_, err := m.client.Delete(ctx, m.forgets()+id)
-	return err
+// mostOperations is how many operations a transaction of etcd may have, by its default.
+const mostOperations = 128
+
+func (m *member) Drop(ctx context.Context, ids ...string) error {
+	for len(ids) > 0 {
+		var some []clientv3.Op
+		for ; len(ids) > 0 && len(some) < mostOperations; ids = ids[1:] {
+			some = append(some, clientv3.OpDelete(m.forgets()+ids[0]))
+		}
+		if _, err := m.client.Txn(ctx).Then(some...).Commit(); err != nil {
+			return err
+		}
+	}
+	return nil
 }
 
 func (m *member) Leave(ctx context.Context) error {
 	m.end()
-	_, err := m.client.Revoke(ctx, m.lease)
-	return err
+	return m.revoke(ctx)
 }

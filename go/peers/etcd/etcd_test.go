@@ -3,12 +3,15 @@ package etcd
 import (
 	"context"
 	"fmt"
+	"io"
 	"log"
 	"math/rand"
+	"net"
 	"os"
 	"os/exec"
 	"reflect"
 	"strings"
+	"sync/atomic"
 	"testing"
 	"time"
 
@@ -281,11 +284,17 @@ func TestALeaseThatIsGone(t *testing.T) {
 	servers := newCluster(t, 1)
 	c, client := servers.coordinator(), servers.client()
 	for name, end := range map[string]func(m *member){
-		"revoked": func(m *member) { client.Revoke(soon(t), m.lease) },
-		"deleted": func(m *member) { client.Delete(soon(t), m.key()) },
+		"revoked":       func(m *member) { client.Revoke(soon(t), m.leases[0]) },
+		"guard-revoked": func(m *member) { client.Revoke(soon(t), m.leases[1]) },
+		"deleted":       func(m *member) { client.Delete(soon(t), m.key()) },
+		"guard-deleted": func(m *member) { client.Delete(soon(t), m.guard()) },
+		// Another process has begun another epoch: the lease of one that joined before counts no more.
+		"of-before": func(m *member) { client.Put(soon(t), m.epochs(), fmt.Sprint(m.epoch+1)) },
+		"of-none":   func(m *member) { client.Delete(soon(t), m.epochs()) },
 	} {
 		m := join(t, c, "http://"+name+":1")
 		end(m.(*member))
+		begun := time.Now()
 		select {
 		case <-m.Done():
 		case <-time.After(2 * time.Minute):
@@ -293,6 +302,43 @@ func TestALeaseThatIsGone(t *testing.T) {
 		}
 		if time.Now().Before(m.Until()) {
 			t.Errorf("%s: it has a lease", name)
+		}
+		t.Logf("%s: its membership ends after %v", name, time.Since(begun))
+	}
+}
+
+// An operator revokes a lease of a member, or deletes a key of it, which that does not hear: the others
+// wait for it until its lease has run out, as where it had died.
+func TestALeaseThatAnOperatorRevokes(t *testing.T) {
+	t.Parallel()
+	servers := newCluster(t, 1)
+	client := servers.client()
+	a := join(t, servers.coordinator(), "http://a:1")
+	for name, end := range map[string]func(m *member){
+		"revoked":       func(m *member) { client.Revoke(soon(t), m.leases[0]) },
+		"guard-revoked": func(m *member) { client.Revoke(soon(t), m.leases[1]) },
+		"deleted":       func(m *member) { client.Delete(soon(t), m.key()) },
+		"guard-deleted": func(m *member) { client.Delete(soon(t), m.guard()) },
+	} {
+		cut := servers.client()
+		silent, err := New(cut, "/test", WithTTL(ttl))
+		if err != nil {
+			t.Fatal(err)
+		}
+		b := join(t, silent, "http://"+name+":1").(*member)
+		until(t, func() bool { return len(names(a)) == 2 }, "a does not hear of it")
+		cut.Close()
+		end(b)
+		time.Sleep(100 * time.Millisecond)
+		if err := a.Refresh(soon(t)); err != nil {
+			t.Fatal(err)
+		}
+		if len(names(a)) != 2 && time.Now().Before(b.Until()) {
+			t.Errorf("%s: a Forget does not wait for it, and it has its lease for %v", name, time.Until(b.Until()))
+		}
+		until(t, func() bool { return len(names(a)) == 1 }, "its lease does not end")
+		if time.Now().Before(b.Until()) {
+			t.Errorf("%s: etcd has no lease of it any more, and it has one for %v", name, time.Until(b.Until()))
 		}
 	}
 }
@@ -330,6 +376,19 @@ func TestKeptForgets(t *testing.T) {
 		t.Fatal(err)
 	}
 	until(t, func() bool { return a.Kept()[own] != nil || len(a.Kept()) == 2 }, "a does not hear of one of b")
+	// More than a transaction of etcd has.
+	var many []string
+	for i := 0; i < 2*mostOperations+1; i++ {
+		many = append(many, fmt.Sprintf("1-%d-1", i))
+		if err := b.Keep(soon(t), many[i], nil); err != nil {
+			t.Fatal(err)
+		}
+	}
+	until(t, func() bool { return len(a.Kept()) > len(many) }, "a does not hear of many")
+	if err := b.Drop(soon(t), many...); err != nil {
+		t.Fatal(err)
+	}
+	until(t, func() bool { return len(a.Kept()) <= 3 }, "a does not hear that many are dropped")
 	if got := names(a); len(got) != 2 {
 		t.Errorf("the members are %v", got)
 	}
@@ -339,8 +398,10 @@ func TestKeptForgets(t *testing.T) {
 func TestAWatchThatFails(t *testing.T) {
 	t.Parallel()
 	servers := newCluster(t, 1)
+	join(t, servers.coordinator(), "http://first:1") // who begins the epoch
+	// A renewal, which reads all as well, comes after this test.
 	long := servers.coordinator()
-	long.ttl = 20 * time.Second
+	long.ttl = 20 * time.Minute
 	a := join(t, long, "http://a:1").(*member)
 	for i := 0; i < 3; i++ {
 		if err := a.Keep(soon(t), fmt.Sprint(i), nil); err != nil {
@@ -355,7 +416,16 @@ func TestAWatchThatFails(t *testing.T) {
 	until(t, func() bool {
 		ctx, cancel := context.WithTimeout(context.Background(), time.Second)
 		defer cancel()
-		got, err := client.Delete(ctx, a.forgets()+"0")
+		if _, err := client.Delete(ctx, a.forgets()+"0"); err != nil {
+			return false
+		}
+		// A watch after the revision that is compacted last would go on, and miss what that removed.
+		for i := 0; i < 2; i++ {
+			if _, err := client.Put(ctx, "other", ""); err != nil {
+				return false
+			}
+		}
+		got, err := client.Get(ctx, "other")
 		if err != nil {
 			return false
 		}
@@ -363,6 +433,96 @@ func TestAWatchThatFails(t *testing.T) {
 		return err == nil
 	}, "the server does not come back")
 	until(t, func() bool { return len(a.Kept()) == 2 }, "it does not follow after the server was away")
+}
+
+// slowly passes on what etcd answers after a while.
+func slowly(t *testing.T, to string, after *atomic.Int64) (endpoint string) {
+	l, err := net.Listen("tcp", "127.0.0.1:0")
+	if err != nil {
+		t.Fatal(err)
+	}
+	t.Cleanup(func() { l.Close() })
+	go func() {
+		for {
+			from, err := l.Accept()
+			if err != nil {
+				return
+			}
+			back, err := net.Dial("tcp", strings.TrimPrefix(to, "http://"))
+			if err != nil {
+				from.Close()
+				continue
+			}
+			go func() {
+				io.Copy(back, from)
+				back.Close()
+			}()
+			go func() {
+				defer from.Close()
+				for buffer := make([]byte, 64<<10); ; {
+					n, err := back.Read(buffer)
+					if err != nil {
+						return
+					}
+					time.Sleep(time.Duration(after.Load()))
+					from.Write(buffer[:n])
+				}
+			}()
+		}
+	}()
+	return "http://" + l.Addr().String()
+}
+
+// A lease counts from before it was asked for: the answer may take long.
+func TestALeaseCountsFromBefore(t *testing.T) {
+	t.Parallel()
+	servers := newCluster(t, 1)
+	join(t, servers.coordinator(), "http://first:1")
+	const ttl, after = 10 * time.Second, 300 * time.Millisecond
+	var delay atomic.Int64
+	client, err := connect([]string{slowly(t, servers.endpoints[0], &delay)})
+	if err != nil {
+		t.Fatal(err)
+	}
+	t.Cleanup(func() { client.Close() })
+	if _, err := client.Get(soon(t), "none"); err != nil {
+		t.Fatal(err)
+	}
+	c, err := New(client, "/test", WithTTL(ttl))
+	if err != nil {
+		t.Fatal(err)
+	}
+	t.Cleanup(func() { c.Close() })
+	delay.Store(int64(after))
+	m := join(t, c, "http://a:1")
+	// After the grant of the first lease came those of the second one, the keys, and a read.
+	if left := time.Until(m.Until()); left > ttl-ttl/10-3*after {
+		t.Errorf("it has its lease for %v, of %v, when four answers have taken %v each", left, ttl, after)
+	}
+	granted := m.Until()
+	until(t, func() bool { return m.Until() != granted }, "it does not renew its lease")
+	if left := time.Until(m.Until()); left > ttl-ttl/10-2*after {
+		t.Errorf("once it is renewed it has it for %v, when three answers have taken %v each", left, after)
+	}
+}
+
+// A read that was on its way while a watch went on is not taken.
+func TestAnOldReadIsNotTaken(t *testing.T) {
+	t.Parallel()
+	servers := newCluster(t, 1)
+	a := join(t, servers.coordinator(), "http://a:1").(*member)
+	old, err := a.client.Get(soon(t), a.prefix+"/", clientv3.WithPrefix())
+	if err != nil {
+		t.Fatal(err)
+	}
+	b := join(t, servers.coordinator(), "http://b:1")
+	if err := b.Keep(soon(t), "1-1-1", nil); err != nil {
+		t.Fatal(err)
+	}
+	until(t, func() bool { return len(a.Kept()) == 1 }, "a does not hear of a Forget that is kept")
+	if !a.replace(old) || len(a.Kept()) != 1 || len(names(a)) != 2 {
+		t.Errorf("after an old read it has %v and %v", names(a), a.Kept())
+	}
 }
 
 // wipe replaces the data of the only server: by none, or by a copy.
