@@ -5,7 +5,7 @@ use Rattle.sf_group_rows.specs.Same.{IsStill}
 use Rattle.sf_group_rows.specs.Notes.{HasLent}
 use Rattle.sf_group_rows.specs.Currents.{HasQuestioned}
 use Rattle.sf_keys_places.specs.Places.{place_of}
-use Rattle.sf_cache_sets.specs.declared.sets.TheConstants.{MOST_SETS}
+use Rattle.sf_cache.specs.declared.sets.TheConstants.{MOST_SETS}
 use Rattle.sf_cache_letters.specs.Letters.{IsStored, FindsCurrent}
 use Rattle.sf_c_values.specs.Keys.{WordValue}
 use Rattle.sf_c_slots.specs.declared.codes.Code.{Code}

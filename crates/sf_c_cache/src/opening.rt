@@ -2,8 +2,8 @@
 ghost use Rattle.sf_c_cache.specs.Rows.{HasAddedCache};
 
 use sf_c_slots::{Code, Part, State};
+use sf_cache::MOST_SETS;
 use sf_cache_letters::Letters;
-use sf_cache_sets::MOST_SETS;
 use std::alloc::Global;
 use std::sync::Arc;
 

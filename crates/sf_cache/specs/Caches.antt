@@ -1,6 +1,6 @@
 -- A cache as clauses see it, and what becomes of an item that is put.
 use Rattle.std.specs.Prelude.{◌≡◌, ℕ, Option, Some, None}
-use Rattle.sf_cache_weights.specs.Weights.{ScaleId, WeightState}
+use Rattle.sf_cache.specs.Weights.{ScaleId, WeightState}
 use Rattle.sf_cache.specs.declared.cache.Put.{Put}
 use Rattle.sf_cache.specs.declared.cache.Put.TheVariants as put
 use Rattle.sf_cache.specs.declared.cache.Room.{Room}

@@ -1,12 +1,14 @@
 //! The cache.
 ghost use Rattle.std.specs.Prelude.{◌≡◌, ◌≤◌, ◌/◌, ◌*◌, ℕ, IfNone, IfOk, IfSome};
 ghost use Rattle.sf_cache.specs.Caches.{IsPut, IsRoom};
-ghost use Rattle.sf_cache_sets.specs.Ways.{Finds, IsGiven};
-ghost use Rattle.sf_cache_sets.specs.declared.sets.TheConstants.{MOST_SETS};
+ghost use Rattle.sf_cache.specs.Ways.{Finds, IsGiven};
+ghost use Rattle.sf_cache.specs.declared.sets.TheConstants.{MOST_SETS};
 
+use crate::asks::Asks;
+use crate::scale::{Scale, Weight};
+use crate::sets::Sets;
+use crate::ways_rule::Stored;
 use crate::weighed::{Label, Weighed, Within};
-use sf_cache_sets::{Asks, Sets, Stored};
-use sf_cache_weights::{Scale, Weight};
 use std::alloc::{AllocError, Global};
 use std::marker::Model;
 use std::sync::atomic::{AtomicU64, Ordering};

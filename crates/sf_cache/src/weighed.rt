@@ -1,8 +1,9 @@
 //! An item with its weight, which lies on the cache's scale.
 ghost use Rattle.std.specs.Prelude.{◌≡◌};
 
-use sf_cache_sets::{Asks, Stored};
-use sf_cache_weights::Weight;
+use crate::asks::Asks;
+use crate::scale::Weight;
+use crate::ways_rule::Stored;
 
 /// An item, and what it weighs.
 #[derive(Drop)]

@@ -3,7 +3,7 @@ ghost use Rattle.std.specs.Prelude.{◌≡◌};
 ghost use Rattle.sf_cache_letters.specs.Letters.{IsReadOf};
 
 use crate::stored::{Readable, StoredLetter};
-use sf_cache_sets::Asks;
+use sf_cache::Asks;
 use sf_group::{Caller, Group, Letter};
 use sf_history::CallId;
 

@@ -1,6 +1,6 @@
 //! A look for a letter of a key, whatever has become of its call.
 use crate::stored::StoredLetter;
-use sf_cache_sets::Asks;
+use sf_cache::Asks;
 use sf_keys_places::OfKey;
 
 /// Who looks for a letter of this key.

@@ -1,14 +1,13 @@
 //! Letters in a cache.
 ghost use Rattle.std.specs.Prelude.{◌≡◌, ◌≤◌, IfOk, IfSome, IfNone};
 ghost use Rattle.sf_cache_letters.specs.Letters.{FindsCurrent, IsPutLetter, IsReadOf, IsStored};
-ghost use Rattle.sf_cache_sets.specs.declared.sets.TheConstants.{MOST_SETS};
+ghost use Rattle.sf_cache.specs.declared.sets.TheConstants.{MOST_SETS};
 ghost use Rattle.sf_group_rows.specs.Same.{IsStill};
 
 use crate::current::{AsksCurrent, Found};
 use crate::keyed::AsksKey;
 use crate::stored::{Readable, StoredLetter};
-use sf_cache::{Cache, Put};
-use sf_cache_sets::MOST_SETS;
+use sf_cache::{Cache, MOST_SETS, Put};
 use sf_group::{Caller, Group, Letter, Note};
 use std::alloc::{AllocError, Global};
 

@@ -1,7 +1,7 @@
 //! A letter that lies in a cache.
 ghost use Rattle.std.specs.Prelude.{◌≡◌};
 
-use sf_cache_sets::Stored;
+use sf_cache::Stored;
 use sf_group::{Letter, Note};
 use sf_group_rows::Fit;
 use sf_keys_places::OfKey;

@@ -2,6 +2,8 @@
 #![tactic(auto)]
 
 #[cfg(test)]
+mod player;
+#[cfg(test)]
 mod tests;
 mod thrice;
 

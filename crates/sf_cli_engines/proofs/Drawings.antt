@@ -1,6 +1,6 @@
 -- what is said to have no order is shown by a picture
 use Rattle.std.proofs.Common.{◌≡◌, ℕ, List, Bool, true, false}
-use Rattle.sf_replay_pictures.specs.Pictures.{IsPictureOf}
+use Rattle.sf_pictures.specs.Pictures.{IsPictureOf}
 use Rattle.sf_cli_engines.specs.Drawing.{IsShownAs}
 use Rattle.sf_cli_engines.specs.Timing.{timed_text}
 use Rattle.sf_cli_engines.specs.declared.timing.Found.{Found}

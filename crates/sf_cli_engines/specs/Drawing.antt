@@ -1,6 +1,6 @@
 -- what `sfctl check --svg` answers
 use Rattle.std.specs.Prelude.{◌≡◌, ℕ, List, ◌++◌, codes, string_bytes}
-use Rattle.sf_replay_pictures.specs.Pictures.{IsPictureOf}
+use Rattle.sf_pictures.specs.Pictures.{IsPictureOf}
 use Rattle.sf_cli_engines.specs.Timing.{IsTimedCheckOf, timed_text}
 use Rattle.sf_cli_engines.specs.declared.drawing.Drawn.{Drawn}
 use Rattle.sf_cli_engines.specs.declared.drawing.Drawn.TheVariants.{Picture, Line}

@@ -1,13 +1,13 @@
 //! What `sfctl check --svg` draws of a history that is written as records.
 
 ghost use Rattle.std.specs.Prelude.{ℕ, List, ◌++◌, IsSome, IsNone, IfSome, codes, string_bytes};
-ghost use Rattle.sf_replay_pictures.specs.Pictures.{IsPictureOf};
+ghost use Rattle.sf_pictures.specs.Pictures.{IsPictureOf};
 ghost use Rattle.sf_cli_engines.specs.Drawing.{IsDrawnFrom, IsShownAs};
 ghost use Rattle.sf_cli_engines.specs.Timing.{timed_text};
 
 use crate::timing::{Found, TimedChecked, judge_times};
+use sf_pictures::draw_race;
 use sf_replay::{Recording, read_recording};
-use sf_replay_pictures::draw;
 use sf_replay_timed::Witness;
 use std::alloc::Global;
 
@@ -48,7 +48,7 @@ fn picture_of(
     let Ok(Recording { history, times, .. }) = read_recording(alloc, input) else {
         return None;
     };
-    match draw(
+    match draw_race(
         alloc,
         verdict.as_str(),
         witness,

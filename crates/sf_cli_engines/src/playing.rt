@@ -5,7 +5,7 @@ ghost use Rattle.std.specs.Str.Lines.{lines};
 ghost use Rattle.sf_steps_text.specs.Played.{IsRefusalOf};
 ghost use Rattle.sf_cli_engines.specs.Playing.{IsTraceText, HasPicture};
 
-use sf_steps_pictures::draw;
+use sf_pictures::draw_steps;
 use sf_steps_text::{ScheduleRefusal, play, trace_text};
 use std::alloc::Global;
 
@@ -24,5 +24,5 @@ pub(crate) fn drawn(alloc: Global, schedule: &[u8]) -> Result<String, ScheduleRe
     ensures refused { IfErr result (λ refusal. IsRefusalOf (lines schedule.now) refusal) }
 {
     let trace = play(alloc, schedule)?;
-    Ok(draw(alloc, &trace)?)
+    Ok(draw_steps(alloc, &trace)?)
 }

@@ -1,8 +1,11 @@
-//! Tests of fills by scripts: getters one after another, and side by side while one of them loads.
+//! Tests of fills by scripts: getters one after another, and side by side while one of them loads; of fills by bodies of their own
+//! (`bodies`); and of the parts below a fill (`parts`).
 //!
 //! They stand apart from the crates that they test, since a crate with tests is proved twice.
 #![tactic(auto)]
 
+#[cfg(test)]
+mod bodies;
 #[cfg(test)]
 mod calls;
 #[cfg(test)]
@@ -11,6 +14,8 @@ mod keeps;
 mod loaders;
 #[cfg(test)]
 mod near;
+#[cfg(test)]
+mod parts;
 #[cfg(test)]
 mod rows;
 #[cfg(test)]

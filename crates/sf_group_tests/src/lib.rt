@@ -1,12 +1,14 @@
-//! Tests of the group, whose words lie in one table.
+//! Tests of the group, whose words lie in one table, by scripts; of the forms that wait (`wait`); and of hashed keys (`keys`).
 //!
-//! They stand apart from the crate that they test, since a crate with tests is proved twice.
+//! They stand apart from the crates that they test, since a crate with tests is proved twice.
 #![tactic(auto)]
 
 #[cfg(test)]
 mod busy;
 #[cfg(test)]
 mod commands;
+#[cfg(test)]
+mod keys;
 #[cfg(test)]
 mod notes;
 #[cfg(test)]
@@ -29,3 +31,5 @@ mod sharing;
 mod two_threads;
 #[cfg(test)]
 mod value;
+#[cfg(test)]
+mod wait;

@@ -1,7 +1,0 @@
-use Rattle.std.specs.Prelude.{pos}
-use Rattle.sf_fill_counters.specs.Nowhere.{no_group, no_ledgers}
-use Rattle.sf_fill_keys.specs.Spaces.{space_of}
-use Rattle.sf_fill_body_tests.proofs.seats.spent_getter_goes_on_and_one_is_added.Given as goal
-
-abbrev pub ghosts-with_space : goal.ghosts-with_space
-ghosts-with_space g a = record { space = space_of a.space; group = no_group; getters = 0; ledgers = no_ledgers; limit = pos 0 }

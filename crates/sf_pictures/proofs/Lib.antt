@@ -1,0 +1,2 @@
+mod Assembled
+mod Escapes

@@ -1,4 +1,0 @@
-use Rattle.sf_wait_tests.proofs.jobs.abandon_all.Given as goal
-
-abbrev pub decreases-loop-job : goal.decreases-loop-job
-decreases-loop-job l = goal.left-loop-job l

@@ -1,4 +1,0 @@
-use Rattle.sf_wait_tests.proofs.jobs.say_ends.Given as goal
-
-abbrev pub decreases-loop-one : goal.decreases-loop-one
-decreases-loop-one l = goal.left-loop-one l
