@@ -8,6 +8,8 @@ import (
 	"time"
 )
 
+// This is Do's leader. To ask, to join and wait, to settle and wake, and to forget are calls of the pool, in pool.go.
+//
 // Results and askings are passed by their address: their copies waited for stores that they could
 // not be forwarded from. All of a result, with the joiners, the stamp and the call, is told where
 // it is wanted.

@@ -126,7 +126,8 @@ func (s *seat) take() bool {
 
 type chunk [chunkSize]seatPointer
 
-// An epoch is one group of the library, with its callers. Seats are split off as they are needed, and go back when their
+// An epoch is one group of the library, with its callers. The pool replaces it, and a Forget that meets a replacement begins again
+// (pool.forget). Seats are split off as they are needed, and go back when their
 // calls have ended. An epoch that was replaced frees each seat as it comes back. The pool's lock protects what has no
 // other.
 type epoch struct {

@@ -5,7 +5,8 @@ import (
 	"sync"
 )
 
-// A wait is made by the first who waits for a call. Its lock is that of the seat that leads the call, or the pool's where
+// A wait is made by the first who waits for a call without joining it by a caller; one who joined so sleeps in pool.join, and
+// pool.share wakes it. Its lock is that of the seat that leads the call, or the pool's where
 // the call runs beside the library.
 type wait struct {
 	lock      *sync.Mutex   // protects the rest
