@@ -115,15 +115,19 @@ func TestTTL(t *testing.T) {
 	if c.ttl = time.Second; WithTTL(time.Second)(c) != nil || WithTTL(time.Second-1)(c) == nil || WithTTL(1001*time.Hour)(c) == nil {
 		t.Error("a TTL is 1 s to 1,000 h")
 	}
-	name, changes := c.nameOf("7"), time.Now()
+	name := c.nameOf("7")
 	if name == first || other != 0 {
 		t.Error("with a TTL the name is that without one")
 	}
 	until(t, func() bool { return c.nameOf("7") != name }, "the name does not change")
-	name, changes = c.nameOf("7"), time.Now()
-	until(t, func() bool { return c.nameOf("7") != name }, "the name does not change")
-	if took := time.Since(changes); took < time.Second/2 {
-		t.Errorf("the name has changed after %v", took)
+	begun, changes := time.Now(), 0
+	for ; changes < 3; changes++ {
+		name = c.nameOf("7")
+		until(t, func() bool { return c.nameOf("7") != name }, "the name does not change")
+	}
+	// The first of these may have come a whole second after the one before it was seen.
+	if took := time.Since(begun); took < time.Second {
+		t.Errorf("the name has changed %d times within %v", changes, took)
 	}
 	slots := map[uint32]bool{}
 	for i := 0; i < 100; i++ {
@@ -392,7 +396,7 @@ func TestAnOwnerThatIsSilent(t *testing.T) {
 	until(t, func() bool { return asked.Load() == before+1 }, "nobody looks whether it answers again")
 	for i := 0; i < 100; i++ {
 		begun := time.Now()
-		if err := ask(time.Minute); err != errSilent || time.Since(begun) > time.Second {
+		if err := ask(time.Minute); err != errSilent || time.Since(begun) > 30*time.Second {
 			t.Fatalf("a request takes %v while another looks: %v", time.Since(begun), err)
 		}
 	}

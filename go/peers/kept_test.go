@@ -40,11 +40,12 @@ func TestKeptForgetsAreBounded(t *testing.T) {
 		all.Wait()
 	}
 	// Callers repeat a Forget until it returns nil: one entry for each.
+	_, _, begun := b.versions.counts() // b may have begun before another served, and then forgot all
 	forgetMany(10, 20, func(caller, _ int) item { return keyItem("users", fmt.Sprint("again ", caller)) })
 	if got := keptNow(); got < 1 || got > 10 {
 		t.Errorf("%d are kept of 10 items", got)
 	}
-	if _, _, alls := b.versions.counts(); alls != 0 {
+	if _, _, alls := b.versions.counts(); alls != begun {
 		t.Error("all are forgotten")
 	}
 	other := versionOf(b.versions, user)

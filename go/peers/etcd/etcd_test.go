@@ -677,13 +677,9 @@ func testProcesses(t *testing.T, count int) {
 	})
 	p.CheckStale()
 	for key := 0; key < pooltest.Keys; key++ {
-		if err := p.Forget(p.Children[key%count], key); err != nil {
-			t.Errorf("at rest: %v", err)
-		}
+		p.ForgetAtRest(p.Children[key%count], key)
 		for _, c := range p.Children {
-			if _, err := p.Get(c, key); err != nil {
-				t.Errorf("at rest: %v", err)
-			}
+			p.GetAtRest(c, key)
 		}
 	}
 	p.CheckStale()
@@ -711,16 +707,14 @@ func TestADeadPeer(t *testing.T) {
 		}
 	}
 	took, again := time.Since(begun), time.Now()
-	if err := p.Forget(p.Children[0], 2); err != nil {
-		t.Error(err)
-	}
+	p.ForgetAtRest(p.Children[0], 2)
 	t.Logf("with a dead peer: nil after %v, %d tries before it; the next in %v", took, tries, time.Since(again))
-	if number, err := p.Get(p.Children[1], 1); err != nil || number != tries+1 {
-		t.Errorf("%d, %v", number, err)
+	if number := p.GetAtRest(p.Children[1], 1); number != tries+1 {
+		t.Errorf("%d after %d Forgets", number, tries+1)
 	}
 	p.Restart(dead)
-	if number, err := p.Get(dead, 1); err != nil || number != tries+1 {
-		t.Errorf("the peer that is back: %d, %v", number, err)
+	if number := p.GetAtRest(dead, 1); number != tries+1 {
+		t.Errorf("the peer that is back: %d after %d Forgets", number, tries+1)
 	}
 	// A Forget that is not answered, by a peer that dies with it; the one that did not answer was
 	// paused.
