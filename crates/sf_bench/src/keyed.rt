@@ -206,7 +206,7 @@ fn next_asker<'a>(
     ensures first { first.new.group ≡ group.now }
     ensures asker { IfOk result (λ asker. asker.group ≡ group.entry) }
 {
-    let mut me = group.another(first);
+    let mut me = group.another(first, cells);
     claim_from(group, &mut me, cells)?;
     Ok(Asker { group, me, key })
 }
@@ -270,7 +270,11 @@ where
     let alloc = rt.alloc();
     let (group, first) = KeyedGroup::new(alloc, WIDE)?;
     let times = measure(rt, leaders(alloc, &group, first, threads)?)?;
-    table.row(rt, case("ask, settle, a key a thread", threads as u32), times)
+    table.row(
+        rt,
+        case("ask, settle, a key a thread", threads as u32),
+        times,
+    )
 }
 
 // Measures calls of one key by several threads.
@@ -281,7 +285,11 @@ where
     let alloc = rt.alloc();
     let (group, first) = KeyedGroup::new(alloc, WIDE)?;
     let times = measure(rt, sharers(alloc, &group, first, threads)?)?;
-    table.row(rt, case("ask, settle or take, one key", threads as u32), times)
+    table.row(
+        rt,
+        case("ask, settle or take, one key", threads as u32),
+        times,
+    )
 }
 
 // Opens seven calls of other keys.
