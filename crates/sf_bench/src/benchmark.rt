@@ -28,12 +28,14 @@ pub enum Benchmark {
     Place,
     /// To do by key, each thread with a key of its own.
     Key,
+    /// To lead, join, settle and forget by key, without waiting.
+    Keyed,
     /// To get a key that a fill's cache has.
     Fill,
 }
 
 /// All of them, in the order in which they run.
-pub const ALL: [Benchmark; 10] = [
+pub const ALL: [Benchmark; 11] = [
     Benchmark::Lookup,
     Benchmark::Lead,
     Benchmark::Join,
@@ -43,6 +45,7 @@ pub const ALL: [Benchmark; 10] = [
     Benchmark::Hot,
     Benchmark::Place,
     Benchmark::Key,
+    Benchmark::Keyed,
     Benchmark::Fill,
 ];
 
@@ -61,6 +64,7 @@ impl Benchmark {
             Benchmark::Hot => "hot",
             Benchmark::Place => "place",
             Benchmark::Key => "key",
+            Benchmark::Keyed => "keyed",
             Benchmark::Fill => "fill",
         }
     }
@@ -79,6 +83,7 @@ impl Benchmark {
             "hot" => Some(Benchmark::Hot),
             "place" => Some(Benchmark::Place),
             "key" => Some(Benchmark::Key),
+            "keyed" => Some(Benchmark::Keyed),
             "fill" => Some(Benchmark::Fill),
             _ => None,
         }
@@ -92,6 +97,6 @@ pub fn write_names<W: Write>(writer: &mut W) -> Result<(), StreamFault>
 {
     write_all(
         writer,
-        "lookup\nlead\njoin\nforget\ncurrent\ndistinct\nhot\nplace\nkey\nfill\n",
+        "lookup\nlead\njoin\nforget\ncurrent\ndistinct\nhot\nplace\nkey\nkeyed\nfill\n",
     )
 }

@@ -1,4 +1,4 @@
-//! `sf_bench` measures what the calls of the directory, the group, the waiting forms and the fill cost on this machine, and
+//! `sf_bench` measures what the calls of the directory, the group, the keyed group, the waiting forms and the fill cost on this machine, and
 //! prints a table. Its words are names of benchmarks, `--list` for the names, or none for all.
 #![tactic(auto)]
 
@@ -6,6 +6,7 @@ mod asking;
 mod benchmark;
 mod fault;
 mod filling;
+mod keyed;
 mod keys;
 mod looking;
 mod order;
@@ -52,6 +53,7 @@ where
         Benchmark::Hot => asking::measure_hot(rt, table),
         Benchmark::Place => keys::measure_place(rt, table),
         Benchmark::Key => keys::measure_key(rt, table),
+        Benchmark::Keyed => keyed::measure_keyed(rt, table),
         Benchmark::Fill => filling::measure_fill(rt, table),
     }
 }

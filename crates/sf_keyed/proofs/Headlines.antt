@@ -1,8 +1,8 @@
 -- The headline follows from the legality of what the calls leave.
-use Rattle.std.proofs.Common.{◌≡◌, ◌≢◌, ℕ, Bool, true, false, cond, ◌||◌, eqb, eq-eqb, List, [], ◌∷◌, ◌++◌, Option, Some, None, refl, sym, ◌∙◌, ap, subst, append_assoc}
+use Rattle.std.proofs.Common.{◌≡◌, ◌≢◌, ℕ, Bool, true, false, cond, ◌||◌, eq-eqb, List, [], ◌∷◌, ◌++◌, Option, Some, None, refl, sym, ◌∙◌, ap, subst, append_assoc}
 use Rattle.std.proofs.lemmas.Bool.{true≢false}
 use Rattle.std.proofs.lemmas.List.Folds.{find-append, list_any-append}
-use Rattle.std.specs.Cmp.{IsEquivalence, nat_eq_equiv}
+use Rattle.std.specs.Cmp.{nat_eq_equiv}
 use Rattle.std.specs.Prelude.{nat_eq, find, option_and_then}
 use Rattle.std.specs.Option.{option_or}
 use Rattle.std.specs.List.{list_any}
@@ -13,7 +13,6 @@ use Rattle.sf_history.specs.Legal.{MayFollow, IsLegal}
 use Rattle.sf_history.proofs.Currents.{past_calls_stay_past, open_call_is_current}
 use Rattle.sf_history.proofs.LegalHistories.{legal_front, legal_last, fold_push, open_named}
 use Rattle.sf_keyed_tells.specs.Tells.{KeyedEvent, call_of}
-use Rattle.sf_keyed_tells.proofs.Telling.{by_bool}
 use Rattle.sf_keyed_words.proofs.Results.{result_settled}
 use Rattle.sf_keyed.specs.Known.{FrontState}
 use Rattle.sf_keyed.specs.Calls.{AddsTo}

@@ -24,6 +24,7 @@ use Rattle.sf_keyed.specs.declared.group.Refusal.TheVariants as refusal
 -- the caller has seen more, of which the last is this event, and the rest is others'; all of it is legal
 pub record AddsTo (before after : FrontState) (x : KeyedEvent) : Type 0 where
   pub group : after.group ≡ before.group
+  pub number : after.number ≡ before.number
   pub others : List KeyedEvent
   pub seen : after.seen ≡ (before.seen ++ others) ++ x ∷ []
   pub legal : IsLegal nat_eq after.seen
@@ -31,12 +32,14 @@ pub record AddsTo (before after : FrontState) (x : KeyedEvent) : Type 0 where
 -- the caller has seen more, and added nothing; all of it is legal
 pub record Sees (before after : FrontState) : Type 0 where
   pub group : after.group ≡ before.group
+  pub number : after.number ≡ before.number
   pub seen : IsPrefix before.seen after.seen
   pub legal : IsLegal nat_eq after.seen
 
 -- the caller has seen no more, and its spare cell is as before
 pub record Stays (before after : FrontState) : Type 0 where
   pub group : after.group ≡ before.group
+  pub number : after.number ≡ before.number
   pub seen : after.seen ≡ before.seen
   pub spare : after.spare ≡ before.spare
 
@@ -83,9 +86,9 @@ IsAsked before after name tries (asked.Led flight) = Led before after name fligh
 IsAsked before after name tries (asked.Joined ticket) = Joined before after name ticket.call × (ticket.group ≡ before.group) × (after.spare ≡ before.spare)
 IsAsked before after name tries (asked.Refused why) = Stays before after × WhyRefused before after tries why
 
--- a Forget of the name closes its open call
+-- a Forget of the name, by this caller, closes its open call
 abbrev pub Closes : FrontState → FrontState → ℕ → ℕ → Type 0
-Closes before after name call = AddsTo before after (event.Forget 0 name (Some (call_of call))) × (after.spare ≡ before.spare)
+Closes before after name call = AddsTo before after (event.Forget before.number name (Some (call_of call))) × (after.spare ≡ before.spare)
 
 -- how a Forget of the name ends: its open call is closed; what was seen goes on, and has no open call of it at the end; or nothing was done, since in each try others changed a word first
 abbrev pub IsForgotten : FrontState → FrontState → ℕ → ℕ → Forgotten → Type 0

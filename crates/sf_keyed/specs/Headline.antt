@@ -1,5 +1,5 @@
 -- The headline, by names, as laws over what the calls leave.
-use Rattle.std.specs.Prelude.{◌≡◌, ◌≢◌, ◌↔◌, ℕ, Bool, true, false, List, ◌∷◌, [], ◌++◌, nat_eq, None, Some, Option}
+use Rattle.std.specs.Prelude.{◌≡◌, ◌≢◌, ◌↔◌, ℕ, Bool, true, false, List, ◌∷◌, ◌++◌, nat_eq, None, Some, Option}
 use Rattle.sf_history.specs.declared.call.CallId.{CallId}
 use Rattle.sf_history.specs.declared.event.Event.TheVariants as event
 use Rattle.sf_history.specs.History.{IsNew, is_settled, joined, open_call}

@@ -19,9 +19,10 @@ pub record Met : Type 0 where
   pub state : ℕ
   pub place : ℕ
 
--- what a caller has seen: a beginning of the group's one history; its spare cell, as the call that would be led there next, or 0; and what it has met
+-- a caller: the number by which its Forgets are; what it has seen: a beginning of the group's one history; its spare cell, as the call that would be led there next, or 0; and what it has met
 pub record FrontState : Type 0 where
   pub group : GroupId
+  pub number : ℕ
   pub seen : List KeyedEvent
   pub spare : ℕ
   pub met : Met

@@ -8,7 +8,7 @@ use atomic_table::Table;
 use sf_keyed_walks::answer::{leave_call, settle_call, take};
 use sf_keyed_walks::often;
 use sf_keyed_words::moving::{join_flight, join_note, join_ticket, split_flight, split_ticket};
-use sf_keyed_words::opening::{open, share};
+use sf_keyed_words::opening::{number_as, open, share};
 use sf_keyed_words::steps::{KeyedSeat, claim, look_cell};
 use sf_keyed_words::{KeyedSizes, Law, Name, View};
 use std::alloc::{AllocError, Global};
@@ -45,7 +45,7 @@ impl Model for Front {
 
     ghost Value = { FrontState };
 
-    ghost view = { λ f. record { group = record { table = f.seat.table_id; sizes = f.seat.me.0.sizes }; seen = f.seat.me.0.seen; spare = f.spare; met = record { lost = f.seat.me.0.lost; top = f.seat.me.0.found; opened = f.seat.me.0.opened; state = f.seat.me.0.state; place = f.seat.me.0.place } } };
+    ghost view = { λ f. record { group = record { table = f.seat.table_id; sizes = f.seat.me.0.sizes }; number = f.seat.me.0.number; seen = f.seat.me.0.seen; spare = f.spare; met = record { lost = f.seat.me.0.lost; top = f.seat.me.0.found; opened = f.seat.me.0.opened; state = f.seat.me.0.state; place = f.seat.me.0.place } } };
 
     ghost invariant = { λ f. (f.seat.me.0.own ≡ f.spare) × (f.seat.me.0.leads ≡ 0) × (f.seat.me.0.ticket ≡ 0) × (f.spare < 2 ^ 61) × (f.spare ≢ 0 → f.spare % 1048576 < f.seat.me.0.sizes.cells) };
 }
@@ -220,14 +220,14 @@ fn told_by(state: u64) -> Audience
 }
 
 impl KeyedGroup {
-    /// A group of these sizes, and its first caller. Refused where there is no memory.
+    /// A group of these sizes, and its first caller, whose number is 0. Refused where there is no memory.
     pub fn new(alloc: Global, sizes: KeyedSizes) -> Result<(KeyedGroup, Front), AllocError>
         requires tops { (0 < sizes.tops) × (sizes.tops ≤ 4294967296) × (sizes.tops ≤ sizes.sides * 4) }
         requires sides { sizes.sides % 16 ≡ 0 }
         requires cells { (0 < sizes.cells) × (sizes.cells ≤ 1048576) }
         requires total { word_total sizes < 2 ^ 60 }
         ensures group { IfOk result (λ made. made.0.sizes ≡ sizes) }
-        ensures front { IfOk result (λ made. (made.1.group ≡ made.0) × (made.1.spare ≡ 0)) }
+        ensures front { IfOk result (λ made. (made.1.group ≡ made.0) × (made.1.number ≡ 0) × (made.1.spare ≡ 0)) }
     {
         let (table, seat) = open(alloc, sizes)?;
         Ok((KeyedGroup { table, sizes }, Front { seat, spare: 0 }))
@@ -304,7 +304,7 @@ impl KeyedGroup {
     /// on from the last to the first.
     pub fn claim(&self, me: &mut Front, cell: u64) -> Claim
         requires own { me.old.group ≡ self.now }
-        ensures stays { (me.new.group ≡ me.old.group) × (me.new.seen ≡ me.old.seen) }
+        ensures stays { (me.new.group ≡ me.old.group) × (me.new.number ≡ me.old.number) × (me.new.seen ≡ me.old.seen) }
         ensures claimed { IsClaimed me.old me.new cell result }
     {
         if me.spare != 0 {
@@ -378,13 +378,16 @@ impl KeyedGroup {
         leave_call(words, &mut me.seat, self.sizes, call);
     }
 
-    /// Another caller, which has seen what this one has, and has no cell to spare.
-    pub fn another(&self, me: &mut Front) -> Front
+    /// Another caller, which has seen what this one has, and has no cell to spare. Its Forgets are by this number, by which they are told
+    /// from those of callers with other numbers.
+    pub fn another(&self, me: &mut Front, number: u64) -> Front
         requires own { me.old.group ≡ self.now }
         ensures same { me.new ≡ me.old }
-        ensures other { (result.group ≡ self.now) × (result.seen ≡ me.old.seen) × (result.spare ≡ 0) }
+        ensures other { (result.group ≡ self.now) × (result.number ≡ number) × (result.seen ≡ me.old.seen) × (result.spare ≡ 0) }
     {
-        let seat = share(&self.table.shared, &mut me.seat);
+        let words = &self.table.shared;
+        let mut seat = share(words, &mut me.seat);
+        number_as(words, &mut seat, number);
         Front { seat, spare: 0 }
     }
 

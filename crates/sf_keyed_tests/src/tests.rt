@@ -111,7 +111,7 @@ fn one_leads_again_and_again(rt: HostRuntime) -> Result<(), Fail> {
 #[test]
 fn who_joins_gets_the_value_once_it_is_there(rt: HostRuntime) -> Result<(), Fail> {
     let (group, mut me) = KeyedGroup::new(rt.alloc(), MEETING)?;
-    let mut other = group.another(&mut me);
+    let mut other = group.another(&mut me, 1);
     assert!(rt; claims(&group, &mut me, 0));
     let Some(flight) = lead(&group, &mut me, ADA) else {
         panic!(rt; "no call of the name was open")
@@ -142,7 +142,7 @@ fn who_joins_gets_the_value_once_it_is_there(rt: HostRuntime) -> Result<(), Fail
 #[test]
 fn who_joined_and_left_counts(rt: HostRuntime) -> Result<(), Fail> {
     let (group, mut me) = KeyedGroup::new(rt.alloc(), MEETING)?;
-    let mut other = group.another(&mut me);
+    let mut other = group.another(&mut me, 1);
     assert!(rt; claims(&group, &mut me, 0));
     let Some(flight) = lead(&group, &mut me, ADA) else {
         panic!(rt; "no call of the name was open")
@@ -161,7 +161,7 @@ fn who_joined_and_left_counts(rt: HostRuntime) -> Result<(), Fail> {
 #[test]
 fn a_forget_has_the_next_lead_anew(rt: HostRuntime) -> Result<(), Fail> {
     let (group, mut me) = KeyedGroup::new(rt.alloc(), MEETING)?;
-    let mut other = group.another(&mut me);
+    let mut other = group.another(&mut me, 1);
     assert!(rt; group.forget(&mut other, ADA, TRIES) == Forgotten::Nothing);
     assert!(rt; claims(&group, &mut me, 0) && claims(&group, &mut other, 1));
     let Some(old) = lead(&group, &mut me, ADA) else {
@@ -193,8 +193,8 @@ fn a_forget_has_the_next_lead_anew(rt: HostRuntime) -> Result<(), Fail> {
 #[test]
 fn names_that_meet_keep_apart(rt: HostRuntime) -> Result<(), Fail> {
     let (group, mut me) = KeyedGroup::new(rt.alloc(), MEETING)?;
-    let mut other = group.another(&mut me);
-    let mut third = group.another(&mut me);
+    let mut other = group.another(&mut me, 1);
+    let mut third = group.another(&mut me, 2);
     assert!(rt;
         claims(&group, &mut me, 0) && claims(&group, &mut other, 1) && claims(&group, &mut third, 2)
     );
@@ -239,7 +239,7 @@ fn a_slot_has_seventeen_open_calls(rt: HostRuntime) -> Result<(), Fail> {
 #[test]
 fn a_cell_in_use_is_passed_over(rt: HostRuntime) -> Result<(), Fail> {
     let (group, mut me) = KeyedGroup::new(rt.alloc(), MEETING)?;
-    let mut other = group.another(&mut me);
+    let mut other = group.another(&mut me, 1);
     assert!(rt; group.claim(&mut me, 3) == Claim::Ready);
     assert!(rt; group.claim(&mut other, 3) == Claim::InUse);
     assert!(rt; group.claim(&mut other, 4 + 32) == Claim::Ready);
@@ -262,7 +262,7 @@ fn a_forget_of_one_call_leaves_the_next_open(rt: HostRuntime) -> Result<(), Fail
         panic!(rt; "the name's call was closed")
     };
     assert!(rt; group.forget_call(&mut me, ADA, old, TRIES) == Ended::Gone);
-    let mut other = group.another(&mut me);
+    let mut other = group.another(&mut me, 1);
     let Some(ticket) = join(&group, &mut other, ADA) else {
         panic!(rt; "the newer call was open")
     };
@@ -276,7 +276,7 @@ fn a_forget_of_one_call_leaves_the_next_open(rt: HostRuntime) -> Result<(), Fail
 #[test]
 fn what_was_learned_was_seen(rt: HostRuntime) -> Result<(), Fail> {
     let (group, mut me) = KeyedGroup::new(rt.alloc(), MEETING)?;
-    let mut other = group.another(&mut me);
+    let mut other = group.another(&mut me, 1);
     assert!(rt; claims(&group, &mut me, 0) && leads_alone(&group, &mut me, ADA));
     let note = group.tell(&mut me);
     group.learn(&mut other, note);

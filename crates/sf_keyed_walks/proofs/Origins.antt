@@ -1,5 +1,5 @@
 -- What was added since an earlier view, where the steps between changed nothing but the walk.
-use Rattle.std.proofs.Common.{◌≡◌, ℕ, ◌+◌, None, false, ◌++◌, ◌∷◌, [], Option, Some, ◌≤◌, refl, sym, ◌∙◌, ap, subst, arith}
+use Rattle.std.proofs.Common.{◌≡◌, ℕ, ◌+◌, None, false, ◌++◌, ◌∷◌, [], Option, Some, refl, sym, ◌∙◌, ap, subst, arith}
 use Rattle.sf_history.specs.declared.event.Event.TheVariants.{Enter, Forget}
 use Rattle.sf_keyed_tells.specs.Tells.{call_of}
 use Rattle.sf_keyed_words.specs.declared.rule.View.{View}
@@ -8,20 +8,21 @@ use Rattle.sf_keyed_words.specs.Plays.{walk_from, walk_on, met_open, met_closed,
 use Rattle.sf_keyed_walks.specs.Walk.{Stays, HasJoined, HasClosed, HasNone, HasOther, HasSettled}
 
 pub stays_top : (v w : View) (p n : ℕ) → w ≡ walk_from v p n → Stays v w
-stays_top v w p n is = subst (Stays v) (sym is) (record { sizes = refl; own = refl; leads = refl; ticket = refl; last = refl; seen = refl; lost = omega arith })
+stays_top v w p n is = subst (Stays v) (sym is) (record { sizes = refl; number = refl; own = refl; leads = refl; ticket = refl; last = refl; seen = refl; lost = omega arith })
 
 pub stays_on : (v w : View) (n : ℕ) → w ≡ walk_on v n → Stays v w
-stays_on v w n is = subst (Stays v) (sym is) (record { sizes = refl; own = refl; leads = refl; ticket = refl; last = refl; seen = refl; lost = omega arith })
+stays_on v w n is = subst (Stays v) (sym is) (record { sizes = refl; number = refl; own = refl; leads = refl; ticket = refl; last = refl; seen = refl; lost = omega arith })
 
 pub stays_closed : (v w : View) (n : ℕ) → w ≡ met_closed v n → Stays v w
-stays_closed v w n is = subst (Stays v) (sym is) (record { sizes = refl; own = refl; leads = refl; ticket = refl; last = refl; seen = refl; lost = omega arith })
+stays_closed v w n is = subst (Stays v) (sym is) (record { sizes = refl; number = refl; own = refl; leads = refl; ticket = refl; last = refl; seen = refl; lost = omega arith })
 
 pub stays_read : (v w : View) (n low high : ℕ) → w ≡ read_high (read_low (met_open v n) low) high → Stays v w
-stays_read v w n low high is = subst (Stays v) (sym is) (record { sizes = refl; own = refl; leads = refl; ticket = refl; last = refl; seen = refl; lost = omega arith })
+stays_read v w n low high is = subst (Stays v) (sym is) (record { sizes = refl; number = refl; own = refl; leads = refl; ticket = refl; last = refl; seen = refl; lost = omega arith })
 
 pub stays_both : (u v w : View) → Stays u v → Stays v w → Stays u w
 stays_both u v w a b = record {
   sizes = b.sizes ∙ a.sizes;
+  number = b.number ∙ a.number;
   own = b.own ∙ a.own;
   leads = b.leads ∙ a.leads;
   ticket = b.ticket ∙ a.ticket;
@@ -33,15 +34,17 @@ stays_both u v w a b = record {
 pub closed_from : (u v w : View) (call name : ℕ) → Stays u v → HasClosed v w call name → HasClosed u w call name
 closed_from u v w call name a b = record {
   sizes = b.sizes ∙ a.sizes;
+  number = b.number ∙ a.number;
   leads = b.leads ∙ a.leads;
   ticket = b.ticket ∙ a.ticket;
   own_is = b.own_is ∙ a.own;
-  adds = record { before = b.adds.before; seen = b.adds.seen ∙ ap (λ l. (l ++ b.adds.before) ++ Forget 0 name (Some (call_of call)) ∷ []) a.seen; legal = b.adds.legal };
+  adds = record { before = b.adds.before; seen = b.adds.seen ∙ (ap (λ l. (l ++ b.adds.before) ++ Forget v.number name (Some (call_of call)) ∷ []) a.seen ∙ ap (λ n. (u.seen ++ b.adds.before) ++ Forget n name (Some (call_of call)) ∷ []) a.number); legal = b.adds.legal };
 }
 
 pub joined_from : (u v w : View) (call name : ℕ) → Stays u v → HasJoined v w call name → HasJoined u w call name
 joined_from u v w call name a b = record {
   sizes = b.sizes ∙ a.sizes;
+  number = b.number ∙ a.number;
   leads = b.leads ∙ a.leads;
   ticket = b.ticket;
   own_is = b.own_is ∙ a.own;
@@ -52,6 +55,7 @@ joined_from u v w call name a b = record {
 pub none_from : (u v w : View) (name : ℕ) → Stays u v → HasNone v w name → HasNone u w name
 none_from u v w name a b = record {
   sizes = b.sizes ∙ a.sizes;
+  number = b.number ∙ a.number;
   own_is = b.own_is ∙ a.own;
   leads = b.leads ∙ a.leads;
   ticket = b.ticket ∙ a.ticket;
@@ -62,6 +66,7 @@ none_from u v w name a b = record {
 pub other_from : (u v w : View) (call name : ℕ) (only : Option ℕ) → Stays u v → HasOther v w call name only → HasOther u w call name only
 other_from u v w call name only a b = record {
   sizes = b.sizes ∙ a.sizes;
+  number = b.number ∙ a.number;
   own_is = b.own_is ∙ a.own;
   leads = b.leads ∙ a.leads;
   ticket = b.ticket ∙ a.ticket;
@@ -80,7 +85,7 @@ settled_from v w call value n leads is =
       ap (λ (q : View). q.own) view,
       ap (λ (q : View). q.state) view,
       subst (λ e. HasSettled v w e (Some value) (joined_bit n) (is_forgotten n)) leads
-          (record { sizes = ap (λ (q : View). q.sizes) view; leads = ap (λ (q : View). q.leads) view; joiners = s.joiners; none = s.none; some = s.some; adds = record { before = s.adds.before; seen = s.adds.seen; legal = s.adds.legal }; was = s.was }),
+          (record { sizes = ap (λ (q : View). q.sizes) view; number = ap (λ (q : View). q.number) view; leads = ap (λ (q : View). q.leads) view; joiners = s.joiners; none = s.none; some = s.some; adds = record { before = s.adds.before; seen = s.adds.seen; legal = s.adds.legal }; was = s.was }),
     )
 
 -- a Settle of a call that nobody has joined
@@ -89,5 +94,5 @@ alone_from v w call leads idle view s = (
   ap (λ (q : View). q.own) view ∙ ap (λ e. e + 1048576) leads,
   ap (λ (q : View). q.ticket) view ∙ idle,
   subst (λ e. HasSettled v w e None 0 false) leads
-      (record { sizes = ap (λ (q : View). q.sizes) view; leads = ap (λ (q : View). q.leads) view; joiners = s.joiners; none = s.none; some = s.some; adds = s.adds; was = s.was }),
+      (record { sizes = ap (λ (q : View). q.sizes) view; number = ap (λ (q : View). q.number) view; leads = ap (λ (q : View). q.leads) view; joiners = s.joiners; none = s.none; some = s.some; adds = s.adds; was = s.was }),
 )

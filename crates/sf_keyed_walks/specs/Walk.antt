@@ -25,6 +25,7 @@ Examined v w call name (Named state) = (w ≡ read_high (read_low (met_open v st
 -- a walk changes nothing but how far the seat has walked, and how many exchanges it has lost
 pub record Stays (v w : View) : Type 0 where
   pub sizes : w.sizes ≡ v.sizes
+  pub number : w.number ≡ v.number
   pub own : w.own ≡ v.own
   pub leads : w.leads ≡ v.leads
   pub ticket : w.ticket ≡ v.ticket
@@ -88,6 +89,7 @@ pub record HasMet (sizes : KeyedSizes) (w : View) (call state name : ℕ) : Type
 -- a new call of the name is led
 pub record HasLed (v w : View) (own name : ℕ) : Type 0 where
   pub sizes : w.sizes ≡ v.sizes
+  pub number : w.number ≡ v.number
   pub leads : w.leads ≡ own
   pub own_is : w.own ≡ 0
   pub ticket : w.ticket ≡ v.ticket
@@ -96,6 +98,7 @@ pub record HasLed (v w : View) (own name : ℕ) : Type 0 where
 -- the seat is a holder of the name's open call
 pub record HasJoined (v w : View) (call name : ℕ) : Type 0 where
   pub sizes : w.sizes ≡ v.sizes
+  pub number : w.number ≡ v.number
   pub ticket : w.ticket ≡ call
   pub own_is : w.own ≡ v.own
   pub leads : w.leads ≡ v.leads
@@ -105,6 +108,7 @@ pub record HasJoined (v w : View) (call name : ℕ) : Type 0 where
 -- the call is settled with this result: with no joiner where the bit is 0, and with some where it is 1
 pub record HasSettled (v w : View) (call : ℕ) (told : Option ℕ) (bit : ℕ) (forgotten : Bool) : Type 0 where
   pub sizes : w.sizes ≡ v.sizes
+  pub number : w.number ≡ v.number
   pub leads : w.leads ≡ 0
   pub joiners : ℕ
   pub none : bit ≡ 0 → joiners ≡ 0
@@ -115,14 +119,16 @@ pub record HasSettled (v w : View) (call : ℕ) (told : Option ℕ) (bit : ℕ) 
 -- the name's open call is closed
 pub record HasClosed (v w : View) (call name : ℕ) : Type 0 where
   pub sizes : w.sizes ≡ v.sizes
+  pub number : w.number ≡ v.number
   pub own_is : w.own ≡ v.own
   pub leads : w.leads ≡ v.leads
   pub ticket : w.ticket ≡ v.ticket
-  pub adds : Adds v w (event.Forget 0 name (Some (call_of call)))
+  pub adds : Adds v w (event.Forget v.number name (Some (call_of call)))
 
 -- the seat has seen more, at whose end the name has no open call
 pub record HasNone (v w : View) (name : ℕ) : Type 0 where
   pub sizes : w.sizes ≡ v.sizes
+  pub number : w.number ≡ v.number
   pub own_is : w.own ≡ v.own
   pub leads : w.leads ≡ v.leads
   pub ticket : w.ticket ≡ v.ticket
@@ -132,6 +138,7 @@ pub record HasNone (v w : View) (name : ℕ) : Type 0 where
 -- the seat has seen more, at whose end the name has another open call
 pub record HasOther (v w : View) (call name : ℕ) (only : Option ℕ) : Type 0 where
   pub sizes : w.sizes ≡ v.sizes
+  pub number : w.number ≡ v.number
   pub own_is : w.own ≡ v.own
   pub leads : w.leads ≡ v.leads
   pub ticket : w.ticket ≡ v.ticket
@@ -142,6 +149,7 @@ pub record HasOther (v w : View) (call name : ℕ) (only : Option ℕ) : Type 0 
 -- the seat is a holder of the call no more, and has seen more, in which the call was settled with this value
 pub record HasTaken (v w : View) (call value : ℕ) : Type 0 where
   pub sizes : w.sizes ≡ v.sizes
+  pub number : w.number ≡ v.number
   pub own_is : w.own ≡ v.own
   pub leads : w.leads ≡ v.leads
   pub ticket : w.ticket ≡ 0
@@ -151,6 +159,7 @@ pub record HasTaken (v w : View) (call value : ℕ) : Type 0 where
 -- the seat is a holder no more
 pub record HasLeft (v w : View) : Type 0 where
   pub sizes : w.sizes ≡ v.sizes
+  pub number : w.number ≡ v.number
   pub own_is : w.own ≡ v.own
   pub leads : w.leads ≡ v.leads
   pub ticket : w.ticket ≡ 0
@@ -159,6 +168,7 @@ pub record HasLeft (v w : View) : Type 0 where
 -- whatever a walk found, the calls of the seat are as before
 pub record KeepsCalls (v w : View) : Type 0 where
   pub sizes : w.sizes ≡ v.sizes
+  pub number : w.number ≡ v.number
   pub own : w.own ≡ v.own
   pub leads : w.leads ≡ v.leads
   pub ticket : w.ticket ≡ v.ticket

@@ -61,9 +61,9 @@ close_won z id old new me may t p is found =
     let f = open_found z t p id old v m may.some_call may.opened may.told found in
     let step : Step y s = closes e f.led in
     let s2 : Words = closed_one s e in
-    let x : KeyedEvent = Forget 0 v.name (Some (call_of e)) in
+    let x : KeyedEvent = Forget v.number v.name (Some (call_of e)) in
     let h2 : List KeyedEvent = h ++ x ∷ [] in
-    let tells : Tells s2 h2 = subst (λ k. Tells s2 (h ++ Forget 0 k (Some (call_of e)) ∷ [])) f.key (forget_tells y s 0 e h p.keeps f.led f.live p.tells) in
+    let tells : Tells s2 h2 = subst (λ k. Tells s2 (h ++ Forget v.number k (Some (call_of e)) ∷ [])) f.key (forget_tells y s v.number e h p.keeps f.led f.live p.tells) in
     let ws : List ℕ = set t.words i new in
     let st = state_set z t.words c new cell p.shows.size in
     let away = away_state z s s2 h h2 t.words ws p.holder p.holder c new st (λ k apart. refl) (λ d. refl) (λ d _ before. plain_settled h x (call_of d) refl before) (λ d _. joined_kept h x (call_of d) refl) in
@@ -94,7 +94,7 @@ close_won z id old new me may t p is found =
       w,
       keeps,
       tt,
-      made z t p id i new me w s2 h2 p.holder (steps_keep y s step p.keeps) tells (forget_members h 0 v.name (Some (call_of e)) p.members)
+      made z t p id i new me w s2 h2 p.holder (steps_keep y s step p.keeps) tells (forget_members h v.number v.name (Some (call_of e)) p.members)
           (shows_state z s h h2 t.words ws c old new (put s.closed e true) cell st p.shows found
           (λ d here led opened. let o = open_parts _ d (p.shows.live d led (still_open s e d opened)).0 in
           let a : old / 8388608 ≡ d / 1048576 = sym (ap (λ n. n / 8388608) (was d here)) ∙ o.0 in

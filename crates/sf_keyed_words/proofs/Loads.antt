@@ -5,14 +5,16 @@ use Rattle.std.specs.Prelude.{slice_index}
 use Rattle.std.specs.List.{list_any}
 use mathlib.Core.Logic.{dite}
 use native.Mathlib.Decide.{ℕ_discrete}
-use Rattle.atomic_table.specs.Table.{State, Me, keeps, Allows}
+use prog.Atomic.{either}
+use Rattle.atomic_table.specs.Table.{State, Me, Valid, stepped, keeps, Allows}
+use Rattle.atomic_table.proofs.Lists.{exchanged}
 use Rattle.sf_keyed_laws.specs.Words.{IsAside, IsLedIfAny}
 use Rattle.sf_keyed_laws.specs.Walks.{IsOther}
 use Rattle.sf_keyed_laws.proofs.Walking.{walks_begin, walks_go_on, walks_clear}
 use Rattle.sf_keyed_words.specs.declared.rule.KeyedSizes.{KeyedSizes}
 use Rattle.sf_keyed_words.specs.declared.rule.View.{View}
 use Rattle.sf_keyed_words.specs.Rule.{state_at, name_at, high_at, both, layout_of, sides_from, is_open_call, Unmet, IsForeign, IsView, KeyedTable, Holds, stake}
-use Rattle.sf_keyed_words.specs.Plays.{HasCell, read_low, read_high, look_cell, walk_from, walks_from, walk_on, walks_on, met_open, met_closed, see_state}
+use Rattle.sf_keyed_words.specs.Plays.{HasCell, numbered, read_low, read_high, look_cell, walk_from, walks_from, walk_on, walks_on, met_open, met_closed, see_state}
 use Rattle.sf_keyed_words.proofs.Seats.{still}
 use Rattle.sf_keyed_words.proofs.States.{open_call_from}
 
@@ -208,3 +210,15 @@ reads z slots id me half = loads z slots id (high_at z me.0.but) me (read_high m
         saved = walk.saved;
       };
     }) (λ n c. refl)
+
+-- an exchange of a word to what it is already
+abbrev Numbered : (z : KeyedSizes) (id i number : ℕ) (me : Me ℕ View) (t : State ℕ View) → ℕ → Type 0
+Numbered z id i number me t x = (w : View) × (a : _) × Valid t.homes me.1 a × Holds z (stepped t i x id me.1 w a) × (w ≡ numbered me.0 number)
+
+pub numbers_allowed : (z : KeyedSizes) (slots id i number : ℕ) (me : Me ℕ View)
+    → Allows (Holds z) slots id me i (λ n. either (eqb n number) number n) (λ n after. after.0 ≡ numbered me.0 number)
+numbers_allowed z slots id i number me t p len is fits =
+    let m = p.seats id me.0 is in
+    let w : View = numbered me.0 number in
+    let stays : Numbered z id i number me t (slice_index t.words i) = (w, keeps, tt, still z t p id i me w is (λ c. refl) (record { seen = m.seen; heard = m.heard; look = m.look; walk = m.walk; own = m.own; begun = m.begun; leads = m.leads; ticket = m.ticket; last = m.last }), refl) in
+    exchanged (slice_index t.words i) number number (Numbered z id i number me t) (λ same. subst (Numbered z id i number me t) same stays) (λ other. stays)

@@ -73,6 +73,10 @@ loses v = record v { lost = v.lost + 1 }
 abbrev pub look_cell : View → ℕ → ℕ → View
 look_cell v at n = record v { place = at; state = n }
 
+-- the seat has this number, by which its Forgets are
+abbrev pub numbered : View → ℕ → View
+numbered v n = record v { number = n }
+
 abbrev pub try_claim : View → ℕ → ℕ → ℕ → View
 try_claim v at old n = cond (n == old) (record v { own = next_call v at old; first = false; named = false }) (loses v)
 
@@ -141,7 +145,7 @@ pub record settles (v : View) (n : ℕ) (w : View) : Type 0 where
   pub settled : Settled v w (Some v.value) (joined_bit n) (is_forgotten n)
 
 pub record tries_close (v : View) (old n : ℕ) (w : View) : Type 0 where
-  pub won : n ≡ old → (w ≡ record v { seen = w.seen }) × Adds v w (event.Forget 0 v.name (Some (call_of v.but)))
+  pub won : n ≡ old → (w ≡ record v { seen = w.seen }) × Adds v w (event.Forget v.number v.name (Some (call_of v.but)))
   pub lost : n ≢ old → w ≡ loses v
 
 -- the walk's top word is the slot's still: none of the names that were not met has an open call

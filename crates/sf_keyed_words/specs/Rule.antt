@@ -202,7 +202,7 @@ abbrev pub Holds : KeyedSizes → State ℕ View → Type 0
 Holds z t = KeyedTable z t
 
 abbrev pub first_view : KeyedSizes → View
-first_view z = record { sizes = z; own = 0; first = false; start = 0; named = false; key = 0; leads = 0; stored = false; value = 0; ticket = 0; done = false; last = 0; walks = false; slot = 0; found = 0; top = 0; other = false; saved = false; but = 0; clear = false; dead = false; half = false; low = 0; told = false; name = 0; names = []; looked = 0; aside = 0; opened = 0; counted = false; state = 0; place = 0; lost = 0; seen = []; heard = [] }
+first_view z = record { sizes = z; number = 0; own = 0; first = false; start = 0; named = false; key = 0; leads = 0; stored = false; value = 0; ticket = 0; done = false; last = 0; walks = false; slot = 0; found = 0; top = 0; other = false; saved = false; but = 0; clear = false; dead = false; half = false; low = 0; told = false; name = 0; names = []; looked = 0; aside = 0; opened = 0; counted = false; state = 0; place = 0; lost = 0; seen = []; heard = [] }
 
 -- a new seat that has seen what another has
 abbrev pub note_of : View → View

@@ -1,8 +1,9 @@
 //! The opening of a keyed group's table.
 ghost use Rattle.std.specs.Prelude.{◌≡◌, ◌<◌, ◌^◌, [], IfOk};
 ghost use Rattle.sf_keyed_words.specs.Rule.{word_total, first_view, note_of};
+ghost use Rattle.sf_keyed_words.specs.Plays.{numbered};
 
-use crate::rule::{KeyedSizes, Law, Shares, View};
+use crate::rule::{KeyedSizes, Law, Numbers, Shares, View};
 use crate::steps::{KeyedSeat, Words};
 use atomic_table::Table;
 use std::alloc::{AllocError as Memory, Global};
@@ -31,4 +32,14 @@ pub fn share(words: &Words, seat: &mut KeyedSeat) -> KeyedSeat
     ensures new { result.me ≡ (note_of seat.old.me.0, []) }
 {
     words.split_seat::<Shares>(seat)
+}
+
+/// The seat has this number from then on: its Forgets are by this caller.
+pub fn number_as(words: &Words, seat: &mut KeyedSeat, number: u64)
+    requires own { seat.old.table_id ≡ words.now.table_id }
+    requires words { 0 < words.now.table_id.words }
+    ensures own { seat.new.table_id ≡ seat.old.table_id }
+    ensures view { seat.new.me.0 ≡ numbered seat.old.me.0 number }
+{
+    words.compare_exchange::<Numbers>(seat, 0, number, number);
 }

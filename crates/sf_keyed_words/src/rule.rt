@@ -38,6 +38,7 @@ pub struct Name {
 /// What has happened so far; and what another seat had seen that was joined with this one, until the next load.
 pub struct View {
     pub sizes: KeyedSizes,
+    pub number: u64,
     pub own: u64,
     pub first: bool,
     pub start: u64,
@@ -204,6 +205,16 @@ impl Play<u8, View> for LooksAtCell {
     ghost use Rattle.sf_keyed_words.specs.Plays.{look_cell};
 
     ghost then = { λ step before word after. after.0 ≡ look_cell before.0 step.word word };
+}
+
+/// A step that changes nothing, by which the seat has a number of its own.
+pub struct Numbers;
+
+impl Play<u8, View> for Numbers {
+    ghost use Rattle.std.specs.Prelude.{◌≡◌};
+    ghost use Rattle.sf_keyed_words.specs.Plays.{numbered};
+
+    ghost then = { λ step before word after. after.0 ≡ numbered before.0 step.first };
 }
 
 /// A load of the lower word of the name of the call that the seat is looking at.

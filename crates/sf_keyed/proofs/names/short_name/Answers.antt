@@ -1,4 +1,4 @@
-use Rattle.std.proofs.Common.{◌≡◌, ℕ, ◌+◌, ◌*◌, ◌/◌, ◌%◌, ◌<◌, ◌≤◌, ◌-◌, length, drop, get_or, refl, sym, ◌∙◌, ap, arith}
+use Rattle.std.proofs.Common.{◌≡◌, ℕ, ◌+◌, ◌*◌, ◌/◌, ◌%◌, ◌<◌, ◌≤◌, ◌-◌, length, drop, get_or, sym, ◌∙◌, ap, arith}
 use Rattle.sf_keyed.specs.Names.{packed}
 use Rattle.sf_keyed.proofs.Naming.{room, room_next, room_grows, one_more, none_left}
 use Rattle.sf_keyed.proofs.names.short_name.Goals as goal

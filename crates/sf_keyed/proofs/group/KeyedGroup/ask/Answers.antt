@@ -44,11 +44,13 @@ returns-in-Joined c =
     let mine : FrontState = c.args.me.now in
     let own = ap (λ (f : FrontState). f.group) c.me.view_is in
     let table = c.ask_often.ensures.own in
+    let num = ap (λ (f : FrontState). f.number) c.me.view_is in
     let seen = ap (λ (f : FrontState). f.seen) c.me.view_is in (
       record {
         member = j.member;
         adds = record {
           group = (λ i. record { table = (c.split_ticket-seat.ensures.own.0 ∙ table) i; sizes = (ap (λ (v : View). v.sizes) left ∙ j.sizes) i }) ∙ own;
+          number = (ap (λ (v : View). v.number) left ∙ j.number) ∙ num;
           others = j.adds.before;
           seen = ap (λ (v : View). v.seen) left ∙ (j.adds.seen ∙ ap (λ l. (l ++ j.adds.before) ++ Enter j.member.caller (number c.args.name) (call_of c.in-Joined.call) j.member ∷ []) seen);
           legal = subst (IsLegal nat_eq) (sym (ap (λ (v : View). v.seen) left)) j.adds.legal;

@@ -1,14 +1,9 @@
-use Rattle.std.proofs.Common.{◌≡◌, ◌≢◌, ℕ, ◌+◌, ◌≤◌, ◌++◌, ◌∷◌, [], Option, Some, None, Bool, true, false, refl, sym, ◌∙◌, ap, subst}
-use Rattle.std.proofs.lemmas.Bool.{true≢false}
-use Rattle.std.specs.Prelude.{nat_eq}
-use Rattle.sf_history.specs.declared.call.CallId.{CallId}
-use Rattle.sf_history.specs.History.{open_call}
+use Rattle.std.proofs.Common.{◌+◌, ◌≤◌, ◌++◌, ◌∷◌, [], Some, refl, sym, ◌∙◌, ap, subst}
 use Rattle.sf_history.specs.declared.event.Event.TheVariants.{Forget}
 use Rattle.sf_keyed_tells.specs.Tells.{call_of}
-use Rattle.sf_keyed_tells.proofs.Telling.{call_number}
 use Rattle.sf_keyed_words.specs.Rule.{number}
 use Rattle.sf_keyed.specs.Known.{FrontState}
-use Rattle.sf_keyed.specs.Calls.{IsForgotten, AddsTo}
+use Rattle.sf_keyed.specs.Calls.{IsForgotten}
 use Rattle.sf_keyed.proofs.group.KeyedGroup.forget.Goals as goal
 use Rattle.sf_keyed.proofs.group.KeyedGroup.forget.Goals.{in-Closed, in-Nothing, in-Other, in-Busy}
 
@@ -16,6 +11,7 @@ pub returns : goal.returns
 returns c =
     let own = ap (λ (f : FrontState). f.group) c.me.view_is in
     let seen = ap (λ (f : FrontState). f.seen) c.me.view_is in
+    let num = ap (λ (f : FrontState). f.number) c.me.view_is in
     let spare = ap (λ (f : FrontState). f.spare) c.me.view_is in
     let lost = ap (λ (f : FrontState). f.met.lost) c.me.view_is in
     let table = c.forget_often.ensures.own in
@@ -26,8 +22,9 @@ returns c =
           subst (IsForgotten c.args.me.now after (number c.args.name) c.args.tries) (sym w.result-is) (
             record {
               group = (λ i. record { table = table i; sizes = f.sizes i }) ∙ own;
+              number = f.number ∙ num;
               others = f.adds.before;
-              seen = f.adds.seen ∙ ap (λ l. (l ++ f.adds.before) ++ Forget 0 (number c.args.name) (Some (call_of w.in-Closed.call)) ∷ []) seen;
+              seen = f.adds.seen ∙ (ap (λ l. (l ++ f.adds.before) ++ Forget c.me.inside.seat.me.0.number (number c.args.name) (Some (call_of w.in-Closed.call)) ∷ []) seen ∙ ap (λ n. (c.args.me.now.seen ++ f.adds.before) ++ Forget n (number c.args.name) (Some (call_of w.in-Closed.call)) ∷ []) num);
               legal = f.adds.legal;
             },
             spare,
@@ -37,6 +34,7 @@ returns c =
           subst (IsForgotten c.args.me.now after (number c.args.name) c.args.tries) (sym w.result-is) (
             record {
               group = (λ i. record { table = table i; sizes = f.sizes i }) ∙ own;
+              number = f.number ∙ num;
               seen = (f.grows.seen.0, f.grows.seen.1 ∙ ap (λ l. l ++ f.grows.seen.0) seen);
               legal = f.grows.legal;
             },
@@ -47,7 +45,7 @@ returns c =
       | in-Busy w ↦
           let f = c.forget_often.ensures.busy w.in-Busy.is in
           subst (IsForgotten c.args.me.now after (number c.args.name) c.args.tries) (sym w.result-is) (
-            record { group = (λ i. record { table = table i; sizes = f.0.sizes i }) ∙ own; seen = f.0.seen ∙ seen; spare = spare },
+            record { group = (λ i. record { table = table i; sizes = f.0.sizes i }) ∙ own; number = f.0.number ∙ num; seen = f.0.seen ∙ seen; spare = spare },
             subst (λ n. n + c.args.tries ≤ c.forget_often.new.seat.me.0.lost) lost f.1,
           )
     ]

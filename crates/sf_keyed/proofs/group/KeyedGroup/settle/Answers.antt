@@ -1,4 +1,4 @@
-use Rattle.std.proofs.Common.{◌≡◌, ℕ, ◌+◌, ◌%◌, ◌<◌, ◌++◌, ◌∷◌, [], Some, None, true, false, refl, sym, ◌∙◌, ap, subst}
+use Rattle.std.proofs.Common.{◌≡◌, ℕ, ◌+◌, ◌%◌, ◌<◌, ◌++◌, ◌∷◌, [], Some, None, false, refl, sym, ◌∙◌, ap, subst}
 use Rattle.std.proofs.lemmas.Bool.{true≢false}
 use Rattle.std.specs.Prelude.{nat_eq}
 use Rattle.sf_history.specs.Legal.{IsLegal}
@@ -9,7 +9,6 @@ use Rattle.sf_keyed_words.specs.declared.rule.View.{View}
 use Rattle.sf_keyed_words.specs.Plays.{WasForgotten}
 use Rattle.sf_keyed_words.specs.Rule.{is_forgotten}
 use Rattle.sf_keyed.specs.Known.{GroupId, FrontState, FlightState}
-use Rattle.sf_keyed.specs.Calls.{SettledBy}
 use Rattle.sf_keyed.proofs.Joint.{joint, two_parts}
 use Rattle.sf_keyed.proofs.group.KeyedGroup.settle.Goals as goal
 
@@ -48,6 +47,7 @@ returns-in-None c =
     let heard = c.join_flight.ensures.heard in
     let own = ap (λ (f : FrontState). f.group) c.me.view_is in
     let seen = ap (λ (f : FrontState). f.seen) c.me.view_is in
+    let num = ap (λ (f : FrontState). f.number) c.me.view_is in
     let call = ap (λ (f : FlightState). f.call) c.flight.view_is in
     let x = λ (e : ℕ). Settle (e % 1048576) (call_of e) None al.2.joiners ∷ [] in
     let first = heard.seen.1 ∙ ap (λ l. l ++ heard.seen.0) seen in (
@@ -57,6 +57,7 @@ returns-in-None c =
         some = λ yes. absurd (true≢false (sym yes));
         adds = record {
           group = (λ i. record { table = (c.settle_call.ensures.own ∙ c.join_flight.ensures.own) i; sizes = (al.2.sizes ∙ ap (λ (v : View). v.sizes) heard.view) i }) ∙ own;
+          number = (al.2.number ∙ ap (λ (v : View). v.number) heard.view) ∙ num;
           others = heard.seen.0 ++ al.2.adds.before;
           seen = subst (λ (e : ℕ). c.settle_call.new.seat.me.0.seen ≡ (c.args.me.now.seen ++ (heard.seen.0 ++ al.2.adds.before)) ++ Settle (e % 1048576) (call_of e) None al.2.joiners ∷ []) call
               (joint c.args.me.now.seen heard.seen.0 al.2.adds.before (x c.flight.inside.call) c.join_flight.new.seat.me.0.seen c.settle_call.new.seat.me.0.seen first al.2.adds.seen);
@@ -78,6 +79,7 @@ returns-in-Some c =
     let own = ap (λ (f : FrontState). f.group) c.me.view_is in
     let theirs = ap (λ (f : FlightState). f.group) c.flight.view_is in
     let seen = ap (λ (f : FrontState). f.seen) c.me.view_is in
+    let num = ap (λ (f : FrontState). f.number) c.me.view_is in
     let call = ap (λ (f : FlightState). f.call) c.flight.view_is in
     let sizes1 = ap (λ (v : View). v.sizes) heard.view in
     let to_flight = own ∙ (c.requires.own.0 ∙ sym c.requires.own.1) in
@@ -89,6 +91,7 @@ returns-in-Some c =
         some = λ bit. sh.3.some (told.joined.0 bit);
         adds = record {
           group = (λ i. record { table = (c.split_ticket-seat.ensures.own.0 ∙ (c.settle_call.ensures.own ∙ c.join_flight.ensures.own)) i; sizes = (ap (λ (v : View). v.sizes) left ∙ (sh.3.sizes ∙ sizes1)) i }) ∙ own;
+          number = (ap (λ (v : View). v.number) left ∙ (sh.3.number ∙ ap (λ (v : View). v.number) heard.view)) ∙ num;
           others = heard.seen.0 ++ sh.3.adds.before;
           seen = ap (λ (v : View). v.seen) left ∙ subst (λ (e : ℕ). c.settle_call.new.seat.me.0.seen ≡ (c.args.me.now.seen ++ (heard.seen.0 ++ sh.3.adds.before)) ++ Settle (e % 1048576) (call_of e) (Some c.args.value) sh.3.joiners ∷ []) call
               (joint c.args.me.now.seen heard.seen.0 sh.3.adds.before (Settle (c.flight.inside.call % 1048576) (call_of c.flight.inside.call) (Some c.args.value) sh.3.joiners ∷ []) c.join_flight.new.seat.me.0.seen c.settle_call.new.seat.me.0.seen first sh.3.adds.seen);

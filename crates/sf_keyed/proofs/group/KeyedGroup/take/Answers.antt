@@ -12,11 +12,13 @@ returns-in-Some-clause-taken c =
     let heard = c.join_ticket.ensures.heard in
     let own = ap (λ (f : FrontState). f.group) c.me.view_is in
     let seen = ap (λ (f : FrontState). f.seen) c.me.view_is in
+    let num = ap (λ (f : FrontState). f.number) c.me.view_is in
     let call = ap (λ (f : FlightState). f.call) c.ticket.view_is in
     let more = taken.grows.seen in
     record {
       sees = record {
         group = (λ i. record { table = (c.take.ensures.own ∙ c.join_ticket.ensures.own) i; sizes = (taken.sizes ∙ ap (λ (v : View). v.sizes) heard.view) i }) ∙ own;
+        number = (taken.number ∙ ap (λ (v : View). v.number) heard.view) ∙ num;
         seen = (heard.seen.0 ++ more.0, two_parts c.args.me.now.seen heard.seen.0 more.0 c.join_ticket.new.seat.me.0.seen c.take.new.seat.me.0.seen (heard.seen.1 ∙ ap (λ l. l ++ heard.seen.0) seen) more.1);
         legal = taken.grows.legal;
       };
