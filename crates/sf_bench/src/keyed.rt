@@ -94,15 +94,14 @@ struct Lead<'a>(Asker<'a>);
 
 impl<'a> Operation for Lead<'a> {
     fn once<R: Wait>(self, _rt: &R) -> Result<Self, Fault> {
-        let Lead(Asker { group, mut me, key }) = self;
+        let Lead(asker) = self;
+        let Asker { group, mut me, key } = asker;
         let flight = lead_new(group, &mut me, &key)?;
-        match group.settle(&mut me, flight, 1) {
-            Settled::Alone => Ok(Lead(Asker { group, me, key })),
-            Settled::Told(ticket, _) => {
-                group.leave(&mut me, ticket);
-                Err(Fault::Refused)
-            }
+        if let Settled::Told(ticket, _) = group.settle(&mut me, flight, 1) {
+            group.leave(&mut me, ticket);
+            return Err(Fault::Refused);
         }
+        Ok(Lead(Asker { group, me, key }))
     }
 }
 
@@ -143,11 +142,12 @@ struct ForgetIdle<'a>(Asker<'a>);
 
 impl<'a> Operation for ForgetIdle<'a> {
     fn once<R: Wait>(self, _rt: &R) -> Result<Self, Fault> {
-        let ForgetIdle(Asker { group, mut me, key }) = self;
-        match group.forget(&mut me, NAMES.of(&key), TRIES) {
-            Forgotten::Nothing => Ok(ForgetIdle(Asker { group, me, key })),
-            Forgotten::Closed(_) | Forgotten::Busy => Err(Fault::Refused),
+        let ForgetIdle(asker) = self;
+        let Asker { group, mut me, key } = asker;
+        if group.forget(&mut me, NAMES.of(&key), TRIES) != Forgotten::Nothing {
+            return Err(Fault::Refused);
         }
+        Ok(ForgetIdle(Asker { group, me, key }))
     }
 }
 

@@ -1,5 +1,5 @@
 -- What the calls leave.
-use Rattle.std.specs.Prelude.{◌≡◌, ◌≢◌, ℕ, ◌+◌, ◌*◌, ◌/◌, ◌%◌, ◌≤◌, Bool, true, false, List, ◌∷◌, [], ◌++◌, nat_eq, None, Some, Option}
+use Rattle.std.specs.Prelude.{◌≡◌, ◌≢◌, ℕ, ◌+◌, ◌*◌, ◌/◌, ◌%◌, ◌<◌, ◌≤◌, Bool, true, false, List, ◌∷◌, [], ◌++◌, nat_eq, None, Some, Option}
 use Rattle.sf_history.specs.declared.call.CallId.{CallId}
 use Rattle.sf_history.specs.declared.event.Event.TheVariants as event
 use Rattle.sf_history.specs.History.{open_call, result_of}
@@ -106,9 +106,9 @@ IsEnded before after name call tries ended.Busy = Stays before after × (before.
 abbrev pub cell_at : FrontState → ℕ → ℕ
 cell_at f cell = f.group.sizes.tops + f.group.sizes.sides + 8 * (cell % f.group.sizes.cells)
 
--- How a claim of a cell ends. Its state word had a call, or a holder; or it has had its last call; or others took it first
+-- How a claim of a cell ends. The caller had a cell before, or it has this one now, which was free; its state word had a call, or a holder; or it has had its last call; or others took it first
 abbrev pub IsClaimed : FrontState → FrontState → ℕ → Claim → Type 0
-IsClaimed before after cell claim.Ready = (after.spare ≢ 0) × (before.spare ≢ 0 → after.spare ≡ before.spare)
+IsClaimed before after cell claim.Ready = (after.spare ≢ 0) × (before.spare ≢ 0 → after.spare ≡ before.spare) × (before.spare ≡ 0 → (after.met.place ≡ cell_at before cell) × (after.met.state % 8388608 ≡ 0) × (after.met.state < 18446744073692774400))
 IsClaimed before after cell claim.InUse = (before.spare ≡ 0) × (after.spare ≡ 0) × (after.met.place ≡ cell_at before cell) × (after.met.state % 8388608 ≢ 0)
 IsClaimed before after cell claim.Worn = (before.spare ≡ 0) × (after.spare ≡ 0) × (after.met.place ≡ cell_at before cell) × (18446744073692774400 ≤ after.met.state)
 IsClaimed before after cell claim.Busy = (before.spare ≡ 0) × (after.spare ≡ 0) × (after.met.place ≡ cell_at before cell) × (after.met.lost ≡ before.met.lost + 1)
