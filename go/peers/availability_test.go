@@ -7,6 +7,7 @@ import (
 	"net"
 	"net/http"
 	"net/http/httptest"
+	"sync"
 	"sync/atomic"
 	"testing"
 	"time"
@@ -351,6 +352,8 @@ func TestAnOwnerThatIsSilent(t *testing.T) {
 	m := newMesh()
 	a, b, _ := beginAll(t, m, time.Minute)
 	stall := make(chan struct{})
+	var released sync.Once
+	release := func() { released.Do(func() { close(stall) }) }
 	var stalls, asked atomic.Int64
 	server := httptest.NewServer(http.HandlerFunc(func(w http.ResponseWriter, r *http.Request) {
 		asked.Add(1)
@@ -361,6 +364,7 @@ func TestAnOwnerThatIsSilent(t *testing.T) {
 		w.Write([]byte("x"))
 	}))
 	defer server.Close()
+	defer release() // or Close would wait for what stalls
 	// The owner has the address of the server here.
 	name := server.URL
 	m.mu.Lock()
@@ -391,7 +395,7 @@ func TestAnOwnerThatIsSilent(t *testing.T) {
 		asks()
 	}
 	before := asked.Load()
-	looks := make(chan error)
+	looks := make(chan error, 1)
 	go func() { looks <- ask(time.Minute) }()
 	until(t, func() bool { return asked.Load() == before+1 }, "nobody looks whether it answers again")
 	for i := 0; i < 100; i++ {
@@ -401,7 +405,7 @@ func TestAnOwnerThatIsSilent(t *testing.T) {
 		}
 	}
 	stalls.Store(0)
-	close(stall)
+	release()
 	if err := <-looks; err != nil {
 		t.Errorf("the one that looks: %v", err)
 	}

@@ -244,7 +244,7 @@ func TestForgetsOfManyPeers(t *testing.T) {
 }
 
 // httpPool makes so many nodes that reach each other over HTTP.
-func httpPool(t *testing.T, count int) (nodes []*node) {
+func httpPool(t testing.TB, count int) (nodes []*node) {
 	var servers []*httptest.Server
 	var list []string
 	for i := 0; i < count; i++ {
