@@ -195,6 +195,18 @@ func TestWhatWasMissedIsToldOnce(t *testing.T) {
 	}
 	cancel()
 	m.setCut(f.self, false)
+	// The one that is asked first is one that answers, and a round that ends early does not wait for it.
+	for _, n := range nodes[1:5] {
+		f.figures.asked(n.self, false)
+	}
+	for i := 0; i < 50; i++ {
+		if first := f.figures.anAnswering(f.others()); first != "a" {
+			t.Fatalf("%s is asked first, which did not answer", first)
+		}
+	}
+	if _, got := f.askAll(ctx, f.session.Load()); len(got.silent) == 0 {
+		t.Error("all are asked after the end")
+	}
 	if round(f); told != missed {
 		t.Errorf("it was told of %d keys, and missed %d", told, missed)
 	}
