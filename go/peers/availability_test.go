@@ -24,8 +24,9 @@ func TestAPausedPeerDoesNotStallGets(t *testing.T) {
 		t.Errorf("a Get asks first: %v", err)
 	}
 	for _, c := range []config{{timeout: longest, every: shortest}, {timeout: shortest, every: longest}, {timeout: time.Second, every: time.Second}} {
-		if most := (&node{config: c}).awayAfter(); most <= 2*c.timeout+c.every {
-			t.Errorf("with %v and %v it is away after %v", c.timeout, c.every, most)
+		n := &node{config: c}
+		if most, round := n.awayAfter(), n.headStart()+2*c.timeout; most <= round+c.every {
+			t.Errorf("with %v and %v it is away after %v, and a round may take %v", c.timeout, c.every, most, round)
 		}
 	}
 }
