@@ -8,7 +8,9 @@ import (
 	"encoding/binary"
 	"errors"
 	"fmt"
+	stdhash "hash"
 	"strconv"
+	"sync"
 	"time"
 )
 
@@ -27,9 +29,38 @@ var (
 	errSkew      = fmt.Errorf("its time is not within %v of the time here", MostSkew)
 )
 
+// macs has hashes of each key that are not in use: to make one costs as much as to use one.
+var macs struct {
+	sync.RWMutex
+	of map[string]*sync.Pool
+}
+
+func macsOf(key []byte) *sync.Pool {
+	macs.RLock()
+	pool := macs.of[string(key)]
+	macs.RUnlock()
+	if pool != nil {
+		return pool
+	}
+	macs.Lock()
+	defer macs.Unlock()
+	if pool = macs.of[string(key)]; pool == nil {
+		if macs.of == nil {
+			macs.of = map[string]*sync.Pool{}
+		}
+		own := append([]byte(nil), key...)
+		pool = &sync.Pool{New: func() any { return hmac.New(sha256.New, own) }}
+		macs.of[string(own)] = pool
+	}
+	return pool
+}
+
 // mac signs the parts, of which none can run into the next.
 func mac(key []byte, parts ...[]byte) []byte {
-	m := hmac.New(sha256.New, key)
+	pool := macsOf(key)
+	m := pool.Get().(stdhash.Hash)
+	defer pool.Put(m)
+	m.Reset()
 	var length [8]byte
 	for _, part := range parts {
 		binary.BigEndian.PutUint64(length[:], uint64(len(part)))

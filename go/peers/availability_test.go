@@ -7,6 +7,7 @@ import (
 	"net"
 	"net/http"
 	"net/http/httptest"
+	"sync"
 	"sync/atomic"
 	"testing"
 	"time"
@@ -23,8 +24,9 @@ func TestAPausedPeerDoesNotStallGets(t *testing.T) {
 		t.Errorf("a Get asks first: %v", err)
 	}
 	for _, c := range []config{{timeout: longest, every: shortest}, {timeout: shortest, every: longest}, {timeout: time.Second, every: time.Second}} {
-		if most := (&node{config: c}).awayAfter(); most <= 2*c.timeout+c.every {
-			t.Errorf("with %v and %v it is away after %v", c.timeout, c.every, most)
+		n := &node{config: c}
+		if most, round := n.awayAfter(), n.headStart()+2*c.timeout; most <= round+c.every {
+			t.Errorf("with %v and %v it is away after %v, and a round may take %v", c.timeout, c.every, most, round)
 		}
 	}
 }
@@ -351,6 +353,8 @@ func TestAnOwnerThatIsSilent(t *testing.T) {
 	m := newMesh()
 	a, b, _ := beginAll(t, m, time.Minute)
 	stall := make(chan struct{})
+	var released sync.Once
+	release := func() { released.Do(func() { close(stall) }) }
 	var stalls, asked atomic.Int64
 	server := httptest.NewServer(http.HandlerFunc(func(w http.ResponseWriter, r *http.Request) {
 		asked.Add(1)
@@ -361,6 +365,7 @@ func TestAnOwnerThatIsSilent(t *testing.T) {
 		w.Write([]byte("x"))
 	}))
 	defer server.Close()
+	defer release() // or Close would wait for what stalls
 	// The owner has the address of the server here.
 	name := server.URL
 	m.mu.Lock()
@@ -391,7 +396,7 @@ func TestAnOwnerThatIsSilent(t *testing.T) {
 		asks()
 	}
 	before := asked.Load()
-	looks := make(chan error)
+	looks := make(chan error, 1)
 	go func() { looks <- ask(time.Minute) }()
 	until(t, func() bool { return asked.Load() == before+1 }, "nobody looks whether it answers again")
 	for i := 0; i < 100; i++ {
@@ -401,7 +406,7 @@ func TestAnOwnerThatIsSilent(t *testing.T) {
 		}
 	}
 	stalls.Store(0)
-	close(stall)
+	release()
 	if err := <-looks; err != nil {
 		t.Errorf("the one that looks: %v", err)
 	}

@@ -204,7 +204,7 @@ func TestForgetsOfManyPeers(t *testing.T) {
 		t.Skip("a figure, with -many 5s")
 	}
 	for _, count := range []int{3, 17} {
-		nodes := httpPool(t, count)
+		nodes := httpPool(t, count, time.Second)
 		for _, c := range []struct {
 			name               string
 			at, callers, items int
@@ -244,7 +244,7 @@ func TestForgetsOfManyPeers(t *testing.T) {
 }
 
 // httpPool makes so many nodes that reach each other over HTTP.
-func httpPool(t *testing.T, count int) (nodes []*node) {
+func httpPool(t testing.TB, count int, every time.Duration) (nodes []*node) {
 	var servers []*httptest.Server
 	var list []string
 	for i := 0; i < count; i++ {
@@ -255,7 +255,7 @@ func httpPool(t *testing.T, count int) (nodes []*node) {
 	}
 	for i, server := range servers {
 		by := &HTTP{Client: &http.Client{Transport: connections(nil)}}
-		n, err := newNode(config{self: list[i], most: mostForgotten, timeout: 2 * time.Second, every: time.Second, transport: by,
+		n, err := newNode(config{self: list[i], most: mostForgotten, timeout: 2 * time.Second, every: every, transport: by,
 			coordinator: NewStatic(list...), keys: testKeys})
 		if err != nil {
 			t.Fatal(err)

@@ -40,6 +40,9 @@ func (g *gate) close() {
 	}
 }
 
+// isOpen tells whether a call may begin.
+func (g *gate) isOpen(hash uint64) bool { return g.places[hash%gatePlaces].state.Load() >= 0 }
+
 // isClosed tells whether close has begun.
 func (g *gate) isClosed() bool { return g.places[0].state.Load() < 0 }
 

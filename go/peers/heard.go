@@ -24,23 +24,35 @@ func (v *versions) hears(peer string, n number) {
 	case h.start > n.Start || n.Count <= h.upTo || len(h.beyond) >= mostBeyond:
 		return
 	}
-	for h.beyond[n.Count] = true; h.beyond[h.upTo+1]; {
-		h.upTo++
-		delete(h.beyond, h.upTo)
-	}
+	h.beyond[n.Count] = true
+	h.goOn()
 }
 
 // hearsAll notes that all Forgets of a process up to this number are known here. The lock is held.
 func (v *versions) hearsAll(peer string, made number) {
 	h := v.heard[peer]
 	if h == nil || h.start < made.Start {
-		h = &heard{start: made.Start}
+		h = &heard{start: made.Start, beyond: map[uint64]bool{}}
 		v.heard[peer] = h
 	}
-	if h.start > made.Start || made.Count < h.upTo {
+	if h.start > made.Start || made.Count <= h.upTo {
 		return
 	}
-	h.upTo, h.beyond = made.Count, map[uint64]bool{}
+	h.upTo = made.Count
+	for count := range h.beyond {
+		if count <= h.upTo {
+			delete(h.beyond, count)
+		}
+	}
+	h.goOn()
+}
+
+// goOn counts those that were beyond a gap and are so no more.
+func (h *heard) goOn() {
+	for h.beyond[h.upTo+1] {
+		h.upTo++
+		delete(h.beyond, h.upTo)
+	}
 }
 
 // has returns up to which Forget of each other peer all are known here, so that nobody tells this one
@@ -48,9 +60,15 @@ func (v *versions) hearsAll(peer string, made number) {
 func (v *versions) has() (has vector) {
 	v.mu.RLock()
 	defer v.mu.RUnlock()
+	return v.hasBeyond(nil)
+}
+
+// hasBeyond returns those of what has returns that go further than another peer's. The lock is held.
+func (v *versions) hasBeyond(other vector) (has vector) {
 	for peer, h := range v.heard {
-		if h.upTo > 0 && peer != v.self {
-			has = append(has, mark{peer, number{Start: h.start, Count: h.upTo}})
+		n := number{Start: h.start, Count: h.upTo}
+		if h.upTo > 0 && peer != v.self && other.of(peer).before(n) {
+			has = append(has, mark{peer, n})
 		}
 	}
 	sort.Slice(has, func(i, j int) bool { return has[i].Peer < has[j].Peer })

@@ -147,6 +147,7 @@ func TestAnEarlierProcessDoesNotAcknowledge(t *testing.T) {
 	// a does not know of the later one, but c does.
 	a.versions.mu.Lock()
 	a.versions.starts["b"] = old.versions.last.Start
+	a.versions.begins.Add(1)
 	a.versions.mu.Unlock()
 	if err := forget(a, user); !errors.As(err, &unanswered) || unanswered.Peers[0].Peer != "b" {
 		t.Errorf("the earlier b has acknowledged, though c knows the later one: %v", err)

@@ -2,50 +2,17 @@ package main
 
 import (
 	"context"
-	"crypto/ecdsa"
-	"crypto/elliptic"
-	"crypto/rand"
-	"crypto/x509"
-	"encoding/pem"
-	"math/big"
 	"net"
 	"os"
 	"os/exec"
 	"testing"
 	"time"
 
+	"cacheserver.example/internal/testcert"
 	"cacheserver.example/server"
 	"go.etcd.io/etcd/clientv3"
 	"sf.example/singleflight/peers/etcd"
 )
-
-// pair writes a certificate for 127.0.0.1, which is its own authority.
-func pair(t *testing.T) (cert, key string) {
-	private, err := ecdsa.GenerateKey(elliptic.P256(), rand.Reader)
-	if err != nil {
-		t.Fatal(err)
-	}
-	template := &x509.Certificate{SerialNumber: big.NewInt(1), NotBefore: time.Now().Add(-time.Hour), NotAfter: time.Now().Add(time.Hour),
-		IPAddresses: []net.IP{net.IPv4(127, 0, 0, 1)}, IsCA: true, BasicConstraintsValid: true,
-		KeyUsage:    x509.KeyUsageDigitalSignature | x509.KeyUsageCertSign,
-		ExtKeyUsage: []x509.ExtKeyUsage{x509.ExtKeyUsageClientAuth, x509.ExtKeyUsageServerAuth}}
-	der, err := x509.CreateCertificate(rand.Reader, template, template, &private.PublicKey, private)
-	if err != nil {
-		t.Fatal(err)
-	}
-	text, err := x509.MarshalECPrivateKey(private)
-	if err != nil {
-		t.Fatal(err)
-	}
-	at := t.TempDir()
-	cert, key = at+"/cert", at+"/key"
-	for path, block := range map[string]*pem.Block{cert: {Type: "CERTIFICATE", Bytes: der}, key: {Type: "EC PRIVATE KEY", Bytes: text}} {
-		if err := os.WriteFile(path, pem.EncodeToMemory(block), 0o600); err != nil {
-			t.Fatal(err)
-		}
-	}
-	return cert, key
-}
 
 func free(t *testing.T) string {
 	l, err := net.Listen("tcp", "127.0.0.1:0")
@@ -62,7 +29,7 @@ func TestTLSAndLogin(t *testing.T) {
 	if err != nil {
 		t.Skip("there is no etcd")
 	}
-	cert, key := pair(t)
+	cert, key := testcert.Write(t)
 	at, inner := "https://"+free(t), "http://"+free(t)
 	command := exec.Command(program, "--data-dir", t.TempDir(), "--listen-client-urls", at, "--advertise-client-urls", at,
 		"--listen-peer-urls", inner, "--initial-advertise-peer-urls", inner, "--initial-cluster", "default="+inner, "--log-level", "panic",
