@@ -12,9 +12,9 @@ packed (b ∷ bs) = b + 256 * packed bs
 abbrev pub short_name : List ℕ → ℕ
 short_name key = packed key + length key * 1329227995784915872903807060280344576
 
--- a longer one has a keyed digest of 127 bits, above which the highest bit is set
+-- a longer one has a keyed digest of 127 bits, above which the highest bit is set: of the key, and of the key with one more byte
 abbrev pub long_name : Names → List ℕ → ℕ
-long_name s key = sip.finish (sip.write (sip.with_keys s.seed0 s.seed1) key) + (sip.finish (sip.write (sip.with_keys s.seed2 s.seed3) key) % 9223372036854775808 + 9223372036854775808) * 18446744073709551616
+long_name s key = sip.finish (sip.write (sip.with_keys s.seed0 s.seed1) key) + (sip.finish (sip.write (sip.write (sip.with_keys s.seed0 s.seed1) key) (1 ∷ [])) % 9223372036854775808 + 9223372036854775808) * 18446744073709551616
 
 -- a list of bytes
 abbrev pub AreBytes : List ℕ → Type 0

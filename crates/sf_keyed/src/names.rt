@@ -16,35 +16,26 @@ const SHORT: usize = 15;
 /// The seeds of the names of keys, which are to be drawn at random and kept secret, so that nobody can choose two keys of one name.
 #[derive(Clone, Copy)]
 pub struct Names {
-    /// The first half of the seed of a digest's lower word.
+    /// The first half of the seed.
     pub seed0: u64,
     /// The other half.
     pub seed1: u64,
-    /// The first half of the seed of its upper word.
-    pub seed2: u64,
-    /// The other half.
-    pub seed3: u64,
 }
 
 impl Names {
     /// Names by seeds from the system.
     pub fn new(rt: &impl RandomSource) -> io::Result<Names> {
-        let mut low = [0; 16];
-        rt.fill_bytes(&mut low)?;
-        let mut high = [0; 16];
-        rt.fill_bytes(&mut high)?;
-        let low = u128::from_le_bytes(low);
-        let high = u128::from_le_bytes(high);
+        let mut bytes = [0; 16];
+        rt.fill_bytes(&mut bytes)?;
+        let seed = u128::from_le_bytes(bytes);
         Ok(Names {
-            seed0: (low & 0xFFFF_FFFF_FFFF_FFFF) as u64,
-            seed1: (low >> 64) as u64,
-            seed2: (high & 0xFFFF_FFFF_FFFF_FFFF) as u64,
-            seed3: (high >> 64) as u64,
+            seed0: (seed & 0xFFFF_FFFF_FFFF_FFFF) as u64,
+            seed1: (seed >> 64) as u64,
         })
     }
 
     /// The key's name. A key of at most 15 bytes is its own name, so that different ones have different names. A longer key has a digest
-    /// of 127 bits: two SipHash-1-3, by different seeds.
+    /// of 127 bits: SipHash-1-3 of the key, and of the key with one more byte behind it.
     pub fn of(&self, key: &[u8]) -> Name
         ensures short { length key.now ≤ 15 → number result ≡ the_short_name key.now }
         ensures long { 15 < length key.now → number result ≡ the_long_name self.now key.now }
@@ -59,13 +50,13 @@ impl Names {
     fn long_name(&self, key: &[u8]) -> Name
         ensures { number result ≡ the_long_name self.now key.now }
     {
-        let mut low = keyed_hasher(self.seed0, self.seed1);
-        low.write(key);
-        let mut high = keyed_hasher(self.seed2, self.seed3);
-        high.write(key);
+        let mut hasher = keyed_hasher(self.seed0, self.seed1);
+        hasher.write(key);
+        let low = hasher.finish();
+        hasher.write(&[1]);
         Name {
-            low: low.finish(),
-            high: high.finish() % 0x8000_0000_0000_0000 + 0x8000_0000_0000_0000,
+            low,
+            high: hasher.finish() % 0x8000_0000_0000_0000 + 0x8000_0000_0000_0000,
         }
     }
 }

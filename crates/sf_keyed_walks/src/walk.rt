@@ -220,7 +220,7 @@ fn walk_sides(
         match examine(words, seat, sizes, call, name) {
             Look::Named(state) => return Way::Met(call, state),
             Look::Other(held, _) => {
-                if slot_of(sizes, held) == slot {
+                if !on.marks && slot_of(sizes, held) == slot {
                     on.marks = true;
                 }
             }
