@@ -25,7 +25,7 @@ func TestAPausedPeerDoesNotStallGets(t *testing.T) {
 	}
 	for _, c := range []config{{timeout: longest, every: shortest}, {timeout: shortest, every: longest}, {timeout: time.Second, every: time.Second}} {
 		n := &node{config: c}
-		if most, round := n.awayAfter(), n.headStart()+2*c.timeout; most <= round+c.every {
+		if most, round := n.awayAfter(), 2*c.timeout; most <= round+c.every {
 			t.Errorf("with %v and %v it is away after %v, and a round may take %v", c.timeout, c.every, most, round)
 		}
 	}

@@ -60,15 +60,9 @@ func (h *heard) goOn() {
 func (v *versions) has() (has vector) {
 	v.mu.RLock()
 	defer v.mu.RUnlock()
-	return v.hasBeyond(nil)
-}
-
-// hasBeyond returns those of what has returns that go further than another peer's. The lock is held.
-func (v *versions) hasBeyond(other vector) (has vector) {
 	for peer, h := range v.heard {
-		n := number{Start: h.start, Count: h.upTo}
-		if h.upTo > 0 && peer != v.self && other.of(peer).before(n) {
-			has = append(has, mark{peer, n})
+		if h.upTo > 0 && peer != v.self {
+			has = append(has, mark{peer, number{Start: h.start, Count: h.upTo}})
 		}
 	}
 	sort.Slice(has, func(i, j int) bool { return has[i].Peer < has[j].Peer })

@@ -91,20 +91,6 @@ func (f *figures) asked(peer string, answered bool) {
 	})
 }
 
-// anAnswering returns one of the peers at random, of those that answered in the last round if there are
-// such.
-func (f *figures) anAnswering(peers []Member) string {
-	at := randomNumber() % uint64(len(peers))
-	for i := range peers {
-		peer := peers[(at+uint64(i))%uint64(len(peers))].Name
-		silent := 0
-		if f.of(peer, func(p *peerFigures) { silent = p.silent }); silent == 0 {
-			return peer
-		}
-	}
-	return peers[at].Name
-}
-
 // mayAsk tells whether a peer is asked for a value: one that is silent by one request at a time, which
 // looks whether it answers again. The caller calls end when its request has ended.
 func (f *figures) mayAsk(peer string) (may bool, end func()) {

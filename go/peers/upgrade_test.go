@@ -2,11 +2,8 @@ package peers
 
 import (
 	"bytes"
-	"context"
 	"encoding/json"
 	"errors"
-	"fmt"
-	"sync"
 	"testing"
 	"time"
 )
@@ -56,9 +53,6 @@ func TestTwoVersionsInOnePool(t *testing.T) {
 	for name, change := range map[string]func(map[string]any){
 		"an older one": func(message map[string]any) {
 			delete(message, "has")
-			if changes, ok := message["changes"].(map[string]any); ok {
-				delete(changes, "has")
-			}
 		},
 		"a later one": func(message map[string]any) {
 			message["later"] = map[string]any{"a": []int{1, 2}}
@@ -140,79 +134,5 @@ func TestAForgetThatIsNotUnderstood(t *testing.T) {
 	var unanswered *Unanswered
 	if err := forget(a, user); !errors.As(err, &unanswered) || len(unanswered.Peers) != 1 || unanswered.Peers[0].Peer != "b" {
 		t.Errorf("a Forget that b does not understand: %v", err)
-	}
-}
-
-// A peer that missed Forgets is told of each of them once, and not by each of many others.
-func TestWhatWasMissedIsToldOnce(t *testing.T) {
-	const missed = 50
-	m := newMesh()
-	list := []string{"a", "b", "c", "d", "e", "f"}
-	var nodes []*node
-	for _, self := range list {
-		n, err := newNode(config{self: self, most: 5000, timeout: longest, every: longest, transport: meshed{m, self},
-			coordinator: NewStatic(list...), keys: testKeys})
-		if err != nil {
-			t.Fatal(err)
-		}
-		t.Cleanup(n.close)
-		nodes = append(nodes, n)
-	}
-	for _, n := range nodes {
-		go n.run()
-	}
-	for _, n := range nodes {
-		await(t, n.session.Load().ready, "a peer does not begin")
-	}
-	for _, n := range nodes {
-		round(n) // they may have begun at one time, and then each has forgotten all
-	}
-	f := nodes[len(nodes)-1]
-	var mu sync.Mutex
-	told := 0
-	for _, other := range list {
-		if other != f.self {
-			between(t, m, f.self, other, func(message map[string]any) {
-				if changes, ok := message["changes"].(map[string]any); ok {
-					levels, _ := changes["levels"].([]any)
-					mu.Lock()
-					told += len(levels)
-					mu.Unlock()
-				}
-			})
-		}
-	}
-	m.setCut(f.self, true)
-	ctx, cancel := context.WithCancel(context.Background())
-	for i := 0; i < missed; i++ {
-		of := keyItem("users", fmt.Sprint(i))
-		ended := make(chan error, 1)
-		go func() { ended <- nodes[i%3].forget(ctx, "Forget", of) }()
-		for _, n := range nodes[:5] {
-			n := n
-			until(t, func() bool { return versionOf(n.versions, of) != versionOf(f.versions, of) }, "a peer does not hear of it")
-		}
-	}
-	cancel()
-	m.setCut(f.self, false)
-	// The one that is asked first is one that answers, and a round that ends early does not wait for it.
-	for _, n := range nodes[1:5] {
-		f.figures.asked(n.self, false)
-	}
-	for i := 0; i < 50; i++ {
-		if first := f.figures.anAnswering(f.others()); first != "a" {
-			t.Fatalf("%s is asked first, which did not answer", first)
-		}
-	}
-	if _, got := f.askAll(ctx, f.session.Load()); len(got.silent) == 0 {
-		t.Error("all are asked after the end")
-	}
-	if round(f); told != missed {
-		t.Errorf("it was told of %d keys, and missed %d", told, missed)
-	}
-	for i := 0; i < missed; i++ {
-		if of := keyItem("users", fmt.Sprint(i)); versionOf(f.versions, of) != versionOf(nodes[0].versions, of) {
-			t.Errorf("it does not know that %d was forgotten", i)
-		}
 	}
 }
