@@ -161,10 +161,10 @@ pub enum Claim {
     Busy,
 }
 
-/// Who is told of a Settle.
+/// The callers that are told of a Settle.
 #[derive(Clone, Copy, Debug, PartialEq, Eq)]
 pub struct Audience {
-    /// How many hold the call: the one who settles it, and all who joined and have not left.
+    /// How many callers hold the call: its leader, and all that have joined and not left.
     pub holders: u64,
     /// Whether somebody joined the call, also one who has left since.
     pub joined: bool,

@@ -398,7 +398,7 @@ func TestKeptForgets(t *testing.T) {
 func TestAWatchThatFails(t *testing.T) {
 	t.Parallel()
 	servers := newCluster(t, 1)
-	join(t, servers.coordinator(), "http://first:1") // who begins the epoch
+	join(t, servers.coordinator(), "http://first:1") // it begins the epoch
 	// A renewal, which reads all as well, comes after this test.
 	long := servers.coordinator()
 	long.ttl = 20 * time.Minute
