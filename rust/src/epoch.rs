@@ -105,6 +105,7 @@ impl<T> Epoch<T> {
                 #[cfg(test)]
                 closing: Default::default(),
             }),
+            raw::OLD_PROCESSOR => Err(Error::OldProcessor),
             _ => Err(Error::OutOfMemory),
         }
     }

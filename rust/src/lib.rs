@@ -88,17 +88,15 @@
 //!
 //! # Features and platforms
 //!
-//! With the feature `notes`, a [`Caller`] can pass on what it has seen. No program needs it. The
-//! library is machine code for Linux on x86-64 (v2).
+//! With the feature `notes`, a [`Caller`] can pass on what it has seen. No program needs it.
+//!
+//! On Linux on x86-64 (v2) the crate links the proved library. On every other platform it runs plain
+//! Rust instead, which is tested and not proved. [`is_proved`] tells which of the two runs.
+//! `RUSTFLAGS='--cfg singleflight_plain'` chooses plain Rust on Linux on x86-64 too.
 
 #![deny(unsafe_op_in_unsafe_fn)]
 #![deny(clippy::undocumented_unsafe_blocks)]
 #![warn(missing_docs)]
-
-#[cfg(not(all(target_os = "linux", target_arch = "x86_64")))]
-compile_error!(
-    "singleflight is for Linux on x86-64 alone: the library that it links is machine code for that"
-);
 
 mod asker;
 mod cache;
@@ -113,7 +111,10 @@ mod pool;
 mod post;
 mod raw;
 mod recording;
-#[cfg(test)]
+#[cfg(all(test, sflight_schedules))]
+mod schedules;
+#[cfg(all(test, not(sflight_schedules)))]
+#[path = "schedules/elsewhere.rs"]
 mod schedules;
 mod stash;
 mod sync;
@@ -148,6 +149,18 @@ const MOST_CALLERS: u32 = 65_534;
 /// After so many calls a caller of the library is spent.
 const CALLS: u32 = u32::MAX - 1;
 
+/// Returns whether groups run the proved library. If not, they run plain Rust, which is tested and
+/// not proved: on platforms for which there is no library, and if `--cfg singleflight_plain` asks
+/// for it.
+///
+/// ```
+/// let name = if singleflight::is_proved() { "the proved library" } else { "plain Rust" };
+/// println!("singleflight runs {name}");
+/// ```
+pub const fn is_proved() -> bool {
+    cfg!(sflight_library)
+}
+
 /// The reasons why a call did nothing.
 ///
 /// ```
@@ -169,6 +182,8 @@ pub enum Error {
     TimedOut,
     /// The note is of another group.
     OtherGroup,
+    /// The library needs a processor of the level x86-64-v2, which this one is below.
+    OldProcessor,
 }
 
 impl fmt::Display for Error {
@@ -187,6 +202,9 @@ impl fmt::Display for Error {
             Error::OtherGroup => {
                 f.write_str("the note is of another group: learn it with a caller of its own group")
             }
+            Error::OldProcessor => f.write_str(
+                "the processor is below x86-64-v2: build with --cfg singleflight_plain for it",
+            ),
         }
     }
 }
@@ -333,7 +351,7 @@ impl<T: Send + Sync> Group<T> {
     /// grows with its use: to 1,048,576 slots and 65,534 callers.
     ///
     /// # Panics
-    /// Panics if there is no memory.
+    /// Panics if there is no memory, or if the processor is below x86-64-v2.
     ///
     /// ```
     /// let group = singleflight::Group::<u32>::new();
@@ -341,7 +359,7 @@ impl<T: Send + Sync> Group<T> {
     /// ```
     pub fn new() -> Self {
         let plan = Plan { places: PLACES, callers: CALLERS, grows: true, calls: CALLS };
-        Self::of(plan).expect("memory for a group")
+        Self::of(plan).unwrap_or_else(|why| panic!("no group: {why}"))
     }
 
     /// Makes a group that does not grow, with 1 to 134,217,728 hash slots and 1 to 65,534 callers
@@ -351,7 +369,7 @@ impl<T: Send + Sync> Group<T> {
     ///
     /// # Errors
     /// [`Error::Slots`] and [`Error::Callers`] if a number is out of range; [`Error::OutOfMemory`]
-    /// if there is no memory.
+    /// if there is no memory; [`Error::OldProcessor`] if the processor is below x86-64-v2.
     ///
     /// ```
     /// use singleflight::{Error, Group};

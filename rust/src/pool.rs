@@ -70,7 +70,7 @@ use crate::wait::{Follower, Wait};
 use crate::{lent, Call, Error, ForgetOutcome, Stamp};
 use std::collections::HashMap;
 use std::sync::atomic::{
-    AtomicBool, AtomicU32,
+    fence, AtomicBool, AtomicU32,
     Ordering::{Relaxed, SeqCst},
 };
 use std::sync::{Arc, Mutex};
@@ -423,6 +423,9 @@ impl<T> Pool<T> {
         *lock(&self.current) = new;
         point();
         self.now.store(number, SeqCst);
+        // Who leads writes its word, makes an exchange in the library and reads `now`: it sees the
+        // new number, or its word is seen below. A processor that reads early needs the fence.
+        fence(SeqCst);
         for (caller, post) in old.posts() {
             if let Some(wait) = post.moves(old.number, caller) {
                 point();

@@ -19,7 +19,6 @@ use crate::asker::Asker;
 use crate::sync::lock;
 use crate::{raw, Caller, Group, Loaded, Plan, Stamp};
 use judge::Log;
-use std::arch::global_asm;
 use std::cell::Cell;
 use std::collections::HashMap;
 use std::future::Future;
@@ -35,37 +34,7 @@ use std::time::Duration;
 mod cached;
 #[path = "../tests/judge/mod.rs"]
 mod judge;
-
-// Keeps the registers that a call has to keep on the old stack, and takes those of the new one.
-global_asm!(
-    ".globl sflight_rust_switch",
-    "sflight_rust_switch:",
-    "push rbp",
-    "push rbx",
-    "push r12",
-    "push r13",
-    "push r14",
-    "push r15",
-    "mov [rdi], rsp",
-    "mov rsp, rsi",
-    "pop r15",
-    "pop r14",
-    "pop r13",
-    "pop r12",
-    "pop rbx",
-    "pop rbp",
-    "ret",
-);
-
-// SAFETY: it is the code above.
-unsafe extern "C" {
-    /// Goes on where `to` was left, and leaves the caller's stack pointer at `from`, to be gone on
-    /// with later.
-    ///
-    /// # Safety
-    /// `to` was left so, or is a stack that `play` made, and nobody has gone on there since.
-    unsafe fn sflight_rust_switch(from: *mut usize, to: usize);
-}
+mod stacks;
 
 const STACK: usize = 256 << 10;
 /// More steps than any schedule takes that ends.
@@ -157,7 +126,7 @@ fn step(step: Step) {
     });
     if let Some((from, to)) = ends.flatten() {
         // SAFETY: the play says where each coroutine was left.
-        unsafe { sflight_rust_switch(from, to) };
+        unsafe { stacks::switch(from, to) };
     }
 }
 
@@ -198,7 +167,7 @@ extern "C" fn enter() {
     });
     let (from, to) = ends.flatten().expect("one that is over takes no turn");
     // SAFETY: as in `step`.
-    unsafe { sflight_rust_switch(from, to) };
+    unsafe { stacks::switch(from, to) };
     unreachable!("a coroutine that is over takes no turn");
 }
 
@@ -222,10 +191,7 @@ fn play(
 ) -> Result<u64, String> {
     let coroutines = tasks.into_iter().map(|task| {
         let mut stack = stacks.pop().unwrap_or_else(|| vec![0; STACK / 16].into());
-        let top = stack.as_mut_ptr_range().end as usize;
-        let at = top - 64;
-        // SAFETY: six registers, and where it begins, with the stack as a call leaves it.
-        unsafe { ((top - 16) as *mut usize).write(enter as extern "C" fn() as usize) };
+        let at = stacks::begin(&mut stack, enter);
         Coroutine { stack, at, task: Some(task), is_over: false, stalls: 0 }
     });
     let mut made = Play {
@@ -240,7 +206,7 @@ fn play(
     };
     PLAY.set(&mut made);
     // SAFETY: it comes back when all are over, or one says that they do not end.
-    unsafe { sflight_rust_switch(&raw mut made.main, made.coroutines[0].at) };
+    unsafe { stacks::switch(&raw mut made.main, made.coroutines[0].at) };
     PLAY.set(null_mut());
     if let Some(why) = made.failure.take() {
         std::mem::forget(made);
