@@ -28,7 +28,8 @@
  *   threads.
  * - malloc, realloc and free come from one allocator, and align blocks as the C standard asks.
  *
- * The library needs Linux on x86-64 with SSE4.2 and POPCNT (x86-64-v2). It needs no executable
+ * The library is for Linux on x86-64, and needs a processor of the level x86-64-v2 (SSE4.2 and
+ * POPCNT): sflight_open returns SFLIGHT_OLD_PROCESSOR on an older one. It needs no executable
  * stack. It has no landing pads for indirect branches (IBT), so a program that links it statically
  * runs without that. */
 #ifndef SFLIGHT_H
@@ -121,7 +122,8 @@ enum sflight_code {
     SFLIGHT_NO_MEMORY = 13,   /* malloc failed */
     SFLIGHT_NO_CALLER = 14,   /* all callers of the group have a slot */
     SFLIGHT_REPLACED = 15,    /* the answer is in the cache, and another came out in its place */
-    SFLIGHT_EVICTED = 16      /* another came out of the cache to make room: keep it once more */
+    SFLIGHT_EVICTED = 16,     /* another came out of the cache to make room: keep it once more */
+    SFLIGHT_OLD_PROCESSOR = 17 /* the processor is below x86-64-v2 */
 };
 
 /* Limits of a group and of a function. */
@@ -152,6 +154,7 @@ static inline const char *sflight_strerror(uint32_t code)
     case SFLIGHT_NO_CALLER: return "all callers of the group have a slot";
     case SFLIGHT_REPLACED: return "the answer is in the cache, and another came out in its place";
     case SFLIGHT_EVICTED: return "another answer came out of the cache to make room";
+    case SFLIGHT_OLD_PROCESSOR: return "the processor is below x86-64-v2";
     default: return "not a code of this library";
     }
 }
@@ -169,7 +172,7 @@ static inline const char *sflight_strerror(uint32_t code)
  * of the group, twice that of the places for a moment; but not that of further slots, nor of keys
  * of more than 40 bytes.
  * Returns SFLIGHT_DONE; SFLIGHT_BAD_NUMBER; SFLIGHT_WRONG_STATE where the slot is open already;
- * SFLIGHT_NO_MEMORY. */
+ * SFLIGHT_NO_MEMORY; SFLIGHT_OLD_PROCESSOR. */
 SFLIGHT_MUST_USE
 uint32_t sflight_open(sflight_slot *slot, uint32_t places, uint32_t callers, uint64_t seed0,
                       uint64_t seed1);

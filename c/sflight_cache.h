@@ -85,7 +85,8 @@ enum sflight_cache_code {
 
 /* Opens a cache. It takes at once about 1,000 bytes per entry, in a cache of more than 1,024 entries
  * fewer, down to about 350.
- * Returns null where an option is out of range, or there is no memory. */
+ * Returns null where an option is out of range, there is no memory, or the processor is too old (see
+ * sflight_open). */
 SFLIGHT_MUST_USE
 sflight_cache *sflight_cache_open(const sflight_cache_options *options);
 

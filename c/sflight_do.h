@@ -96,7 +96,8 @@ typedef struct sflight_recorded {
 /* Opens a pool. `sizes` may be null, which means the default sizes. `share` may be null. If it is
  * not, the thread that loaded a value calls it before other threads get the value, with their
  * number: a program that counts references adds that many. `share` must not use the pool. Returns
- * null if there is no memory, or if a size is out of range (see sflight_open). */
+ * null if there is no memory, if a size is out of range, or if the processor is too old (see
+ * sflight_open). */
 sflight_pool *sflight_do_open(const sflight_do_sizes *sizes,
                               void (*share)(uint64_t value, uint32_t others) SFLIGHT_NOEXCEPT);
 

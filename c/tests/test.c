@@ -775,11 +775,11 @@ static void places(void) {
 
 /* Each code has a sentence of its own. */
 static void sentences(void) {
-    for (uint32_t code = 0; code <= SFLIGHT_EVICTED; code++) {
+    for (uint32_t code = 0; code <= SFLIGHT_OLD_PROCESSOR; code++) {
         check(strlen(sflight_strerror(code)) > 3, "a code has a sentence");
         for (uint32_t other = 0; other < code; other++) check(strcmp(sflight_strerror(code), sflight_strerror(other)) != 0, "of its own");
     }
-    check(strcmp(sflight_strerror(SFLIGHT_EVICTED + 1), sflight_strerror(UINT32_MAX)) == 0, "what is no code");
+    check(strcmp(sflight_strerror(SFLIGHT_OLD_PROCESSOR + 1), sflight_strerror(UINT32_MAX)) == 0, "what is no code");
 }
 
 int main(void) {

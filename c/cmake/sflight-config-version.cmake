@@ -1,0 +1,11 @@
+# Which versions a program may ask for: the library's own and older ones of the same minor version.
+set(PACKAGE_VERSION "@VERSION@")
+string(REGEX REPLACE "^([0-9]+\\.[0-9]+).*" "\\1" _sflight_minor "${PACKAGE_VERSION}")
+if(PACKAGE_FIND_VERSION VERSION_EQUAL PACKAGE_VERSION)
+  set(PACKAGE_VERSION_EXACT TRUE)
+endif()
+if(PACKAGE_FIND_VERSION VERSION_LESS _sflight_minor OR PACKAGE_FIND_VERSION VERSION_GREATER PACKAGE_VERSION)
+  set(PACKAGE_VERSION_COMPATIBLE FALSE)
+else()
+  set(PACKAGE_VERSION_COMPATIBLE TRUE)
+endif()
