@@ -91,6 +91,7 @@ bare z s h ws holder k y seen is = record {
     dead = λ no. absurd (true≢false (sym no));
     half = λ no. absurd (true≢false (sym no));
     told = λ no. absurd (true≢false (sym no));
+    gone = λ k no. absurd (true≢false (sym no));
   };
   walk = λ no. absurd (true≢false (sym no));
   own = λ any. absurd (any refl);
@@ -261,5 +262,5 @@ hears z slots id i me t p len is fits =
       tt,
       still z t p id i me w is (λ d. refl)
           (record { seen = whole p.history; heard = m.heard; look = m.look; walk = m.walk; own = m.own; begun = m.begun; leads = m.leads; ticket = m.ticket; last = m.last }),
-      record { view = refl; seen = m.seen; heard = m.heard; legal = p.tells.legal },
+      record { view = refl; seen = m.seen; heard = m.heard; legal = p.tells.legal; gone = λ k is. p.tells.shuts k (m.look.gone k is).none },
     )

@@ -65,7 +65,7 @@ unmoved z ws ws2 i x v w fr below same d lt =
 
 -- a view after a step on a word that is no cell's, by which no call is led
 front_view : (z : KeyedSizes) (s s2 : Words) (h : List KeyedEvent) (ws ws2 : List ℕ) (holder : ℕ → ℕ) (i x k : ℕ) (u : View) → Front z ws ws2 i x → ((e : ℕ) → s2.led e ≡ s.led e)
-    → (IsLook s u → IsLook s2 u) → (IsLook s u → IsWalk z s u → IsWalk z s2 u) → IsView z s h ws holder k u → IsView z s2 h ws2 holder k u
+    → (IsLook z s u → IsLook z s2 u) → (IsLook z s u → IsWalk z s u → IsWalk z s2 u) → IsView z s h ws holder k u → IsView z s2 h ws2 holder k u
 front_view z s s2 h ws ws2 holder i x k u fr led look walk m =
     view_away z s s2 h h ws ws2 holder holder 1048576 k u
     (record { state = λ e _ _. fr.state e; name = λ e _ _. fr.name e; high = λ e _ _. fr.high e; value = λ e _ _. fr.value e; holder_is = λ j _. refl; led = λ e _. led e; settled = λ e _ before. before; entered = λ e _. refl })
@@ -79,6 +79,7 @@ pub record MayLead (z : KeyedSizes) (v : View) (p old new : ℕ) : Type 0 where
   pub call : v.own ≢ 0
   pub named : v.named ≡ true
   pub new_is : new / 4 ≡ v.own
+  pub plain : new / 2 % 2 ≡ 0
   pub old_is : old / 4 ≡ v.top
   pub unsealed : old / 2 % 2 ≡ 0
   pub walks : v.walks ≡ true
@@ -157,7 +158,7 @@ lead_won z id q old new me may t p is found =
     } in
     let far : (k : ℕ) (u : View) → (u.own ≢ 0 → u.own % 1048576 ≡ c → IsOwn z s t.words p.holder k u.own u.named u.key → ⊥) → (u.leads ≢ 0 → u.leads % 1048576 ≡ c → IsLeads z s h t.words p.holder k u.leads u.stored u.value → ⊥)
     → IsView z s h t.words p.holder k u → IsView z s2 h2 ws p.holder k u
-    = λ k u one two2 view. view_away z s s2 h h2 t.words ws p.holder p.holder c k u away (one_more h x) (λ l. look_lasts y s step u p.keeps l) (λ l w. walk_lasts z s step u p.keeps l w)
+    = λ k u one two2 view. view_away z s s2 h h2 t.words ws p.holder p.holder c k u away (one_more h x) (λ l. look_lasts z s step u p.keeps l) (λ l w. walk_lasts z s step u p.keeps l w)
     one
     (λ any here o. absurd (two2 any here o))
     (λ any here o. record {
@@ -204,6 +205,9 @@ lead_won z id q old new me may t p is found =
             seals = λ k lt yes. dite (ℕ_discrete k q)
                 (λ here. absurd (true≢false (sym yes ∙ (ap s.sealed (here ∙ sym slot) ∙ lead.unsealed))))
                 (λ apart. ap (λ n. n / 2 % 2) (fr.else k apart) ∙ p.shows.seals k lt yes);
+            bits = λ k lt one. dite (ℕ_discrete k q)
+                (λ here. let same : slice_index ws k / 2 % 2 ≡ new / 2 % 2 = ap (λ j. slice_index ws j / 2 % 2) here ∙ ap (λ n. n / 2 % 2) fr.here in let none = may.plain in absurd (omega (arith, same, none, one)))
+                (λ apart. p.shows.bits k lt (sym (ap (λ n. n / 2 % 2) (fr.else k apart)) ∙ one));
             marks = λ k lt even. dite (ℕ_discrete k q)
                 (λ here. ap (put s.marked (slot_of z v.key) mark) (here ∙ sym slot) ∙ (put_here s.marked (slot_of z v.key) mark ∙ ne_eqb (new % 2) 1 (λ one.
                 let same : slice_index ws k % 2 ≡ new % 2 = ap (λ j. slice_index ws j % 2) here ∙ ap (λ n. n % 2) fr.here in
@@ -285,7 +289,7 @@ seal_won z id q old new me may t p is found =
     let fr = front z t.words q new inside p.shows.size in
     let quarter : new / 4 ≡ old / 4 = omega (arith, new_is, unsealed) in
     let flag : new / 2 % 2 ≡ 1 = omega (arith, new_is, unsealed) in
-    let all : (k : ℕ) (u : View) → get_elem? t.views k ≡ some u → IsView z s2 h ws p.holder k u = λ k u at. front_view z s s2 h t.words ws p.holder q new k u fr (λ d. refl) (λ l. look_lasts y s step u p.keeps l) (λ l w. walk_lasts z s step u p.keeps l w) (p.seats k u at) in (
+    let all : (k : ℕ) (u : View) → get_elem? t.views k ≡ some u → IsView z s2 h ws p.holder k u = λ k u at. front_view z s s2 h t.words ws p.holder q new k u fr (λ d. refl) (λ l. look_lasts z s step u p.keeps l) (λ l w. walk_lasts z s step u p.keeps l w) (p.seats k u at) in (
       v,
       keeps,
       tt,
@@ -305,6 +309,9 @@ seal_won z id q old new me may t p is found =
             seals = λ k lt yes. dite (ℕ_discrete k q)
                 (λ here. ap (λ j. slice_index ws j / 2 % 2) here ∙ (ap (λ n. n / 2 % 2) fr.here ∙ flag))
                 (λ apart. ap (λ n. n / 2 % 2) (fr.else k apart) ∙ p.shows.seals k lt (sym (put_else s.sealed q true k apart) ∙ yes));
+            bits = λ k lt one. dite (ℕ_discrete k q)
+                (λ here. ap (put s.sealed q true) here ∙ put_here s.sealed q true)
+                (λ apart. put_else s.sealed q true k apart ∙ p.shows.bits k lt (sym (ap (λ n. n / 2 % 2) (fr.else k apart)) ∙ one));
             marks = λ k lt even. dite (ℕ_discrete k q)
                 (λ here. ap s.marked here ∙ p.shows.marks q below (let same : slice_index ws k % 2 ≡ new % 2 = ap (λ j. slice_index ws j % 2) here ∙ ap (λ n. n % 2) fr.here in let was : slice_index t.words q % 2 ≡ old % 2 = ap (λ n. n % 2) found in omega (arith, same, was, new_is, even)))
                 (λ apart. p.shows.marks k lt (sym (ap (λ n. n % 2) (fr.else k apart)) ∙ even));
@@ -314,14 +321,14 @@ seal_won z id q old new me may t p is found =
           (unmoved z t.words ws q new v v fr inside (λ d. refl))
           (λ k u apart at. all k u at)
           (all id v is),
-      refl,
+      sym (ap (λ b. cond b v (loses v)) (eq-eqb _ old found)),
     )
 
 pub seals_allowed : (z : KeyedSizes) (slots id q old new : ℕ) (me : Me ℕ View) → MaySeal z q old new
     → Allows (Holds z) slots id me q (λ n. either (eqb n old) new n) (λ n after. after.0 ≡ sealed_by me.0 old n)
 seals_allowed z slots id q old new me may t p len is fits =
     exchanged (slice_index t.words q) old new (Sealed z id q old me t) (seal_won z id q old new me may t p is)
-    (λ differ. (me.0, keeps, tt, still z t p id q me me.0 is (λ d. refl) (p.seats id me.0 is), refl))
+    (λ differ. (loses me.0, keeps, tt, still z t p id q me (loses me.0) is (λ d. refl) (losing z p.words p.history t.words p.holder id me.0 (p.seats id me.0 is)), sym (ap (λ b. cond b me.0 (loses me.0)) (ne_eqb _ old differ))))
 
 -- the top is set aside, in place of a dead call
 pub record MayAside (z : KeyedSizes) (v : View) (j old new : ℕ) : Type 0 where
@@ -357,7 +364,7 @@ aside_won z id j old new me may t p is found =
     let s2 : Words = aside_at s j v.top in
     let ws : List ℕ = set t.words q new in
     let fr = front z t.words q new inside p.shows.size in
-    let all : (k : ℕ) (u : View) → get_elem? t.views k ≡ some u → IsView z s2 h ws p.holder k u = λ k u at. front_view z s s2 h t.words ws p.holder q new k u fr (λ d. refl) (λ l. look_lasts y s step u p.keeps l) (λ l w. walk_lasts z s step u p.keeps l w) (p.seats k u at) in
+    let all : (k : ℕ) (u : View) → get_elem? t.views k ≡ some u → IsView z s2 h ws p.holder k u = λ k u at. front_view z s s2 h t.words ws p.holder q new k u fr (λ d. refl) (λ l. look_lasts z s step u p.keeps l) (λ l w. walk_lasts z s step u p.keeps l w) (p.seats k u at) in
     let mine = all id v is in
     let w : View = record v { saved = true } in
     let aside : IsAside y s2 v.slot 0 v.top = record { at = may.at; after = omega arith; within = may.within; names = ap s2.side (sym may.place) ∙ put_here s.side j v.top } in (
@@ -378,6 +385,7 @@ aside_won z id j old new me may t p is found =
             only = p.shows.only;
             coming = λ d in_cells later. p.shows.coming d in_cells (subst (λ n. n / 8388608 < d / 1048576) (fr.state d) later);
             seals = λ k lt yes. ap (λ n. n / 2 % 2) (fr.else k (λ b. omega (arith, lt, b))) ∙ p.shows.seals k lt yes;
+            bits = λ k lt yes. p.shows.bits k lt (sym (ap (λ n. n / 2 % 2) (fr.else k (λ b. omega (arith, lt, b)))) ∙ yes);
             marks = λ k lt even. p.shows.marks k lt (sym (ap (λ n. n % 2) (fr.else k (λ b. omega (arith, lt, b)))) ∙ even);
             values = λ d led g odd. p.shows.values d led (sym (ap gen_of (fr.state d)) ∙ g) (sym (ap (λ n. n / 2097152 % 4 % 2) (fr.state d)) ∙ odd) ∙ ap (λ n. Some (Some n)) (sym (fr.value d));
           })

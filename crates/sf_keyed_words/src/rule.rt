@@ -21,6 +21,12 @@ pub struct Name {
     pub high: u64,
 }
 
+/// A walk over a sealed slot, and the names that it met there: no other name of the slot has an open call, and none ever has one again.
+pub struct Gone {
+    pub slot: u64,
+    pub names: LinkedList<u64>,
+}
+
 /// What a seat knows, where 0 is no call.
 ///
 /// The call that it may lead next, with the lower word of a name that its cell has, and the name, if they were stored; the call that it leads, with the value
@@ -30,7 +36,8 @@ pub struct Name {
 /// How far it has walked from a slot: the top word and the call that it names, and whether that is seen to be no open call of a name that
 /// was not met, and to be closed or aside; how many side words it has looked at, and the last of them; and how many of the calls were open.
 /// The call that it is just looking at: whether it is no open call of a name that was not met, whether it is closed, whether it was
-/// counted among the open ones, and the lower word of the name, and the name, that it has if it is open. And the names that it has met.
+/// counted among the open ones, and the lower word of the name, and the name, that it has if it is open. And the names that it has met, and its
+/// walks over sealed slots.
 ///
 /// The state word that it looked at last, and where a free cell's lies; and how often an exchange of its found another word than the
 /// one that it had looked at.
@@ -64,6 +71,7 @@ pub struct View {
     pub told: bool,
     pub name: u64,
     pub names: LinkedList<u64>,
+    pub gone: LinkedList<Gone>,
     pub looked: u64,
     pub aside: u64,
     pub opened: u64,

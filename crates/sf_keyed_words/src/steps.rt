@@ -139,7 +139,7 @@ pub fn lead(words: &Words, seat: &mut KeyedSeat, slot: u64, old: u64, new: u64) 
     requires own { seat.old.table_id ≡ words.now.table_id }
     requires size { words.now.table_id.words ≡ word_total words.now.key }
     requires slot { (slot < words.now.key.tops) × (slot_of words.now.key seat.old.me.0.key ≡ slot) × (seat.old.me.0.slot ≡ slot) }
-    requires call { (seat.old.me.0.own ≢ 0) × (seat.old.me.0.named ≡ true) × (new / 4 ≡ seat.old.me.0.own) }
+    requires call { (seat.old.me.0.own ≢ 0) × (seat.old.me.0.named ≡ true) × (new / 4 ≡ seat.old.me.0.own) × (new / 2 % 2 ≡ 0) }
     requires top { (old ≡ seat.old.me.0.found) × (old / 4 ≡ seat.old.me.0.top) × (old / 2 % 2 ≡ 0) }
     requires walked { (seat.old.me.0.walks ≡ true) × (seat.old.me.0.clear ≡ true) × (old % 2 ≡ 1 → seat.old.me.0.looked ≡ 16) }
     requires mark { new % 2 ≡ 0 → (name : ℕ) → slot_of words.now.key name ≡ slot → Unmet seat.old.me.0.names name }
