@@ -5,12 +5,12 @@ use Rattle.std.specs.List.{list_any}
 use Rattle.std.specs.Prelude.{slice_index, nat_eq}
 use mathlib.Core.Logic.{dite}
 use native.Mathlib.Decide.{ℕ_discrete}
-use Rattle.atomic_table.specs.Table.{Me, keeps, Allows}
+use Rattle.atomic_table.specs.Table.{State, Me, keeps, Allows}
 use Rattle.sf_keyed_tells.specs.Tells.{KeyedEvent}
 use Rattle.sf_keyed_laws.specs.Words.{Words}
 use Rattle.sf_keyed_words.specs.declared.rule.KeyedSizes.{KeyedSizes}
 use Rattle.sf_keyed_words.specs.declared.rule.View.{View}
-use Rattle.sf_keyed_words.specs.Rule.{slot_of, state_at, value_at, layout_of, is_open_call, IsView, stake, Holds}
+use Rattle.sf_keyed_words.specs.Rule.{slot_of, state_at, value_at, layout_of, is_open_call, IsView, stake, KeyedTable, Holds}
 use Rattle.sf_keyed_words.proofs.Seats.{losing, still}
 use Rattle.sf_keyed_words.proofs.States.{open_call_parts, whole}
 use Rattle.sf_history.specs.History.{open_call}
@@ -45,11 +45,11 @@ gone_more z s v w q true sizes same slot bit idle old k is = by_cases (covers v.
     (λ no. let g = old k (sym (ap (λ c. c || is_gone v.sizes v.gone k) no) ∙ is) in record { sizes = same ∙ g.sizes; sealed = g.sealed; none = g.none })
 
 -- a view that has seen all, at the end of a walk
-walked_all : (z : KeyedSizes) (s : Words) (h : List KeyedEvent) (ws : List ℕ) (holder : ℕ → ℕ) (id : ℕ) (v : View) (q : ℕ) → v.sizes ≡ z → v.slot ≡ q → (v.found / 2 % 2 ≡ 1 → s.sealed q ≡ true)
+pub walked_all : (z : KeyedSizes) (s : Words) (h : List KeyedEvent) (ws : List ℕ) (holder : ℕ → ℕ) (id : ℕ) (v : View) (q n : ℕ) → v.sizes ≡ z → v.slot ≡ q → (n / 2 % 2 ≡ 1 → s.sealed q ≡ true)
     → ((k : ℕ) → slot_of v.sizes k ≡ v.slot → Unmet v.names k → HasNoOpen s k)
-    → IsView z s h ws holder id v → IsView z s h ws holder id (record v { seen = h; gone = with_walk v v.found })
-walked_all z s h ws holder id v q sizes slot bit idle m =
-    let w : View = record v { seen = h; gone = with_walk v v.found } in
+    → IsView z s h ws holder id v → IsView z s h ws holder id (record v { seen = h; gone = with_walk v n })
+walked_all z s h ws holder id v q n sizes slot bit idle m =
+    let w : View = record v { seen = h; gone = with_walk v n } in
     record {
       seen = whole h;
       heard = m.heard;
@@ -60,7 +60,7 @@ walked_all z s h ws holder id v q sizes slot bit idle m =
         dead = m.look.dead;
         half = m.look.half;
         told = m.look.told;
-        gone = gone_more z s v w q (eqb (v.found / 2 % 2) 1) sizes refl slot (λ yes. bit (eqb-true _ _ yes)) idle m.look.gone;
+        gone = gone_more z s v w q (eqb (n / 2 % 2) 1) sizes refl slot (λ yes. bit (eqb-true _ _ yes)) idle m.look.gone;
       };
       walk = m.walk;
       own = m.own;
@@ -80,31 +80,38 @@ pub record MayFind (z : KeyedSizes) (v : View) (q : ℕ) : Type 0 where
   pub other : v.other ≡ true
   pub sizes : v.sizes ≡ z
 
+-- at its end none of the names that were not met has an open call, where the top word is what it was
+pub idle_at : (z : KeyedSizes) (t : State ℕ View) (p : KeyedTable z t) (id q : ℕ) (v : View) → MayFind z v q → IsView z p.words p.history t.words p.holder id v → slice_index t.words q ≡ v.found
+    → (k : ℕ) → slot_of v.sizes k ≡ v.slot → Unmet v.names k → HasNoOpen p.words k
+idle_at z t p id q v may m same k slot unmet =
+    let y = layout_of z in
+    let s = p.words in
+    let walk = m.walk may.walks in
+    let n : ℕ = slice_index t.words q in
+    let at_slot : slot_of z k ≡ v.slot = ap (λ (z2 : KeyedSizes). slot_of z2 k) (sym may.sizes) ∙ slot in
+    let was : s.top (slot_of z k) ≡ v.top = ap s.top (at_slot ∙ may.slot_is) ∙ (sym (p.shows.tops q may.below) ∙ (ap (λ b. b / 4) same ∙ may.top_is)) in
+    let walked : HasWalked y s k v.top v.top 16 = dite (ℕ_discrete (v.found % 2) 1)
+    (λ odd. subst (λ b. HasWalked y s k v.top v.top b) (may.looked odd) (walks_clear y s k v.top v.but v.looked (walk.walked k at_slot unmet) (m.look.clear may.clear k unmet)))
+    (λ isnt. unmarked_is_walked y s k v.top p.keeps was (ap s.marked (at_slot ∙ may.slot_is) ∙ p.shows.marks q may.below (let even : n % 2 ≡ v.found % 2 = ap (λ b. b % 2) same in omega (arith, even, isnt)))) in
+    walks_end y s k v.top walked was (walk.other may.other k unmet)
+
 pub finds : (z : KeyedSizes) (slots id q : ℕ) (me : Me ℕ View) → MayFind z me.0 q → Allows (Holds z) slots id me q (λ n. n) (λ n after. finds_none me.0 n after.0)
 finds z slots id q me may t p len is fits =
     let v = me.0 in
-    let y = layout_of z in
     let s = p.words in
     let h = p.history in
     let m = p.seats id v is in
     let n : ℕ = slice_index t.words q in
     dite (ℕ_discrete n v.found)
     (λ same.
-    let walk = m.walk may.walks in
-    let idle : (k : ℕ) → slot_of v.sizes k ≡ v.slot → Unmet v.names k → HasNoOpen s k = λ k slot unmet.
-    let at_slot : slot_of z k ≡ v.slot = ap (λ (z2 : KeyedSizes). slot_of z2 k) (sym may.sizes) ∙ slot in
-    let was : s.top (slot_of z k) ≡ v.top = ap s.top (at_slot ∙ may.slot_is) ∙ (sym (p.shows.tops q may.below) ∙ (ap (λ b. b / 4) same ∙ may.top_is)) in
-    let walked : HasWalked y s k v.top v.top 16 = dite (ℕ_discrete (v.found % 2) 1)
-    (λ odd. subst (λ b. HasWalked y s k v.top v.top b) (may.looked odd) (walks_clear y s k v.top v.but v.looked (walk.walked k at_slot unmet) (m.look.clear may.clear k unmet)))
-    (λ isnt. unmarked_is_walked y s k v.top p.keeps was (ap s.marked (at_slot ∙ may.slot_is) ∙ p.shows.marks q may.below (let even : n % 2 ≡ v.found % 2 = ap (λ b. b % 2) same in omega (arith, even, isnt)))) in
-    walks_end y s k v.top walked was (walk.other may.other k unmet) in
+    let idle = idle_at z t p id q v may m same in
     let none : (k : ℕ) → slot_of v.sizes k ≡ v.slot → Unmet v.names k → open_call nat_eq h k ≡ None = λ k slot unmet. p.tells.shuts k (idle k slot unmet) in
     let bit : v.found / 2 % 2 ≡ 1 → s.sealed q ≡ true = λ one. p.shows.bits q may.below (ap (λ b. b / 2 % 2) same ∙ one) in
     let w : View = record v { seen = h; gone = with_walk v v.found } in (
       w,
       keeps,
       tt,
-      still z t p id q me w is (λ d. refl) (walked_all z s h t.words p.holder id v q may.sizes may.slot_is bit idle m),
+      still z t p id q me w is (λ d. refl) (walked_all z s h t.words p.holder id v q v.found may.sizes may.slot_is bit idle m),
       record { won = λ _. (refl, record { seen = m.seen; legal = p.tells.legal }, none); lost = λ bar. absurd (bar same) },
     ))
     (λ differ. (

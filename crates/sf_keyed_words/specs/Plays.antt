@@ -84,9 +84,6 @@ try_claim v at old n = cond (n == old) (record v { own = next_call v at old; fir
 abbrev pub try_aside : View → ℕ → ℕ → View
 try_aside v old n = cond (n == old) (record v { saved = true }) (loses v)
 
-abbrev pub sealed_by : View → ℕ → ℕ → View
-sealed_by v old n = cond (n == old) v (loses v)
-
 -- the seat has seen more, of which the last is this event
 pub record Adds (v w : View) (x : KeyedEvent) : Type 0 where
   pub before : List KeyedEvent
@@ -157,6 +154,11 @@ with_walk v n = cond (n / 2 % 2 == 1) (record { slot = v.slot; names = v.names }
 pub record finds_none (v : View) (n : ℕ) (w : View) : Type 0 where
   pub won : n ≡ v.found → (w ≡ record v { seen = w.seen; gone = with_walk v v.found }) × Grows v w × ((k : ℕ) → slot_of v.sizes k ≡ v.slot → Unmet v.names k → open_call nat_eq w.seen k ≡ None)
   pub lost : n ≢ v.found → w ≡ loses v
+
+-- the slot is sealed where its top word was the walk's, at whose end none of the names that were not met has an open call
+pub record tries_seal (v : View) (old new n : ℕ) (w : View) : Type 0 where
+  pub won : n ≡ old → (w ≡ record v { seen = w.seen; gone = with_walk v new }) × Grows v w × ((k : ℕ) → slot_of v.sizes k ≡ v.slot → Unmet v.names k → open_call nat_eq w.seen k ≡ None)
+  pub lost : n ≢ old → w ≡ loses v
 
 -- the call that is looked at is its name's open call, or it is not open any more
 pub record confirms (v : View) (n : ℕ) (w : View) : Type 0 where

@@ -392,8 +392,7 @@ impl Play<u8, View> for GivesBack {
 pub struct Seals;
 
 impl Play<u8, View> for Seals {
-    ghost use Rattle.std.specs.Prelude.{◌≡◌};
-    ghost use Rattle.sf_keyed_words.specs.Plays.{sealed_by};
+    ghost use Rattle.sf_keyed_words.specs.Plays.{tries_seal};
 
-    ghost then = { λ step before word after. after.0 ≡ sealed_by before.0 step.first word };
+    ghost then = { λ step before word after. tries_seal before.0 step.first step.second word after.0 };
 }
