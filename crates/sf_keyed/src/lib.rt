@@ -10,7 +10,7 @@ pub mod laws;
 pub mod names;
 
 pub use group::{
-    Asked, Audience, Claim, Ended, Flight, Forgotten, Front, KeyedGroup, Note, Refusal, Settled,
+    Asked, Audience, Claim, Ended, Flight, Forgotten, Front, KeyedGroup, Note, Passed, Refusal, Settled,
     Ticket,
 };
 pub use names::Names;
