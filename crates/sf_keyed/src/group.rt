@@ -1,6 +1,7 @@
 //! The group, the tokens of its callers, and its calls. None of them waits, and none takes memory but `new`.
 ghost use Rattle.std.specs.Prelude.{◌≡◌, ◌≢◌, ℕ, None, nat_eq, ◌≤◌, ◌<◌, ◌*◌, ◌/◌, ◌%◌, ◌^◌, true, false, IfErr, IfOk};
 ghost use Rattle.sf_history.specs.History.{open_call};
+ghost use Rattle.sf_history.specs.Legal.{IsLegal};
 ghost use Rattle.sf_keyed.specs.Known.{IsGone};
 ghost use Rattle.sf_keyed_words.specs.Rule.{number, word_total, joined_bit, is_forgotten, IsPrefix};
 ghost use Rattle.sf_keyed_walks.specs.Walk.{IsLaid};
@@ -10,7 +11,7 @@ use atomic_table::Table;
 use sf_keyed_walks::answer::{leave_call, settle_call, take};
 use sf_keyed_walks::often;
 use sf_keyed_words::moving::{join_flight, join_note, join_ticket, split_flight, split_ticket};
-use sf_keyed_words::opening::{number_as, open, share};
+use sf_keyed_words::opening::{enter, number_as, open, share};
 use sf_keyed_words::steps::{KeyedSeat, claim, look_cell};
 use sf_keyed_words::{KeyedSizes, Law, Name, View};
 use std::alloc::{AllocError, Global};
@@ -422,6 +423,17 @@ impl KeyedGroup {
     {
         let words = &self.table.shared;
         let mut seat = share(words, &mut me.seat);
+        number_as(words, &mut seat, number);
+        Front { seat, spare: 0 }
+    }
+
+    /// A caller with no other's help, which has seen all that has happened, and has no cell to spare. Its Forgets are by this number.
+    pub fn enter(&self, number: u64) -> Front
+        ensures caller { (result.group ≡ self.now) × (result.number ≡ number) × (result.spare ≡ 0) }
+        ensures legal { IsLegal nat_eq result.seen }
+    {
+        let words = &self.table.shared;
+        let mut seat = enter(words);
         number_as(words, &mut seat, number);
         Front { seat, spare: 0 }
     }

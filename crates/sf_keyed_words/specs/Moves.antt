@@ -40,3 +40,8 @@ pub record has_heard (v w : View) : Type 0 where
   pub heard : IsPrefix v.heard w.seen
   pub legal : IsLegal nat_eq w.seen
   pub gone : (k : ℕ) → is_gone v.sizes v.gone k ≡ true → open_call nat_eq w.seen k ≡ None
+
+-- a new seat has seen all that has happened
+pub record has_entered (v w : View) : Type 0 where
+  pub view : w ≡ record v { seen = w.seen }
+  pub legal : IsLegal nat_eq w.seen

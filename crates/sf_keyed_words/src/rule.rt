@@ -93,6 +93,15 @@ impl TableRule<u8, View, KeyedSizes> for Law {
     ghost first = { first_view };
 }
 
+/// A load by which a new seat has seen all that has happened.
+pub struct Enters;
+
+impl Play<u8, View> for Enters {
+    ghost use Rattle.sf_keyed_words.specs.Moves.{has_entered};
+
+    ghost then = { λ step before word after. has_entered before.0 after.0 };
+}
+
 /// A new seat sees what another has seen.
 pub struct Shares;
 
