@@ -4,4 +4,6 @@
 #[cfg(test)]
 mod ages;
 #[cfg(test)]
+mod passes;
+#[cfg(test)]
 mod tests;
