@@ -340,7 +340,7 @@ impl KeyedGroup {
     /// on from the last to the first.
     pub fn claim(&self, me: &mut Front, cell: u64) -> Claim
         requires own { me.old.group ≡ self.now }
-        ensures stays { (me.new.group ≡ me.old.group) × (me.new.number ≡ me.old.number) × (me.new.seen ≡ me.old.seen) }
+        ensures stays { (me.new.group ≡ me.old.group) × (me.new.number ≡ me.old.number) × (me.new.seen ≡ me.old.seen) × (me.new.gone ≡ me.old.gone) }
         ensures claimed { IsClaimed me.old me.new cell result }
     {
         if me.spare != 0 {
