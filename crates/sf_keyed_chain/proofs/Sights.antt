@@ -1,5 +1,5 @@
 -- Sights that go on.
-use Rattle.std.proofs.Common.{◌⊎◌, ◌≡◌, ◌≢◌, ℕ, zero, suc, ◌+◌, ◌<◌, ◌≤◌, Bool, true, false, cond, List, [], ◌∷◌, ◌++◌, set, get_or, length, map, Option, Some, None, refl, sym, ◌∙◌, ap, subst, inl, inr, ⊎_elim, arith, append_assoc, length-set, length-append}
+use Rattle.std.proofs.Common.{◌⊎◌, ◌≡◌, ◌≢◌, ℕ, zero, suc, ◌+◌, ◌<◌, ◌≤◌, Bool, true, false, cond, List, [], ◌∷◌, ◌++◌, set, get_or, length, map, Option, Some, None, Result, Ok, Err, IfOk, refl, sym, ◌∙◌, ap, subst, inl, inr, ⊎_elim, arith, append_assoc, length-set, length-append}
 use Rattle.std.specs.List.{slice_get}
 use Rattle.std.specs.Prelude.{if◌then◌else◌}
 use Rattle.std.proofs.lemmas.Option.{slice_get_within, slice_get-get_or, slice_get_past, get_or_from_slice_get}
@@ -7,18 +7,22 @@ use Rattle.std.proofs.lemmas.Bool.{true≢false}
 use Rattle.std.proofs.lemmas.List.{get_or-set_same}
 use mathlib.Core.Logic.{dite}
 use native.Mathlib.Decide.{ℕ_discrete}
+use Rattle.std.specs.Prelude.{nat_eq}
+use Rattle.sf_history.specs.History.{open_call}
 use Rattle.sf_keyed_tells.specs.Tells.{KeyedEvent}
 use Rattle.sf_keyed_words.specs.Rule.{IsPrefix}
 use Rattle.sf_keyed.specs.Known.{FrontState, FlightState}
-use Rattle.sf_keyed.specs.Calls.{IsAsked, IsPassed, Led, Joined, Stays, WhyRefused}
+use Rattle.sf_keyed.specs.Calls.{Closes, IsAsked, IsForgotten, IsPassed, IsTaken, Led, Joined, Sees, Stays, WhyRefused}
 use Rattle.sf_keyed.specs.declared.group.Asked.{Asked}
 use Rattle.sf_keyed.specs.declared.group.Asked.TheVariants as asked
+use Rattle.sf_keyed.specs.declared.group.Forgotten.{Forgotten}
+use Rattle.sf_keyed.specs.declared.group.Forgotten.TheVariants as forgotten
 use Rattle.sf_keyed.specs.declared.group.Passed.{Passed}
 use Rattle.sf_keyed.specs.declared.group.Passed.TheVariants as passed
 use Rattle.sf_keyed.specs.declared.group.Refusal.{Refusal}
 use Rattle.sf_keyed_chain.specs.declared.chain.Step.{Step}
 use Rattle.sf_keyed_chain.specs.declared.chain.Step.TheVariants as step
-use Rattle.sf_keyed_chain.specs.Went.{HasStepped, IsLedAt, IsJoinedAt, IsRefused}
+use Rattle.sf_keyed_chain.specs.Went.{HasStepped, IsBusy, IsClosedAt, IsIdleAt, IsLedAt, IsJoinedAt, IsRefused}
 use Rattle.sf_keyed_chain.specs.Chains.{Sight, IsOf, IsLater, AllGoOn, Called, IsGoneBefore, IsGoneHere}
 
 unwrapped : {X : Type 0} → X → Option X → X
@@ -230,3 +234,41 @@ stepped_from k at tries xs ys zs (step.Refused why) on is = refused_from tries w
 stepped_from k at tries xs ys zs (step.On to) on is = is
 stepped_from k at tries xs ys zs step.NoMemory on is = tt
 stepped_from k at tries xs ys zs step.Behind on is = tt
+
+-- how a Forget of one table ends
+abbrev pub ForgottenAt : ℕ → ℕ → ℕ → List Sight → List Sight → Forgotten → Type 0
+ForgottenAt k at tries xs ys r = Called (λ b a. IsForgotten b a k tries r) at xs ys
+
+pub closed_at : (k at tries : ℕ) (xs ys zs : List Sight) (r : Forgotten) (call : ℕ) → r ≡ forgotten.Closed call → AllGoOn xs ys → AllGoOn ys zs → IsGoneBefore k at xs → ForgottenAt k at tries ys zs r → IsClosedAt k at call xs zs
+closed_at k at tries xs ys zs r call is one two gone c = record {
+  closed = called_on (λ b a. Closes b a k call) at xs ys zs one (subst (ForgottenAt k at tries ys zs) is c);
+  gone = gone_on k at xs zs (all_on xs ys zs one two) gone;
+}
+
+pub idle_at : (k at tries : ℕ) (xs ys zs : List Sight) (r : Forgotten) → r ≡ forgotten.Nothing → AllGoOn xs ys → AllGoOn ys zs → IsGoneBefore k at xs → ForgottenAt k at tries ys zs r → IsIdleAt k at xs zs
+idle_at k at tries xs ys zs r is one two gone c = record {
+  idle = called_on (λ b a. Sees b a × (open_call nat_eq a.seen k ≡ None)) at xs ys zs one (called_as (λ b a. IsForgotten b a k tries forgotten.Nothing) (λ b a. Sees b a × (open_call nat_eq a.seen k ≡ None)) at ys zs (λ b a q. (q.0, q.1)) (subst (ForgottenAt k at tries ys zs) is c));
+  gone = gone_on k at xs zs (all_on xs ys zs one two) gone;
+}
+
+pub shut_on : (k at tries : ℕ) (xs ys zs : List Sight) (r : Forgotten) → r ≡ forgotten.Gone → AllGoOn xs ys → AllGoOn ys zs → IsGoneBefore k at xs → ForgottenAt k at tries ys zs r → (at + 1 ≤ length zs) × IsGoneBefore k (at + 1) zs
+shut_on k at tries xs ys zs r is one two gone c =
+    let g : Called (λ b a. IsForgotten b a k tries forgotten.Gone) at ys zs = subst (ForgottenAt k at tries ys zs) is c in
+    further k at xs zs (all_on xs ys zs one two) gone (record { sight = g.after; here = g.at_after; gone = g.is.2 })
+
+pub busy_at : (k at tries : ℕ) (xs ys zs : List Sight) (r : Forgotten) → r ≡ forgotten.Busy → AllGoOn xs ys → ForgottenAt k at tries ys zs r → IsBusy tries xs zs
+busy_at k at tries xs ys zs r is one c = (at, called_on (λ b a. Stays b a × (b.met.lost + tries ≤ a.met.lost)) at xs ys zs one (subst (ForgottenAt k at tries ys zs) is c))
+
+pub closed_from : (k at call : ℕ) (xs ys zs : List Sight) → AllGoOn xs ys → IsClosedAt k at call ys zs → IsClosedAt k at call xs zs
+closed_from k at call xs ys zs on l = record { closed = called_on (λ b a. Closes b a k call) at xs ys zs on l.closed; gone = l.gone }
+
+pub idle_from : (k at : ℕ) (xs ys zs : List Sight) → AllGoOn xs ys → IsIdleAt k at ys zs → IsIdleAt k at xs zs
+idle_from k at xs ys zs on l = record { idle = called_on (λ b a. Sees b a × (open_call nat_eq a.seen k ≡ None)) at xs ys zs on l.idle; gone = l.gone }
+
+pub busy_from : (tries : ℕ) (xs ys zs : List Sight) → AllGoOn xs ys → IsBusy tries ys zs → IsBusy tries xs zs
+busy_from tries xs ys zs on l = (l.0, called_on (λ b a. Stays b a × (b.met.lost + tries ≤ a.met.lost)) l.0 xs ys zs on l.1)
+
+pub taken_at : (at : ℕ) (xs : List Sight) (s t : Sight) (ticket : FlightState) (r : Result ℕ FlightState) → slice_get xs at ≡ Some s → IfOk r (λ value. IsTaken s.front t.front ticket value)
+    → IfOk r (λ value. Called (λ b a. IsTaken b a ticket value) at xs (set xs at t))
+taken_at at xs s t ticket (Ok value) was is = called_at (λ b a. IsTaken b a ticket value) at xs s t was is
+taken_at at xs s t ticket (Err back) was is = tt

@@ -1,10 +1,18 @@
 -- How calls on a chain end.
-use Rattle.std.specs.Prelude.{◌≡◌, ℕ, ◌≤◌, nat_eq, None, List, length, ⊤}
+use Rattle.std.specs.Prelude.{◌≡◌, ℕ, ◌+◌, ◌≤◌, nat_eq, None, List, length, ⊤}
 use Rattle.sf_history.specs.History.{open_call}
-use Rattle.sf_keyed.specs.Known.{IsGone}
-use Rattle.sf_keyed.specs.Calls.{Led, Joined, Stays, Sees, WhyRefused, Closes}
+use Rattle.sf_keyed.specs.declared.group.Claim.{Claim}
+use Rattle.sf_keyed.specs.declared.group.Settled.TheVariants as one
+use Rattle.sf_keyed.specs.Calls.{Led, Joined, Stays, Sees, WhyRefused, Closes, IsClaimed, IsSettled}
 use Rattle.sf_keyed.specs.declared.group.Refusal.{Refusal}
 use Rattle.sf_keyed_chain.specs.Chains.{Sight, Called, IsGoneBefore}
+use Rattle.sf_keyed_chain.specs.declared.chain.Flight.{Flight}
+use Rattle.sf_keyed_chain.specs.declared.chain.Forgotten.{Forgotten}
+use Rattle.sf_keyed_chain.specs.declared.chain.Forgotten.TheVariants as forgotten
+use Rattle.sf_keyed_chain.specs.declared.chain.Settled.{Settled}
+use Rattle.sf_keyed_chain.specs.declared.chain.Settled.TheVariants as settled
+use Rattle.sf_keyed_chain.specs.declared.chain.Shut.{Shut}
+use Rattle.sf_keyed_chain.specs.declared.chain.Shut.TheVariants as shut
 use Rattle.sf_keyed_chain.specs.declared.chain.Step.{Step}
 use Rattle.sf_keyed_chain.specs.declared.chain.Step.TheVariants as step
 use Rattle.sf_keyed_chain.specs.declared.chain.Reply.{Reply}
@@ -40,3 +48,41 @@ HasStepped k at tries old new (step.Refused why) = IsRefused tries why old new
 HasStepped k at tries old new (step.On to) = (to ≤ length new) × IsGoneBefore k to new
 HasStepped k at tries old new step.NoMemory = ⊤
 HasStepped k at tries old new step.Behind = ⊤
+
+-- how a claim of a cell ends, in the last table that is known
+abbrev pub HasClaimed : ℕ → List Sight → List Sight → Claim → Type 0
+HasClaimed cell old new r = (at : ℕ) × (at + 1 ≡ length new) × Called (λ b a. IsClaimed b a cell r) at old new
+
+-- how a Settle ends
+abbrev pub HasSettled : Flight → ℕ → List Sight → List Sight → Settled → Type 0
+HasSettled flight value old new settled.Alone = Called (λ b a. IsSettled b a flight.flight value one.Alone) flight.table old new
+HasSettled flight value old new (settled.Told ticket on) = (ticket.table ≡ flight.table) × Called (λ b a. IsSettled b a flight.flight value (one.Told ticket.ticket on)) flight.table old new
+
+-- a Forget of the name closes its open call in the table of this number, and in each table before it the name is gone
+pub record IsClosedAt (k at call : ℕ) (old new : List Sight) : Type 0 where
+  pub closed : Called (λ b a. Closes b a k call) at old new
+  pub gone : IsGoneBefore k at new
+
+-- it finds that the name has no open call in that table, and in each table before it the name is gone
+pub record IsIdleAt (k at : ℕ) (old new : List Sight) : Type 0 where
+  pub idle : Called (λ b a. Sees b a × (open_call nat_eq a.seen k ≡ None)) at old new
+  pub gone : IsGoneBefore k at new
+
+-- it lost an exchange in each try at one table
+abbrev pub IsBusy : ℕ → List Sight → List Sight → Type 0
+IsBusy tries old new = (at : ℕ) × Called (λ b a. Stays b a × (b.met.lost + tries ≤ a.met.lost)) at old new
+
+abbrev pub HasShut : ℕ → ℕ → ℕ → List Sight → List Sight → Shut → Type 0
+HasShut k at tries old new (shut.Closed call) = IsClosedAt k at call old new
+HasShut k at tries old new shut.Nothing = IsIdleAt k at old new
+HasShut k at tries old new (shut.On to) = (to ≤ length new) × IsGoneBefore k to new
+HasShut k at tries old new shut.Busy = IsBusy tries old new
+HasShut k at tries old new shut.NoMemory = ⊤
+HasShut k at tries old new shut.Behind = ⊤
+
+abbrev pub HasForgotten : ℕ → ℕ → List Sight → List Sight → Forgotten → Type 0
+HasForgotten k tries old new (forgotten.Closed at call) = IsClosedAt k at call old new
+HasForgotten k tries old new (forgotten.Nothing at) = IsIdleAt k at old new
+HasForgotten k tries old new forgotten.Busy = IsBusy tries old new
+HasForgotten k tries old new forgotten.NoMemory = ⊤
+HasForgotten k tries old new forgotten.Behind = ⊤

@@ -1,15 +1,15 @@
 //! The chain, and askings of it.
-ghost use Rattle.std.specs.Prelude.{◌≡◌, ◌+◌, ◌<◌, ◌≤◌, length, IfOk};
+ghost use Rattle.std.specs.Prelude.{◌≡◌, ◌+◌, ◌<◌, ◌≤◌, length, IfOk, IfErr, IfSome};
 ghost use Rattle.std.specs.Bool.{OnTrue};
 ghost use Rattle.sf_keyed_words.specs.Rule.{number};
-ghost use Rattle.sf_keyed.specs.Calls.{IsAsked, IsPassed};
-ghost use Rattle.sf_keyed_chain.specs.Chains.{IsOf, AllGoOn, Called, IsGoneBefore};
-ghost use Rattle.sf_keyed_chain.specs.Went.{HasReplied, HasStepped};
+ghost use Rattle.sf_keyed.specs.Calls.{IsAsked, IsClaimed, IsForgotten, IsPassed, IsSettled, IsTaken};
+ghost use Rattle.sf_keyed_chain.specs.Chains.{IsOf, IsOfTable, AllGoOn, Called, IsGoneBefore};
+ghost use Rattle.sf_keyed_chain.specs.Went.{HasClaimed, HasForgotten, HasReplied, HasSettled, HasShut, HasStepped};
 
 use crate::front::{ChainFront, Part};
 use crate::sizes::{larger, sizes_of};
 use once_cell::race::OnceBox;
-use sf_keyed::{Asked, KeyedGroup, Name, Passed, Refusal};
+use sf_keyed::{Asked, Audience, Claim, KeyedGroup, Name, Passed, Refusal};
 use std::alloc::{AllocError, Global};
 use std::marker::Model;
 
@@ -42,6 +42,41 @@ pub enum Reply {
     /// There was no memory for what the caller sees of a table that it did not know. No call was changed.
     NoMemory,
     /// A slot was sealed, and the next table was not there. It never is so, since who seals a slot knows the next table.
+    Behind,
+}
+
+/// How a Settle ended.
+#[derive(Drop)]
+pub enum Settled {
+    /// Nobody has joined the call, and no Forget has closed it: nobody is told the value, and the caller has the cell to spare.
+    Alone,
+    /// The value is told to whoever holds the call.
+    Told(Ticket, Audience),
+}
+
+/// How a Forget ended.
+#[derive(Clone, Copy, Debug, PartialEq, Eq)]
+pub enum Forgotten {
+    /// It closed the name's open call: the number of its table, and its number there.
+    Closed(usize, u64),
+    /// At a moment during the call the name had no open call in the table of this number, and never has one again in those before it.
+    Nothing(usize),
+    /// In each try at one table others changed a word between its load and the exchange, and no call was changed.
+    Busy,
+    /// There was no memory for what the caller sees of a table that it did not know. No call was changed.
+    NoMemory,
+    /// A slot was sealed, and the next table was not there. It never is so, since who seals a slot knows the next table.
+    Behind,
+}
+
+// What became of a Forget at one table.
+#[derive(Clone, Copy)]
+enum Shut {
+    Closed(u64),
+    Nothing,
+    On(usize),
+    Busy,
+    NoMemory,
     Behind,
 }
 
@@ -256,5 +291,174 @@ impl KeyedChain {
             }
         }
         Reply::Behind
+    }
+
+    // Takes a free cell of the table of this number.
+    fn claim_at(&self, me: &mut ChainFront, at: usize, cell: u64) -> Claim
+        requires of { IsOf self.now me.old }
+        requires at { at < length me.old }
+        ensures of { IsOf self.now me.new }
+        ensures seen { AllGoOn me.old me.new }
+        ensures known { length me.new ≡ length me.old }
+        ensures claimed { Called (λ b a. IsClaimed b a cell result) at me.old me.new }
+    {
+        me.parts[at].claim(&self.links[at], cell)
+    }
+
+    /// Takes a free cell for the next call that the caller leads in the last table that it knows, unless it has one to spare there: the cell of
+    /// this number, counted from 0 and on from the last to the first. None where there is no memory for what it sees of the first table.
+    pub fn claim(&self, me: &mut ChainFront, cell: u64) -> Option<Claim>
+        requires of { IsOf self.now me.old }
+        ensures of { IsOf self.now me.new }
+        ensures seen { AllGoOn me.old me.new }
+        ensures claimed { IfSome result (HasClaimed cell me.old me.new) }
+    {
+        match self.learn(me, 0) {
+            Ok(true) => {}
+            Ok(false) => return None,
+            Err(_) => return None,
+        }
+        let at = me.parts.len() - 1;
+        Some(self.claim_at(me, at, cell))
+    }
+
+    // Settles a call of the table of this number.
+    fn settle_at(
+        &self,
+        me: &mut ChainFront,
+        at: usize,
+        flight: sf_keyed::Flight,
+        value: u64,
+    ) -> sf_keyed::Settled
+        requires of { IsOf self.now me.old }
+        requires at { at < length me.old }
+        requires own { IsOfTable flight.group at me.old }
+        ensures of { IsOf self.now me.new }
+        ensures seen { AllGoOn me.old me.new }
+        ensures settled { Called (λ b a. IsSettled b a flight value result) at me.old me.new }
+    {
+        me.parts[at].settle(&self.links[at], flight, value)
+    }
+
+    /// Settles the call with the value, for good. It cannot fail. The caller that settles holds the call too where its value is told: it leaves by
+    /// the ticket.
+    pub fn settle(&self, me: &mut ChainFront, flight: Flight, value: u64) -> Settled
+        requires of { IsOf self.now me.old }
+        requires known { flight.table < length me.old }
+        requires own { IsOfTable flight.flight.group flight.table me.old }
+        ensures of { IsOf self.now me.new }
+        ensures seen { AllGoOn me.old me.new }
+        ensures settled { HasSettled flight value me.old me.new result }
+    {
+        let Flight { table, flight } = flight;
+        match self.settle_at(me, table, flight, value) {
+            sf_keyed::Settled::Alone => Settled::Alone,
+            sf_keyed::Settled::Told(ticket, on) => Settled::Told(Ticket { table, ticket }, on),
+        }
+    }
+
+    /// What the ticket's call was settled with. The ticket comes back where the call is not settled yet.
+    pub fn take(&self, me: &mut ChainFront, ticket: Ticket) -> Result<u64, Ticket>
+        requires of { IsOf self.now me.old }
+        requires known { ticket.table < length me.old }
+        requires own { IsOfTable ticket.ticket.group ticket.table me.old }
+        ensures of { IsOf self.now me.new }
+        ensures seen { AllGoOn me.old me.new }
+        ensures taken { IfOk result (λ value. Called (λ b a. IsTaken b a ticket.ticket value) ticket.table me.old me.new) }
+        ensures pending { IfErr result (λ back. back ≡ ticket) }
+    {
+        let Ticket { table, ticket } = ticket;
+        match self.take_at(me, table, ticket) {
+            Ok(value) => Ok(value),
+            Err(ticket) => Err(Ticket { table, ticket }),
+        }
+    }
+
+    // What a call of the table of this number was settled with.
+    fn take_at(
+        &self,
+        me: &mut ChainFront,
+        at: usize,
+        ticket: sf_keyed::Ticket,
+    ) -> Result<u64, sf_keyed::Ticket>
+        requires of { IsOf self.now me.old }
+        requires at { at < length me.old }
+        requires own { IsOfTable ticket.group at me.old }
+        ensures of { IsOf self.now me.new }
+        ensures seen { AllGoOn me.old me.new }
+        ensures taken { IfOk result (λ value. Called (λ b a. IsTaken b a ticket value) at me.old me.new) }
+        ensures pending { IfErr result (λ back. back ≡ ticket) }
+    {
+        me.parts[at].take(&self.links[at], ticket)
+    }
+
+    /// Gives up the ticket: its holder needs no value.
+    pub fn leave(&self, me: &mut ChainFront, ticket: Ticket)
+        requires of { IsOf self.now me.old }
+        requires known { ticket.table < length me.old }
+        requires own { IsOfTable ticket.ticket.group ticket.table me.old }
+        ensures of { IsOf self.now me.new }
+        ensures seen { AllGoOn me.old me.new }
+    {
+        let Ticket { table, ticket } = ticket;
+        me.parts[table].leave(&self.links[table], ticket);
+    }
+
+    // Closes the name's open call in the table of this number, or finds that it has none there.
+    fn forget_at(&self, me: &mut ChainFront, at: usize, name: Name, tries: u32) -> sf_keyed::Forgotten
+        requires of { IsOf self.now me.old }
+        requires at { at < length me.old }
+        ensures of { IsOf self.now me.new }
+        ensures seen { AllGoOn me.old me.new }
+        ensures forgotten { Called (λ b a. IsForgotten b a (number name) tries result) at me.old me.new }
+    {
+        me.parts[at].forget(&self.links[at], name, tries)
+    }
+
+    // Closes the name's open call in the table of this number, and says whether that was all, or where to go on.
+    fn shut(&self, me: &mut ChainFront, at: usize, name: Name, tries: u32) -> Shut
+        requires of { IsOf self.now me.old }
+        requires at { at ≤ length me.old }
+        requires gone { IsGoneBefore (number name) at me.old }
+        ensures of { IsOf self.now me.new }
+        ensures seen { AllGoOn me.old me.new }
+        ensures shut { HasShut (number name) at tries me.old me.new result }
+    {
+        if at >= LEVELS {
+            return Shut::Behind;
+        }
+        match self.learn(me, at) {
+            Ok(true) => {}
+            Ok(false) => return Shut::Behind,
+            Err(_) => return Shut::NoMemory,
+        }
+        match self.forget_at(me, at, name, tries) {
+            sf_keyed::Forgotten::Closed(call) => Shut::Closed(call),
+            sf_keyed::Forgotten::Nothing => Shut::Nothing,
+            sf_keyed::Forgotten::Gone => Shut::On(at + 1),
+            sf_keyed::Forgotten::Busy => Shut::Busy,
+        }
+    }
+
+    /// Forgets the name: closes its open call, in whichever table it is, or finds that it has none. It ends at the first table where the name's
+    /// slot is not sealed: who leads in a later one has sealed it first. Each table is tried so often.
+    pub fn forget(&self, me: &mut ChainFront, name: Name, tries: u32) -> Forgotten
+        requires of { IsOf self.now me.old }
+        ensures of { IsOf self.now me.new }
+        ensures seen { AllGoOn me.old me.new }
+        ensures forgotten { HasForgotten (number name) tries me.old me.new result }
+    {
+        let mut at: usize = 0;
+        for _ in 0..LEVELS + 1 {
+            match self.shut(me, at, name, tries) {
+                Shut::Closed(call) => return Forgotten::Closed(at, call),
+                Shut::Nothing => return Forgotten::Nothing(at),
+                Shut::On(to) => at = to,
+                Shut::Busy => return Forgotten::Busy,
+                Shut::NoMemory => return Forgotten::NoMemory,
+                Shut::Behind => return Forgotten::Behind,
+            }
+        }
+        Forgotten::Behind
     }
 }
