@@ -1,17 +1,15 @@
 -- What a call on one table leaves of the sight of it.
-use Rattle.std.proofs.Common.{◌≡◌, ℕ, ◌/◌, ◌%◌, Result, Ok, Err, IfOk, IfErr, List, [], ◌∷◌, ◌++◌, refl, sym, ◌∙◌, ap, append_assoc}
+use Rattle.std.proofs.Common.{◌≡◌, ℕ, List, [], ◌∷◌, ◌++◌, refl, sym, ◌∙◌, ap, append_assoc}
 use Rattle.sf_keyed_tells.specs.Tells.{KeyedEvent}
 use Rattle.sf_keyed_words.specs.Rule.{is_gone, IsPrefix}
-use Rattle.sf_keyed.specs.Known.{FrontState, FlightState, IsGone}
-use Rattle.sf_keyed.specs.Calls.{AddsTo, Sees, Stays, IsAsked, IsForgotten, IsPassed, IsSettled, IsTaken}
+use Rattle.sf_keyed.specs.Known.{FrontState, IsGone}
+use Rattle.sf_keyed.specs.Calls.{AddsTo, Sees, Stays, IsAsked, IsForgotten, IsPassed}
 use Rattle.sf_keyed.specs.declared.group.Asked.{Asked}
 use Rattle.sf_keyed.specs.declared.group.Asked.TheVariants as asked
 use Rattle.sf_keyed.specs.declared.group.Forgotten.{Forgotten}
 use Rattle.sf_keyed.specs.declared.group.Forgotten.TheVariants as forgotten
 use Rattle.sf_keyed.specs.declared.group.Passed.{Passed}
 use Rattle.sf_keyed.specs.declared.group.Passed.TheVariants as passed
-use Rattle.sf_keyed.specs.declared.group.Settled.{Settled}
-use Rattle.sf_keyed.specs.declared.group.Settled.TheVariants as settled
 use Rattle.sf_keyed_chain.specs.Chains.{Sight, IsLater}
 
 gone_same : (b a : FrontState) → a.group ≡ b.group → a.gone ≡ b.gone → (k : ℕ) → IsGone b k → IsGone a k
@@ -52,12 +50,3 @@ later_cell c d b a same later = record { cell = same; group = later.group; numbe
 
 pub later_claimed : (c : ℕ) (b a : FrontState) → (a.group ≡ b.group) × (a.number ≡ b.number) × (a.seen ≡ b.seen) × (a.gone ≡ b.gone) → IsLater (record { cell = c; front = b }) (record { cell = c; front = a })
 later_claimed c b a s = record { cell = refl; group = s.0; number = s.1; seen = ([], s.2 ∙ append_none b.seen); gone = gone_same b a s.0 s.3 }
-
-pub later_settled : (c : ℕ) (b a : FrontState) (flight : FlightState) (value : ℕ) (r : Settled) → IsSettled b a flight value r → IsLater (record { cell = c; front = b }) (record { cell = c; front = a })
-later_settled c b a flight value settled.Alone is = later_adds c b a _ is.0.adds
-later_settled c b a flight value (settled.Told ticket on) is = later_adds c b a _ is.0.adds
-
-pub later_taken : (c : ℕ) (b a : FrontState) (ticket : FlightState) (r : Result ℕ FlightState) → IfOk r (λ value. IsTaken b a ticket value) → IfErr r (λ back. (back ≡ ticket) × Sees b a × (a.spare ≡ b.spare) × (a.met.state / 2097152 % 2 ≡ 0))
-    → IsLater (record { cell = c; front = b }) (record { cell = c; front = a })
-later_taken c b a ticket (Ok value) taken pending = later_sees c b a taken.sees
-later_taken c b a ticket (Err back) taken pending = later_sees c b a pending.1

@@ -1,5 +1,5 @@
 -- Sights that go on.
-use Rattle.std.proofs.Common.{◌⊎◌, ◌≡◌, ◌≢◌, ℕ, zero, suc, ◌+◌, ◌<◌, ◌≤◌, Bool, true, false, cond, List, [], ◌∷◌, ◌++◌, set, get_or, length, map, Option, Some, None, Result, Ok, Err, IfOk, refl, sym, ◌∙◌, ap, subst, inl, inr, ⊎_elim, arith, append_assoc, length-set, length-append}
+use Rattle.std.proofs.Common.{◌⊎◌, ◌≡◌, ◌≢◌, ℕ, zero, suc, ◌+◌, ◌<◌, ◌≤◌, Bool, true, false, cond, List, [], ◌∷◌, ◌++◌, set, get_or, length, map, Option, Some, None, refl, sym, ◌∙◌, ap, subst, inl, inr, ⊎_elim, arith, append_assoc, length-set, length-append}
 use Rattle.std.specs.List.{slice_get}
 use Rattle.std.specs.Prelude.{if◌then◌else◌}
 use Rattle.std.proofs.lemmas.Option.{slice_get_within, slice_get-get_or, slice_get_past, get_or_from_slice_get}
@@ -12,7 +12,7 @@ use Rattle.sf_history.specs.History.{open_call}
 use Rattle.sf_keyed_tells.specs.Tells.{KeyedEvent}
 use Rattle.sf_keyed_words.specs.Rule.{IsPrefix}
 use Rattle.sf_keyed.specs.Known.{FrontState, FlightState}
-use Rattle.sf_keyed.specs.Calls.{Closes, IsAsked, IsForgotten, IsPassed, IsTaken, Led, Joined, Sees, Stays, WhyRefused}
+use Rattle.sf_keyed.specs.Calls.{Closes, IsAsked, IsForgotten, IsPassed, Led, Joined, Sees, Stays, WhyRefused}
 use Rattle.sf_keyed.specs.declared.group.Asked.{Asked}
 use Rattle.sf_keyed.specs.declared.group.Asked.TheVariants as asked
 use Rattle.sf_keyed.specs.declared.group.Forgotten.{Forgotten}
@@ -267,8 +267,3 @@ idle_from k at xs ys zs on l = record { idle = called_on (λ b a. Sees b a × (o
 
 pub busy_from : (tries : ℕ) (xs ys zs : List Sight) → AllGoOn xs ys → IsBusy tries ys zs → IsBusy tries xs zs
 busy_from tries xs ys zs on l = (l.0, called_on (λ b a. Stays b a × (b.met.lost + tries ≤ a.met.lost)) l.0 xs ys zs on l.1)
-
-pub taken_at : (at : ℕ) (xs : List Sight) (s t : Sight) (ticket : FlightState) (r : Result ℕ FlightState) → slice_get xs at ≡ Some s → IfOk r (λ value. IsTaken s.front t.front ticket value)
-    → IfOk r (λ value. Called (λ b a. IsTaken b a ticket value) at xs (set xs at t))
-taken_at at xs s t ticket (Ok value) was is = called_at (λ b a. IsTaken b a ticket value) at xs s t was is
-taken_at at xs s t ticket (Err back) was is = tt

@@ -1,7 +1,7 @@
 -- What a caller has seen of a chain of tables: of each table that it knows, what a caller of that group has seen.
 use Rattle.std.specs.Prelude.{◌≡◌, ℕ, ◌<◌, ◌≤◌, List, length, slice_get, slice_index, Some}
 use Rattle.sf_keyed_words.specs.Rule.{IsPrefix}
-use Rattle.sf_keyed.specs.Known.{FrontState, GroupId, IsGone}
+use Rattle.sf_keyed.specs.Known.{FrontState, IsGone}
 
 -- one table: the cell that it was published in, and what the caller has seen of it
 pub record Sight : Type 0 where
@@ -44,7 +44,3 @@ pub record Called (so : FrontState → FrontState → Type 0) (at : ℕ) (old ne
   pub at_before : slice_get between at ≡ Some before
   pub at_after : slice_get new at ≡ Some after
   pub is : so before.front after.front
-
--- the group is the table of this number
-abbrev pub IsOfTable : GroupId → ℕ → List Sight → Type 0
-IsOfTable group at sights = (s : Sight) → slice_get sights at ≡ Some s → group ≡ s.front.group

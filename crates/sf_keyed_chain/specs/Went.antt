@@ -2,15 +2,11 @@
 use Rattle.std.specs.Prelude.{◌≡◌, ℕ, ◌+◌, ◌≤◌, nat_eq, None, List, length, ⊤}
 use Rattle.sf_history.specs.History.{open_call}
 use Rattle.sf_keyed.specs.declared.group.Claim.{Claim}
-use Rattle.sf_keyed.specs.declared.group.Settled.TheVariants as one
-use Rattle.sf_keyed.specs.Calls.{Led, Joined, Stays, Sees, WhyRefused, Closes, IsClaimed, IsSettled}
+use Rattle.sf_keyed.specs.Calls.{Led, Joined, Stays, Sees, WhyRefused, Closes, IsClaimed}
 use Rattle.sf_keyed.specs.declared.group.Refusal.{Refusal}
 use Rattle.sf_keyed_chain.specs.Chains.{Sight, Called, IsGoneBefore}
-use Rattle.sf_keyed_chain.specs.declared.chain.Flight.{Flight}
 use Rattle.sf_keyed_chain.specs.declared.chain.Forgotten.{Forgotten}
 use Rattle.sf_keyed_chain.specs.declared.chain.Forgotten.TheVariants as forgotten
-use Rattle.sf_keyed_chain.specs.declared.chain.Settled.{Settled}
-use Rattle.sf_keyed_chain.specs.declared.chain.Settled.TheVariants as settled
 use Rattle.sf_keyed_chain.specs.declared.chain.Shut.{Shut}
 use Rattle.sf_keyed_chain.specs.declared.chain.Shut.TheVariants as shut
 use Rattle.sf_keyed_chain.specs.declared.chain.Step.{Step}
@@ -52,11 +48,6 @@ HasStepped k at tries old new step.Behind = ⊤
 -- how a claim of a cell ends, in the last table that is known
 abbrev pub HasClaimed : ℕ → List Sight → List Sight → Claim → Type 0
 HasClaimed cell old new r = (at : ℕ) × (at + 1 ≡ length new) × Called (λ b a. IsClaimed b a cell r) at old new
-
--- how a Settle ends
-abbrev pub HasSettled : Flight → ℕ → List Sight → List Sight → Settled → Type 0
-HasSettled flight value old new settled.Alone = Called (λ b a. IsSettled b a flight.flight value one.Alone) flight.table old new
-HasSettled flight value old new (settled.Told ticket on) = (ticket.table ≡ flight.table) × Called (λ b a. IsSettled b a flight.flight value (one.Told ticket.ticket on)) flight.table old new
 
 -- a Forget of the name closes its open call in the table of this number, and in each table before it the name is gone
 pub record IsClosedAt (k at call : ℕ) (old new : List Sight) : Type 0 where

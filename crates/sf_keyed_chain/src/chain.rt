@@ -1,15 +1,15 @@
 //! The chain, and askings of it.
-ghost use Rattle.std.specs.Prelude.{◌≡◌, ◌+◌, ◌<◌, ◌≤◌, length, IfOk, IfErr, IfSome};
+ghost use Rattle.std.specs.Prelude.{◌≡◌, ◌+◌, ◌<◌, ◌≤◌, length, [], IfOk, IfSome};
 ghost use Rattle.std.specs.Bool.{OnTrue};
 ghost use Rattle.sf_keyed_words.specs.Rule.{number};
-ghost use Rattle.sf_keyed.specs.Calls.{IsAsked, IsClaimed, IsForgotten, IsPassed, IsSettled, IsTaken};
-ghost use Rattle.sf_keyed_chain.specs.Chains.{IsOf, IsOfTable, AllGoOn, Called, IsGoneBefore};
-ghost use Rattle.sf_keyed_chain.specs.Went.{HasClaimed, HasForgotten, HasReplied, HasSettled, HasShut, HasStepped};
+ghost use Rattle.sf_keyed.specs.Calls.{IsAsked, IsClaimed, IsForgotten, IsPassed};
+ghost use Rattle.sf_keyed_chain.specs.Chains.{IsOf, AllGoOn, Called, IsGoneBefore};
+ghost use Rattle.sf_keyed_chain.specs.Went.{HasClaimed, HasForgotten, HasReplied, HasShut, HasStepped};
 
 use crate::front::{ChainFront, Part};
 use crate::sizes::{larger, sizes_of};
 use once_cell::race::OnceBox;
-use sf_keyed::{Asked, Audience, Claim, KeyedGroup, Name, Passed, Refusal};
+use sf_keyed::{Asked, Claim, KeyedGroup, Name, Passed, Refusal};
 use std::alloc::{AllocError, Global};
 use std::marker::Model;
 
@@ -43,15 +43,6 @@ pub enum Reply {
     NoMemory,
     /// A slot was sealed, and the next table was not there. It never is so, since who seals a slot knows the next table.
     Behind,
-}
-
-/// How a Settle ended.
-#[derive(Drop)]
-pub enum Settled {
-    /// Nobody has joined the call, and no Forget has closed it: nobody is told the value, and the caller has the cell to spare.
-    Alone,
-    /// The value is told to whoever holds the call.
-    Told(Ticket, Audience),
 }
 
 /// How a Forget ended.
@@ -168,6 +159,17 @@ impl KeyedChain {
                 parts: Vec::new(alloc),
             },
         ))
+    }
+
+    /// A caller that has seen nothing of the chain, whose Forgets are by this number.
+    pub fn caller(&self, alloc: Global, number: u64) -> ChainFront
+        ensures of { IsOf self.now result }
+        ensures none { result ≡ [] }
+    {
+        ChainFront {
+            number,
+            parts: Vec::new(alloc),
+        }
     }
 
     // How many calls can be open at a time in the table of this number.
@@ -320,88 +322,6 @@ impl KeyedChain {
         }
         let at = me.parts.len() - 1;
         Some(self.claim_at(me, at, cell))
-    }
-
-    // Settles a call of the table of this number.
-    fn settle_at(
-        &self,
-        me: &mut ChainFront,
-        at: usize,
-        flight: sf_keyed::Flight,
-        value: u64,
-    ) -> sf_keyed::Settled
-        requires of { IsOf self.now me.old }
-        requires at { at < length me.old }
-        requires own { IsOfTable flight.group at me.old }
-        ensures of { IsOf self.now me.new }
-        ensures seen { AllGoOn me.old me.new }
-        ensures settled { Called (λ b a. IsSettled b a flight value result) at me.old me.new }
-    {
-        me.parts[at].settle(&self.links[at], flight, value)
-    }
-
-    /// Settles the call with the value, for good. It cannot fail. The caller that settles holds the call too where its value is told: it leaves by
-    /// the ticket.
-    pub fn settle(&self, me: &mut ChainFront, flight: Flight, value: u64) -> Settled
-        requires of { IsOf self.now me.old }
-        requires known { flight.table < length me.old }
-        requires own { IsOfTable flight.flight.group flight.table me.old }
-        ensures of { IsOf self.now me.new }
-        ensures seen { AllGoOn me.old me.new }
-        ensures settled { HasSettled flight value me.old me.new result }
-    {
-        let Flight { table, flight } = flight;
-        match self.settle_at(me, table, flight, value) {
-            sf_keyed::Settled::Alone => Settled::Alone,
-            sf_keyed::Settled::Told(ticket, on) => Settled::Told(Ticket { table, ticket }, on),
-        }
-    }
-
-    /// What the ticket's call was settled with. The ticket comes back where the call is not settled yet.
-    pub fn take(&self, me: &mut ChainFront, ticket: Ticket) -> Result<u64, Ticket>
-        requires of { IsOf self.now me.old }
-        requires known { ticket.table < length me.old }
-        requires own { IsOfTable ticket.ticket.group ticket.table me.old }
-        ensures of { IsOf self.now me.new }
-        ensures seen { AllGoOn me.old me.new }
-        ensures taken { IfOk result (λ value. Called (λ b a. IsTaken b a ticket.ticket value) ticket.table me.old me.new) }
-        ensures pending { IfErr result (λ back. back ≡ ticket) }
-    {
-        let Ticket { table, ticket } = ticket;
-        match self.take_at(me, table, ticket) {
-            Ok(value) => Ok(value),
-            Err(ticket) => Err(Ticket { table, ticket }),
-        }
-    }
-
-    // What a call of the table of this number was settled with.
-    fn take_at(
-        &self,
-        me: &mut ChainFront,
-        at: usize,
-        ticket: sf_keyed::Ticket,
-    ) -> Result<u64, sf_keyed::Ticket>
-        requires of { IsOf self.now me.old }
-        requires at { at < length me.old }
-        requires own { IsOfTable ticket.group at me.old }
-        ensures of { IsOf self.now me.new }
-        ensures seen { AllGoOn me.old me.new }
-        ensures taken { IfOk result (λ value. Called (λ b a. IsTaken b a ticket value) at me.old me.new) }
-        ensures pending { IfErr result (λ back. back ≡ ticket) }
-    {
-        me.parts[at].take(&self.links[at], ticket)
-    }
-
-    /// Gives up the ticket: its holder needs no value.
-    pub fn leave(&self, me: &mut ChainFront, ticket: Ticket)
-        requires of { IsOf self.now me.old }
-        requires known { ticket.table < length me.old }
-        requires own { IsOfTable ticket.ticket.group ticket.table me.old }
-        ensures of { IsOf self.now me.new }
-        ensures seen { AllGoOn me.old me.new }
-    {
-        let Ticket { table, ticket } = ticket;
-        me.parts[table].leave(&self.links[table], ticket);
     }
 
     // Closes the name's open call in the table of this number, or finds that it has none there.

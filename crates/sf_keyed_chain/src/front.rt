@@ -1,14 +1,12 @@
 //! What a caller has seen of a chain.
-ghost use Rattle.std.specs.Prelude.{◌≡◌, ◌/◌, ◌%◌, IfOk, IfErr};
+ghost use Rattle.std.specs.Prelude.{◌≡◌};
 ghost use Rattle.once_cell.specs.Once.{cell_name};
 ghost use Rattle.sf_keyed_words.specs.Rule.{number};
-ghost use Rattle.sf_keyed.specs.Calls.{IsAsked, IsClaimed, IsForgotten, IsPassed, IsSettled, IsTaken};
+ghost use Rattle.sf_keyed.specs.Calls.{IsAsked, IsClaimed, IsForgotten, IsPassed};
 ghost use Rattle.sf_keyed_chain.specs.Chains.{IsLater};
 
 use once_cell::race::{Note, OnceBox};
-use sf_keyed::{
-    Asked, Claim, Flight, Forgotten, Front, KeyedGroup, Name, Passed, Settled, Ticket,
-};
+use sf_keyed::{Asked, Claim, Forgotten, Front, KeyedGroup, Name, Passed};
 use std::marker::Model;
 
 /// What a caller has seen of one table. Contracts see it as a sight.
@@ -76,51 +74,6 @@ impl Part {
     {
         match link.get_as(&mut self.note) {
             Some(group) => group.claim(&mut self.front, cell),
-            None => unreachable!(),
-        }
-    }
-
-    // Settles a call of the table.
-    pub(crate) fn settle(
-        &mut self,
-        link: &OnceBox<KeyedGroup>,
-        flight: Flight,
-        value: u64,
-    ) -> Settled
-        requires cell { self.old.cell ≡ cell_name link.now }
-        requires own { flight.group ≡ self.old.front.group }
-        ensures later { IsLater self.old self.new }
-        ensures settled { IsSettled self.old.front self.new.front flight value result }
-    {
-        match link.get_as(&mut self.note) {
-            Some(group) => group.settle(&mut self.front, flight, value),
-            None => unreachable!(),
-        }
-    }
-
-    // What a call of the table was settled with.
-    pub(crate) fn take(&mut self, link: &OnceBox<KeyedGroup>, ticket: Ticket) -> Result<u64, Ticket>
-        requires cell { self.old.cell ≡ cell_name link.now }
-        requires own { ticket.group ≡ self.old.front.group }
-        ensures later { IsLater self.old self.new }
-        ensures taken { IfOk result (λ value. IsTaken self.old.front self.new.front ticket value) }
-        ensures pending { IfErr result (λ back. (back ≡ ticket) × (self.new.front.spare ≡ self.old.front.spare) × (self.new.front.met.state / 2097152 % 2 ≡ 0)) }
-    {
-        match link.get_as(&mut self.note) {
-            Some(group) => group.take(&mut self.front, ticket),
-            None => unreachable!(),
-        }
-    }
-
-    // Gives up a ticket of the table.
-    pub(crate) fn leave(&mut self, link: &OnceBox<KeyedGroup>, ticket: Ticket)
-        requires cell { self.old.cell ≡ cell_name link.now }
-        requires own { ticket.group ≡ self.old.front.group }
-        ensures later { IsLater self.old self.new }
-        ensures spare { self.new.front.spare ≡ self.old.front.spare }
-    {
-        match link.get_as(&mut self.note) {
-            Some(group) => group.leave(&mut self.front, ticket),
             None => unreachable!(),
         }
     }

@@ -7,6 +7,6 @@ mod chain;
 mod front;
 mod sizes;
 
-pub use chain::{Flight, Forgotten, KeyedChain, LEVELS, Reply, Settled, Ticket};
+pub use chain::{Flight, Forgotten, KeyedChain, LEVELS, Reply, Ticket};
 pub use front::{ChainFront, Part};
 pub use sizes::{larger, sizes_of};

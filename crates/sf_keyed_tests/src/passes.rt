@@ -1,5 +1,7 @@
 //! Passes of a group that has grown, and callers with no other's help.
-use sf_keyed::{Asked, Claim, Forgotten, Front, KeyedGroup, KeyedSizes, Name, Passed, Refusal, Settled};
+use sf_keyed::{
+    Asked, Claim, Forgotten, Front, KeyedGroup, KeyedSizes, Name, Passed, Refusal, Settled,
+};
 use std::test::Fail;
 
 const TRIES: u32 = 10;
