@@ -1,7 +1,7 @@
 -- What a call on one table leaves of the sight of it.
-use Rattle.std.proofs.Common.{◌≡◌, ℕ, List, [], ◌∷◌, ◌++◌, refl, sym, ◌∙◌, ap, append_assoc}
+use Rattle.std.proofs.Common.{◌≡◌, ℕ, List, [], ◌∷◌, ◌++◌, refl, ◌∙◌, ap, append_assoc}
 use Rattle.sf_keyed_tells.specs.Tells.{KeyedEvent}
-use Rattle.sf_keyed_words.specs.Rule.{is_gone, IsPrefix}
+use Rattle.sf_keyed_words.specs.Rule.{is_gone}
 use Rattle.sf_keyed.specs.Known.{FrontState, IsGone}
 use Rattle.sf_keyed.specs.Calls.{AddsTo, Sees, Stays, IsAsked, IsForgotten, IsPassed}
 use Rattle.sf_keyed.specs.declared.group.Asked.{Asked}
@@ -10,7 +10,7 @@ use Rattle.sf_keyed.specs.declared.group.Forgotten.{Forgotten}
 use Rattle.sf_keyed.specs.declared.group.Forgotten.TheVariants as forgotten
 use Rattle.sf_keyed.specs.declared.group.Passed.{Passed}
 use Rattle.sf_keyed.specs.declared.group.Passed.TheVariants as passed
-use Rattle.sf_keyed_chain.specs.Chains.{Sight, IsLater}
+use Rattle.sf_keyed_chain.specs.Chains.{IsLater}
 
 gone_same : (b a : FrontState) → a.group ≡ b.group → a.gone ≡ b.gone → (k : ℕ) → IsGone b k → IsGone a k
 gone_same b a group gone k is = ap (λ g. is_gone g.sizes a.gone k) group ∙ (ap (λ l. is_gone b.group.sizes l k) gone ∙ is)

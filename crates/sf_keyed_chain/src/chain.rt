@@ -325,7 +325,13 @@ impl KeyedChain {
     }
 
     // Closes the name's open call in the table of this number, or finds that it has none there.
-    fn forget_at(&self, me: &mut ChainFront, at: usize, name: Name, tries: u32) -> sf_keyed::Forgotten
+    fn forget_at(
+        &self,
+        me: &mut ChainFront,
+        at: usize,
+        name: Name,
+        tries: u32,
+    ) -> sf_keyed::Forgotten
         requires of { IsOf self.now me.old }
         requires at { at < length me.old }
         ensures of { IsOf self.now me.new }

@@ -1,4 +1,6 @@
 //! Passes of a group that has grown, and callers with no other's help.
+ghost use Rattle.std.specs.Prelude.{◌≡◌};
+
 use sf_keyed::{
     Asked, Claim, Forgotten, Front, KeyedGroup, KeyedSizes, Name, Passed, Refusal, Settled,
 };

@@ -1,6 +1,6 @@
 -- A slot is sealed at the end of a walk over it.
-use Rattle.std.proofs.Common.{◌*◌, ◌≡◌, ◌≢◌, ℕ, ◌+◌, ◌/◌, ◌%◌, ◌<◌, Bool, true, eqb, List, [], ◌∷◌, Some, None, set, length, refl, sym, ◌∙◌, ap, subst, arith}
-use Rattle.std.specs.Prelude.{slice_index, nat_eq}
+use Rattle.std.proofs.Common.{◌≡◌, ℕ, ◌+◌, ◌/◌, ◌%◌, ◌<◌, true, eqb, List, Some, set, refl, sym, ◌∙◌, ap, subst, arith}
+use Rattle.std.specs.Prelude.{slice_index}
 use prog.Atomic.{either}
 use mathlib.Core.Option.{some}
 use mathlib.Core.Logic.{dite}
@@ -10,14 +10,12 @@ use Rattle.atomic_table.specs.Table.{State, Me, Valid, stepped, keeps, Allows}
 use Rattle.atomic_table.proofs.Lists.{exchanged}
 use Rattle.sf_lists.specs.Functions.{put}
 use Rattle.sf_lists.proofs.Functions.{put_here, put_else}
-use Rattle.sf_history.specs.History.{open_call}
-use Rattle.sf_keyed_tells.specs.Tells.{KeyedEvent}
 use Rattle.sf_keyed_laws.specs.Words.{Words}
 use Rattle.sf_keyed_laws.specs.Steps.{Step, seals, sealed_at}
 use Rattle.sf_keyed_laws.proofs.Walking.{steps_keep}
 use Rattle.sf_keyed_words.specs.declared.rule.KeyedSizes.{KeyedSizes}
 use Rattle.sf_keyed_words.specs.declared.rule.View.{View}
-use Rattle.sf_keyed_words.specs.Rule.{slot_of, side_at, state_at, layout_of, gen_of, is_open_word, IsView, KeyedTable, Holds, Unmet}
+use Rattle.sf_keyed_words.specs.Rule.{side_at, layout_of, gen_of, is_open_word, IsView, Holds}
 use Rattle.sf_keyed_words.specs.Plays.{loses, tries_seal, with_walk}
 use Rattle.sf_keyed_words.proofs.Lasting.{look_lasts, walk_lasts}
 use Rattle.sf_keyed_words.proofs.Seats.{name_kept, losing, made, still}
@@ -86,7 +84,7 @@ seal_won z id q old new me may t p is found =
           is
           (unmoved z t.words ws q new v w fr inside (λ d. refl))
           (λ k u apart at. all k u at)
-              mine,
+          mine,
       record { won = λ _. (refl, record { seen = m.seen; legal = p.tells.legal }, λ k slot unmet. p.tells.shuts k (idle k slot unmet)); lost = λ bar. absurd (bar found) },
     )
 

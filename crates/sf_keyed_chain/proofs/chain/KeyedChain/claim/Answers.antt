@@ -1,4 +1,4 @@
-use Rattle.std.proofs.Common.{rules, ◌≡◌, ℕ, ◌+◌, ◌-◌, ◌<◌, length, arith}
+use Rattle.std.proofs.Common.{rules, ◌≡◌, ℕ, ◌-◌, ◌<◌, length, arith}
 use Rattle.sf_keyed.specs.Calls.{IsClaimed}
 use Rattle.sf_keyed_chain.proofs.Sights.{all_on, called_on}
 use Rattle.sf_keyed_chain.proofs.chain.KeyedChain.claim.Goals as goal

@@ -1,4 +1,4 @@
-use Rattle.std.proofs.Common.{rules, ◌<◌, ◌≤◌, length, arith}
+use Rattle.std.proofs.Common.{rules}
 use Rattle.sf_keyed_chain.proofs.Sights.{all_on, length_on}
 use Rattle.sf_keyed_chain.proofs.chain.KeyedChain.grow.Goals as goal
 

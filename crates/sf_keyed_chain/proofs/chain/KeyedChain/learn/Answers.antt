@@ -1,4 +1,4 @@
-use Rattle.std.proofs.Common.{rules, ◌≡◌, ℕ, ◌<◌, length, sym, ap, ◌∙◌, subst, map, get_or}
+use Rattle.std.proofs.Common.{rules, ◌≡◌, ◌<◌, length, sym, ap, ◌∙◌, subst, map, get_or}
 use Rattle.std.specs.Prelude.{is_ok}
 use Rattle.std.proofs.lemmas.List.{get_or-map, length-map}
 use Rattle.once_cell.specs.Once.{cell_name}

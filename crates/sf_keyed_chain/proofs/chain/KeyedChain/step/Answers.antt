@@ -1,4 +1,4 @@
-use Rattle.std.proofs.Common.{rules, ◌+◌, ◌<◌, ◌≤◌, length, arith}
+use Rattle.std.proofs.Common.{rules, ◌<◌, length, arith}
 use Rattle.sf_keyed_words.specs.Rule.{number}
 use Rattle.sf_keyed_chain.proofs.Sights.{all_on, gone_on, joined_at, led_at, refused_at, still_gone, stepped_from, within_on}
 use Rattle.sf_keyed_chain.proofs.chain.KeyedChain.step.Goals as goal
