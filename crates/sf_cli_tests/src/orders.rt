@@ -2,5 +2,4 @@
 
 mod chances;
 mod every_time;
-mod made;
-mod orders;
+mod search;

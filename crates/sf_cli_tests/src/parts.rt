@@ -1,7 +1,7 @@
 //! What the engines stand on: the sequential group, scripts, words, the machine of schedules, and records.
 
 mod history;
-mod merging;
+pub(crate) mod merging;
 mod reading;
 mod replay;
 mod scripts;

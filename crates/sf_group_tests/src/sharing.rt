@@ -1,68 +1,155 @@
-//! Four threads that ask for one place.
+//! Four threads that ask for one place, and never look twice; again and again, until one was busy.
+
+ghost use Rattle.std.specs.Prelude.{◌≤◌};
 
 use crate::commands::Command;
 use crate::player::{Player, seat};
+use crate::replies::Reply;
 use crate::value::Value;
-use sf_group::Group;
+use sf_group::{Group, Memory};
+use std::alloc::Global;
 use std::process::Abort;
 use std::test::Fail;
-use std::thread::{join, yield_now};
+use std::thread::{Threads, join, yield_now};
 
-const EACH: u32 = 250;
+// How many rounds there are at most, of which the first is enough wherever threads run side by side.
+const ROUNDS: u32 = 2000;
 
-// The caller asks, with one try each time, until it leads or joins; at most 1,000,000 times. Whether it did; a leader
-// settles its call.
-fn ask(player: &mut Player, caller: u32) -> bool {
-    for _ in 0..1_000_000 {
-        match player.obey(Command::new("ask", caller)).did {
-            "leads" => {
-                player.obey(Command::new("settle", caller));
-                return true;
+// What a thread's askings came to.
+#[derive(Drop)]
+struct Asked<'a> {
+    player: Player<'a>,
+    led: u32,
+    // Of those that joined, what was replied.
+    joined: Vec<Reply>,
+    // Tries that were busy.
+    busy: u32,
+}
+
+impl<'a> Asked<'a> {
+    // The caller asks, with one try each time, until it leads or joins; at most 1,000,000 times. A leader settles its call with
+    // its own number.
+    fn ask(&mut self, caller: u32) {
+        for _ in 0..1_000_000 {
+            let reply = self.player.obey(Command::new("ask", caller));
+            match reply.did {
+                "leads" => return self.settle(caller),
+                "joins" => {
+                    let _ = self.joined.push(reply);
+                    return;
+                }
+                "is busy" if reply.number == Some(1) => self.busy = self.busy.wrapping_add(1),
+                _ => return,
             }
-            "joins" => return true,
-            "is busy" => yield_now(),
-            _ => return false,
+            yield_now();
         }
     }
-    false
+
+    fn settle(&mut self, caller: u32) {
+        let reply = self.player.obey(Command {
+            number: caller,
+            ..Command::new("settle", caller)
+        });
+        if reply.did == "settled" {
+            self.led = self.led.wrapping_add(1);
+        }
+    }
+
+    // The letter of the call that was joined is there at the first look.
+    fn take_letter(&mut self, rt: &impl Abort, joined: Reply) {
+        let letter = self.player.obey(Command::new("poll", joined.caller));
+        assert!(rt;
+            letter.did == "got" && letter.call == joined.call,
+            "another letter"
+        );
+        let leader = letter.call.map(|call| call.caller);
+        assert!(rt; letter.number == leader, "a value of another call");
+        assert!(rt;
+            letter.joiners.is_some_and(|joiners| joiners > 0),
+            "it is not shared"
+        );
+    }
+
+    // Each letter is there. How many askings led or joined, and how many tries were busy.
+    fn check(self, rt: &impl Abort) -> (usize, u32) {
+        let mut asked = self;
+        let ended = asked.joined.len().wrapping_add(asked.led as usize);
+        for _ in 0..asked.joined.len() {
+            if let Some(joined) = asked.joined.pop() {
+                asked.take_letter(rt, joined);
+            }
+        }
+        (ended, asked.busy)
+    }
 }
 
-// How many callers of the player led or joined.
-fn work(player: Player) -> u32 {
-    let mut player = player;
+// Each caller of the player asks.
+fn work(alloc: Global, player: Player, each: u32) -> Asked {
     let last = player.last();
-    let mut ended: u32 = 0;
-    for index in 0..EACH {
-        if ask(&mut player, last.wrapping_sub(index)) {
-            ended = ended.wrapping_add(1);
-        }
+    let mut asked = Asked {
+        player,
+        led: 0,
+        joined: Vec::new(alloc),
+        busy: 0,
+    };
+    for index in 0..each {
+        asked.ask(last.wrapping_sub(index));
     }
-    ended
+    asked
 }
 
-// Each asking of the four threads led or joined.
-fn check_ended(rt: &impl Abort, half: (u32, u32), other: (u32, u32)) {
-    let half = half.0.wrapping_add(half.1);
-    let ended = half.wrapping_add(other.0).wrapping_add(other.1);
-    assert!(rt; ended == 1000, "{ended} askings ended");
+// Each asking of a thread led or joined. How many tries were busy.
+fn check_ended(rt: &impl Abort, asked: Asked, each: u32) -> u32 {
+    let (ended, busy) = asked.check(rt);
+    assert!(rt; ended == each as usize, "not all askings ended");
+    busy
 }
 
-// Each asking led or joined, and no call is left open.
+// Each asking led or joined, each letter is there once all have ended, and no call is left open: one more caller leads. How many
+// tries were busy.
+fn round<R: Abort + Threads + Sync>(
+    rt: &R,
+    alloc: Global,
+    each: u32,
+    script: &str,
+) -> Result<u32, Memory>
+    requires { (1 ≤ each) × (each ≤ 1000) }
+{
+    let (group, mut list) = Group::<Value>::new(alloc, 1, 4 * each + 1, 1)?;
+    let mut last = seat(alloc, &group, &mut list, 1)?;
+    let one = seat(alloc, &group, &mut list, each)?;
+    let two = seat(alloc, &group, &mut list, each)?;
+    let three = seat(alloc, &group, &mut list, each)?;
+    let four = seat(alloc, &group, &mut list, each)?;
+    let (half, other) = join(
+        rt,
+        || join(rt, || work(alloc, one, each), || work(alloc, two, each)),
+        || join(rt, || work(alloc, three, each), || work(alloc, four, each)),
+    );
+    let busy = check_ended(rt, half.0, each).wrapping_add(check_ended(rt, half.1, each));
+    let more = check_ended(rt, other.0, each).wrapping_add(check_ended(rt, other.1, each));
+    last.play(rt, alloc, script)?;
+    Ok(busy.wrapping_add(more))
+}
+
 #[test]
 fn four_threads_on_one_place(rt: HostRuntime) -> Result<(), Fail> {
-    let alloc = rt.alloc();
-    let (group, mut list) = Group::<Value>::new(alloc, 1, 1001, 1)?;
-    let mut last = seat(alloc, &group, &mut list, 1)?;
-    let one = seat(alloc, &group, &mut list, EACH)?;
-    let two = seat(alloc, &group, &mut list, EACH)?;
-    let three = seat(alloc, &group, &mut list, EACH)?;
-    let four = seat(alloc, &group, &mut list, EACH)?;
-    let (half, other) = join(
+    round(
         &rt,
-        || join(&rt, || work(one), || work(two)),
-        || join(&rt, || work(three), || work(four)),
-    );
-    check_ended(&rt, half, other);
-    last.play(&rt, alloc, "ask 1001 on 1: 1001 leads 1001.1 on 1")?;
+        rt.alloc(),
+        250,
+        "ask 1001 on 1: 1001 leads 1001.1 on 1",
+    )?;
     Ok(())
+}
+
+#[test]
+fn four_thousand_askings_of_one_place(rt: HostRuntime) -> Result<(), Fail> {
+    for _ in 0..ROUNDS {
+        let script = "ask 4001 on 1: 4001 leads 4001.1 on 1";
+        if round(&rt, rt.alloc(), 1000, script)? > 0 {
+            return Ok(());
+        }
+    }
+    panic!(rt; "none is busy")
 }

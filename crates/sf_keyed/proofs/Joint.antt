@@ -2,11 +2,18 @@
 use Rattle.std.proofs.Common.{◌≡◌, ℕ, ◌++◌, Bool, true, false, List, Option, Some, None, sym, ◌∙◌, ap, append_assoc}
 use Rattle.std.proofs.lemmas.Bool.{true≢false}
 use Rattle.sf_history.specs.declared.call.CallId.{CallId}
+use Rattle.sf_keyed_words.specs.declared.rule.Gone.{Gone}
+use Rattle.sf_keyed_words.specs.declared.rule.KeyedSizes.{KeyedSizes}
+use Rattle.sf_keyed_words.specs.Rule.{is_gone}
 use Rattle.sf_keyed_tells.proofs.Telling.{call_number}
 use Rattle.sf_keyed_tells.specs.Tells.{KeyedEvent, call_of}
 
 pub joint : (a more b x w1 w2 : List KeyedEvent) → w1 ≡ a ++ more → w2 ≡ (w1 ++ b) ++ x → w2 ≡ (a ++ (more ++ b)) ++ x
 joint a more b x w1 w2 p q = q ∙ ap (λ l. l ++ x) (ap (λ l. l ++ b) p ∙ append_assoc a more b)
+
+-- what is gone is so still
+pub gone_on : (z y : KeyedSizes) (l m : List Gone) → y ≡ z → m ≡ l → (k : ℕ) → is_gone z l k ≡ true → is_gone y m k ≡ true
+gone_on z y l m sizes same k is = ap (λ x. is_gone x m k) sizes ∙ (ap (λ x. is_gone z x k) same ∙ is)
 
 pub two_parts : (a more b w1 w2 : List KeyedEvent) → w1 ≡ a ++ more → w2 ≡ w1 ++ b → w2 ≡ a ++ (more ++ b)
 two_parts a more b w1 w2 p q = q ∙ (ap (λ l. l ++ b) p ∙ append_assoc a more b)

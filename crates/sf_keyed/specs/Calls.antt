@@ -5,7 +5,7 @@ use Rattle.sf_history.specs.declared.event.Event.TheVariants as event
 use Rattle.sf_history.specs.History.{open_call, result_of}
 use Rattle.sf_history.specs.Legal.{IsLegal}
 use Rattle.sf_keyed_tells.specs.Tells.{KeyedEvent, call_of}
-use Rattle.sf_keyed.specs.Known.{FrontState, FlightState}
+use Rattle.sf_keyed.specs.Known.{FrontState, FlightState, IsGone}
 use Rattle.sf_keyed_words.specs.Plays.{WasForgotten}
 use Rattle.sf_keyed_words.specs.Rule.{IsPrefix}
 use Rattle.sf_keyed.specs.declared.group.Asked.{Asked}
@@ -16,6 +16,8 @@ use Rattle.sf_keyed.specs.declared.group.Forgotten.{Forgotten}
 use Rattle.sf_keyed.specs.declared.group.Forgotten.TheVariants as forgotten
 use Rattle.sf_keyed.specs.declared.group.Ended.{Ended}
 use Rattle.sf_keyed.specs.declared.group.Ended.TheVariants as ended
+use Rattle.sf_keyed.specs.declared.group.Passed.{Passed}
+use Rattle.sf_keyed.specs.declared.group.Passed.TheVariants as passed
 use Rattle.sf_keyed.specs.declared.group.Settled.{Settled}
 use Rattle.sf_keyed.specs.declared.group.Settled.TheVariants as settled
 use Rattle.sf_keyed.specs.declared.group.Refusal.{Refusal}
@@ -28,6 +30,7 @@ pub record AddsTo (before after : FrontState) (x : KeyedEvent) : Type 0 where
   pub others : List KeyedEvent
   pub seen : after.seen ≡ (before.seen ++ others) ++ x ∷ []
   pub legal : IsLegal nat_eq after.seen
+  pub gone : after.gone ≡ before.gone
 
 -- the caller has seen more, and added nothing; all of it is legal
 pub record Sees (before after : FrontState) : Type 0 where
@@ -35,12 +38,14 @@ pub record Sees (before after : FrontState) : Type 0 where
   pub number : after.number ≡ before.number
   pub seen : IsPrefix before.seen after.seen
   pub legal : IsLegal nat_eq after.seen
+  pub gone : (k : ℕ) → IsGone before k → IsGone after k
 
 -- the caller has seen no more, and its spare cell is as before
 pub record Stays (before after : FrontState) : Type 0 where
   pub group : after.group ≡ before.group
   pub number : after.number ≡ before.number
   pub seen : after.seen ≡ before.seen
+  pub gone : after.gone ≡ before.gone
   pub spare : after.spare ≡ before.spare
 
 -- a new call of the name is led
@@ -86,14 +91,21 @@ IsAsked before after name tries (asked.Led flight) = Led before after name fligh
 IsAsked before after name tries (asked.Joined ticket) = Joined before after name ticket.call × (ticket.group ≡ before.group) × (after.spare ≡ before.spare)
 IsAsked before after name tries (asked.Refused why) = Stays before after × WhyRefused before after tries why
 
+-- how an asking of a group that has grown ends: the name's open call is joined; or it has none, and never has one again; or nothing was done
+abbrev pub IsPassed : FrontState → FrontState → ℕ → ℕ → Passed → Type 0
+IsPassed before after name tries (passed.Joined ticket) = Joined before after name ticket.call × (ticket.group ≡ before.group) × (after.spare ≡ before.spare)
+IsPassed before after name tries passed.Gone = Sees before after × (open_call nat_eq after.seen name ≡ None) × IsGone after name × (after.spare ≡ before.spare)
+IsPassed before after name tries (passed.Refused why) = Stays before after × WhyRefused before after tries why
+
 -- a Forget of the name, by this caller, closes its open call
 abbrev pub Closes : FrontState → FrontState → ℕ → ℕ → Type 0
 Closes before after name call = AddsTo before after (event.Forget before.number name (Some (call_of call))) × (after.spare ≡ before.spare)
 
--- how a Forget of the name ends: its open call is closed; what was seen goes on, and has no open call of it at the end; or nothing was done, since in each try others changed a word first
+-- how a Forget of the name ends: its open call is closed; what was seen goes on, and has no open call of it at the end, or never again; or nothing was done, since in each try others changed a word first
 abbrev pub IsForgotten : FrontState → FrontState → ℕ → ℕ → Forgotten → Type 0
 IsForgotten before after name tries (forgotten.Closed call) = Closes before after name call
 IsForgotten before after name tries forgotten.Nothing = Sees before after × (open_call nat_eq after.seen name ≡ None) × (after.spare ≡ before.spare)
+IsForgotten before after name tries forgotten.Gone = Sees before after × (open_call nat_eq after.seen name ≡ None) × IsGone after name × (after.spare ≡ before.spare)
 IsForgotten before after name tries forgotten.Busy = Stays before after × (before.met.lost + tries ≤ after.met.lost)
 
 -- how a Forget of one call of the name ends: it is closed; what was seen goes on, and at the end it is not the name's open call; or nothing was done

@@ -1,8 +1,10 @@
 -- What clauses see of a keyed group and of the tokens of its callers.
-use Rattle.std.specs.Prelude.{ℕ, List}
+use Rattle.std.specs.Prelude.{◌≡◌, ℕ, true, List}
 use Rattle.atomic_table.specs.Seated.{TableId}
 use Rattle.sf_keyed_tells.specs.Tells.{KeyedEvent}
+use Rattle.sf_keyed_words.specs.declared.rule.Gone.{Gone}
 use Rattle.sf_keyed_words.specs.declared.rule.KeyedSizes.{KeyedSizes}
+use Rattle.sf_keyed_words.specs.Rule.{is_gone}
 
 -- which group
 pub record GroupId : Type 0 where
@@ -19,13 +21,18 @@ pub record Met : Type 0 where
   pub state : ℕ
   pub place : ℕ
 
--- a caller: the number by which its Forgets are; what it has seen: a beginning of the group's one history; its spare cell, as the call that would be led there next, or 0; and what it has met
+-- a caller: the number by which its Forgets are; what it has seen: a beginning of the group's one history; its walks over sealed slots; its spare cell, as the call that would be led there next, or 0; and what it has met
 pub record FrontState : Type 0 where
   pub group : GroupId
   pub number : ℕ
   pub seen : List KeyedEvent
+  pub gone : List Gone
   pub spare : ℕ
   pub met : Met
+
+-- the caller knows that the name is gone: it has no open call in the group, and never has one again
+abbrev pub IsGone : FrontState → ℕ → Type 0
+IsGone f k = is_gone f.group.sizes f.gone k ≡ true
 
 -- a call that is led, or held
 pub record FlightState : Type 0 where

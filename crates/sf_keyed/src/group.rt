@@ -1,14 +1,17 @@
 //! The group, the tokens of its callers, and its calls. None of them waits, and none takes memory but `new`.
-ghost use Rattle.std.specs.Prelude.{◌≡◌, ◌≢◌, ◌≤◌, ◌<◌, ◌*◌, ◌/◌, ◌%◌, ◌^◌, true, false, IfErr, IfOk};
+ghost use Rattle.std.specs.Prelude.{◌≡◌, ◌≢◌, ℕ, None, nat_eq, ◌≤◌, ◌<◌, ◌*◌, ◌/◌, ◌%◌, ◌^◌, true, false, IfErr, IfOk};
+ghost use Rattle.sf_history.specs.History.{open_call};
+ghost use Rattle.sf_history.specs.Legal.{IsLegal};
+ghost use Rattle.sf_keyed.specs.Known.{IsGone};
 ghost use Rattle.sf_keyed_words.specs.Rule.{number, word_total, joined_bit, is_forgotten, IsPrefix};
 ghost use Rattle.sf_keyed_walks.specs.Walk.{IsLaid};
-ghost use Rattle.sf_keyed.specs.Calls.{IsAsked, IsClaimed, IsEnded, IsForgotten, IsSettled, IsTaken, Sees};
+ghost use Rattle.sf_keyed.specs.Calls.{IsAsked, IsClaimed, IsEnded, IsForgotten, IsPassed, IsSettled, IsTaken, Sees};
 
 use atomic_table::Table;
 use sf_keyed_walks::answer::{leave_call, settle_call, take};
 use sf_keyed_walks::often;
 use sf_keyed_words::moving::{join_flight, join_note, join_ticket, split_flight, split_ticket};
-use sf_keyed_words::opening::{number_as, open, share};
+use sf_keyed_words::opening::{enter, number_as, open, share};
 use sf_keyed_words::steps::{KeyedSeat, claim, look_cell};
 use sf_keyed_words::{KeyedSizes, Law, Name, View};
 use std::alloc::{AllocError, Global};
@@ -45,7 +48,7 @@ impl Model for Front {
 
     ghost Value = { FrontState };
 
-    ghost view = { λ f. record { group = record { table = f.seat.table_id; sizes = f.seat.me.0.sizes }; number = f.seat.me.0.number; seen = f.seat.me.0.seen; spare = f.spare; met = record { lost = f.seat.me.0.lost; top = f.seat.me.0.found; opened = f.seat.me.0.opened; state = f.seat.me.0.state; place = f.seat.me.0.place } } };
+    ghost view = { λ f. record { group = record { table = f.seat.table_id; sizes = f.seat.me.0.sizes }; number = f.seat.me.0.number; seen = f.seat.me.0.seen; gone = f.seat.me.0.gone; spare = f.spare; met = record { lost = f.seat.me.0.lost; top = f.seat.me.0.found; opened = f.seat.me.0.opened; state = f.seat.me.0.state; place = f.seat.me.0.place } } };
 
     ghost invariant = { λ f. (f.seat.me.0.own ≡ f.spare) × (f.seat.me.0.leads ≡ 0) × (f.seat.me.0.ticket ≡ 0) × (f.spare < 2 ^ 61) × (f.spare ≢ 0 → f.spare % 1048576 < f.seat.me.0.sizes.cells) };
 }
@@ -148,6 +151,17 @@ pub enum Refusal {
     Crowded,
 }
 
+/// How an asking of a group that has grown ended.
+#[derive(Drop)]
+pub enum Passed {
+    /// The name's open call is joined.
+    Joined(Ticket),
+    /// The name has no open call, and never has one again in this group.
+    Gone,
+    /// Neither, and nothing was done.
+    Refused(Refusal),
+}
+
 /// How a claim of a cell ended.
 #[derive(Clone, Copy, Debug, PartialEq, Eq)]
 pub enum Claim {
@@ -188,6 +202,8 @@ pub enum Forgotten {
     Closed(u64),
     /// At a moment during the call the name had no open call.
     Nothing,
+    /// It had none, and never has one again in this group, which has grown.
+    Gone,
     /// In each try others changed a word between its load and the exchange, and nothing was done.
     Busy,
 }
@@ -259,6 +275,24 @@ impl KeyedGroup {
         }
     }
 
+    /// Asks for the name in a group that has grown, whose callers lead in a larger one: joins the name's open call, or else seals its slot, so
+    /// that no call of it is led here any more. It tries so often, since others may lead at the name's slot meanwhile, or join the call.
+    pub fn pass(&self, me: &mut Front, name: Name, tries: u32) -> Passed
+        requires own { me.old.group ≡ self.now }
+        ensures { IsPassed me.old me.new (number name) tries result }
+    {
+        let words = &self.table.shared;
+        match often::pass_often(words, &mut me.seat, self.sizes, name, tries) {
+            sf_keyed_walks::walk::Passed::Joined(call) => {
+                let seat = split_ticket(words, &mut me.seat);
+                Passed::Joined(Ticket { seat, call })
+            }
+            sf_keyed_walks::walk::Passed::Gone => Passed::Gone,
+            sf_keyed_walks::walk::Passed::Busy => Passed::Refused(Refusal::Busy),
+            sf_keyed_walks::walk::Passed::Crowded => Passed::Refused(Refusal::Crowded),
+        }
+    }
+
     /// Forgets the name: closes its open call, or finds that it has none. It tries so often, since others may lead at the name's slot
     /// meanwhile, or join the call.
     pub fn forget(&self, me: &mut Front, name: Name, tries: u32) -> Forgotten
@@ -275,6 +309,7 @@ impl KeyedGroup {
         ) {
             sf_keyed_walks::walk::Closing::Closed(call) => Forgotten::Closed(call),
             sf_keyed_walks::walk::Closing::Nothing => Forgotten::Nothing,
+            sf_keyed_walks::walk::Closing::Gone => Forgotten::Gone,
             sf_keyed_walks::walk::Closing::Other(_) => Forgotten::Busy,
             sf_keyed_walks::walk::Closing::Busy => Forgotten::Busy,
         }
@@ -295,6 +330,7 @@ impl KeyedGroup {
         ) {
             sf_keyed_walks::walk::Closing::Closed(_) => Ended::Closed,
             sf_keyed_walks::walk::Closing::Nothing => Ended::Gone,
+            sf_keyed_walks::walk::Closing::Gone => Ended::Gone,
             sf_keyed_walks::walk::Closing::Other(_) => Ended::Gone,
             sf_keyed_walks::walk::Closing::Busy => Ended::Busy,
         }
@@ -304,7 +340,7 @@ impl KeyedGroup {
     /// on from the last to the first.
     pub fn claim(&self, me: &mut Front, cell: u64) -> Claim
         requires own { me.old.group ≡ self.now }
-        ensures stays { (me.new.group ≡ me.old.group) × (me.new.number ≡ me.old.number) × (me.new.seen ≡ me.old.seen) }
+        ensures stays { (me.new.group ≡ me.old.group) × (me.new.number ≡ me.old.number) × (me.new.seen ≡ me.old.seen) × (me.new.gone ≡ me.old.gone) }
         ensures claimed { IsClaimed me.old me.new cell result }
     {
         if me.spare != 0 {
@@ -391,6 +427,17 @@ impl KeyedGroup {
         Front { seat, spare: 0 }
     }
 
+    /// A caller with no other's help, which has seen all that has happened, and has no cell to spare. Its Forgets are by this number.
+    pub fn enter(&self, number: u64) -> Front
+        ensures caller { (result.group ≡ self.now) × (result.number ≡ number) × (result.spare ≡ 0) }
+        ensures legal { IsLegal nat_eq result.seen }
+    {
+        let words = &self.table.shared;
+        let mut seat = enter(words);
+        number_as(words, &mut seat, number);
+        Front { seat, spare: 0 }
+    }
+
     /// What this caller has seen, for another caller: whatever happened before it was told, the other has seen once it has learned it.
     pub fn tell(&self, me: &mut Front) -> Note
         requires own { me.old.group ≡ self.now }
@@ -402,11 +449,12 @@ impl KeyedGroup {
         }
     }
 
-    /// Learns what another caller had seen. Both are beginnings of one history.
+    /// Learns what another caller had seen. Both are beginnings of one history. A name that was gone has no open call in it.
     pub fn learn(&self, me: &mut Front, note: Note)
         requires own { (me.old.group ≡ self.now) × (note.group ≡ self.now) }
         ensures sees { Sees me.old me.new × (me.new.spare ≡ me.old.spare) }
         ensures learned { IsPrefix note.seen me.new.seen }
+        ensures gone { (k : ℕ) → IsGone me.old k → open_call nat_eq me.new.seen k ≡ None }
     {
         let Note { seat } = note;
         join_note(&self.table.shared, &mut me.seat, seat);

@@ -10,8 +10,8 @@ pub mod laws;
 pub mod names;
 
 pub use group::{
-    Asked, Audience, Claim, Ended, Flight, Forgotten, Front, KeyedGroup, Note, Refusal, Settled,
-    Ticket,
+    Asked, Audience, Claim, Ended, Flight, Forgotten, Front, KeyedGroup, Note, Passed, Refusal,
+    Settled, Ticket,
 };
 pub use names::Names;
 pub use sf_keyed_words::{KeyedSizes, Name};

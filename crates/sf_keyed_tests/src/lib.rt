@@ -4,4 +4,8 @@
 #[cfg(test)]
 mod ages;
 #[cfg(test)]
+mod chains;
+#[cfg(test)]
+mod passes;
+#[cfg(test)]
 mod tests;

@@ -130,7 +130,7 @@ passed_won sizes slot found at name state old n v w w2 w3 aside on on2 l is set 
     let saved : w3 ≡ record w2 { saved = true } = set ∙ ap (λ b. cond b (record w2 { saved = true }) (loses w2)) (eq-eqb n old won) in
     let h = looked_closed slot found at name state sizes v w w2 aside on l is in
     let s = stays_both v w w2 l.stays (stays_closed w w2 state is) in record {
-      stays = subst (λ (q : View). Stays v q) (sym saved) (record { sizes = s.sizes; number = s.number; own = s.own; leads = s.leads; ticket = s.ticket; last = s.last; seen = s.seen; lost = s.lost });
+      stays = subst (λ (q : View). Stays v q) (sym saved) (record { sizes = s.sizes; number = s.number; own = s.own; leads = s.leads; ticket = s.ticket; last = s.last; gone = s.gone; seen = s.seen; lost = s.lost });
       looked = subst (λ (q : View). HasLooked q slot found (at + 1) name) (sym saved) (record { walks = h.walks; slot_is = h.slot_is; found_is = h.found_is; top_is = h.top_is; looked = h.looked; clear = h.clear; other = h.other; unmet = h.unmet });
       shown = record {
         saved_is = λ _ _. ap (λ (q : View). q.saved) saved;
@@ -148,7 +148,7 @@ passed_lost sizes slot found at name state old n v w w2 w3 aside on on2 l is set
     let h = looked_closed slot found at name state sizes v w w2 aside on l is in
     let s = stays_both v w w2 l.stays (stays_closed w w2 state is) in
     let le = s.lost in record {
-      stays = subst (λ (q : View). Stays v q) (sym less) (record { sizes = s.sizes; number = s.number; own = s.own; leads = s.leads; ticket = s.ticket; last = s.last; seen = s.seen; lost = omega (arith, le) });
+      stays = subst (λ (q : View). Stays v q) (sym less) (record { sizes = s.sizes; number = s.number; own = s.own; leads = s.leads; ticket = s.ticket; last = s.last; gone = s.gone; seen = s.seen; lost = omega (arith, le) });
       looked = subst (λ (q : View). HasLooked q slot found (at + 1) name) (sym less) (record { walks = h.walks; slot_is = h.slot_is; found_is = h.found_is; top_is = h.top_is; looked = h.looked; clear = h.clear; other = h.other; unmet = h.unmet });
       shown = record {
         saved_is = λ shut. absurd (true≢false (sym opened ∙ (sym (ap (λ (q : Walked). q.aside) on_is) ∙ shut)));

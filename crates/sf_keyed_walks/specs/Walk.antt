@@ -6,7 +6,7 @@ use Rattle.sf_history.specs.History.{open_call, result_of}
 use Rattle.sf_keyed_tells.specs.Tells.{call_of}
 use Rattle.sf_keyed_words.specs.declared.rule.KeyedSizes.{KeyedSizes}
 use Rattle.sf_keyed_words.specs.declared.rule.View.{View}
-use Rattle.sf_keyed_words.specs.Rule.{is_open_call, number, slot_of, word_total, Unmet}
+use Rattle.sf_keyed_words.specs.Rule.{is_gone, is_open_call, number, slot_of, word_total, Unmet}
 use Rattle.sf_keyed_words.specs.Plays.{Adds, Grows, WasForgotten, met_closed, met_open, read_low, read_high}
 use Rattle.sf_keyed_walks.specs.declared.walk.Walked.{Walked}
 use Rattle.sf_keyed_walks.specs.declared.walk.Look.{Look}
@@ -22,6 +22,14 @@ Examined v w call name (Closed state) = w ≡ met_closed v state
 Examined v w call name (Other held state) = (w ≡ read_high (read_low (met_open v state) held.low) held.high) × (number held ≢ name)
 Examined v w call name (Named state) = (w ≡ read_high (read_low (met_open v state) (name % 18446744073709551616)) (name / 18446744073709551616)) × (w.name ≡ name) × (is_open_call state call ≡ true)
 
+-- the seat knows that the name is gone: it has no open call in the table, and never has one again
+abbrev pub IsGone : View → ℕ → Type 0
+IsGone v k = is_gone v.sizes v.gone k ≡ true
+
+-- what is gone is so still
+abbrev pub GoneLasts : View → View → Type 0
+GoneLasts v w = (k : ℕ) → IsGone v k → IsGone w k
+
 -- a walk changes nothing but how far the seat has walked, and how many exchanges it has lost
 pub record Stays (v w : View) : Type 0 where
   pub sizes : w.sizes ≡ v.sizes
@@ -32,6 +40,7 @@ pub record Stays (v w : View) : Type 0 where
   pub last : w.last ≡ v.last
   pub seen : w.seen ≡ v.seen
   pub lost : v.lost ≤ w.lost
+  pub gone : w.gone ≡ v.gone
 
 -- the top and so many side words were looked at, and are of no use
 pub record HasLooked (v : View) (slot found at name : ℕ) : Type 0 where
@@ -94,6 +103,7 @@ pub record HasLed (v w : View) (own name : ℕ) : Type 0 where
   pub own_is : w.own ≡ 0
   pub ticket : w.ticket ≡ v.ticket
   pub adds : Adds v w (event.Lead (own % 1048576) name (call_of own) None)
+  pub gone : w.gone ≡ v.gone
 
 -- the seat is a holder of the name's open call
 pub record HasJoined (v w : View) (call name : ℕ) : Type 0 where
@@ -104,6 +114,7 @@ pub record HasJoined (v w : View) (call name : ℕ) : Type 0 where
   pub leads : w.leads ≡ v.leads
   pub member : CallId
   pub adds : Adds v w (event.Enter member.caller name (call_of call) member)
+  pub gone : w.gone ≡ v.gone
 
 -- the call is settled with this result: with no joiner where the bit is 0, and with some where it is 1
 pub record HasSettled (v w : View) (call : ℕ) (told : Option ℕ) (bit : ℕ) (forgotten : Bool) : Type 0 where
@@ -115,6 +126,7 @@ pub record HasSettled (v w : View) (call : ℕ) (told : Option ℕ) (bit : ℕ) 
   pub some : bit ≡ 1 → joiners ≢ 0
   pub adds : Adds v w (event.Settle (call % 1048576) (call_of call) told joiners)
   pub was : WasForgotten (v.seen ++ adds.before) call forgotten
+  pub gone : w.gone ≡ v.gone
 
 -- the name's open call is closed
 pub record HasClosed (v w : View) (call name : ℕ) : Type 0 where
@@ -124,6 +136,7 @@ pub record HasClosed (v w : View) (call name : ℕ) : Type 0 where
   pub leads : w.leads ≡ v.leads
   pub ticket : w.ticket ≡ v.ticket
   pub adds : Adds v w (event.Forget v.number name (Some (call_of call)))
+  pub gone : w.gone ≡ v.gone
 
 -- the seat has seen more, at whose end the name has no open call
 pub record HasNone (v w : View) (name : ℕ) : Type 0 where
@@ -134,6 +147,7 @@ pub record HasNone (v w : View) (name : ℕ) : Type 0 where
   pub ticket : w.ticket ≡ v.ticket
   pub grows : Grows v w
   pub none : open_call nat_eq w.seen name ≡ None
+  pub gone : GoneLasts v w
 
 -- the seat has seen more, at whose end the name has another open call
 pub record HasOther (v w : View) (call name : ℕ) (only : Option ℕ) : Type 0 where
@@ -145,6 +159,7 @@ pub record HasOther (v w : View) (call name : ℕ) (only : Option ℕ) : Type 0 
   pub grows : Grows v w
   pub other : open_call nat_eq w.seen name ≡ Some (call_of call)
   pub apart : only ≢ Some call
+  pub gone : w.gone ≡ v.gone
 
 -- the seat is a holder of the call no more, and has seen more, in which the call was settled with this value
 pub record HasTaken (v w : View) (call value : ℕ) : Type 0 where
@@ -155,6 +170,7 @@ pub record HasTaken (v w : View) (call value : ℕ) : Type 0 where
   pub ticket : w.ticket ≡ 0
   pub grows : Grows v w
   pub result : result_of w.seen (call_of call) ≡ Some (Some value)
+  pub gone : w.gone ≡ v.gone
 
 -- the seat is a holder no more
 pub record HasLeft (v w : View) : Type 0 where
@@ -164,6 +180,7 @@ pub record HasLeft (v w : View) : Type 0 where
   pub leads : w.leads ≡ v.leads
   pub ticket : w.ticket ≡ 0
   pub seen : w.seen ≡ v.seen
+  pub gone : w.gone ≡ v.gone
 
 -- whatever a walk found, the calls of the seat are as before
 pub record KeepsCalls (v w : View) : Type 0 where
@@ -172,3 +189,4 @@ pub record KeepsCalls (v w : View) : Type 0 where
   pub own : w.own ≡ v.own
   pub leads : w.leads ≡ v.leads
   pub ticket : w.ticket ≡ v.ticket
+  pub gone : GoneLasts v w

@@ -1,11 +1,12 @@
 //! Askings and Forgets that are tried again where another came first.
 ghost use Rattle.std.specs.Prelude.{◌≡◌, ◌≢◌, ◌+◌, ◌/◌, ◌%◌, ◌<◌, ◌≤◌, ◌^◌, ℕ, Some, None};
 ghost use Rattle.sf_keyed_words.specs.Rule.{number};
-ghost use Rattle.sf_keyed_walks.specs.Walk.{IsLaid, Stays, HasLed, HasJoined, HasClosed, HasNone, HasOther, KeepsCalls};
+ghost use Rattle.sf_keyed_walks.specs.Walk.{IsLaid, Stays, HasLed, HasJoined, HasClosed, HasNone, HasOther, IsGone, KeepsCalls};
 ghost use Rattle.sf_keyed_walks.specs.declared.walk.Asked.TheVariants as asked;
 ghost use Rattle.sf_keyed_walks.specs.declared.walk.Closing.TheVariants as closing;
+ghost use Rattle.sf_keyed_walks.specs.declared.walk.Passed.TheVariants as passed;
 
-use crate::walk::{Asked, Closing, ask_once, forget_once};
+use crate::walk::{Asked, Closing, Passed, ask_once, forget_once, pass_once};
 use sf_keyed_words::steps::{KeyedSeat, Words};
 use sf_keyed_words::{KeyedSizes, Name};
 
@@ -25,6 +26,7 @@ pub fn forget_often(
     ensures own { seat.new.table_id ≡ seat.old.table_id }
     ensures closed { (call : ℕ) → result ≡ closing.Closed call → HasClosed seat.old.me.0 seat.new.me.0 call (number name) × ((wanted : ℕ) → only ≡ Some wanted → call ≡ wanted) }
     ensures nothing { result ≡ closing.Nothing → HasNone seat.old.me.0 seat.new.me.0 (number name) }
+    ensures gone { result ≡ closing.Gone → HasNone seat.old.me.0 seat.new.me.0 (number name) × IsGone seat.new.me.0 (number name) }
     ensures other { (call : ℕ) → result ≡ closing.Other call → HasOther seat.old.me.0 seat.new.me.0 call (number name) only × (only ≢ None) }
     ensures busy { result ≡ closing.Busy → Stays seat.old.me.0 seat.new.me.0 × (seat.old.me.0.lost + tries ≤ seat.new.me.0.lost) }
     ensures calls { KeepsCalls seat.old.me.0 seat.new.me.0 }
@@ -34,6 +36,7 @@ pub fn forget_often(
             Closing::Busy => {}
             Closing::Other(call) => return Closing::Other(call),
             Closing::Nothing => return Closing::Nothing,
+            Closing::Gone => return Closing::Gone,
             Closing::Closed(call) => return Closing::Closed(call),
         }
     }
@@ -78,4 +81,35 @@ pub fn ask_often(
         }
     }
     Asked::Busy
+}
+
+/// Asks for the name in a group that has grown: joins its open call, or seals its slot where it has none. Busy after so many tries, in each
+/// of which an exchange was lost to others.
+pub fn pass_often(
+    words: &Words,
+    seat: &mut KeyedSeat,
+    sizes: KeyedSizes,
+    name: Name,
+    tries: u32,
+) -> Passed
+    requires own { seat.old.table_id ≡ words.now.table_id }
+    requires laid { IsLaid words.now.key words.now.table_id.words sizes }
+    requires sizes { seat.old.me.0.sizes ≡ sizes }
+    requires idle { seat.old.me.0.ticket ≡ 0 }
+    ensures own { seat.new.table_id ≡ seat.old.table_id }
+    ensures joined { (found : ℕ) → result ≡ passed.Joined found → HasJoined seat.old.me.0 seat.new.me.0 found (number name) }
+    ensures cell { (found : ℕ) → result ≡ passed.Joined found → (found ≢ 0) × (found < 2 ^ 61) × (found % 1048576 < sizes.cells) }
+    ensures gone { result ≡ passed.Gone → HasNone seat.old.me.0 seat.new.me.0 (number name) × IsGone seat.new.me.0 (number name) }
+    ensures busy { result ≡ passed.Busy → Stays seat.old.me.0 seat.new.me.0 × (seat.old.me.0.lost + tries ≤ seat.new.me.0.lost) }
+    ensures crowded { result ≡ passed.Crowded → Stays seat.old.me.0 seat.new.me.0 × (1048575 ≤ seat.new.me.0.state % 1048576) }
+{
+    for at in 0..tries {
+        match pass_once(words, seat, sizes, name) {
+            Passed::Busy => {}
+            Passed::Joined(call) => return Passed::Joined(call),
+            Passed::Gone => return Passed::Gone,
+            Passed::Crowded => return Passed::Crowded,
+        }
+    }
+    Passed::Busy
 }

@@ -2,15 +2,16 @@
 ghost use Rattle.std.specs.Prelude.{◌≡◌, ◌≢◌, ◌+◌, ◌/◌, ◌%◌, ◌<◌, ◌≤◌, ◌^◌, ℕ, true, false, Some, None};
 ghost use Rattle.sf_keyed_words.specs.Rule.{is_open_call, number};
 ghost use Rattle.sf_keyed_words.specs.Rule.{slot_of as the_slot_of};
-ghost use Rattle.sf_keyed_walks.specs.Walk.{IsLaid, Examined, Stays, HasLooked, MetNone, Shown, Began, WentThrough, HasMet, HasLed, HasJoined, HasClosed, HasNone, HasOther, KeepsCalls};
+ghost use Rattle.sf_keyed_walks.specs.Walk.{IsLaid, Examined, Stays, HasLooked, MetNone, Shown, Began, WentThrough, HasMet, HasLed, HasJoined, HasClosed, HasNone, HasOther, IsGone, KeepsCalls};
 ghost use Rattle.sf_keyed_walks.specs.declared.walk.Walked.{Walked as WalkedFields};
 ghost use Rattle.sf_keyed_walks.specs.declared.walk.Way.TheVariants as way;
 ghost use Rattle.sf_keyed_walks.specs.declared.walk.Asked.TheVariants as asked;
 ghost use Rattle.sf_keyed_walks.specs.declared.walk.Closing.TheVariants as closing;
+ghost use Rattle.sf_keyed_walks.specs.declared.walk.Passed.TheVariants as passed;
 
 use sf_keyed_words::steps::{
     KeyedSeat, Words, close, confirm, find_none, join, lead, look_side, look_top, read, read_low,
-    see, set_aside, store_high, store_low,
+    seal, see, set_aside, store_high, store_low,
 };
 use sf_keyed_words::{KeyedSizes, Name};
 
@@ -55,13 +56,25 @@ pub enum Asked {
     Crowded,
 }
 
-/// How a Forget ended: it closed this call; the name had none; the name had this other open call; or another came first.
+/// How a Forget ended: it closed this call; the name had none; it had none, and never has one again; the name had this other open call;
+/// or another came first.
 #[derive(Clone, Copy)]
 pub enum Closing {
     Closed(u64),
     Nothing,
+    Gone,
     Other(u64),
     Busy,
+}
+
+/// How an asking of a group that has grown ended: the name's open call is joined; the name has none, and never has one again; another came
+/// first; or the name's open call has as many holders as its state word can count.
+#[derive(Clone, Copy)]
+pub enum Passed {
+    Joined(u64),
+    Gone,
+    Busy,
+    Crowded,
 }
 
 // Whether a state word says that the call is some call, and open.
@@ -367,6 +380,7 @@ pub fn forget_once(
     ensures own { seat.new.table_id ≡ seat.old.table_id }
     ensures closed { (call : ℕ) → result ≡ closing.Closed call → HasClosed seat.old.me.0 seat.new.me.0 call (number name) × ((wanted : ℕ) → only ≡ Some wanted → call ≡ wanted) }
     ensures nothing { result ≡ closing.Nothing → HasNone seat.old.me.0 seat.new.me.0 (number name) }
+    ensures gone { result ≡ closing.Gone → HasNone seat.old.me.0 seat.new.me.0 (number name) × IsGone seat.new.me.0 (number name) }
     ensures other { (call : ℕ) → result ≡ closing.Other call → HasOther seat.old.me.0 seat.new.me.0 call (number name) only × (only ≢ None) }
     ensures busy { result ≡ closing.Busy → Stays seat.old.me.0 seat.new.me.0 × (seat.old.me.0.lost < seat.new.me.0.lost) }
     ensures calls { KeepsCalls seat.old.me.0 seat.new.me.0 }
@@ -396,13 +410,17 @@ fn none_after(
     ensures own { seat.new.table_id ≡ seat.old.table_id }
     ensures others { ((call : ℕ) → result ≢ closing.Closed call) × ((call : ℕ) → result ≢ closing.Other call) }
     ensures nothing { result ≡ closing.Nothing → HasNone seat.old.me.0 seat.new.me.0 (number name) }
+    ensures gone { result ≡ closing.Gone → HasNone seat.old.me.0 seat.new.me.0 (number name) × IsGone seat.new.me.0 (number name) }
     ensures busy { result ≡ closing.Busy → Stays seat.old.me.0 seat.new.me.0 × (seat.old.me.0.lost < seat.new.me.0.lost) }
     ensures calls { KeepsCalls seat.old.me.0 seat.new.me.0 }
 {
-    if find_none(words, seat, slot) == found {
+    if find_none(words, seat, slot) != found {
+        return Closing::Busy;
+    }
+    if found / 2 % 2 == 0 {
         Closing::Nothing
     } else {
-        Closing::Busy
+        Closing::Gone
     }
 }
 
@@ -421,7 +439,7 @@ fn close_found(
     requires met { HasMet sizes seat.old.me.0 call state (number name) }
     ensures own { seat.new.table_id ≡ seat.old.table_id }
     ensures closed { (found : ℕ) → result ≡ closing.Closed found → HasClosed seat.old.me.0 seat.new.me.0 found (number name) × ((wanted : ℕ) → only ≡ Some wanted → found ≡ wanted) }
-    ensures nothing { result ≢ closing.Nothing }
+    ensures others { (result ≢ closing.Nothing) × (result ≢ closing.Gone) }
     ensures other { (found : ℕ) → result ≡ closing.Other found → HasOther seat.old.me.0 seat.new.me.0 found (number name) only × (only ≢ None) }
     ensures busy { result ≡ closing.Busy → Stays seat.old.me.0 seat.new.me.0 × (seat.old.me.0.lost < seat.new.me.0.lost) }
     ensures calls { KeepsCalls seat.old.me.0 seat.new.me.0 }
@@ -440,5 +458,63 @@ fn close_found(
         Closing::Closed(call)
     } else {
         Closing::Busy
+    }
+}
+
+/// Asks for the name in a group that has grown, once: joins its open call, or seals its slot where it has none, so that it never has one
+/// again.
+pub fn pass_once(words: &Words, seat: &mut KeyedSeat, sizes: KeyedSizes, name: Name) -> Passed
+    requires own { seat.old.table_id ≡ words.now.table_id }
+    requires laid { IsLaid words.now.key words.now.table_id.words sizes }
+    requires sizes { seat.old.me.0.sizes ≡ sizes }
+    requires idle { seat.old.me.0.ticket ≡ 0 }
+    ensures own { seat.new.table_id ≡ seat.old.table_id }
+    ensures joined { (found : ℕ) → result ≡ passed.Joined found → HasJoined seat.old.me.0 seat.new.me.0 found (number name) }
+    ensures cell { (found : ℕ) → result ≡ passed.Joined found → (found ≢ 0) × (found < 2 ^ 61) × (found % 1048576 < sizes.cells) }
+    ensures gone { result ≡ passed.Gone → HasNone seat.old.me.0 seat.new.me.0 (number name) × IsGone seat.new.me.0 (number name) }
+    ensures busy { result ≡ passed.Busy → Stays seat.old.me.0 seat.new.me.0 × (seat.old.me.0.lost < seat.new.me.0.lost) }
+    ensures crowded { result ≡ passed.Crowded → Stays seat.old.me.0 seat.new.me.0 × (1048575 ≤ seat.new.me.0.state % 1048576) }
+{
+    let slot = slot_of(sizes, name);
+    match walk_slot(words, seat, sizes, slot, name, false) {
+        Way::Met(call, state) => match join_found(words, seat, sizes, call, name, state) {
+            Asked::Joined(joined) => Passed::Joined(joined),
+            Asked::Crowded => Passed::Crowded,
+            _ => Passed::Busy,
+        },
+        Way::Through(found, on) => gone_after(words, seat, sizes, slot, found, name, on),
+    }
+}
+
+// Seals the slot at the end of a walk from this top word, or finds it sealed.
+fn gone_after(
+    words: &Words,
+    seat: &mut KeyedSeat,
+    sizes: KeyedSizes,
+    slot: u64,
+    found: u64,
+    name: Name,
+    on: Walked,
+) -> Passed
+    requires own { seat.old.table_id ≡ words.now.table_id }
+    requires laid { IsLaid words.now.key words.now.table_id.words sizes }
+    requires sizes { seat.old.me.0.sizes ≡ sizes }
+    requires slot { (slot < sizes.tops) × (the_slot_of sizes (number name) ≡ slot) }
+    requires through { WentThrough sizes slot found (number name) seat.old.me.0 false on }
+    ensures own { seat.new.table_id ≡ seat.old.table_id }
+    ensures others { ((call : ℕ) → result ≢ passed.Joined call) × (result ≢ passed.Crowded) }
+    ensures gone { result ≡ passed.Gone → HasNone seat.old.me.0 seat.new.me.0 (number name) × IsGone seat.new.me.0 (number name) }
+    ensures busy { result ≡ passed.Busy → Stays seat.old.me.0 seat.new.me.0 × (seat.old.me.0.lost < seat.new.me.0.lost) }
+{
+    let sealed = found / 2 % 2 == 1;
+    let top = if sealed {
+        find_none(words, seat, slot)
+    } else {
+        seal(words, seat, slot, found)
+    };
+    if top == found {
+        Passed::Gone
+    } else {
+        Passed::Busy
     }
 }

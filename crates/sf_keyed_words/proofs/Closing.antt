@@ -68,7 +68,7 @@ close_won z id old new me may t p is found =
     let st = state_set z t.words c new cell p.shows.size in
     let away = away_state z s s2 h h2 t.words ws p.holder p.holder c new st (λ k apart. refl) (λ d. refl) (λ d _ before. plain_settled h x (call_of d) refl before) (λ d _. joined_kept h x (call_of d) refl) in
     let was : (d : ℕ) → d % 1048576 ≡ c → slice_index t.words (state_at z d) ≡ old = λ d here. ap (λ q. slice_index t.words (z.tops + z.sides + 8 * q)) here ∙ found in
-    let all : (k : ℕ) (u : View) → get_elem? t.views k ≡ some u → IsView z s2 h2 ws p.holder k u = λ k u at. view_away z s s2 h h2 t.words ws p.holder p.holder c k u away (one_more h x) (λ l. look_lasts y s step u p.keeps l) (λ l w. walk_lasts z s step u p.keeps l w)
+    let all : (k : ℕ) (u : View) → get_elem? t.views k ≡ some u → IsView z s2 h2 ws p.holder k u = λ k u at. view_away z s s2 h h2 t.words ws p.holder p.holder c k u away (one_more h x) (λ l. look_lasts z s step u p.keeps l) (λ l w. walk_lasts z s step u p.keeps l w)
     (λ any here o. own_never z s t.words p.holder k u.own u.named u.key old e c found gen refl f.led here o)
     (λ any here o. record {
       led = o.led;

@@ -6,7 +6,7 @@ use native.Mathlib.Decide.{ℕ_discrete}
 use Rattle.sf_lists.proofs.Functions.{put_cases}
 use Rattle.sf_keyed_laws.specs.Words.{Layout, Words, IsLedIfAny, Keeps}
 use Rattle.sf_keyed_laws.specs.Steps.{Step, leads, sets_aside, closes, seals, after}
-use Rattle.sf_keyed_laws.proofs.Walking.{walks_last, others_last, set_aside_lasts, steps_keep, led_more, still_open}
+use Rattle.sf_keyed_laws.proofs.Walking.{walks_last, others_last, sealed_lasts, set_aside_lasts, steps_keep, led_more, still_open}
 use Rattle.sf_keyed_words.specs.declared.rule.KeyedSizes.{KeyedSizes}
 use Rattle.sf_keyed_words.specs.declared.rule.View.{View}
 use Rattle.sf_keyed_words.specs.Rule.{layout_of, IsLook, IsWalk}
@@ -29,17 +29,18 @@ was_live y s (sets_aside w d c h) x live = live
 was_live y s (closes c h) x live = still_open s c x live
 was_live y s (seals p) x live = live
 
-pub look_lasts : (y : Layout) (s : Words) (m : Step y s) (v : View) → Keeps y s → IsLook s v → IsLook (after y s m) v
-look_lasts y s m v keeps look = record {
+pub look_lasts : (z : KeyedSizes) (s : Words) (m : Step (layout_of z) s) (v : View) → Keeps (layout_of z) s → IsLook z s v → IsLook z (after (layout_of z) s m) v
+look_lasts z s m v keeps look = let y = layout_of z in record {
   top = any_lasts y s m v.top look.top;
   but = any_lasts y s m v.but look.but;
   clear = λ yes k unmet. others_last y s m k v.but look.but keeps (look.clear yes k unmet);
   dead = λ yes k. others_last y s m k v.but look.but keeps (look.dead yes k);
   half = λ yes k isnt. others_last y s m k v.but look.but keeps (look.half yes k isnt);
   told = λ yes k isnt. others_last y s m k v.but look.but keeps (look.told yes k isnt);
+  gone = λ k is. let g = look.gone k is in let l = sealed_lasts y s m k g.sealed g.none in record { sizes = g.sizes; sealed = l.0; none = l.1 };
 }
 
-pub walk_lasts : (z : KeyedSizes) (s : Words) (m : Step (layout_of z) s) (v : View) → Keeps (layout_of z) s → IsLook s v → IsWalk z s v → IsWalk z (after (layout_of z) s m) v
+pub walk_lasts : (z : KeyedSizes) (s : Words) (m : Step (layout_of z) s) (v : View) → Keeps (layout_of z) s → IsLook z s v → IsWalk z s v → IsWalk z (after (layout_of z) s m) v
 walk_lasts z s m v keeps look walk =
     let y = layout_of z in
     record {

@@ -9,6 +9,7 @@ pub mod Settling
 pub mod Closing
 pub mod Leaving
 pub mod Stores
+pub mod Sealing
 pub mod Tops
 pub mod Telling
 pub mod Zeros

@@ -60,6 +60,7 @@ looks_at_top z slots id i me sizes below = loads_named z slots id i me (walk_fro
         dead = λ no. absurd (true≢false (sym no));
         half = λ no. absurd (true≢false (sym no));
         told = λ no. absurd (true≢false (sym no));
+        gone = m.look.gone;
       };
       walk = λ yes. record {
         walked = λ k slot unmet. walks_begin (layout_of z) p.words k (n / 4) p.keeps;
@@ -96,6 +97,7 @@ looks_aside z slots id me sizes walks clear small below = loads_named z slots id
         dead = λ no. absurd (true≢false (sym no));
         half = λ no. absurd (true≢false (sym no));
         told = λ no. absurd (true≢false (sym no));
+        gone = m.look.gone;
       };
       walk = λ yes. record {
         walked = λ k slot unmet. walks_go_on (layout_of z) p.words k v.top d v.looked
@@ -139,6 +141,7 @@ sees z slots id me = loads z slots id (state_at z me.0.but) me (see_state me.0) 
         dead = λ yes k led live. absurd (dead led live);
         half = m.look.half;
         told = m.look.told;
+        gone = m.look.gone;
       };
       walk = λ yes. let walk = m.walk yes in record {
         walked = walk.walked;
@@ -170,6 +173,7 @@ reads_low z slots id me = loads z slots id (name_at z me.0.but) me (read_low me.
         dead = m.look.dead;
         half = λ yes k isnt led live key. isnt (sym ((p.shows.live v.but led live).1.low ∙ ap (λ n. n % 18446744073709551616) key));
         told = m.look.told;
+        gone = m.look.gone;
       };
       walk = m.walk;
     }) (λ n c. refl)
@@ -203,6 +207,7 @@ reads z slots id me half = loads z slots id (high_at z me.0.but) me (read_high m
         dead = m.look.dead;
         half = m.look.half;
         told = λ yes. told;
+        gone = m.look.gone;
       };
       walk = λ yes. let walk = m.walk yes in record {
         walked = λ k slot unmet. walk.walked k slot (parts k unmet).1;

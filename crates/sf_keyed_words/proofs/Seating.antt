@@ -6,7 +6,7 @@ use Rattle.std.proofs.lemmas.List.{length-set}
 use Rattle.std.specs.Prelude.{slice_index}
 use mathlib.Core.Option.{some, some-injective, some-ne-none}
 use lib.ListN.{get_elem?}
-use Rattle.atomic_table.specs.Table.{State, Me, Splits, Joins, keeps, Allows}
+use Rattle.atomic_table.specs.Table.{State, Me, Enters, Splits, Joins, keeps, Allows}
 use Rattle.atomic_table.proofs.Lists.{at_set, set_else}
 use Rattle.sf_lists.specs.Functions.{put}
 use Rattle.sf_lists.proofs.Functions.{put_here, put_else}
@@ -15,7 +15,7 @@ use Rattle.sf_keyed_laws.specs.Words.{Words}
 use Rattle.sf_keyed_words.specs.declared.rule.KeyedSizes.{KeyedSizes}
 use Rattle.sf_keyed_words.specs.declared.rule.View.{View}
 use Rattle.sf_keyed_words.specs.Rule.{state_at, IsLeads, IsView, IsPrefix, stake, held_at, first_view, KeyedTable, Holds}
-use Rattle.sf_keyed_words.specs.Moves.{without_flight, flight_of, without_ticket, ticket_of, with_note, with_flight, with_ticket, spent, has_heard}
+use Rattle.sf_keyed_words.specs.Moves.{without_flight, flight_of, without_ticket, ticket_of, with_note, with_flight, with_ticket, spent, has_entered, has_heard}
 use Rattle.sf_keyed_words.proofs.Seats.{seats_set, sum_set, still, view_away, Away}
 use Rattle.sf_keyed_words.proofs.States.{own_never, last_never, whole}
 
@@ -91,6 +91,7 @@ bare z s h ws holder k y seen is = record {
     dead = λ no. absurd (true≢false (sym no));
     half = λ no. absurd (true≢false (sym no));
     told = λ no. absurd (true≢false (sym no));
+    gone = λ k no. absurd (true≢false (sym no));
   };
   walk = λ no. absurd (true≢false (sym no));
   own = λ any. absurd (any refl);
@@ -261,5 +262,30 @@ hears z slots id i me t p len is fits =
       tt,
       still z t p id i me w is (λ d. refl)
           (record { seen = whole p.history; heard = m.heard; look = m.look; walk = m.walk; own = m.own; begun = m.begun; leads = m.leads; ticket = m.ticket; last = m.last }),
-      record { view = refl; seen = m.seen; heard = m.heard; legal = p.tells.legal },
+      record { view = refl; seen = m.seen; heard = m.heard; legal = p.tells.legal; gone = λ k is. p.tells.shuts k (m.look.gone k is).none },
+    )
+
+empty_stake : (a b n : ℕ) → a ≡ b → a ≡ b + 0
+empty_stake a b n is = omega (arith, is)
+
+-- a load by which a new seat has seen all that has happened
+pub enters : (z : KeyedSizes) (slots i : ℕ) → Enters (Holds z) slots i (λ n w. has_entered (first_view z) w)
+enters z slots i t p len fits =
+    let w : View = record (first_view z) { seen = p.history } in (
+      w,
+      record {
+        words = p.words;
+        history = p.history;
+        holder = p.holder;
+        keeps = p.keeps;
+        tells = p.tells;
+        members = p.members;
+        shows = p.shows;
+        counts = λ c lt. empty_stake _ _ 0 (p.counts c lt) ∙ sym (sum_by_push (stake c) t.views w);
+        seats = λ k u at. ⊎_elim
+            (λ there. p.seats k u there)
+            (λ (same : (k ≡ length t.views) × (w ≡ u)). subst (IsView z p.words p.history t.words p.holder k) same.1 (bare z p.words p.history t.words p.holder k z p.history (whole p.history)))
+            (at_end t.views w u k at);
+      },
+      record { view = refl; legal = p.tells.legal },
     )

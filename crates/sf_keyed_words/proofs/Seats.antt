@@ -131,7 +131,7 @@ name_kept z ws ws2 e name low high is = record { low = low ∙ is.low; high = hi
 -- another seat's view
 pub view_away : (z : KeyedSizes) (s s2 : Words) (h h2 : List KeyedEvent) (ws ws2 : List ℕ) (holder holder2 : ℕ → ℕ) (c k : ℕ) (u : View)
     → Away z s s2 h h2 ws ws2 holder holder2 c → IsPrefix h h2
-    → (IsLook s u → IsLook s2 u) → (IsLook s u → IsWalk z s u → IsWalk z s2 u)
+    → (IsLook z s u → IsLook z s2 u) → (IsLook z s u → IsWalk z s u → IsWalk z s2 u)
     → (u.own ≢ 0 → u.own % 1048576 ≡ c → IsOwn z s ws holder k u.own u.named u.key → ⊥)
     → (u.leads ≢ 0 → u.leads % 1048576 ≡ c → IsLeads z s h ws holder k u.leads u.stored u.value → IsLeads z s2 h2 ws2 holder2 k u.leads u.stored u.value)
     → (u.ticket ≢ 0 → u.ticket % 1048576 ≡ c → IsTicket z s ws u.ticket u.done → IsTicket z s2 ws2 u.ticket u.done)

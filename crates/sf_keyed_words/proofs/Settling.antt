@@ -93,7 +93,7 @@ settles_allowed z slots id me may t p len is fits =
     let away = away_state z s s2 h h2 t.words ws p.holder p.holder c new st (λ k apart. refl) (λ d. refl) (λ d apart before. other_settled h e d (Some v.value) j (λ q. apart (ap (λ k. k % 1048576) (sym q))) before) (λ d _. joined_kept h x (call_of d) refl) in
     let was : (d : ℕ) → d % 1048576 ≡ c → slice_index t.words (state_at z d) ≡ old = λ d here. ap (λ q. slice_index t.words (z.tops + z.sides + 8 * q)) here in
     let far : (k : ℕ) (u : View) → (u.leads ≢ 0 → u.leads % 1048576 ≡ c → IsLeads z s h t.words p.holder k u.leads u.stored u.value → ⊥) → IsView z s h t.words p.holder k u → IsView z s2 h2 ws p.holder k u
-    = λ k u no view. view_away z s s2 h h2 t.words ws p.holder p.holder c k u away (one_more h x) (λ l. look_lasts y s step u p.keeps l) (λ l w. walk_lasts z s step u p.keeps l w)
+    = λ k u no view. view_away z s s2 h h2 t.words ws p.holder p.holder c k u away (one_more h x) (λ l. look_lasts z s step u p.keeps l) (λ l w. walk_lasts z s step u p.keeps l w)
     (λ any here o. own_never z s t.words p.holder k u.own u.named u.key old e c refl gen refl lead.led here o)
     (λ any here o. absurd (no any here o))
     (λ any here o. record {
@@ -205,7 +205,7 @@ alone_won z id old new me may t p is found =
     let leads_here = held_here c e may.leads_one refl in
     let far : (k : ℕ) (u : View) → (u.leads ≢ 0 → u.leads % 1048576 ≡ c → IsLeads z s h t.words p.holder k u.leads u.stored u.value → ⊥) → (u.ticket ≢ 0 → u.ticket % 1048576 ≡ c → ⊥)
     → IsView z s h t.words p.holder k u → IsView z s2 h2 ws p.holder k u
-    = λ k u no none view. view_away z s s2 h h2 t.words ws p.holder p.holder c k u away (one_more h x) (λ l. look_lasts y s step u p.keeps l) (λ l w. walk_lasts z s step u p.keeps l w)
+    = λ k u no none view. view_away z s s2 h h2 t.words ws p.holder p.holder c k u away (one_more h x) (λ l. look_lasts z s step u p.keeps l) (λ l w. walk_lasts z s step u p.keeps l w)
     (λ any here o. own_never z s t.words p.holder k u.own u.named u.key old e c found gen refl lead.led here o)
     (λ any here o. absurd (no any here o))
     (λ any here o. absurd (none any here))

@@ -98,6 +98,7 @@ shows_state z s h h2 ws ws2 c old x closed2 lt st sh found live shut same only g
       sh.coming e inside (omega (arith, new, was, gens, later)))
       (λ apart. sh.coming e inside (subst (λ n. n / 8388608 < e / 1048576) (st.apart e apart) later));
   seals = λ p q yes. ap (λ n. n / 2 % 2) (st.else p (λ e. omega arith)) ∙ sh.seals p q yes;
+  bits = λ p q yes. sh.bits p q (sym (ap (λ n. n / 2 % 2) (st.else p (λ e. omega arith))) ∙ yes);
   marks = λ p q even. sh.marks p q (sym (ap (λ n. n % 2) (st.else p (λ e. omega arith))) ∙ even);
   values = λ e led gen odd. dite (ℕ_discrete (e % 1048576) c)
       (λ here. values e here led (sym (ap gen_of (st.at e here)) ∙ gen) (sym (ap (λ n. n / 2097152 % 4 % 2) (st.at e here)) ∙ odd) ∙ ap (λ n. Some (Some n)) (sym (st.value e)))

@@ -114,6 +114,7 @@ stores_name z slots id at key me first start named name any_own least most says 
             only = p.shows.only;
             coming = λ d inside later. p.shows.coming d inside (subst (λ n. n / 8388608 < d / 1048576) (states d inside) later);
             seals = λ k lt yes. ap (λ n. n / 2 % 2) (else k (λ q. omega (arith, lt, least, most, q))) ∙ p.shows.seals k lt yes;
+            bits = λ k lt yes. p.shows.bits k lt (sym (ap (λ n. n / 2 % 2) (else k (λ q. omega (arith, lt, least, most, q)))) ∙ yes);
             marks = λ k lt even. p.shows.marks k lt (sym (ap (λ n. n % 2) (else k (λ q. omega (arith, lt, least, most, q)))) ∙ even);
             values = λ d led g odd. let inside = p.shows.within d led in p.shows.values d led (sym (ap gen_of (states d inside)) ∙ g) (sym (ap (λ n. n / 2097152 % 4 % 2) (states d inside)) ∙ odd) ∙ ap (λ n. Some (Some n)) (sym (values d));
           })
@@ -213,6 +214,7 @@ stores z slots id value me any_lead t p len is fits =
             only = p.shows.only;
             coming = λ d inside later. p.shows.coming d inside (subst (λ n. n / 8388608 < d / 1048576) (states d inside) later);
             seals = λ k lt yes. ap (λ n. n / 2 % 2) (else k (λ q. omega (arith, lt, q))) ∙ p.shows.seals k lt yes;
+            bits = λ k lt yes. p.shows.bits k lt (sym (ap (λ n. n / 2 % 2) (else k (λ q. omega (arith, lt, q)))) ∙ yes);
             marks = λ k lt even. p.shows.marks k lt (sym (ap (λ n. n % 2) (else k (λ q. omega (arith, lt, q)))) ∙ even);
             values = λ d led g odd. let inside = p.shows.within d led in
                 let was_odd : slice_index t.words (state_at z d) / 2097152 % 4 % 2 ≡ 1 = sym (ap (λ n. n / 2097152 % 4 % 2) (states d inside)) ∙ odd in

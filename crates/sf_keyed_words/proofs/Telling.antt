@@ -1,22 +1,24 @@
 -- Loads that tell what has happened.
-use Rattle.std.proofs.Common.{◌≡◌, ◌≢◌, ℕ, ◌/◌, ◌%◌, ◌<◌, Bool, true, false, cond, eqb, List, Some, None, refl, sym, ◌∙◌, ap, subst, arith}
-use Rattle.std.proofs.lemmas.Bool.{true≢false, eqb-true}
+use Rattle.std.proofs.Common.{◌≡◌, ◌≢◌, ℕ, ◌/◌, ◌%◌, ◌<◌, ◌||◌, not, Bool, true, false, cond, eqb, List, ◌∷◌, Some, None, refl, sym, ◌∙◌, ap, subst, arith}
+use Rattle.std.proofs.lemmas.Bool.{true≢false, and_parts, eqb-true, not-true}
+use Rattle.std.specs.List.{list_any}
 use Rattle.std.specs.Prelude.{slice_index, nat_eq}
 use mathlib.Core.Logic.{dite}
 use native.Mathlib.Decide.{ℕ_discrete}
-use Rattle.atomic_table.specs.Table.{Me, keeps, Allows}
+use Rattle.atomic_table.specs.Table.{State, Me, keeps, Allows}
 use Rattle.sf_keyed_tells.specs.Tells.{KeyedEvent}
 use Rattle.sf_keyed_laws.specs.Words.{Words}
 use Rattle.sf_keyed_words.specs.declared.rule.KeyedSizes.{KeyedSizes}
 use Rattle.sf_keyed_words.specs.declared.rule.View.{View}
-use Rattle.sf_keyed_words.specs.Rule.{slot_of, state_at, value_at, layout_of, is_open_call, IsView, stake, Holds}
+use Rattle.sf_keyed_words.specs.Rule.{slot_of, state_at, value_at, layout_of, is_open_call, IsView, stake, KeyedTable, Holds}
 use Rattle.sf_keyed_words.proofs.Seats.{losing, still}
 use Rattle.sf_keyed_words.proofs.States.{open_call_parts, whole}
 use Rattle.sf_history.specs.History.{open_call}
 use Rattle.sf_keyed_laws.specs.Walks.{HasWalked}
 use Rattle.sf_keyed_laws.proofs.Walking.{walks_end, walks_clear, unmarked_is_walked}
-use Rattle.sf_keyed_words.specs.Rule.{Unmet}
-use Rattle.sf_keyed_words.specs.Plays.{loses, confirms, finds_none, look_settled, takes}
+use Rattle.sf_keyed_laws.specs.Steps.{HasNoOpen}
+use Rattle.sf_keyed_words.specs.Rule.{covers, is_gone, IsShut, Unmet}
+use Rattle.sf_keyed_words.specs.Plays.{loses, confirms, finds_none, with_walk, look_settled, takes}
 use Rattle.sf_keyed_words.proofs.Joining.{open_found}
 use Rattle.sf_keyed_tells.specs.Tells.{call_of}
 use Rattle.sf_keyed_words.proofs.Loads.{loads}
@@ -24,6 +26,49 @@ use Rattle.sf_keyed_words.proofs.Loads.{loads}
 -- a view that has seen all
 seen_all : (z : KeyedSizes) (s : Words) (h : List KeyedEvent) (ws : List ℕ) (holder : ℕ → ℕ) (k : ℕ) (v : View) → IsView z s h ws holder k v → IsView z s h ws holder k (record v { seen = h })
 seen_all z s h ws holder k v m = record { seen = whole h; heard = m.heard; look = m.look; walk = m.walk; own = m.own; begun = m.begun; leads = m.leads; ticket = m.ticket; last = m.last }
+
+by_cases : {X : Type 0} → (b : Bool) → (b ≡ true → X) → (b ≡ false → X) → X
+by_cases true here there = here refl
+by_cases false here there = there refl
+
+-- what a walk over a slot adds to what is gone, where the slot is sealed
+gone_more : (z : KeyedSizes) (s : Words) (v w : View) (q : ℕ) (b : Bool) → v.sizes ≡ z → w.sizes ≡ v.sizes → v.slot ≡ q → (b ≡ true → s.sealed q ≡ true) → ((k : ℕ) → slot_of v.sizes k ≡ v.slot → Unmet v.names k → HasNoOpen s k)
+    → ((k : ℕ) → is_gone v.sizes v.gone k ≡ true → IsShut z v.sizes s k)
+    → (k : ℕ) → is_gone v.sizes (cond b (record { slot = v.slot; names = v.names } ∷ v.gone) v.gone) k ≡ true → IsShut z w.sizes s k
+gone_more z s v w q false sizes same slot bit idle old k is = let g = old k is in record { sizes = same ∙ g.sizes; sealed = g.sealed; none = g.none }
+gone_more z s v w q true sizes same slot bit idle old k is = by_cases (covers v.sizes k (record { slot = v.slot; names = v.names }))
+    (λ yes.
+    let parts = and_parts (eqb (slot_of v.sizes k) v.slot) (not (list_any (λ n. eqb n k) v.names)) yes in
+    let at : slot_of v.sizes k ≡ v.slot = eqb-true _ _ parts.0 in
+    let unmet : Unmet v.names k = not-true _ parts.1 in
+    record { sizes = same ∙ sizes; sealed = ap s.sealed (ap (λ (z2 : KeyedSizes). slot_of z2 k) (sym sizes) ∙ (at ∙ slot)) ∙ bit refl; none = idle k at unmet })
+    (λ no. let g = old k (sym (ap (λ c. c || is_gone v.sizes v.gone k) no) ∙ is) in record { sizes = same ∙ g.sizes; sealed = g.sealed; none = g.none })
+
+-- a view that has seen all, at the end of a walk
+pub walked_all : (z : KeyedSizes) (s : Words) (h : List KeyedEvent) (ws : List ℕ) (holder : ℕ → ℕ) (id : ℕ) (v : View) (q n : ℕ) → v.sizes ≡ z → v.slot ≡ q → (n / 2 % 2 ≡ 1 → s.sealed q ≡ true)
+    → ((k : ℕ) → slot_of v.sizes k ≡ v.slot → Unmet v.names k → HasNoOpen s k)
+    → IsView z s h ws holder id v → IsView z s h ws holder id (record v { seen = h; gone = with_walk v n })
+walked_all z s h ws holder id v q n sizes slot bit idle m =
+    let w : View = record v { seen = h; gone = with_walk v n } in
+    record {
+      seen = whole h;
+      heard = m.heard;
+      look = record {
+        top = m.look.top;
+        but = m.look.but;
+        clear = m.look.clear;
+        dead = m.look.dead;
+        half = m.look.half;
+        told = m.look.told;
+        gone = gone_more z s v w q (eqb (n / 2 % 2) 1) sizes refl slot (λ yes. bit (eqb-true _ _ yes)) idle m.look.gone;
+      };
+      walk = m.walk;
+      own = m.own;
+      begun = m.begun;
+      leads = m.leads;
+      ticket = m.ticket;
+      last = m.last;
+    }
 
 pub record MayFind (z : KeyedSizes) (v : View) (q : ℕ) : Type 0 where
   pub below : q < z.tops
@@ -35,29 +80,38 @@ pub record MayFind (z : KeyedSizes) (v : View) (q : ℕ) : Type 0 where
   pub other : v.other ≡ true
   pub sizes : v.sizes ≡ z
 
+-- at its end none of the names that were not met has an open call, where the top word is what it was
+pub idle_at : (z : KeyedSizes) (t : State ℕ View) (p : KeyedTable z t) (id q : ℕ) (v : View) → MayFind z v q → IsView z p.words p.history t.words p.holder id v → slice_index t.words q ≡ v.found
+    → (k : ℕ) → slot_of v.sizes k ≡ v.slot → Unmet v.names k → HasNoOpen p.words k
+idle_at z t p id q v may m same k slot unmet =
+    let y = layout_of z in
+    let s = p.words in
+    let walk = m.walk may.walks in
+    let n : ℕ = slice_index t.words q in
+    let at_slot : slot_of z k ≡ v.slot = ap (λ (z2 : KeyedSizes). slot_of z2 k) (sym may.sizes) ∙ slot in
+    let was : s.top (slot_of z k) ≡ v.top = ap s.top (at_slot ∙ may.slot_is) ∙ (sym (p.shows.tops q may.below) ∙ (ap (λ b. b / 4) same ∙ may.top_is)) in
+    let walked : HasWalked y s k v.top v.top 16 = dite (ℕ_discrete (v.found % 2) 1)
+    (λ odd. subst (λ b. HasWalked y s k v.top v.top b) (may.looked odd) (walks_clear y s k v.top v.but v.looked (walk.walked k at_slot unmet) (m.look.clear may.clear k unmet)))
+    (λ isnt. unmarked_is_walked y s k v.top p.keeps was (ap s.marked (at_slot ∙ may.slot_is) ∙ p.shows.marks q may.below (let even : n % 2 ≡ v.found % 2 = ap (λ b. b % 2) same in omega (arith, even, isnt)))) in
+    walks_end y s k v.top walked was (walk.other may.other k unmet)
+
 pub finds : (z : KeyedSizes) (slots id q : ℕ) (me : Me ℕ View) → MayFind z me.0 q → Allows (Holds z) slots id me q (λ n. n) (λ n after. finds_none me.0 n after.0)
 finds z slots id q me may t p len is fits =
     let v = me.0 in
-    let y = layout_of z in
     let s = p.words in
     let h = p.history in
     let m = p.seats id v is in
     let n : ℕ = slice_index t.words q in
     dite (ℕ_discrete n v.found)
     (λ same.
-    let walk = m.walk may.walks in
-    let none : (k : ℕ) → slot_of v.sizes k ≡ v.slot → Unmet v.names k → open_call nat_eq h k ≡ None = λ k slot unmet.
-    let at_slot : slot_of z k ≡ v.slot = ap (λ (z2 : KeyedSizes). slot_of z2 k) (sym may.sizes) ∙ slot in
-    let was : s.top (slot_of z k) ≡ v.top = ap s.top (at_slot ∙ may.slot_is) ∙ (sym (p.shows.tops q may.below) ∙ (ap (λ b. b / 4) same ∙ may.top_is)) in
-    let walked : HasWalked y s k v.top v.top 16 = dite (ℕ_discrete (v.found % 2) 1)
-    (λ odd. subst (λ b. HasWalked y s k v.top v.top b) (may.looked odd) (walks_clear y s k v.top v.but v.looked (walk.walked k at_slot unmet) (m.look.clear may.clear k unmet)))
-    (λ isnt. unmarked_is_walked y s k v.top p.keeps was (ap s.marked (at_slot ∙ may.slot_is) ∙ p.shows.marks q may.below (let even : n % 2 ≡ v.found % 2 = ap (λ b. b % 2) same in omega (arith, even, isnt)))) in
-    p.tells.shuts k (walks_end y s k v.top walked was (walk.other may.other k unmet)) in
-    let w : View = record v { seen = h } in (
+    let idle = idle_at z t p id q v may m same in
+    let none : (k : ℕ) → slot_of v.sizes k ≡ v.slot → Unmet v.names k → open_call nat_eq h k ≡ None = λ k slot unmet. p.tells.shuts k (idle k slot unmet) in
+    let bit : v.found / 2 % 2 ≡ 1 → s.sealed q ≡ true = λ one. p.shows.bits q may.below (ap (λ b. b / 2 % 2) same ∙ one) in
+    let w : View = record v { seen = h; gone = with_walk v v.found } in (
       w,
       keeps,
       tt,
-      still z t p id q me w is (λ d. refl) (seen_all z s h t.words p.holder id v m),
+      still z t p id q me w is (λ d. refl) (walked_all z s h t.words p.holder id v q v.found may.sizes may.slot_is bit idle m),
       record { won = λ _. (refl, record { seen = m.seen; legal = p.tells.legal }, none); lost = λ bar. absurd (bar same) },
     ))
     (λ differ. (
@@ -67,10 +121,6 @@ finds z slots id q me may t p len is fits =
       still z t p id q me (loses v) is (λ d. refl) (losing z s h t.words p.holder id v m),
       record { won = λ yes. absurd (differ yes); lost = λ _. refl },
     ))
-
-by_cases : {X : Type 0} → (b : Bool) → (b ≡ true → X) → (b ≡ false → X) → X
-by_cases true here there = here refl
-by_cases false here there = there refl
 
 -- a second look at a call that is open still
 pub confirms_allowed : (z : KeyedSizes) (slots id : ℕ) (me : Me ℕ View) → me.0.told ≡ true → Allows (Holds z) slots id me (state_at z me.0.but) (λ n. n) (λ n after. confirms me.0 n after.0)

@@ -14,7 +14,7 @@ use Rattle.sf_lists.proofs.Functions.{put_here, put_else}
 use Rattle.sf_keyed_tells.specs.Tells.{KeyedEvent}
 use Rattle.sf_history.specs.declared.event.Event.TheVariants.{Lead}
 use Rattle.sf_keyed_laws.specs.Words.{Words}
-use Rattle.sf_keyed_laws.specs.Steps.{Step, HasNoOpen, Leads, leads, sets_aside, SetsAside, seals, led_on, aside_at, sealed_at}
+use Rattle.sf_keyed_laws.specs.Steps.{Step, HasNoOpen, Leads, leads, sets_aside, SetsAside, led_on, aside_at}
 use Rattle.sf_keyed_laws.proofs.Walking.{steps_keep}
 use Rattle.sf_keyed_tells.specs.Tells.{call_of, Tells}
 use Rattle.sf_keyed_tells.proofs.Telling.{by_bool, lead_tells}
@@ -31,7 +31,7 @@ use Rattle.sf_keyed_laws.specs.Words.{IsAside}
 use Rattle.sf_keyed_laws.specs.Walks.{HasWalked}
 use Rattle.sf_keyed_laws.proofs.Walking.{walks_end, walks_clear, unmarked_is_walked}
 use Rattle.sf_keyed_words.specs.Rule.{Unmet}
-use Rattle.sf_keyed_words.specs.Plays.{tries_lead, led_view, loses, try_aside, sealed_by}
+use Rattle.sf_keyed_words.specs.Plays.{tries_lead, led_view, loses, try_aside}
 use Rattle.sf_keyed_words.proofs.Lasting.{led_lasts}
 use Rattle.sf_keyed_words.proofs.Stores.{unowned, unowned_view}
 
@@ -45,7 +45,7 @@ pub record Front (z : KeyedSizes) (ws ws2 : List ℕ) (i x : ℕ) : Type 0 where
   pub high : (e : ℕ) → slice_index ws2 (high_at z e) ≡ slice_index ws (high_at z e)
   pub value : (e : ℕ) → slice_index ws2 (value_at z e) ≡ slice_index ws (value_at z e)
 
-front : (z : KeyedSizes) (ws : List ℕ) (i x : ℕ) → i < z.tops + z.sides → length ws ≡ z.tops + z.sides + 8 * z.cells → Front z ws (set ws i x) i x
+pub front : (z : KeyedSizes) (ws : List ℕ) (i x : ℕ) → i < z.tops + z.sides → length ws ≡ z.tops + z.sides + 8 * z.cells → Front z ws (set ws i x) i x
 front z ws i x lt size =
     let else : (j : ℕ) → j ≢ i → slice_index (set ws i x) j ≡ slice_index ws j = λ j d. get_or-set_other ws i j x 0 d in
     record {
@@ -58,14 +58,14 @@ front z ws i x lt size =
       value = λ e. else (value_at z e) (λ q. omega arith);
     }
 
-unmoved : (z : KeyedSizes) (ws ws2 : List ℕ) (i x : ℕ) (v w : View) → Front z ws ws2 i x → i < z.tops + z.sides → ((d : ℕ) → stake d v ≡ stake d w)
+pub unmoved : (z : KeyedSizes) (ws ws2 : List ℕ) (i x : ℕ) (v w : View) → Front z ws ws2 i x → i < z.tops + z.sides → ((d : ℕ) → stake d v ≡ stake d w)
     → (d : ℕ) → d < z.cells → held_of (slice_index ws2 (z.tops + z.sides + 8 * d)) + stake d v ≡ held_of (slice_index ws (z.tops + z.sides + 8 * d)) + stake d w
 unmoved z ws ws2 i x v w fr below same d lt =
     ap (λ n. held_of n + stake d v) (fr.else (z.tops + z.sides + 8 * d) (λ q. omega arith)) ∙ ap (λ n. held_of (slice_index ws (z.tops + z.sides + 8 * d)) + n) (same d)
 
 -- a view after a step on a word that is no cell's, by which no call is led
-front_view : (z : KeyedSizes) (s s2 : Words) (h : List KeyedEvent) (ws ws2 : List ℕ) (holder : ℕ → ℕ) (i x k : ℕ) (u : View) → Front z ws ws2 i x → ((e : ℕ) → s2.led e ≡ s.led e)
-    → (IsLook s u → IsLook s2 u) → (IsLook s u → IsWalk z s u → IsWalk z s2 u) → IsView z s h ws holder k u → IsView z s2 h ws2 holder k u
+pub front_view : (z : KeyedSizes) (s s2 : Words) (h : List KeyedEvent) (ws ws2 : List ℕ) (holder : ℕ → ℕ) (i x k : ℕ) (u : View) → Front z ws ws2 i x → ((e : ℕ) → s2.led e ≡ s.led e)
+    → (IsLook z s u → IsLook z s2 u) → (IsLook z s u → IsWalk z s u → IsWalk z s2 u) → IsView z s h ws holder k u → IsView z s2 h ws2 holder k u
 front_view z s s2 h ws ws2 holder i x k u fr led look walk m =
     view_away z s s2 h h ws ws2 holder holder 1048576 k u
     (record { state = λ e _ _. fr.state e; name = λ e _ _. fr.name e; high = λ e _ _. fr.high e; value = λ e _ _. fr.value e; holder_is = λ j _. refl; led = λ e _. led e; settled = λ e _ before. before; entered = λ e _. refl })
@@ -79,6 +79,7 @@ pub record MayLead (z : KeyedSizes) (v : View) (p old new : ℕ) : Type 0 where
   pub call : v.own ≢ 0
   pub named : v.named ≡ true
   pub new_is : new / 4 ≡ v.own
+  pub plain : new / 2 % 2 ≡ 0
   pub old_is : old / 4 ≡ v.top
   pub unsealed : old / 2 % 2 ≡ 0
   pub walks : v.walks ≡ true
@@ -157,7 +158,7 @@ lead_won z id q old new me may t p is found =
     } in
     let far : (k : ℕ) (u : View) → (u.own ≢ 0 → u.own % 1048576 ≡ c → IsOwn z s t.words p.holder k u.own u.named u.key → ⊥) → (u.leads ≢ 0 → u.leads % 1048576 ≡ c → IsLeads z s h t.words p.holder k u.leads u.stored u.value → ⊥)
     → IsView z s h t.words p.holder k u → IsView z s2 h2 ws p.holder k u
-    = λ k u one two2 view. view_away z s s2 h h2 t.words ws p.holder p.holder c k u away (one_more h x) (λ l. look_lasts y s step u p.keeps l) (λ l w. walk_lasts z s step u p.keeps l w)
+    = λ k u one two2 view. view_away z s s2 h h2 t.words ws p.holder p.holder c k u away (one_more h x) (λ l. look_lasts z s step u p.keeps l) (λ l w. walk_lasts z s step u p.keeps l w)
     one
     (λ any here o. absurd (two2 any here o))
     (λ any here o. record {
@@ -204,6 +205,9 @@ lead_won z id q old new me may t p is found =
             seals = λ k lt yes. dite (ℕ_discrete k q)
                 (λ here. absurd (true≢false (sym yes ∙ (ap s.sealed (here ∙ sym slot) ∙ lead.unsealed))))
                 (λ apart. ap (λ n. n / 2 % 2) (fr.else k apart) ∙ p.shows.seals k lt yes);
+            bits = λ k lt one. dite (ℕ_discrete k q)
+                (λ here. let same : slice_index ws k / 2 % 2 ≡ new / 2 % 2 = ap (λ j. slice_index ws j / 2 % 2) here ∙ ap (λ n. n / 2 % 2) fr.here in let none = may.plain in absurd (omega (arith, same, none, one)))
+                (λ apart. p.shows.bits k lt (sym (ap (λ n. n / 2 % 2) (fr.else k apart)) ∙ one));
             marks = λ k lt even. dite (ℕ_discrete k q)
                 (λ here. ap (put s.marked (slot_of z v.key) mark) (here ∙ sym slot) ∙ (put_here s.marked (slot_of z v.key) mark ∙ ne_eqb (new % 2) 1 (λ one.
                 let same : slice_index ws k % 2 ≡ new % 2 = ap (λ j. slice_index ws j % 2) here ∙ ap (λ n. n % 2) fr.here in
@@ -259,70 +263,6 @@ pub leads_allowed : (z : KeyedSizes) (slots id q old new : ℕ) (me : Me ℕ Vie
 leads_allowed z slots id q old new me may t p len is fits =
     exchanged (slice_index t.words q) old new (Outcome z id q old me t) (lead_won z id q old new me may t p is) (lead_lost z id q old me t p is)
 
--- the slot is sealed
-pub record MaySeal (z : KeyedSizes) (q old new : ℕ) : Type 0 where
-  pub below : q < z.tops
-  pub unsealed : old / 2 % 2 ≡ 0
-  pub new_is : new ≡ old + 2
-
-abbrev pub Sealed : (z : KeyedSizes) (id q old : ℕ) (me : Me ℕ View) (t : State ℕ View) → ℕ → Type 0
-Sealed z id q old me t x = (w : View) × (a : _) × Valid t.homes me.1 a × Holds z (stepped t q x id me.1 w a) × (w ≡ sealed_by me.0 old (slice_index t.words q))
-
-seal_won : (z : KeyedSizes) (id q old new : ℕ) (me : Me ℕ View) → MaySeal z q old new → (t : State ℕ View) → Holds z t → get_elem? t.views id ≡ some me.0
-    → slice_index t.words q ≡ old → Sealed z id q old me t new
-seal_won z id q old new me may t p is found =
-    let v = me.0 in
-    let y = layout_of z in
-    let s = p.words in
-    let h = p.history in
-    let below = may.below in
-    let unsealed = may.unsealed in
-    let new_is = may.new_is in
-    let inside : q < z.tops + z.sides = omega (arith, below) in
-    let step : Step y s = seals q in
-    let s2 : Words = sealed_at s q in
-    let ws : List ℕ = set t.words q new in
-    let fr = front z t.words q new inside p.shows.size in
-    let quarter : new / 4 ≡ old / 4 = omega (arith, new_is, unsealed) in
-    let flag : new / 2 % 2 ≡ 1 = omega (arith, new_is, unsealed) in
-    let all : (k : ℕ) (u : View) → get_elem? t.views k ≡ some u → IsView z s2 h ws p.holder k u = λ k u at. front_view z s s2 h t.words ws p.holder q new k u fr (λ d. refl) (λ l. look_lasts y s step u p.keeps l) (λ l w. walk_lasts z s step u p.keeps l w) (p.seats k u at) in (
-      v,
-      keeps,
-      tt,
-      made z t p id q new me v s2 h p.holder (steps_keep y s step p.keeps)
-          (record { legal = p.tells.legal; opens = p.tells.opens; shuts = p.tells.shuts; news = p.tells.news; leads = p.tells.leads }) p.members
-          (record {
-            size = fr.size ∙ p.shows.size;
-            tops = λ k lt. dite (ℕ_discrete k q)
-                (λ here. ap (λ j. slice_index ws j / 4) here ∙ (ap (λ n. n / 4) fr.here ∙ (quarter ∙ (ap (λ n. n / 4) (sym found) ∙ (p.shows.tops q below ∙ ap s.top (sym here))))))
-                (λ apart. ap (λ n. n / 4) (fr.else k apart) ∙ p.shows.tops k lt);
-            sides = λ j lt. ap (λ n. n / 4) (fr.else (side_at z j) (λ b. omega (arith, below, b))) ∙ p.shows.sides j lt;
-            within = p.shows.within;
-            live = λ d led live. let l = p.shows.live d led live in (ap (λ n. is_open_word n d) (fr.state d) ∙ l.0, name_kept z t.words ws d (s.key_of d) (fr.name d) (fr.high d) l.1);
-            shut = λ d led shut. ap (λ n. is_open_word n d) (fr.state d) ∙ p.shows.shut d led shut;
-            only = p.shows.only;
-            coming = λ d in_cells later. p.shows.coming d in_cells (subst (λ n. n / 8388608 < d / 1048576) (fr.state d) later);
-            seals = λ k lt yes. dite (ℕ_discrete k q)
-                (λ here. ap (λ j. slice_index ws j / 2 % 2) here ∙ (ap (λ n. n / 2 % 2) fr.here ∙ flag))
-                (λ apart. ap (λ n. n / 2 % 2) (fr.else k apart) ∙ p.shows.seals k lt (sym (put_else s.sealed q true k apart) ∙ yes));
-            marks = λ k lt even. dite (ℕ_discrete k q)
-                (λ here. ap s.marked here ∙ p.shows.marks q below (let same : slice_index ws k % 2 ≡ new % 2 = ap (λ j. slice_index ws j % 2) here ∙ ap (λ n. n % 2) fr.here in let was : slice_index t.words q % 2 ≡ old % 2 = ap (λ n. n % 2) found in omega (arith, same, was, new_is, even)))
-                (λ apart. p.shows.marks k lt (sym (ap (λ n. n % 2) (fr.else k apart)) ∙ even));
-            values = λ d led g odd. p.shows.values d led (sym (ap gen_of (fr.state d)) ∙ g) (sym (ap (λ n. n / 2097152 % 4 % 2) (fr.state d)) ∙ odd) ∙ ap (λ n. Some (Some n)) (sym (fr.value d));
-          })
-          is
-          (unmoved z t.words ws q new v v fr inside (λ d. refl))
-          (λ k u apart at. all k u at)
-          (all id v is),
-      refl,
-    )
-
-pub seals_allowed : (z : KeyedSizes) (slots id q old new : ℕ) (me : Me ℕ View) → MaySeal z q old new
-    → Allows (Holds z) slots id me q (λ n. either (eqb n old) new n) (λ n after. after.0 ≡ sealed_by me.0 old n)
-seals_allowed z slots id q old new me may t p len is fits =
-    exchanged (slice_index t.words q) old new (Sealed z id q old me t) (seal_won z id q old new me may t p is)
-    (λ differ. (me.0, keeps, tt, still z t p id q me me.0 is (λ d. refl) (p.seats id me.0 is), refl))
-
 -- the top is set aside, in place of a dead call
 pub record MayAside (z : KeyedSizes) (v : View) (j old new : ℕ) : Type 0 where
   pub below : j < z.sides
@@ -357,7 +297,7 @@ aside_won z id j old new me may t p is found =
     let s2 : Words = aside_at s j v.top in
     let ws : List ℕ = set t.words q new in
     let fr = front z t.words q new inside p.shows.size in
-    let all : (k : ℕ) (u : View) → get_elem? t.views k ≡ some u → IsView z s2 h ws p.holder k u = λ k u at. front_view z s s2 h t.words ws p.holder q new k u fr (λ d. refl) (λ l. look_lasts y s step u p.keeps l) (λ l w. walk_lasts z s step u p.keeps l w) (p.seats k u at) in
+    let all : (k : ℕ) (u : View) → get_elem? t.views k ≡ some u → IsView z s2 h ws p.holder k u = λ k u at. front_view z s s2 h t.words ws p.holder q new k u fr (λ d. refl) (λ l. look_lasts z s step u p.keeps l) (λ l w. walk_lasts z s step u p.keeps l w) (p.seats k u at) in
     let mine = all id v is in
     let w : View = record v { saved = true } in
     let aside : IsAside y s2 v.slot 0 v.top = record { at = may.at; after = omega arith; within = may.within; names = ap s2.side (sym may.place) ∙ put_here s.side j v.top } in (
@@ -378,6 +318,7 @@ aside_won z id j old new me may t p is found =
             only = p.shows.only;
             coming = λ d in_cells later. p.shows.coming d in_cells (subst (λ n. n / 8388608 < d / 1048576) (fr.state d) later);
             seals = λ k lt yes. ap (λ n. n / 2 % 2) (fr.else k (λ b. omega (arith, lt, b))) ∙ p.shows.seals k lt yes;
+            bits = λ k lt yes. p.shows.bits k lt (sym (ap (λ n. n / 2 % 2) (fr.else k (λ b. omega (arith, lt, b)))) ∙ yes);
             marks = λ k lt even. p.shows.marks k lt (sym (ap (λ n. n % 2) (fr.else k (λ b. omega (arith, lt, b)))) ∙ even);
             values = λ d led g odd. p.shows.values d led (sym (ap gen_of (fr.state d)) ∙ g) (sym (ap (λ n. n / 2097152 % 4 % 2) (fr.state d)) ∙ odd) ∙ ap (λ n. Some (Some n)) (sym (fr.value d));
           })

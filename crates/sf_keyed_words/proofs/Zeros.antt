@@ -1,5 +1,5 @@
 -- A table of zeros, where nothing was led, meets the rule.
-use Rattle.std.proofs.Common.{◌*◌, ◌≡◌, ℕ, zero, suc, ◌+◌, ◌/◌, ◌<◌, false, List, [], ◌∷◌, length, set, ⊎_elim, replicate, refl, sym, ◌∙◌, ap, subst, arith}
+use Rattle.std.proofs.Common.{◌%◌, ◌*◌, ◌≡◌, ℕ, zero, suc, ◌+◌, ◌/◌, ◌<◌, false, List, [], ◌∷◌, length, set, ⊎_elim, replicate, refl, sym, ◌∙◌, ap, subst, arith}
 use Rattle.std.proofs.lemmas.Bool.{true≢false}
 use Rattle.std.proofs.lemmas.List.{length-replicate, get_or-replicate}
 use Rattle.std.specs.Prelude.{slice_index, nat_eq}
@@ -49,6 +49,7 @@ opens z words zeros = record {
     only = λ e shut. absurd (true≢false (sym shut));
     coming = λ e _ _. refl;
     seals = λ p _ yes. absurd (true≢false (sym yes));
+    bits = λ p lt one. let none : slice_index words p / 2 % 2 ≡ 0 = ap (λ n. n / 2 % 2) (zero_at p (omega (arith, lt))) in absurd (omega (arith, none, one));
     marks = λ p _ _. refl;
     values = λ e led _ _. absurd (true≢false (sym led));
   };
@@ -70,6 +71,7 @@ opens z words zeros = record {
         dead = λ no. absurd (true≢false (sym no));
         half = λ no. absurd (true≢false (sym no));
         told = λ no. absurd (true≢false (sym no));
+        gone = λ k no. absurd (true≢false (sym no));
       };
       walk = λ no. absurd (true≢false (sym no));
       own = λ any. absurd (any refl);
@@ -97,6 +99,7 @@ splits z id v t p is =
         dead = λ no. absurd (true≢false (sym no));
         half = λ no. absurd (true≢false (sym no));
         told = λ no. absurd (true≢false (sym no));
+        gone = λ k no. absurd (true≢false (sym no));
       };
       walk = λ no. absurd (true≢false (sym no));
       own = λ any. absurd (any refl);

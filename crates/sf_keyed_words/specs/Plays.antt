@@ -6,6 +6,7 @@ use Rattle.sf_history.specs.declared.event.Event.TheVariants as event
 use Rattle.sf_history.specs.History.{open_call, result_of}
 use Rattle.sf_history.specs.Legal.{IsLegal}
 use Rattle.sf_keyed_tells.specs.Tells.{call_of}
+use Rattle.sf_keyed_words.specs.declared.rule.Gone.{Gone}
 use Rattle.sf_keyed_words.specs.declared.rule.View.{View}
 use Rattle.sf_keyed_words.specs.Rule.{both, slot_of, is_open_call, joined_bit, is_forgotten, Unmet, IsPrefix}
 
@@ -83,9 +84,6 @@ try_claim v at old n = cond (n == old) (record v { own = next_call v at old; fir
 abbrev pub try_aside : View → ℕ → ℕ → View
 try_aside v old n = cond (n == old) (record v { saved = true }) (loses v)
 
-abbrev pub sealed_by : View → ℕ → ℕ → View
-sealed_by v old n = v
-
 -- the seat has seen more, of which the last is this event
 pub record Adds (v w : View) (x : KeyedEvent) : Type 0 where
   pub before : List KeyedEvent
@@ -148,10 +146,19 @@ pub record tries_close (v : View) (old n : ℕ) (w : View) : Type 0 where
   pub won : n ≡ old → (w ≡ record v { seen = w.seen }) × Adds v w (event.Forget v.number v.name (Some (call_of v.but)))
   pub lost : n ≢ old → w ≡ loses v
 
+-- a walk over a sealed slot, whose top word was this, is one for all time
+abbrev pub with_walk : View → ℕ → List Gone
+with_walk v n = cond (n / 2 % 2 == 1) (record { slot = v.slot; names = v.names } ∷ v.gone) v.gone
+
 -- the walk's top word is the slot's still: none of the names that were not met has an open call
 pub record finds_none (v : View) (n : ℕ) (w : View) : Type 0 where
-  pub won : n ≡ v.found → (w ≡ record v { seen = w.seen }) × Grows v w × ((k : ℕ) → slot_of v.sizes k ≡ v.slot → Unmet v.names k → open_call nat_eq w.seen k ≡ None)
+  pub won : n ≡ v.found → (w ≡ record v { seen = w.seen; gone = with_walk v v.found }) × Grows v w × ((k : ℕ) → slot_of v.sizes k ≡ v.slot → Unmet v.names k → open_call nat_eq w.seen k ≡ None)
   pub lost : n ≢ v.found → w ≡ loses v
+
+-- the slot is sealed where its top word was the walk's, at whose end none of the names that were not met has an open call
+pub record tries_seal (v : View) (old new n : ℕ) (w : View) : Type 0 where
+  pub won : n ≡ old → (w ≡ record v { seen = w.seen; gone = with_walk v new }) × Grows v w × ((k : ℕ) → slot_of v.sizes k ≡ v.slot → Unmet v.names k → open_call nat_eq w.seen k ≡ None)
+  pub lost : n ≢ old → w ≡ loses v
 
 -- the call that is looked at is its name's open call, or it is not open any more
 pub record confirms (v : View) (n : ℕ) (w : View) : Type 0 where

@@ -1,5 +1,5 @@
 -- The rule of the table: its words are those of a keyed group, and each seat's view is right of it.
-use Rattle.std.specs.Prelude.{◌≡◌, ◌≢◌, ℕ, ◌+◌, ◌*◌, ◌/◌, ◌%◌, ◌<◌, ◌≤◌, ◌==◌, ◌&&◌, Bool, true, false, cond, length, slice_index, List, [], ◌++◌, Some, sum_by}
+use Rattle.std.specs.Prelude.{◌≡◌, ◌≢◌, ℕ, ◌+◌, ◌*◌, ◌/◌, ◌%◌, ◌<◌, ◌≤◌, ◌==◌, ◌&&◌, not, Bool, true, false, cond, length, slice_index, List, [], ◌++◌, Some, sum_by}
 use Rattle.std.specs.List.{list_any}
 use mathlib.Core.Option.{some}
 use lib.ListN.{get_elem?}
@@ -7,10 +7,12 @@ use Rattle.atomic_table.specs.Table.{State}
 use Rattle.sf_keyed_tells.specs.Tells.{KeyedEvent}
 use Rattle.sf_history.specs.History.{IsNew, is_settled, joined, result_of}
 use Rattle.sf_keyed_laws.specs.Words.{Layout, Words, IsAside, IsLedIfAny, Keeps}
+use Rattle.sf_keyed_laws.specs.Steps.{HasNoOpen}
 use Rattle.sf_keyed_laws.specs.Walks.{HasWalked, IsOther}
 use Rattle.sf_keyed_tells.specs.Tells.{call_of, Tells}
 use Rattle.sf_keyed_words.specs.declared.rule.KeyedSizes.{KeyedSizes}
 use Rattle.sf_keyed_words.specs.declared.rule.Name.{Name}
+use Rattle.sf_keyed_words.specs.declared.rule.Gone.{Gone}
 use Rattle.sf_keyed_words.specs.declared.rule.View.{View}
 
 -- where the words lie: tops, side words, and eight for each cell: its state, its name's lower and upper word, its value, and four of no use, so that a cell has a line of memory for itself
@@ -97,6 +99,7 @@ pub record Shows (z : KeyedSizes) (s : Words) (h : List KeyedEvent) (ws : List �
   pub only : (e : ℕ) → s.closed e ≡ true → s.led e ≡ true
   pub coming : (e : ℕ) → e % 1048576 < z.cells → gen_of (slice_index ws (state_at z e)) < e / 1048576 → s.led e ≡ false
   pub seals : (p : ℕ) → p < z.tops → s.sealed p ≡ true → slice_index ws p / 2 % 2 ≡ 1
+  pub bits : (p : ℕ) → p < z.tops → slice_index ws p / 2 % 2 ≡ 1 → s.sealed p ≡ true
   pub marks : (p : ℕ) → p < z.tops → slice_index ws p % 2 ≡ 0 → s.marked p ≡ false
   pub values : (e : ℕ) → s.led e ≡ true → gen_of (slice_index ws (state_at z e)) ≡ e / 1048576 → tag_of (slice_index ws (state_at z e)) % 2 ≡ 1
       → result_of h (call_of e) ≡ Some (Some (slice_index ws (value_at z e)))
@@ -155,15 +158,30 @@ IsWalk z s v = record {
   saved : v.saved ≡ true → s.led v.top ≡ true → s.closed v.top ≡ false → IsAside (layout_of z) s v.slot 0 v.top;
 }
 
--- what the seat knows of the call that it is looking at
-abbrev pub IsLook : Words → View → Type 0
-IsLook s v = record {
+-- the name is of a sealed slot over which a walk went that did not meet it
+abbrev pub covers : KeyedSizes → ℕ → Gone → Bool
+covers z k g = (slot_of z k == g.slot) && not (list_any (λ n. n == k) g.names)
+
+-- the seat knows that the name has no open call in the table, and never has one again
+abbrev pub is_gone : KeyedSizes → List Gone → ℕ → Bool
+is_gone z gone k = list_any (covers z k) gone
+
+-- it has none, at a sealed slot, where no call is led any more
+pub record IsShut (z y : KeyedSizes) (s : Words) (k : ℕ) : Type 0 where
+  pub sizes : y ≡ z
+  pub sealed : s.sealed (slot_of z k) ≡ true
+  pub none : HasNoOpen s k
+
+-- what the seat knows of the call that it is looking at, and of the names that are gone
+abbrev pub IsLook : KeyedSizes → Words → View → Type 0
+IsLook z s v = record {
   top : IsLedIfAny s v.top;
   but : IsLedIfAny s v.but;
   clear : v.clear ≡ true → IsForeign s v.names v.but;
   dead : v.dead ≡ true → (k : ℕ) → IsOther s k v.but;
   half : v.half ≡ true → (k : ℕ) → k % 18446744073709551616 ≢ v.low → IsOther s k v.but;
   told : v.told ≡ true → (k : ℕ) → k ≢ v.name → IsOther s k v.but;
+  gone : (k : ℕ) → is_gone v.sizes v.gone k ≡ true → IsShut z v.sizes s k;
 }
 
 abbrev pub IsPrefix : List KeyedEvent → List KeyedEvent → Type 0
@@ -172,7 +190,7 @@ IsPrefix old new = (more : List KeyedEvent) × (new ≡ old ++ more)
 pub record IsView (z : KeyedSizes) (s : Words) (h : List KeyedEvent) (ws : List ℕ) (holder : ℕ → ℕ) (seat : ℕ) (v : View) : Type 0 where
   pub seen : IsPrefix v.seen h
   pub heard : IsPrefix v.heard h
-  pub look : IsLook s v
+  pub look : IsLook z s v
   pub walk : v.walks ≡ true → IsWalk z s v
   pub own : v.own ≢ 0 → IsOwn z s ws holder seat v.own v.named v.key
   pub begun : v.own ≢ 0 → v.first ≡ true → (slice_index ws (name_at z v.own) ≡ v.start) × (v.start < 18446744073709551616)
@@ -202,7 +220,7 @@ abbrev pub Holds : KeyedSizes → State ℕ View → Type 0
 Holds z t = KeyedTable z t
 
 abbrev pub first_view : KeyedSizes → View
-first_view z = record { sizes = z; number = 0; own = 0; first = false; start = 0; named = false; key = 0; leads = 0; stored = false; value = 0; ticket = 0; done = false; last = 0; walks = false; slot = 0; found = 0; top = 0; other = false; saved = false; but = 0; clear = false; dead = false; half = false; low = 0; told = false; name = 0; names = []; looked = 0; aside = 0; opened = 0; counted = false; state = 0; place = 0; lost = 0; seen = []; heard = [] }
+first_view z = record { sizes = z; number = 0; gone = []; own = 0; first = false; start = 0; named = false; key = 0; leads = 0; stored = false; value = 0; ticket = 0; done = false; last = 0; walks = false; slot = 0; found = 0; top = 0; other = false; saved = false; but = 0; clear = false; dead = false; half = false; low = 0; told = false; name = 0; names = []; looked = 0; aside = 0; opened = 0; counted = false; state = 0; place = 0; lost = 0; seen = []; heard = [] }
 
 -- a new seat that has seen what another has
 abbrev pub note_of : View → View

@@ -1,9 +1,10 @@
 //! The opening of a keyed group's table.
 ghost use Rattle.std.specs.Prelude.{◌≡◌, ◌<◌, ◌^◌, [], IfOk};
 ghost use Rattle.sf_keyed_words.specs.Rule.{word_total, first_view, note_of};
+ghost use Rattle.sf_keyed_words.specs.Moves.{has_entered};
 ghost use Rattle.sf_keyed_words.specs.Plays.{numbered};
 
-use crate::rule::{KeyedSizes, Law, Numbers, Shares, View};
+use crate::rule::{Enters, KeyedSizes, Law, Numbers, Shares, View};
 use crate::steps::{KeyedSeat, Words};
 use atomic_table::Table;
 use std::alloc::{AllocError as Memory, Global};
@@ -42,4 +43,14 @@ pub fn number_as(words: &Words, seat: &mut KeyedSeat, number: u64)
     ensures view { seat.new.me.0 ≡ numbered seat.old.me.0 number }
 {
     words.compare_exchange::<Numbers>(seat, 0, number, number);
+}
+
+/// A new seat, which has seen all that has happened.
+pub fn enter(words: &Words) -> KeyedSeat
+    requires words { 0 < words.now.table_id.words }
+    ensures own { (result.table_id ≡ words.now.table_id) × (result.me.1 ≡ []) }
+    ensures view { has_entered (first_view words.now.key) result.me.0 }
+{
+    let (_, seat) = words.load_new_seat::<Enters>(0);
+    seat
 }

@@ -21,6 +21,12 @@ pub struct Name {
     pub high: u64,
 }
 
+/// A walk over a sealed slot, and the names that it met there: no other name of the slot has an open call, and none ever has one again.
+pub struct Gone {
+    pub slot: u64,
+    pub names: LinkedList<u64>,
+}
+
 /// What a seat knows, where 0 is no call.
 ///
 /// The call that it may lead next, with the lower word of a name that its cell has, and the name, if they were stored; the call that it leads, with the value
@@ -30,7 +36,8 @@ pub struct Name {
 /// How far it has walked from a slot: the top word and the call that it names, and whether that is seen to be no open call of a name that
 /// was not met, and to be closed or aside; how many side words it has looked at, and the last of them; and how many of the calls were open.
 /// The call that it is just looking at: whether it is no open call of a name that was not met, whether it is closed, whether it was
-/// counted among the open ones, and the lower word of the name, and the name, that it has if it is open. And the names that it has met.
+/// counted among the open ones, and the lower word of the name, and the name, that it has if it is open. And the names that it has met, and its
+/// walks over sealed slots.
 ///
 /// The state word that it looked at last, and where a free cell's lies; and how often an exchange of its found another word than the
 /// one that it had looked at.
@@ -64,6 +71,7 @@ pub struct View {
     pub told: bool,
     pub name: u64,
     pub names: LinkedList<u64>,
+    pub gone: LinkedList<Gone>,
     pub looked: u64,
     pub aside: u64,
     pub opened: u64,
@@ -83,6 +91,15 @@ impl TableRule<u8, View, KeyedSizes> for Law {
     ghost holds = { Holds };
 
     ghost first = { first_view };
+}
+
+/// A load by which a new seat has seen all that has happened.
+pub struct Enters;
+
+impl Play<u8, View> for Enters {
+    ghost use Rattle.sf_keyed_words.specs.Moves.{has_entered};
+
+    ghost then = { λ step before word after. has_entered before.0 after.0 };
 }
 
 /// A new seat sees what another has seen.
@@ -384,8 +401,7 @@ impl Play<u8, View> for GivesBack {
 pub struct Seals;
 
 impl Play<u8, View> for Seals {
-    ghost use Rattle.std.specs.Prelude.{◌≡◌};
-    ghost use Rattle.sf_keyed_words.specs.Plays.{sealed_by};
+    ghost use Rattle.sf_keyed_words.specs.Plays.{tries_seal};
 
-    ghost then = { λ step before word after. after.0 ≡ sealed_by before.0 step.first word };
+    ghost then = { λ step before word after. tries_seal before.0 step.first step.second word after.0 };
 }

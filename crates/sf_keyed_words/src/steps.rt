@@ -2,7 +2,7 @@
 ghost use Rattle.std.specs.Prelude.{◌≡◌, ◌≢◌, ℕ, ◌+◌, ◌*◌, ◌/◌, ◌%◌, ◌<◌, ◌≤◌, true};
 ghost use Rattle.sf_keyed_words.specs.Rule.{word_total, is_open_word, joined_bit, ready_word, sides_from, slot_of, Unmet};
 ghost use Rattle.sf_keyed_words.specs.Plays.{look_cell as the_look_cell};
-ghost use Rattle.sf_keyed_words.specs.Plays.{walks_from, walks_on, see_state, confirms, read_low, read_high, begun_as, named_as, stored_as, try_claim, tries_lead, try_aside, sealed_by, tries_join, settles, tries_alone, tries_close, finds_none, look_settled, takes, lets_go, given_back};
+ghost use Rattle.sf_keyed_words.specs.Plays.{walks_from, walks_on, see_state, confirms, read_low, read_high, begun_as, named_as, stored_as, try_claim, tries_lead, try_aside, tries_seal, tries_join, settles, tries_alone, tries_close, finds_none, look_settled, takes, lets_go, given_back};
 
 use crate::rule::{
     Begins, Claims, Closes, Confirms, FindsNone, GivesBack, Joins, KeyedSizes, Law, Leads, Lets,
@@ -139,7 +139,7 @@ pub fn lead(words: &Words, seat: &mut KeyedSeat, slot: u64, old: u64, new: u64) 
     requires own { seat.old.table_id ≡ words.now.table_id }
     requires size { words.now.table_id.words ≡ word_total words.now.key }
     requires slot { (slot < words.now.key.tops) × (slot_of words.now.key seat.old.me.0.key ≡ slot) × (seat.old.me.0.slot ≡ slot) }
-    requires call { (seat.old.me.0.own ≢ 0) × (seat.old.me.0.named ≡ true) × (new / 4 ≡ seat.old.me.0.own) }
+    requires call { (seat.old.me.0.own ≢ 0) × (seat.old.me.0.named ≡ true) × (new / 4 ≡ seat.old.me.0.own) × (new / 2 % 2 ≡ 0) }
     requires top { (old ≡ seat.old.me.0.found) × (old / 4 ≡ seat.old.me.0.top) × (old / 2 % 2 ≡ 0) }
     requires walked { (seat.old.me.0.walks ≡ true) × (seat.old.me.0.clear ≡ true) × (old % 2 ≡ 1 → seat.old.me.0.looked ≡ 16) }
     requires mark { new % 2 ≡ 0 → (name : ℕ) → slot_of words.now.key name ≡ slot → Unmet seat.old.me.0.names name }
@@ -151,14 +151,17 @@ pub fn lead(words: &Words, seat: &mut KeyedSeat, slot: u64, old: u64, new: u64) 
     words.compare_exchange::<Leads>(seat, slot as usize, old, new)
 }
 
-/// Seals a slot.
+/// Seals a slot, at the end of a walk over it: no call is led there any more. Where the top word is what it was, no name that the walk did
+/// not meet has an open call, and none ever has one again.
 pub fn seal(words: &Words, seat: &mut KeyedSeat, slot: u64, old: u64) -> u64
     requires own { seat.old.table_id ≡ words.now.table_id }
     requires size { words.now.table_id.words ≡ word_total words.now.key }
-    requires slot { slot < words.now.key.tops }
-    requires top { (old / 2 % 2 ≡ 0) × (old < 18446744073709551614) }
+    requires sizes { seat.old.me.0.sizes ≡ words.now.key }
+    requires slot { (slot < words.now.key.tops) × (seat.old.me.0.slot ≡ slot) }
+    requires walked { (seat.old.me.0.walks ≡ true) × (seat.old.me.0.clear ≡ true) × (seat.old.me.0.found % 2 ≡ 1 → seat.old.me.0.looked ≡ 16) × (seat.old.me.0.other ≡ true) }
+    requires top { (seat.old.me.0.found / 4 ≡ seat.old.me.0.top) × (old ≡ seat.old.me.0.found) × (old / 2 % 2 ≡ 0) × (old < 18446744073709551614) }
     ensures own { seat.new.table_id ≡ seat.old.table_id }
-    ensures view { seat.new.me.0 ≡ sealed_by seat.old.me.0 old result }
+    ensures view { tries_seal seat.old.me.0 old (old + 2) result seat.new.me.0 }
 {
     words.compare_exchange::<Seals>(seat, slot as usize, old, old + 2)
 }

@@ -1,8 +1,6 @@
 //! Histories of five and six events of two keys, drawn by chance.
 
-use crate::orders::made::{Kind, Made};
-use crate::orders::orders::{Compared, compare};
-use sf_history::Hit;
+use crate::orders::search::{Counts, Made, compare};
 use sf_replay::Interval;
 use std::alloc::{AllocError, Global};
 use std::process::Abort;
@@ -24,107 +22,112 @@ impl Chance {
         (self.state >> 33) % limit.max(1)
     }
 
-    // A caller from 1 to 3.
-    fn caller(&mut self) -> u32 {
-        match self.below(3) {
-            0 => 1,
-            1 => 2,
-            _ => 3,
-        }
-    }
-
-    fn hit(&mut self) -> Hit {
-        match self.below(3) {
-            0 => Hit::Closed,
-            1 => Hit::Cleared,
-            _ => Hit::Missed,
-        }
-    }
-
     // A time that begins at one of so many moments, and lasts for at most two.
     fn time(&mut self, moments: u64) -> Option<Interval> {
         if self.below(12) == 0 {
             return None;
         }
         let from = self.below(moments);
-        Some(Interval {
-            from,
-            to: from.saturating_add(self.below(3)),
-        })
+        let to = from.saturating_add(self.below(3));
+        Some(Interval { from, to })
+    }
+
+    // One of the events of a kind, a column each, of one of the three calls.
+    fn line(&mut self, kinds: &'static str) -> &'static str {
+        let lines = kinds.lines().nth(self.below(7) as usize).unwrap_or("");
+        let of_hit = if lines.contains("closed") {
+            self.below(3)
+        } else {
+            0
+        };
+        let call = of_hit.saturating_mul(3).saturating_add(self.below(3));
+        lines.split(", ").nth(call as usize).unwrap_or("")
     }
 }
 
-// What may come after an event of its kind, so that many histories have an order.
-fn kind(chance: &mut Chance, member: u32) -> Kind {
-    match chance.below(7) {
-        0 => Kind::Lead,
-        1 => Kind::Enter(member),
-        2 => Kind::Forget,
-        3 => Kind::Idle,
-        4 => Kind::Of(chance.hit()),
-        5 => Kind::Handed,
-        _ => Kind::Settle(0),
-    }
-}
+// What may come after an event of its kind, so that many histories have an order: a row for each kind, and in it an event of each call,
+// of which the last one is of another key. A Forget of one call finds each of the three hits.
+const FIRST: &str = "lead 1 1.1 1, lead 2 2.1 1, lead 3 3.1 2
+enter 4 1.1 1 4.1, enter 4 2.1 1 4.1, enter 4 3.1 2 4.1
+forget 9 1.1 1, forget 9 2.1 1, forget 9 3.1 2
+idle 9 1, idle 9 1, idle 9 2
+closed 9 1.1 1, closed 9 2.1 1, closed 9 3.1 2, cleared 9 1.1 1, cleared 9 2.1 1, cleared 9 3.1 2, missed 9 1.1 1, missed 9 2.1 1, missed 9 3.1 2
+handed 1 1.1, handed 2 2.1, handed 3 3.1
+settle 1 1.1 0, settle 2 2.1 0, settle 3 3.1 0
+";
 
-// Two calls of one key, one after the other, and so many events more, with times that are near to each other.
-fn drawn(alloc: Global, chance: &mut Chance, more: u32) -> Result<Vec<Made>, AllocError> {
+// The same with an Enter of another caller.
+const SECOND: &str = "lead 1 1.1 1, lead 2 2.1 1, lead 3 3.1 2
+enter 5 1.1 1 5.1, enter 5 2.1 1 5.1, enter 5 3.1 2 5.1
+forget 9 1.1 1, forget 9 2.1 1, forget 9 3.1 2
+idle 9 1, idle 9 1, idle 9 2
+closed 9 1.1 1, closed 9 2.1 1, closed 9 3.1 2, cleared 9 1.1 1, cleared 9 2.1 1, cleared 9 3.1 2, missed 9 1.1 1, missed 9 2.1 1, missed 9 3.1 2
+handed 1 1.1, handed 2 2.1, handed 3 3.1
+settle 1 1.1 0, settle 2 2.1 0, settle 3 3.1 0
+";
+
+// Two calls of one key, one after the other, and one or two events more, with times that are near to each other.
+fn drawn(
+    rt: &impl Abort,
+    alloc: Global,
+    chance: &mut Chance,
+    has_second: bool,
+) -> Result<Vec<Made>, AllocError> {
     let mut made = Vec::new(alloc);
     let moments = chance.below(5).saturating_add(2);
-    for call in 1..=2 {
-        for kind in [Kind::Lead, Kind::Settle(0)] {
-            let time = chance.time(moments);
-            made.push(Made {
-                kind,
-                key: 1,
-                call,
-                time,
-            })?;
-        }
-    }
-    for member in 0..more {
-        let kind = kind(chance, member.saturating_add(4));
-        let call = chance.caller();
-        let key = if call == 3 { 2 } else { 1 };
+    for line in [
+        "lead 1 1.1 1",
+        "settle 1 1.1 0",
+        "lead 2 2.1 1",
+        "settle 2 2.1 0",
+    ] {
         let time = chance.time(moments);
-        made.push(Made {
-            kind,
-            key,
-            call,
-            time,
-        })?;
+        made.push(Made::new(rt, line, time))?;
+    }
+    let line = chance.line(FIRST);
+    let time = chance.time(moments);
+    made.push(Made::new(rt, line, time))?;
+    if has_second {
+        let line = chance.line(SECOND);
+        let time = chance.time(moments);
+        made.push(Made::new(rt, line, time))?;
     }
     Ok(made)
 }
 
-// Draws so many histories, with so many events beside the two calls, and compares each. Both outcomes have to come often.
-fn draws(rt: &(impl Abort + AllocGlobal), state: u64, more: u32, count: u64) -> Result<(), Fail> {
+// Draws so many histories, and compares each. Both outcomes have to come often.
+fn draws(
+    rt: &impl Abort,
+    alloc: Global,
+    state: u64,
+    has_second: bool,
+    count: u64,
+) -> Result<(), Fail> {
     let mut chance = Chance { state };
-    let mut found = 0_u64;
-    let mut none = 0_u64;
-    let mut open = 0_u64;
+    let mut counts = Counts {
+        found: 0,
+        none: 0,
+        undecided: 0,
+    };
     for _ in 0..count {
-        let made = drawn(rt.alloc(), &mut chance, more)?;
-        match compare(rt, rt.alloc(), made.as_slice())? {
-            Compared::Found => found = found.saturating_add(1),
-            Compared::NoOrder => none = none.saturating_add(1),
-            _ => open = open.saturating_add(1),
-        }
+        let made = drawn(rt, alloc, &mut chance, has_second)?;
+        compare(rt, alloc, made.as_slice(), &mut counts)?;
     }
     let often = count / 10;
     assert!(rt;
-        often < found && often < none && open < often,
-        "{found} found, {none} none, {open} undecided"
+        often < counts.found && often < counts.none,
+        "one outcome comes seldom"
     );
+    assert!(rt; counts.undecided < often, "undecided often");
     Ok(())
 }
 
 #[test]
 fn five_events(rt: HostRuntime) -> Result<(), Fail> {
-    draws(&rt, 63, 1, 600)
+    draws(&rt, rt.alloc(), 63, false, 600)
 }
 
 #[test]
 fn six_events(rt: HostRuntime) -> Result<(), Fail> {
-    draws(&rt, 36, 2, 120)
+    draws(&rt, rt.alloc(), 36, true, 120)
 }

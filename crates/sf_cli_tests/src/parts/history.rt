@@ -130,7 +130,7 @@ fn is_current(
 }
 
 fn has_events(rt: &impl Abort, group: &TextGroup, due: usize) {
-    assert!(rt; group.history().len() == due, "not {due} events");
+    assert!(rt; group.history().len() == due, "another number of events");
 }
 
 // Caller 1 has no generation left, to ask or to be a second.
@@ -240,7 +240,7 @@ fn clears_the_newer(rt: &impl Abort, alloc: Global, group: &mut TextGroup, newer
     ensures { group.new.callers ≡ group.old.callers }
 {
     let found = walk::hit(group.history().events(), &text(rt, alloc, "k"), newer);
-    assert!(rt; found == Hit::Cleared, "{found} is found");
+    assert!(rt; found == Hit::Cleared, "another hit");
     let there = "where it is settled";
     finds(rt, alloc, group, "k", newer, Hit::Cleared, there);
     let otherwise = "a forgotten call is current";

@@ -9,7 +9,7 @@ use std::process::Abort;
 use std::test::Fail;
 
 // An event of numbers as keys.
-type NumberEvent = Event<u32, ()>;
+pub(crate) type NumberEvent = Event<u32, ()>;
 
 const NO_CALL: CallId = CallId {
     caller: 0,
@@ -19,7 +19,7 @@ const NO_CALL: CallId = CallId {
 fn call(rt: &impl Abort, word: &str) -> CallId {
     match sf_text::call(word) {
         Some(call) => call,
-        None => panic!(rt; "{word} is no call"),
+        None => panic!(rt; "it is no call"),
     }
 }
 
@@ -29,7 +29,7 @@ fn forget_call(rt: &impl Abort, found: &str, by: u32, call: CallId, key: u32) ->
         "closed" => Hit::Closed,
         "cleared" => Hit::Cleared,
         "missed" => Hit::Missed,
-        _ => panic!(rt; "{found} is no event"),
+        _ => panic!(rt; "it is no event"),
     };
     Event::ForgetCall { by, key, call, hit }
 }
@@ -51,7 +51,7 @@ fn of_key(rt: &impl Abort, kind: &str, by: u32, call: CallId, key: u32) -> Numbe
 
 // The event that a line is: its kind and who made it, then its call, and its key or how many joined: `lead 1 1.1 7`,
 // `enter 2 1.1 7 2.1`, `settle 1 1.1 1`, `handed 1 1.1`; `idle 1 7` is a Forget that closed nothing.
-fn event(rt: &impl Abort, line: &str) -> NumberEvent {
+pub(crate) fn event(rt: &impl Abort, line: &str) -> NumberEvent {
     let (kind, rest) = first_word(line);
     let (by, rest) = first_word(rest);
     let by = number(rt, by);
@@ -136,7 +136,7 @@ fn text_of(alloc: Global, history: &History<u32, ()>) -> Result<String, AllocErr
 // Merges logs, and compares the events of what comes of them.
 fn are_merged(rt: &impl Abort, alloc: Global, logs: &str, due: &str) -> Result<(), Fail> {
     let text = text_of(alloc, &merged(rt, alloc, logs))?;
-    assert!(rt; text.as_str() == due, "{text}");
+    assert!(rt; text.as_str() == due, "other events");
     Ok(())
 }
 
@@ -214,13 +214,13 @@ fn forgets_of_one_call_are_merged(rt: HostRuntime) -> Result<(), Fail> {
 fn assert_legal(rt: &impl Abort, history: &History<u32, ()>, due: usize) {
     let events = history.len();
     assert!(rt; check(history) == Verdict::Legal, "it is illegal");
-    assert!(rt; events == due, "{events} events");
+    assert!(rt; events == due, "another number of events");
 }
 
 fn assert_illegal(rt: &impl Abort, history: &History<u32, ()>, due: u64) {
     match check(history) {
         Verdict::Legal => panic!(rt; "legal"),
-        Verdict::Illegal { index, .. } => assert!(rt; index == due, "event {index}"),
+        Verdict::Illegal { index, .. } => assert!(rt; index == due, "another event"),
     }
 }
 

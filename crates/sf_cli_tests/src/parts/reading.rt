@@ -13,7 +13,7 @@ pub(crate) fn first_word(words: &str) -> (&str, &str) {
 pub(crate) fn number(rt: &impl Abort, word: &str) -> u32 {
     match word.parse::<u32>() {
         Ok(number) => number,
-        Err(_) => panic!(rt; "{word} is no number"),
+        Err(_) => panic!(rt; "it is no number"),
     }
 }
 

@@ -35,7 +35,7 @@ fn record(rt: &impl Abort, name: &str) -> &'static str {
             return record;
         }
     }
-    panic!(rt; "no record is called {name}")
+    panic!(rt; "there is no such record")
 }
 
 // What is said of these records after the format, by both checkers.
@@ -138,7 +138,7 @@ fn rewritten(alloc: Global, text: &str) -> Result<String, Fail> {
 // A text of records is written so.
 fn assert_rewritten(rt: &impl Abort, alloc: Global, text: &str, due: &str) -> Result<(), Fail> {
     let written = rewritten(alloc, text)?;
-    assert!(rt; written.as_str() == due, "{written}");
+    assert!(rt; written.as_str() == due, "it is written otherwise");
     Ok(())
 }
 
@@ -168,7 +168,10 @@ fn written_records_read_back(rt: HostRuntime) -> Result<(), Fail> {
     let names = "missed lead enter closed error handed cleared";
     let text = after_format(&rt, alloc, 3, names)?;
     let written = rewritten(alloc, text.as_str())?;
-    assert!(rt; written.as_str() == text.as_str(), "{written}");
+    assert!(rt;
+        written.as_str() == text.as_str(),
+        "it is written otherwise"
+    );
     let again = read(alloc, written.as_bytes())?;
     assert!(rt; again.len() == 7);
     assert_rewritten(&rt, alloc, written.as_str(), text.as_str())

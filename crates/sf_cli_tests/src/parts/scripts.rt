@@ -22,7 +22,7 @@ fn commands_are_obeyed_in_turn(rt: HostRuntime) -> Result<(), Fail> {
     let lines = obey_all(alloc, &mut group, &[ask, forget, forget_call])?;
     assert!(rt;
         lines.as_str() == "7 lead 7.1\n8 forgot 7.1\n9 missed 7.1\n",
-        "it replies {lines}"
+        "it replies otherwise"
     );
     Ok(())
 }

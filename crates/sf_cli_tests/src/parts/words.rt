@@ -23,12 +23,12 @@ fn writes_call(number: u64, says: CallState) -> bool {
 
 // The number is that of the word that says this.
 fn assert_call(rt: &impl Abort, number: u64, says: CallState) {
-    assert!(rt; reads_call(number, says), "{number} is read otherwise");
-    assert!(rt; writes_call(number, says), "{number} is written otherwise");
+    assert!(rt; reads_call(number, says), "it is read otherwise");
+    assert!(rt; writes_call(number, says), "it is written otherwise");
 }
 
 fn assert_no_call(rt: &impl Abort, number: u64) {
-    assert!(rt; unpack_call(number).is_none(), "{number} is read");
+    assert!(rt; unpack_call(number).is_none(), "it is read");
 }
 
 #[test]
@@ -87,12 +87,12 @@ fn writes_key(number: u64, says: KeyState) -> bool {
 
 // The number is that of the word that says this.
 fn assert_key(rt: &impl Abort, number: u64, says: KeyState) {
-    assert!(rt; reads_key(number, says), "{number} is read otherwise");
-    assert!(rt; writes_key(number, says), "{number} is written otherwise");
+    assert!(rt; reads_key(number, says), "it is read otherwise");
+    assert!(rt; writes_key(number, says), "it is written otherwise");
 }
 
 fn assert_no_key(rt: &impl Abort, number: u64) {
-    assert!(rt; unpack_key(number).is_none(), "{number} is read");
+    assert!(rt; unpack_key(number).is_none(), "it is read");
 }
 
 #[test]
@@ -137,12 +137,12 @@ fn writes_next(number: u64, says: Option<u32>) -> bool {
 
 // The number is that of the word that says this.
 fn assert_next(rt: &impl Abort, number: u64, says: Option<u32>) {
-    assert!(rt; reads_next(number, says), "{number} is read otherwise");
-    assert!(rt; writes_next(number, says), "{number} is written otherwise");
+    assert!(rt; reads_next(number, says), "it is read otherwise");
+    assert!(rt; writes_next(number, says), "it is written otherwise");
 }
 
 fn assert_no_next(rt: &impl Abort, number: u64) {
-    assert!(rt; unpack_next(number).is_none(), "{number} is read");
+    assert!(rt; unpack_next(number).is_none(), "it is read");
 }
 
 // Beside them, as no next words: caller 65,536, bit 20, bit 32.

@@ -45,6 +45,7 @@ returns-in-Joined c =
     let own = ap (λ (f : FrontState). f.group) c.me.view_is in
     let table = c.ask_often.ensures.own in
     let num = ap (λ (f : FrontState). f.number) c.me.view_is in
+    let gone = ap (λ (f : FrontState). f.gone) c.me.view_is in
     let seen = ap (λ (f : FrontState). f.seen) c.me.view_is in (
       record {
         member = j.member;
@@ -54,6 +55,7 @@ returns-in-Joined c =
           others = j.adds.before;
           seen = ap (λ (v : View). v.seen) left ∙ (j.adds.seen ∙ ap (λ l. (l ++ j.adds.before) ++ Enter j.member.caller (number c.args.name) (call_of c.in-Joined.call) j.member ∷ []) seen);
           legal = subst (IsLegal nat_eq) (sym (ap (λ (v : View). v.seen) left)) j.adds.legal;
+          gone = (ap (λ (v : View). v.gone) left ∙ j.gone) ∙ gone;
         };
       },
       (λ i. record { table = (c.split_ticket-seat.ensures.own.1 ∙ (ap (λ (g : GroupId). g.table) c.self.view_is ∙ (ap (λ (g : GroupId). g.table) (sym c.requires.own) ∙ sym (ap (λ (g : GroupId). g.table) own)))) i; sizes = (ap (λ q. q.0.sizes) new ∙ j.sizes) i }) ∙ own,

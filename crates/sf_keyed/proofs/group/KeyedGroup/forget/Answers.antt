@@ -2,16 +2,18 @@ use Rattle.std.proofs.Common.{◌+◌, ◌≤◌, ◌++◌, ◌∷◌, [], Some,
 use Rattle.sf_history.specs.declared.event.Event.TheVariants.{Forget}
 use Rattle.sf_keyed_tells.specs.Tells.{call_of}
 use Rattle.sf_keyed_words.specs.Rule.{number}
-use Rattle.sf_keyed.specs.Known.{FrontState}
+use Rattle.sf_keyed.specs.Known.{FrontState, GroupId}
 use Rattle.sf_keyed.specs.Calls.{IsForgotten}
+use Rattle.sf_keyed.proofs.Joint.{gone_on}
 use Rattle.sf_keyed.proofs.group.KeyedGroup.forget.Goals as goal
-use Rattle.sf_keyed.proofs.group.KeyedGroup.forget.Goals.{in-Closed, in-Nothing, in-Other, in-Busy}
+use Rattle.sf_keyed.proofs.group.KeyedGroup.forget.Goals.{in-Closed, in-Nothing, in-Gone, in-Other, in-Busy}
 
 pub returns : goal.returns
 returns c =
     let own = ap (λ (f : FrontState). f.group) c.me.view_is in
     let seen = ap (λ (f : FrontState). f.seen) c.me.view_is in
     let num = ap (λ (f : FrontState). f.number) c.me.view_is in
+    let gone = ap (λ (f : FrontState). f.gone) c.me.view_is in
     let spare = ap (λ (f : FrontState). f.spare) c.me.view_is in
     let lost = ap (λ (f : FrontState). f.met.lost) c.me.view_is in
     let table = c.forget_often.ensures.own in
@@ -26,6 +28,7 @@ returns c =
               others = f.adds.before;
               seen = f.adds.seen ∙ (ap (λ l. (l ++ f.adds.before) ++ Forget c.me.inside.seat.me.0.number (number c.args.name) (Some (call_of w.in-Closed.call)) ∷ []) seen ∙ ap (λ n. (c.args.me.now.seen ++ f.adds.before) ++ Forget n (number c.args.name) (Some (call_of w.in-Closed.call)) ∷ []) num);
               legal = f.adds.legal;
+              gone = f.gone ∙ gone;
             },
             spare,
           )
@@ -37,15 +40,31 @@ returns c =
               number = f.number ∙ num;
               seen = (f.grows.seen.0, f.grows.seen.1 ∙ ap (λ l. l ++ f.grows.seen.0) seen);
               legal = f.grows.legal;
+              gone = λ k is. f.gone k (gone_on _ _ _ _ (ap (λ (g : GroupId). g.sizes) own) gone k is);
             },
             f.none,
+            spare,
+          )
+      | in-Gone w ↦
+          let g = c.forget_often.ensures.gone w.in-Gone.is in
+          let f = g.0 in
+          subst (IsForgotten c.args.me.now after (number c.args.name) c.args.tries) (sym w.result-is) (
+            record {
+              group = (λ i. record { table = table i; sizes = f.sizes i }) ∙ own;
+              number = f.number ∙ num;
+              seen = (f.grows.seen.0, f.grows.seen.1 ∙ ap (λ l. l ++ f.grows.seen.0) seen);
+              legal = f.grows.legal;
+              gone = λ k is. f.gone k (gone_on _ _ _ _ (ap (λ (g : GroupId). g.sizes) own) gone k is);
+            },
+            f.none,
+            g.1,
             spare,
           )
       | in-Other w ↦ absurd ((c.forget_often.ensures.other w.in-Other.field-0 w.in-Other.is).1 refl)
       | in-Busy w ↦
           let f = c.forget_often.ensures.busy w.in-Busy.is in
           subst (IsForgotten c.args.me.now after (number c.args.name) c.args.tries) (sym w.result-is) (
-            record { group = (λ i. record { table = table i; sizes = f.0.sizes i }) ∙ own; number = f.0.number ∙ num; seen = f.0.seen ∙ seen; spare = spare },
+            record { group = (λ i. record { table = table i; sizes = f.0.sizes i }) ∙ own; number = f.0.number ∙ num; seen = f.0.seen ∙ seen; gone = f.0.gone ∙ gone; spare = spare },
             subst (λ n. n + c.args.tries ≤ c.forget_often.new.seat.me.0.lost) lost f.1,
           )
     ]

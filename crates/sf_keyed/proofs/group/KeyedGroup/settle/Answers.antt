@@ -48,6 +48,7 @@ returns-in-None c =
     let own = ap (λ (f : FrontState). f.group) c.me.view_is in
     let seen = ap (λ (f : FrontState). f.seen) c.me.view_is in
     let num = ap (λ (f : FrontState). f.number) c.me.view_is in
+    let gone = ap (λ (f : FrontState). f.gone) c.me.view_is in
     let call = ap (λ (f : FlightState). f.call) c.flight.view_is in
     let x = λ (e : ℕ). Settle (e % 1048576) (call_of e) None al.2.joiners ∷ [] in
     let first = heard.seen.1 ∙ ap (λ l. l ++ heard.seen.0) seen in (
@@ -62,6 +63,7 @@ returns-in-None c =
           seen = subst (λ (e : ℕ). c.settle_call.new.seat.me.0.seen ≡ (c.args.me.now.seen ++ (heard.seen.0 ++ al.2.adds.before)) ++ Settle (e % 1048576) (call_of e) None al.2.joiners ∷ []) call
               (joint c.args.me.now.seen heard.seen.0 al.2.adds.before (x c.flight.inside.call) c.join_flight.new.seat.me.0.seen c.settle_call.new.seat.me.0.seen first al.2.adds.seen);
           legal = al.2.adds.legal;
+          gone = (al.2.gone ∙ ap (λ (v : View). v.gone) heard.view) ∙ gone;
         };
         was = subst (λ l. WasForgotten l c.args.flight.call false) (two_parts c.args.me.now.seen heard.seen.0 al.2.adds.before c.join_flight.new.seat.me.0.seen (c.join_flight.new.seat.me.0.seen ++ al.2.adds.before) first refl)
             (subst (λ e. WasForgotten (c.join_flight.new.seat.me.0.seen ++ al.2.adds.before) e false) call al.2.was);
@@ -80,6 +82,7 @@ returns-in-Some c =
     let theirs = ap (λ (f : FlightState). f.group) c.flight.view_is in
     let seen = ap (λ (f : FrontState). f.seen) c.me.view_is in
     let num = ap (λ (f : FrontState). f.number) c.me.view_is in
+    let gone = ap (λ (f : FrontState). f.gone) c.me.view_is in
     let call = ap (λ (f : FlightState). f.call) c.flight.view_is in
     let sizes1 = ap (λ (v : View). v.sizes) heard.view in
     let to_flight = own ∙ (c.requires.own.0 ∙ sym c.requires.own.1) in
@@ -96,6 +99,7 @@ returns-in-Some c =
           seen = ap (λ (v : View). v.seen) left ∙ subst (λ (e : ℕ). c.settle_call.new.seat.me.0.seen ≡ (c.args.me.now.seen ++ (heard.seen.0 ++ sh.3.adds.before)) ++ Settle (e % 1048576) (call_of e) (Some c.args.value) sh.3.joiners ∷ []) call
               (joint c.args.me.now.seen heard.seen.0 sh.3.adds.before (Settle (c.flight.inside.call % 1048576) (call_of c.flight.inside.call) (Some c.args.value) sh.3.joiners ∷ []) c.join_flight.new.seat.me.0.seen c.settle_call.new.seat.me.0.seen first sh.3.adds.seen);
           legal = subst (IsLegal nat_eq) (sym (ap (λ (v : View). v.seen) left)) sh.3.adds.legal;
+          gone = (ap (λ (v : View). v.gone) left ∙ (sh.3.gone ∙ ap (λ (v : View). v.gone) heard.view)) ∙ gone;
         };
         was = subst (WasForgotten (c.args.me.now.seen ++ (heard.seen.0 ++ sh.3.adds.before)) c.args.flight.call) (sym told.forgotten)
             (subst (λ l. WasForgotten l c.args.flight.call (is_forgotten c.in-Some.state)) (two_parts c.args.me.now.seen heard.seen.0 sh.3.adds.before c.join_flight.new.seat.me.0.seen (c.join_flight.new.seat.me.0.seen ++ sh.3.adds.before) first refl)
