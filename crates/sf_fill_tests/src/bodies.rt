@@ -1,5 +1,6 @@
 //! Fills by bodies of their own: drives, getters in threads, many keys, and what no script says.
 
+mod book;
 mod drives;
 mod leaders;
 mod many;

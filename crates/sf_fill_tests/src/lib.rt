@@ -9,8 +9,6 @@ mod bodies;
 #[cfg(test)]
 mod calls;
 #[cfg(test)]
-mod failing;
-#[cfg(test)]
 mod keeps;
 #[cfg(test)]
 mod loaders;

@@ -1,4 +1,4 @@
-//! Tests of refused memory, and of many askings at once.
+//! Tests of refused memory, failing loaders, last generations and many askings at once.
 //!
 //! Those of `making`, `copies` and `pair` pass wherever one allocation is refused: what a constructor took is asked for once
 //! more, and has to be there. `.ci/refused-memory` runs them so for each allocation.
@@ -9,6 +9,8 @@ mod askings;
 #[cfg(test)]
 mod copies;
 #[cfg(test)]
+mod fills;
+#[cfg(test)]
 mod kept;
 #[cfg(test)]
 mod making;
@@ -18,5 +20,9 @@ mod meeting;
 mod pair;
 #[cfg(test)]
 mod spare;
+#[cfg(test)]
+mod threads;
+#[cfg(test)]
+mod trial;
 #[cfg(test)]
 mod tried;
