@@ -41,7 +41,7 @@ pub enum Reply {
     Refused(Refusal),
     /// There was no memory for what the caller sees of a table that it did not know. No call was changed.
     NoMemory,
-    /// A slot was sealed, and the next table was not there. It never is so, since who seals a slot knows the next table.
+    /// A slot was sealed, and the next table was not there. It never is so, since a caller that seals a slot knows the next table.
     Behind,
 }
 
@@ -56,7 +56,7 @@ pub enum Forgotten {
     Busy,
     /// There was no memory for what the caller sees of a table that it did not know. No call was changed.
     NoMemory,
-    /// A slot was sealed, and the next table was not there. It never is so, since who seals a slot knows the next table.
+    /// A slot was sealed, and the next table was not there. It never is so, since a caller that seals a slot knows the next table.
     Behind,
 }
 
@@ -367,7 +367,7 @@ impl KeyedChain {
     }
 
     /// Forgets the name: closes its open call, in whichever table it is, or finds that it has none. It ends at the first table where the name's
-    /// slot is not sealed: who leads in a later one has sealed it first. Each table is tried so often.
+    /// slot is not sealed: a caller that leads in a later table has sealed it first. Each table is tried so often.
     pub fn forget(&self, me: &mut ChainFront, name: Name, tries: u32) -> Forgotten
         requires of { IsOf self.now me.old }
         ensures of { IsOf self.now me.new }

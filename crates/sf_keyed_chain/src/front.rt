@@ -63,9 +63,7 @@ impl Part {
             None => unreachable!(),
         }
     }
-}
 
-impl Part {
     // Takes a free cell of the table for the next call that the caller leads there.
     pub(crate) fn claim(&mut self, link: &OnceBox<KeyedGroup>, cell: u64) -> Claim
         requires { self.old.cell ≡ cell_name link.now }

@@ -1,11 +1,10 @@
 //! How large the tables of a chain are.
-ghost use Rattle.std.specs.Prelude.{◌≡◌, ◌+◌, ◌*◌, ◌/◌, ◌%◌, ◌<◌, ◌≤◌, ◌^◌};
-ghost use Rattle.sf_keyed_words.specs.Rule.{word_total};
+ghost use Rattle.std.specs.Prelude.{◌≡◌, ◌+◌, ◌*◌, ◌/◌, ◌<◌, ◌≤◌};
 
 use sf_keyed::KeyedSizes;
 
-/// How many calls can be open at a time in the largest table.
-pub const MOST_CELLS: u64 = 1_048_576;
+// How many calls can be open at a time in the largest table.
+const MOST_CELLS: u64 = 1_048_576;
 
 /// The sizes of a table for so many calls that are open at a time, from 1 to 1,048,576: four hash slots for each, rounded up to 64 of them,
 /// which share 16 side words. The seeds are to be drawn at random and kept secret.
