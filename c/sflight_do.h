@@ -6,9 +6,11 @@
  * - At most one load of a key runs at a time, unless sflight_do_forget ended the earlier one. So
  *   without a Forget the answers for a key never go back to an older value.
  * - A pool never wears out.
- * - sflight_do_forget always forgets, also if no caller is free or there is no memory.
- * - A pool is small at first, and grows with its use.
+ * - sflight_do_forget always forgets, also if there is no memory.
+ * - A pool is small at first, and grows with its use. No call waits while it grows.
  * - What its calls do can be recorded, and judged by `sfctl check --timed` (sflight_do_record).
+ *
+ * A thread keeps what it needs of a pool until it exits; then other threads of the pool use it.
  *
  * Every function but sflight_do_close can be called from any thread. None may be called from a
  * signal handler, or from the forked child of a process with threads. A load function has to
@@ -32,34 +34,30 @@ extern "C" {
 /* A pool, which all threads that ask for the same keys share. */
 typedef struct sflight_pool sflight_pool;
 
-/* Names the call that an answer came from: 24 plain bytes, to be kept with the answer. All zeros is
- * the stamp of no call, which is never current. */
+/* Says of an answer whether a Forget has ended it: 24 plain bytes, to be kept with the answer. All
+ * zeros is the stamp of no answer, which may never be used. */
 typedef struct sflight_do_stamp {
-    uint64_t epoch;
-    sflight_stamp call;
+    uint64_t table, slot, age;
 } sflight_do_stamp;
 
 typedef struct sflight_got {
     uint64_t value;    /* what the load function returned */
-    uint32_t joiners;  /* the number of threads that joined its call */
+    uint32_t joiners;  /* the number of threads that joined its call and got the value */
     bool led;          /* whether the load function ran in this thread */
-    sflight_do_stamp stamp; /* all zeros if the load ran beside the library */
+    sflight_do_stamp stamp; /* all zeros if the key was forgotten while it was loaded */
 } sflight_got;
 
-typedef struct sflight_do_sizes {
-    uint32_t slots;   /* hash slots, 8 bytes each; 0 means 1,024 */
-    uint32_t callers; /* callers of the library: so many loads run in it at a time; 0 means 32 */
-    bool is_fixed;    /* whether the pool does not grow; otherwise each step is 8 times the last */
-    uint32_t calls;   /* for tests: calls until a caller is replaced; 0 means 4,294,967,294 */
-} sflight_do_sizes;
-
-typedef struct sflight_do_stats {
-    uint64_t leads;  /* loads in calls of the library */
-    uint64_t joins;  /* calls that were joined */
-    uint64_t alone;  /* loads beside the library: no caller was free, or another key had the slot */
-    uint64_t epochs; /* 1, and 1 more each time the pool grew or its callers were replaced */
-    uint32_t in_use; /* callers that are in use */
-} sflight_do_stats;
+/* What has happened since the pool was opened. The names mean the same in each package; a pool has no
+ * cache, so its hits, misses and evictions are 0. */
+typedef struct sflight_stats {
+    uint64_t loads;     /* calls of the load function */
+    uint64_t joins;     /* calls that joined the load of another thread, also those that timed out */
+    uint64_t hits;      /* gets that found a value in the cache */
+    uint64_t misses;    /* gets that found none */
+    uint64_t forgets;   /* keys that were forgotten, loaded or not */
+    uint64_t evictions; /* values that left the cache to make room */
+    uint64_t in_use;    /* calls that run now: they load, or wait */
+} sflight_stats;
 
 /* Loads the value of a key. The context is the one given to sflight_do. A load that fails returns a
  * number that says so. */
@@ -93,15 +91,17 @@ typedef struct sflight_recorded {
 /* A timeout that never passes. */
 #define SFLIGHT_DO_FOREVER INT64_MAX
 
-/* Opens a pool. `sizes` may be null, which means the default sizes. `share` may be null. If it is
- * not, the thread that loaded a value calls it before other threads get the value, with their
+/* Opens a pool. `loads` says about how many loads run at one time, up to 1,048,576; 0 means 64. It
+ * takes about 64 bytes for each, and the pool grows where there are more. `share` may be null. If it
+ * is not, the thread that loaded a value calls it before other threads get the value, with their
  * number: a program that counts references adds that many. `share` must not use the pool. Returns
- * null if there is no memory, if a size is out of range, or if the processor is too old (see
+ * null if there is no memory, if `loads` is out of range, or if the processor is too old (see
  * sflight_open). */
-sflight_pool *sflight_do_open(const sflight_do_sizes *sizes,
+sflight_pool *sflight_do_open(uint32_t loads,
                               void (*share)(uint64_t value, uint32_t others) SFLIGHT_NOEXCEPT);
 
-/* Ends a recording of the pool, if there is one, and frees the pool. No call may be running in it. */
+/* Ends a recording of the pool, if there is one, and frees the pool. No call may be running in it.
+ * Threads that have used it may exit later. */
 void sflight_do_close(sflight_pool *pool);
 
 /* Gets the value of the key of `len` bytes. It runs `load`, or blocks until the thread that is
@@ -110,19 +110,32 @@ void sflight_do_close(sflight_pool *pool);
 int sflight_do(sflight_pool *pool, const uint8_t *key, size_t len, sflight_load *load,
                void *context, int64_t timeout, sflight_got *got);
 
+/* Keeps a value in a cache of the program's own. The thread that loaded the value calls it, with the
+ * context of sflight_do_and_keep, before the value is anybody's and while the key's next load cannot
+ * begin. So a value that is kept later is a newer one, unless the key was forgotten meanwhile. */
+typedef void sflight_keep(void *context, const uint8_t *key, size_t len, uint64_t value,
+                          const sflight_do_stamp *stamp) SFLIGHT_NOEXCEPT;
+
+/* The same as sflight_do, for a cache: `keep` puts the value into it. A cache that takes its values
+ * from sflight_do instead may put an older value in place of a newer one, since its thread can be
+ * stopped before it does so. */
+int sflight_do_and_keep(sflight_pool *pool, const uint8_t *key, size_t len, sflight_load *load,
+                        sflight_keep *keep, void *context, int64_t timeout, sflight_got *got);
+
 /* Forgets the key: a thread that asks from now on never gets a value whose load began before.
  * Returns whether a load was running. */
 bool sflight_do_forget(sflight_pool *pool, const uint8_t *key, size_t len);
 
-/* Returns whether the answer with this stamp may still be used: its key was not forgotten, and no
- * later load of it has begun. It can return false too early, if another key uses the same hash slot or
- * the pool has grown. */
+/* Returns whether the answer with this stamp may still be used: its key was not forgotten. It can
+ * return false too early, if a key of the same hash slot was forgotten. */
 bool sflight_do_is_still(sflight_pool *pool, const sflight_do_stamp *stamp);
 
 /* Returns the numbers of the pool. */
-sflight_do_stats sflight_do_statistics(sflight_pool *pool);
+sflight_stats sflight_do_statistics(sflight_pool *pool);
 
-/* Begins to record what the calls of the pool do, as records in format 4, by which `sfctl check
+/* The next two are in sflight_record.c, which a program that records compiles in too.
+ *
+ * Begins to record what the calls of the pool do, as records in format 4, by which `sfctl check
  * --timed` judges whether they kept the promises. A thread of the recording gives the records to
  * `write`, with the context, until sflight_do_stop. Returns SFLIGHT_DO_DONE, SFLIGHT_DO_RECORDED if
  * the pool is recorded already, or SFLIGHT_DO_NO_MEMORY or SFLIGHT_DO_NO_THREAD. Only the first

@@ -2,10 +2,11 @@ package singleflight
 
 import (
 	"context"
+	"errors"
 	"fmt"
+	"sync"
 	"sync/atomic"
 	"time"
-	"unsafe"
 )
 
 // Cache keeps the values that a load function returns, each under its key, as long as there is
@@ -22,44 +23,67 @@ import (
 //     result. Errors are shared and not kept.
 //   - The costs of the values that are kept are never more than the limit together.
 //
-// Each hit asks the library whether the call that loaded the value is current, as IsStill does. So
-// a value may be lost early: if another key's load uses its hash slot, or if the cache grows. It is
-// loaded again then.
+// Each hit asks whether the value may still be used, as IsStill does. So a value may be lost early,
+// if another key of its hash slot is forgotten. It is loaded again then.
 //
-// Where the package runs the proved library, that answer and the limit are the library's and
-// proved. That a value is its key's is looked at in Go, and which value makes room is chosen there.
-// Values may be of any Go type: the library has numbers that stand for them.
+// Where the package runs the proved library, that answer is the library's and proved. What values
+// there are, and which of them makes room, is Go's and tested.
 type Cache[K ~string, V any] struct {
-	p       *pool
+	now     fillPointer
+	mu      sync.Mutex // protects the next three
+	size    sizes
+	olds    []*core // of earlier fills, whose loads may still run
+	past    Stats   // of those that have none
+	room    room
+	found   atomic.Uint64 // Gets that found the value once they led: hits after all
+	looks   [16]looks
 	load    func(context.Context, K) (V, error)
 	cost    func(K, V) int64
 	onEvict func(K, V)
 	clock   func() instant // none without a TTL
 	loads   atomic.Uint64
 	errors  atomic.Uint64
-	// By fingerprint: how many Forgets and Puts have begun, and where values have costs, loads.
+	// By a hash of the key: how many Forgets and Puts have begun, and where values have costs, loads.
 	writes [64]atomic.Uint64
 }
 
-// A value with what the pool knows of it, which comes first: an *item is the *node that it begins.
+// A fill is what a cache has between two ForgetAlls: its calls and its values.
+type fill struct {
+	p      *core
+	values *values
+}
+
+type fillPointer struct{ at pointer }
+
+func (p *fillPointer) Load() *fill    { return (*fill)(atomic.LoadPointer(&p.at)) }
+func (p *fillPointer) Store(to *fill) { atomic.StorePointer(&p.at, pointer(to)) }
+
+// How many looks found a value, and how many did not, of some goroutines.
+type looks struct {
+	hits, misses atomic.Uint64
+	_            [48]byte
+}
+
+// The result of a Put's call that is not to be used: whoever has joined asks again.
+var errAgain = errors.New("singleflight: a Put that came late")
+
+// A value with what the cache knows of it, which comes first: an *item is the *node that it begins.
 type node[V any] struct {
 	item
 	value V
 }
 
-func valueOf[V any](it *item) V { return (*node[V])(unsafe.Pointer(it)).value }
+func valueOf[V any](it *item) V { return (*node[V])(pointer(it)).value }
 
 // NewCache makes a cache whose values cost at most limit together, 1 or more. By default each costs
 // 1; see WithCost. The load function loads the value of a key. It runs as the function of Do does:
 // with the values of its leader's context, and in a goroutine of its own if that context can end.
 //
-// All options of New may be given too. By default the cache has 64 slots per value, at least 16,384
-// and at most 1,048,576, of 8 bytes each, and 1,024 callers. It takes more when it has lost as many
-// values for want of them as it has. Each time it grows, all values leave.
+// All options of New may be given too.
 //
 // NewCache fails with ErrSize if the limit, the TTL or a number of an option is out of range; with
 // ErrOption if there is no load function, or if the function of WithCost or WithOnEvict has other
-// types than the cache; and with ErrMemory if there is no memory.
+// types than the cache; with ErrMemory if there is no memory; and with ErrProcessor as New does.
 func NewCache[K ~string, V any](
 	limit int64, load func(context.Context, K) (V, error), options ...Option,
 ) (*Cache[K, V], error) {
@@ -69,7 +93,8 @@ func NewCache[K ~string, V any](
 	if load == nil {
 		return nil, fmt.Errorf("%w: no load function", ErrOption)
 	}
-	size := cacheSizes()
+	size := defaultSizes()
+	size.clock = bothClocks
 	for _, option := range options {
 		option(&size)
 	}
@@ -87,19 +112,30 @@ func NewCache[K ~string, V any](
 		}
 		c.clock = size.clock
 	}
-	size.limit = limit
-	// A pool that had the functions might never be freed: they may call the cache.
-	size.hasCosts, size.cost, size.onEvict = size.cost != nil, nil, nil
-	if !size.fixed {
-		size.places = placesFor(limit, size.hasCosts)
+	hasCosts := size.cost != nil
+	c.room.limit, c.room.hasCosts, c.room.ttl = limit, hasCosts, size.ttl
+	if n := slotsFor(limit, hasCosts); size.slots < n {
+		size.slots = n
 	}
-	p, err := newPoolOf(size)
+	size.isSmall = !hasCosts && limit <= smallCache
+	// What the core has of the options is not to keep the cache, which its functions may call.
+	size.cost, size.onEvict, size.cacheOption = nil, nil, ""
+	c.size = size
+	p, err := size.core()
 	if err != nil {
 		return nil, err
 	}
-	p.free()
-	c.p = p
+	c.begin(p)
 	return c, nil
+}
+
+// A cache of so few values has few shards.
+const smallCache = 64
+
+// begin begins a fill.
+func (c *Cache[K, V]) begin(p *core) {
+	p.free()
+	c.now.Store(&fill{p, newValues(p, &c.room)})
 }
 
 // WithCost sets what a value costs, for a cache of these types: the bytes of a page, say. The
@@ -137,40 +173,43 @@ func WithOnEvict[K ~string, V any](do func(key K, value V)) Option {
 // error at once, and the load goes on, as in Do. Where the load function panics or ends its
 // goroutine, so do all who share it.
 func (c *Cache[K, V]) Get(ctx context.Context, key K) (V, error) {
-	k := c.p.keyed(string(key))
-	it, gone := c.p.find(k, c.clock)
+	f := c.now.Load()
+	k := f.values.keyed(string(key))
+	it, gone := f.values.look(k, c.clock)
+	c.looked(it != nil)
 	if it != nil {
 		return valueOf[V](it), nil
 	}
-	return c.miss(ctx, k, gone)
+	return c.miss(ctx, f, k, gone)
 }
 
-func (c *Cache[K, V]) miss(ctx context.Context, k keyed, gone *item) (v V, err error) {
-	c.lost(gone)
-	c.tidy()
-	if err := ctx.Err(); err != nil {
-		return v, err
-	}
-	var r Result
-	var a asking
-	c.p.ask(&a, k, ctx.Done() != nil)
-	if ctx.Done() == nil {
-		c.p.goOn(&r, &a, k, func() (any, error) { return c.run(ctx, k) }, true, c)
-		err = r.Err
+func (c *Cache[K, V]) looked(found bool) {
+	l := &c.looks[here()%uint(len(c.looks))]
+	if found {
+		l.hits.Add(1)
 	} else {
-		r, err = c.p.goOnContext(ctx, &a, k, func(own context.Context) (any, error) {
-			return c.run(own, k)
-		}, c)
+		l.misses.Add(1)
 	}
-	c.tidy()
+}
+
+func (c *Cache[K, V]) miss(ctx context.Context, f *fill, k keyed, gone *item) (v V, err error) {
+	c.lost(gone)
+	r, err := f.p.doContext(ctx, k.key, func(own context.Context, a *asking) (any, error) {
+		return c.run(own, f, k, a)
+	})
 	if it, ok := r.Val.(*item); ok {
 		v = valueOf[V](it)
 	}
 	return v, err
 }
 
-// Loads the key's value.
-func (c *Cache[K, V]) run(ctx context.Context, k keyed) (any, error) {
+// run loads the key's value, and keeps it: before the call is settled, see keep.
+func (c *Cache[K, V]) run(ctx context.Context, f *fill, k keyed, a *asking) (any, error) {
+	// The call before may have ended since this Get missed: its value was kept by then.
+	if it := f.values.current(k, c.clock); it != nil {
+		c.found.Add(1)
+		return it, nil
+	}
 	n := &node[V]{item: item{key: k.key, print: k.print, cost: 1}}
 	if c.clock != nil {
 		n.born = c.clock()
@@ -188,21 +227,28 @@ func (c *Cache[K, V]) run(ctx context.Context, k keyed) (any, error) {
 	}()
 	v, err := c.load(ctx, K(k.key))
 	n.value = v
-	if err == nil && c.cost != nil {
+	if err != nil {
+		return &n.item, err
+	}
+	if c.cost != nil {
 		n.cost = c.cost(K(k.key), v)
 	}
-	failed = err != nil
-	return &n.item, err
+	failed = false
+	if out := f.values.keep(&n.item, a.stamp); len(out) > 0 {
+		a.after = func() { c.left(out) }
+	}
+	return &n.item, nil
 }
 
 // GetIfPresent returns the key's value if one is kept. It loads nothing and waits for nothing.
 func (c *Cache[K, V]) GetIfPresent(key K) (v V, ok bool) {
-	it, gone := c.p.find(c.p.keyed(string(key)), c.clock)
+	f := c.now.Load()
+	it, gone := f.values.look(f.values.keyed(string(key)), c.clock)
+	c.looked(it != nil)
 	if it != nil {
 		return valueOf[V](it), true
 	}
 	c.lost(gone)
-	c.tidy()
 	return v, false
 }
 
@@ -210,11 +256,11 @@ func (c *Cache[K, V]) GetIfPresent(key K) (v V, ok bool) {
 // now on loads anew. Those that wait for the open load still get its result. Write to the origin
 // first, and call Forget then.
 func (c *Cache[K, V]) Forget(key K) {
-	k := c.p.keyed(string(key))
+	f := c.now.Load()
+	k := f.values.keyed(string(key))
 	c.write(k)
-	c.p.forget(k.key)
-	c.lost(c.p.takeOut(k))
-	c.tidy()
+	f.p.forgets(k.key)
+	c.lost(f.values.takeOut(k))
 }
 
 // A Forget or Put of the key begins, or a load beside which a Put may ask for its cost. A Put keeps nothing if another has
@@ -225,15 +271,47 @@ func (c *Cache[K, V]) write(k keyed) (last *atomic.Uint64, number uint64) {
 }
 
 // ForgetAll is Forget of all keys. It takes the time and memory of a new cache, and calls what
-// WithOnEvict has set with each value; without memory, loads run beside the library for a while, as
-// Err tells, and nothing is kept. Of many at one time some share the new memory. The old memory is
-// freed soon, also while loads of then still run.
+// WithOnEvict has set with each value. The old memory is freed when the loads have ended that run.
 func (c *Cache[K, V]) ForgetAll() {
 	for i := range c.writes {
 		c.writes[i].Add(1)
 	}
-	c.p.forgetAll()
-	c.tidy()
+	c.mu.Lock()
+	old := c.now.Load()
+	p := newCore(&c.size)
+	if old.p.table.err() == ErrClosed {
+		p.table.close()
+	}
+	c.begin(p)
+	c.olds = append(c.olds, old.p)
+	c.fold()
+	c.mu.Unlock()
+	// Its calls are not joined any more, and their stamps are no later fill's.
+	defer old.p.table.close()
+	c.left(old.values.close())
+}
+
+// fold counts what older fills did, whose loads have ended. The lock is held.
+func (c *Cache[K, V]) fold() {
+	kept := c.olds[:0]
+	for _, p := range c.olds {
+		if st := p.stats(); st.InUse > 0 {
+			kept = append(kept, p)
+		} else {
+			c.past.add(st)
+		}
+	}
+	for i := len(kept); i < len(c.olds); i++ {
+		c.olds[i] = nil
+	}
+	c.olds = kept
+}
+
+func (st *Stats) add(other Stats) {
+	st.Loads += other.Loads
+	st.Joins += other.Joins
+	st.Forgets += other.Forgets
+	st.InUse += other.InUse
 }
 
 // Put is a Forget of the key, and then keeps this value, which the caller has just written to the
@@ -248,26 +326,55 @@ func (c *Cache[K, V]) Put(key K, value V) (kept bool) {
 	if c.clock != nil {
 		n.born = c.clock()
 	}
+	f := c.now.Load()
+	k := f.values.keyed(n.key)
+	n.print = k.print
 	var out []*item
 	defer func() {
 		if !kept {
-			if it := c.p.takeOut(c.p.keyed(n.key)); it != nil {
+			if it := f.values.takeOut(k); it != nil {
 				out = append(out, it)
 			}
 		}
-		defer c.tidy()
 		c.left(out)
 	}()
 	// The function of WithCost may panic. The older value is not current then.
-	k := c.p.keyed(n.key)
 	last, number := c.write(k)
-	c.p.forget(k.key)
+	f.p.forgets(k.key)
 	if c.cost != nil {
 		n.cost = c.cost(key, value)
 	}
-	out = c.p.settleWith(k, &n.item, last, number)
+	out = f.put(&n.item, last, number)
 	kept = n.isKept()
 	return kept
+}
+
+// put settles a call of the item's key with the item, which is kept then. It returns what has left
+// for that. Nothing is kept if another call of the key is open, which is newer than the Forget
+// before this; or if last counts more than this number, since a Forget or Put has begun meanwhile.
+//
+// Without that count a Forget could come to its end before this leads, and nothing would tell of
+// it: the item, which is older, would be the value of a newer call. One that has not counted yet
+// when this looks forgets the call that this leads. Those who have joined the call ask again.
+func (f *fill) put(it *item, last *atomic.Uint64, number uint64) (out []*item) {
+	var a asking
+	f.p.asks(&a, it.key)
+	if !a.leads {
+		if !f.p.gives(&a) {
+			f.p.takes(new(Result), &a)
+		}
+		return nil
+	}
+	return f.settle(&a, it, last, number)
+}
+
+func (f *fill) settle(a *asking, it *item, last *atomic.Uint64, number uint64) (out []*item) {
+	r := Result{Val: it, Err: errAgain}
+	if last.Load() == number {
+		out, r.Err = f.values.keep(it, a.stamp), nil
+	}
+	f.p.ends(&r, a)
+	return out
 }
 
 // Close makes all values leave and frees the memory; that which is in use, as soon as the loads
@@ -275,48 +382,61 @@ func (c *Cache[K, V]) Put(key K, value V) (kept bool) {
 // that is closed, and nothing is kept. It may be called at any time, and again. The memory of a
 // cache that nobody closes is freed by the garbage collector.
 func (c *Cache[K, V]) Close() {
-	c.p.close()
-	c.tidy()
+	c.mu.Lock()
+	f := c.now.Load()
+	f.p.table.close()
+	c.mu.Unlock()
+	c.left(f.values.close())
 }
 
 // Name returns the name that WithName has given.
-func (c *Cache[K, V]) Name() string { return c.p.label }
+func (c *Cache[K, V]) Name() string { return c.size.label }
 
-// Err tells why nothing is kept: ErrClosed after Close, and ErrMemory if there was no memory for
-// the library's group. It is nil otherwise.
-func (c *Cache[K, V]) Err() error { return c.p.err() }
+// Err tells why nothing is kept, which is ErrClosed after Close; or why plain Go says what is
+// current, and not the library: ErrMemory if there was no memory for its group, and ErrProcessor on
+// an x86-64 processor below v2. It is nil otherwise.
+func (c *Cache[K, V]) Err() error { return c.now.Load().p.table.err() }
 
 // CacheStats are the numbers of a cache since it was made.
 type CacheStats struct {
-	Hits    uint64 // Gets and GetIfPresents that found a value
-	Misses  uint64 // and those that found none
-	Loads   uint64 // load functions that were called
-	Errors  uint64 // those that failed, panicked or ended their goroutine
-	Kept    uint64 // values that came into the cache
-	Left    uint64 // those that left it
-	Evicted uint64 // those of these that made room for others
-	Values  uint64 // values that are in the cache
-	Weight  int64  // what they cost together
-	Limit   int64  // the most that they may cost
-	Proved  bool   // whether the library holds them within the limit, and not plain Go
-	Calls   Stats  // of the group by which it loads
+	Hits      uint64 // Gets and GetIfPresents that found a value
+	Misses    uint64 // and those that found none
+	Loads     uint64 // load functions that were called
+	Errors    uint64 // those that failed, panicked or ended their goroutine
+	Kept      uint64 // values that came into the cache
+	Left      uint64 // those that left it
+	Evictions uint64 // those of these that made room for others
+	Values    uint64 // values that are in the cache
+	Weight    int64  // what they cost together
+	Limit     int64  // the most that they may cost
+	Calls     Stats  // of the calls by which it loads; each Put is one too
 }
 
 // Stats returns the numbers of the cache. While others use the cache, the numbers are of slightly
 // different moments.
 func (c *Cache[K, V]) Stats() CacheStats {
-	st := CacheStats{
-		Loads: c.loads.Load(), Errors: c.errors.Load(),
-		Limit: c.p.room.limit, Proved: isTableProved, Calls: c.p.stats(),
-	}
-	r := c.p.room
+	st := CacheStats{Loads: c.loads.Load(), Errors: c.errors.Load(), Limit: c.room.limit}
 	// What leaves was counted before as kept, and what makes room as what leaves.
-	st.Evicted = r.evicted.Load()
-	st.Left = r.left.Load()
-	st.Kept = r.kept.Load()
+	st.Evictions = c.room.evicted.Load()
+	st.Left = c.room.left.Load()
+	st.Kept = c.room.kept.Load()
 	st.Values = st.Kept - st.Left
-	st.Weight = c.p.weight()
-	st.Hits, st.Misses = c.p.finds()
+	st.Weight = c.room.weight.Load()
+	for i := range c.looks {
+		st.Hits += c.looks[i].hits.Load()
+		st.Misses += c.looks[i].misses.Load()
+	}
+	if n := c.found.Load(); n <= st.Misses {
+		st.Hits, st.Misses = st.Hits+n, st.Misses-n
+	}
+	c.mu.Lock()
+	defer c.mu.Unlock()
+	c.fold()
+	st.Calls = c.now.Load().p.stats()
+	st.Calls.add(c.past)
+	for _, p := range c.olds {
+		st.Calls.add(p.stats())
+	}
 	return st
 }
 
@@ -343,12 +463,4 @@ func (c *Cache[K, V]) lost(gone *item) {
 	if gone != nil && c.onEvict != nil {
 		c.onEvict(K(gone.key), valueOf[V](gone))
 	}
-}
-
-// The values of epochs that were replaced leave.
-func (c *Cache[K, V]) tidy() {
-	if c.p.replaced.Load() == 0 {
-		return
-	}
-	c.left(c.p.closeTables())
 }

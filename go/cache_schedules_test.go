@@ -32,7 +32,7 @@ func (w *cacheWorld) load(key int) *run {
 	me := w.value(key)
 	w.log("loads key %d", key)
 	for n := w.random.Intn(6); n > 0; n-- {
-		yield()
+		point(afterAsk)
 	}
 	w.log("has loaded key %d from %d", key, me.from)
 	return me
@@ -113,13 +113,8 @@ func (w *cacheWorld) act(depth int) {
 		w.clocks.steady++
 		w.clocks.wall += int64(w.random.Intn(5) - 2)
 	case what < 23 || w.random.Intn(10) > 0:
-		p := w.cache.p
-		w.log("replaces the epoch")
-		p.lock()
-		if !p.shut {
-			p.replace(p.size, true)
-		}
-		p.mu.Unlock()
+		w.log("has more sets")
+		w.cache.now.Load().values.widen()
 	default:
 		w.log("closes the cache")
 		w.cache.Close()
@@ -149,25 +144,22 @@ func playCacheWorld(t *testing.T, seed int64) {
 				depth--
 			}
 		}), func(s *sizes) {
-			s.places, s.callers = uint32(1+w.random.Intn(3)), uint32(1+w.random.Intn(3))
-			s.fixed, s.fixedCallers = true, w.random.Intn(2) == 0
-			s.generations = uint64(2 + w.random.Intn(12))
+			s.loads = uint32(1 + w.random.Intn(3))
 			s.clock = func() instant { return w.clocks }
 		})
 	if err != nil {
 		t.Fatal(err)
 	}
 	w.cache = cache
-	p := cache.p
 	schedule = w
 	for i := 2 + w.random.Intn(4); i > 0; i-- {
 		w.spawn(func() {
 			for n := 1 + w.random.Intn(6); n > 0; n-- {
 				w.act(0)
-				if weight := p.weight(); weight > w.limit || weight < 0 {
+				if weight := cache.room.weight.Load(); weight > w.limit || weight < 0 {
 					w.problem("the values cost %d", weight)
 				}
-				yield()
+				point(afterAsk)
 			}
 		})
 	}
@@ -177,16 +169,11 @@ func playCacheWorld(t *testing.T, seed int64) {
 	if !ended {
 		w.problem("nobody can go on")
 	} else {
-		for i := range p.alert {
-			if n := p.alert[i].Load(); n != 0 {
-				w.problem("alert is raised: %d", n)
-			}
-		}
-		if st := p.stats(); st.InUse != 0 || len(p.runs) != 0 || len(p.draining) != 0 {
-			w.problem("something is left: %v, %d runs, %d epochs", st, len(p.runs), len(p.draining))
+		if st := cache.Stats().Calls; st.InUse != 0 || len(cache.olds) != 0 {
+			w.problem("something is left: %v, %d fills", st, len(cache.olds))
 		}
 		cost := int64(0)
-		for _, it := range p.items() {
+		for _, it := range cache.now.Load().values.all() {
 			cost += it.cost
 			if n := w.told[valueOf[*run](it)]; n != 0 {
 				w.problem("a value that stays is told of %d times", n)
@@ -196,15 +183,7 @@ func playCacheWorld(t *testing.T, seed int64) {
 				w.problem("a value of key %d stays that was forgotten", key)
 			}
 		}
-		for _, t := range p.tables {
-			if isTableProved {
-				break // the weight is that of the present one
-			}
-			for _, it := range t.all() {
-				cost += it.cost
-			}
-		}
-		if weight := p.weight(); weight != cost {
+		if weight := cache.room.weight.Load(); weight != cost {
 			w.problem("the values cost %d, and not %d", cost, weight)
 		}
 		w.cache.Close()

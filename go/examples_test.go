@@ -29,8 +29,7 @@ func ExampleOf_Do() {
 func ExampleNew() {
 	pages, err := singleflight.New[[]byte, string](
 		singleflight.WithName("pages"),
-		singleflight.WithSlots(1<<16),
-		singleflight.WithCallers(64),
+		singleflight.WithLoads(1000),
 	)
 	if err != nil {
 		panic(err)
@@ -42,35 +41,32 @@ func ExampleNew() {
 }
 
 func ExampleOf_Err() {
-	users, err := singleflight.New[string, int](singleflight.WithSlots(0))
+	users, err := singleflight.New[string, int](singleflight.WithLoads(0))
 	fmt.Println(users, errors.Is(err, singleflight.ErrSize), errors.Is(err, singleflight.ErrMemory))
 	var closed singleflight.Of[string, int]
 	closed.Close()
-	fmt.Println(errors.Is(closed.Err(), singleflight.ErrClosed))
+	fmt.Println(errors.Is(closed.Err(), singleflight.ErrClosed), errors.Is(closed.Err(), singleflight.ErrProcessor))
 	// Output:
 	// <nil> true false
-	// true
+	// true false
 }
 
-// A call that nobody has joined is forgotten. So what it comes to is its caller's alone.
-func ExampleOf_ForgetUnshared() {
+func ExampleOf_InFlight() {
 	var users singleflight.Of[string, int]
 	defer users.Close()
-	ctx := context.Background()
 	started, release := make(chan struct{}), make(chan struct{})
-	first := users.DoChan(ctx, "ada", func(context.Context) (int, error) {
+	first := users.DoChan(context.Background(), "ada", func(context.Context) (int, error) {
 		close(started)
 		<-release
 		return 1, nil
 	})
 	<-started
-	fmt.Println(users.InFlight(), users.ForgetUnshared("ada"))
-	second := <-users.DoChan(ctx, "ada", func(context.Context) (int, error) { return 2, nil })
+	fmt.Println(users.InFlight())
 	close(release)
-	fmt.Println((<-first).Val, second.Val)
+	fmt.Println((<-first).Val)
 	// Output:
-	// 1 true
-	// 1 2
+	// 1
+	// 1
 }
 
 // Of two that throw one stale result away, the later does not end the call that the first made.
@@ -98,8 +94,8 @@ func ExampleOf_Stats() {
 	users.Do(context.Background(), "ada", load("ada"))
 	users.Forget("ada")
 	var st singleflight.Stats = users.Stats()
-	fmt.Println(st.Leads, st.Joins, st.Closed, st.Idle)
-	// Output: 2 0 0 1
+	fmt.Println(st.Loads, st.Joins, st.Forgets)
+	// Output: 2 0 1
 }
 
 // A program that has used x/sync changes the import path.

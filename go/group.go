@@ -23,15 +23,14 @@ func NewGroup(options ...Option) (*Group, error) {
 
 // Do joins the key's open call, or leads a new call and runs fn for it. It returns what the
 // function of that call returned. If fn panics or calls runtime.Goexit, so do all callers that
-// joined. As in x/sync, shared tells whether another caller joined the call. Unlike in x/sync, it
-// is also true for a call that waited for an older one of its key, and got that call's result.
+// joined. As in x/sync, shared tells whether another caller joined the call.
 func (g *Group) Do(key string, fn func() (any, error)) (v any, err error, shared bool) {
 	var r Result
 	p := g.made.Load()
 	if p == nil {
 		p = g.make()
 	}
-	p.do(&r, key, fn, false)
+	p.do(&r, key, fn)
 	return r.Val, r.Err, r.Shared
 }
 

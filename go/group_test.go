@@ -36,15 +36,14 @@ func TestZeroGroup(t *testing.T) {
 		t.Error("the zero group", v, err, shared)
 	}
 	g.Forget("key")
-	// A goroutine whose stack has moved has another hot seat.
-	if st := g.Stats(); st.Leads != 1 || st.Idle != 1 || st.Made == 0 || st.Made > 2 || st.Joins+st.Alone+st.Closed+uint64(st.InUse) != 0 {
+	if st := g.Stats(); st != (Stats{Loads: 1, Forgets: 1, Proved: isProved}) {
 		t.Error("its numbers", st)
 	}
 	g.Close()
 	var unused Group
 	unused.Close()
 	unused.Close()
-	if v, _, _ := unused.Do("key", value(2)); v != 2 || unused.Stats().Alone != 1 {
+	if v, _, _ := unused.Do("key", value(2)); v != 2 || unused.Stats().Loads != 1 {
 		t.Error("closed before its first call", v, unused.Stats())
 	}
 }
@@ -85,15 +84,13 @@ func TestClose(t *testing.T) {
 
 // Whether nothing is left of the group's library.
 func isFreed(g *Group) bool {
-	p := g.made.Load()
-	p.mu.Lock()
-	defer p.mu.Unlock()
-	return p.now.Load() == nil && len(p.draining) == 0
+	runtime.GC()
+	return g.Err() == ErrClosed && isTableFreed(&g.core().table)
 }
 
 func TestCloseWhileCallsRun(t *testing.T) {
-	for round := 0; round < 50; round++ {
-		g, err := NewGroup(WithSlots(4), WithCallers(16))
+	for round := 0; round < 5; round++ {
+		g, err := NewGroup(fewSlots)
 		if err != nil {
 			t.Fatal(err)
 		}
@@ -117,9 +114,7 @@ func TestCloseWhileCallsRun(t *testing.T) {
 			}(i)
 		}
 		all.Wait()
-		if !isFreed(g) {
-			t.Error("all seats are freed")
-		}
+		until(t, "its memory is given back", func() bool { return isFreed(g) })
 	}
 }
 
@@ -139,10 +134,7 @@ func TestStatsAfterClose(t *testing.T) {
 	g.Forget("forgotten")
 	close(end)
 	receive(t, open)
-	want := Stats{Leads: 3, Joins: 1, Closed: 1, Idle: 1, Epochs: 1, InUse: 2, Proved: isProved}
-	if st := g.Stats(); st.Made == 0 {
-		t.Error("its callers", st)
-	}
+	want := Stats{Loads: 3, Joins: 1, Forgets: 2, InUse: 1, Proved: isProved}
 	g.Close()
 	if st := g.Stats(); st != want {
 		t.Error("while a call runs", st, want)
@@ -157,7 +149,7 @@ func TestStatsAfterClose(t *testing.T) {
 	}
 	g.Do("key", value(5))
 	g.Forget("key")
-	want.Alone, want.Idle = 1, 2
+	want.Loads, want.Forgets = 4, 3
 	if st := g.Stats(); st != want {
 		t.Error("what comes then", st, want)
 	}
@@ -165,16 +157,31 @@ func TestStatsAfterClose(t *testing.T) {
 
 // A group that nobody closes is closed when nobody has it.
 func TestForgottenGroup(t *testing.T) {
-	var e *epoch
+	closed := make(chan *core, 1)
 	func() {
 		g := new(Group)
 		g.Do("key", value(1))
-		e = g.made.Load().now.Load()
+		p := g.core()
+		runtime.SetFinalizer(p, nil)
+		runtime.SetFinalizer(p, func(p *core) { p.table.close(); closed <- p })
 	}()
-	until(t, "each seat is freed", func() bool {
+	isCollected(t, closed)
+}
+
+// isCollected waits for a core that is closed when nobody has it, and until its memory is given back.
+func isCollected(t *testing.T, closed <-chan *core) {
+	t.Helper()
+	var p *core
+	until(t, "it is closed", func() bool {
 		runtime.GC()
-		return e.closed.Load() && e.gone.Load() == e.made.Load()
+		select {
+		case p = <-closed:
+			return true
+		default:
+			return false
+		}
 	})
+	until(t, "its memory is freed", func() bool { runtime.GC(); return isTableFreed(&p.table) })
 }
 
 // Many goroutines ask for few keys at one time, which all get one load each.
@@ -200,12 +207,12 @@ func manyOn(t *testing.T, goroutines, keys int) {
 	}
 	until(t, "all ask", func() bool {
 		st := g.Stats()
-		return st.Leads+st.Joins+st.Alone >= uint64(goroutines)
+		return st.Loads+st.Joins >= uint64(goroutines)
 	})
 	close(release)
 	all.Wait()
 	st := g.Stats()
-	if loads.Load() != int64(keys) || st.Leads+st.Alone != uint64(keys) || st.InUse != 0 {
+	if loads.Load() != int64(keys) || st.Loads != uint64(keys) || st.InUse != 0 {
 		t.Error("one load for each key", loads.Load(), st)
 	}
 }
@@ -214,49 +221,31 @@ func TestManyOnOneKey(t *testing.T)   { manyOn(t, 4000, 1) }
 func TestManyOnSomeKeys(t *testing.T) { manyOn(t, 4000, 40) }
 func TestManyOnOwnKeys(t *testing.T)  { manyOn(t, 4000, 4000) }
 
-// More than the library has callers.
 func TestVeryManyOnOneKey(t *testing.T) {
+	if testing.Short() || isRaceDetected {
+		t.Skip("a million goroutines")
+	}
+	manyOn(t, 1000000, 1)
+}
+
+func TestVeryManyOnOwnKeys(t *testing.T) {
 	if testing.Short() || isRaceDetected {
 		t.Skip("100,000 goroutines")
 	}
-	manyOn(t, 100000, 1)
+	manyOn(t, 100000, 100000)
 }
 
-// The hot seats of all places serve a goroutine whose own has none.
-func TestSeatsAreDealtAgain(t *testing.T) {
-	g := open(t, 1)
-	for i := 0; i < 64; i++ {
-		key := fmt.Sprint("k", i)
-		if v, err, _ := g.Do(key, value(key)); v != key || err != nil {
-			t.Error("one caller for many keys", v, err)
-		}
-	}
-	if st := g.Stats(); st != (Stats{Leads: 64, Made: 1, Epochs: 1, Proved: isProved}) {
-		t.Error("one caller", st)
-	}
-}
-
-// Who waits for a slow key is not woken by another's calls.
+// A caller that waits for a slow key is not woken by another's calls.
 func TestWaitsAreApart(t *testing.T) {
 	g := open(t, 8)
-	p := g.made.Load()
 	other := "other"
 	started, release := make(chan struct{}), make(chan struct{})
 	slow := g.DoChan("slow", func() (any, error) { close(started); <-release; return 1, nil })
 	<-started
 	joined := g.DoChan("slow", value(2))
-	waitOf := func() (w *wait) {
-		p.now.Load().each(func(_ uint32, s *seat) {
-			s.mu.Lock()
-			if s.waits != nil {
-				w = s.waits
-			}
-			s.mu.Unlock()
-		})
-		return w
-	}
-	until(t, "one waits", func() bool { return waitOf() != nil })
-	w := waitOf()
+	var w *call
+	g.core().eachOpen(func(c *call) { w = c })
+	until(t, "one waits", func() bool { return waiting(g) == 1 })
 	for i := 0; i < 100; i++ {
 		inside, end := make(chan struct{}), make(chan struct{})
 		first := g.DoChan(other, func() (any, error) { close(inside); <-end; return i, nil })
@@ -302,9 +291,6 @@ func TestDeadlines(t *testing.T) {
 	defer stop()
 	if _, err, _ := doContext(short, g, "key", func(context.Context) (any, error) { return 2, nil }); err != context.DeadlineExceeded {
 		t.Error("a waiter's deadline", err)
-	}
-	if st := g.Stats(); st.InUse != 1 {
-		t.Error("who leaves has no caller", st)
 	}
 	close(release)
 	if r := <-slow; r.Val != 1 || !r.Shared {
@@ -359,15 +345,9 @@ func TestDoContextOfALeader(t *testing.T) {
 	until(t, "all seats are back", func() bool { return g.Stats().InUse == 0 })
 }
 
-// How many wait for the one call of the library that is waited for.
-func waiting(g interface{ pool() *pool }) (count int) {
-	g.pool().now.Load().each(func(_ uint32, s *seat) {
-		s.mu.Lock()
-		if s.waits != nil {
-			count += s.waits.waiting
-		}
-		s.mu.Unlock()
-	})
+// How many wait for open calls.
+func waiting(g interface{ core() *core }) (count int) {
+	g.core().eachOpen(func(c *call) { count += int(c.holders.Load()) - 1 })
 	return count
 }
 
@@ -409,11 +389,8 @@ func TestDoContextPanics(t *testing.T) {
 }
 
 // Deadlines and Forgets at random: each answer is of its key and no older than a Forget, and no seat is lost.
-func TestManyContexts(t *testing.T)   { manyContexts(t, 256) }
-func TestContextsBeside(t *testing.T) { manyContexts(t, 2) }
-
-func manyContexts(t *testing.T, callers uint32) {
-	g := openFixed(t, callers)
+func TestManyContexts(t *testing.T) {
+	g := open(t, 4)
 	var now atomic.Int64
 	var forgotten [8]atomic.Int64
 	var all sync.WaitGroup
@@ -459,8 +436,8 @@ func manyContexts(t *testing.T, callers uint32) {
 	}
 	all.Wait()
 	until(t, "all seats are back", func() bool { return g.Stats().InUse == 0 })
-	if st := g.Stats(); st.Joins == 0 || (st.Alone != 0) != (callers == 2) {
-		t.Error("some joined, and some stood beside where callers are few", st)
+	if st := g.Stats(); st.Joins == 0 {
+		t.Error("some joined", st)
 	}
 }
 
@@ -500,7 +477,7 @@ func TestResultsAreFreed(t *testing.T) {
 // More clients than callers, in rounds: each has one load.
 func TestRounds(t *testing.T) {
 	const clients = 200
-	for _, option := range []Option{WithCallers(64), fixedCallers(64), fixedCallers(1)} {
+	for _, option := range []Option{WithLoads(64), WithLoads(1), fewSlots} {
 		g, err := NewGroup(option)
 		if err != nil {
 			t.Fatal(err)
@@ -517,7 +494,7 @@ func TestRounds(t *testing.T) {
 					g.Do("page", func() (any, error) { loads.Add(1); <-release; return 1, nil })
 				}()
 			}
-			until(t, "all ask", func() bool { st := g.Stats(); return st.Leads+st.Joins+st.Alone == clients*round })
+			until(t, "all ask", func() bool { st := g.Stats(); return st.Loads+st.Joins == clients*round })
 			close(release)
 			all.Wait()
 			if loads.Load() != 1 {
@@ -527,11 +504,11 @@ func TestRounds(t *testing.T) {
 	}
 }
 
-// As many callers as there are at first, and no more: what comes beyond them runs beside the library.
-func fixedCallers(n uint32) Option { return func(s *sizes) { s.callers, s.fixedCallers = n, true } }
+// Few slots, of which several keys of a test share one.
+func fewSlots(s *sizes) { s.isSmall, s.loads = true, 1 }
 
-func openFixed(t *testing.T, callers uint32) *Group {
-	g, err := NewGroup(WithSlots(1<<18), fixedCallers(callers))
+func openFew(t *testing.T) *Group {
+	g, err := NewGroup(fewSlots)
 	if err != nil {
 		t.Fatal(err)
 	}
@@ -539,7 +516,7 @@ func openFixed(t *testing.T, callers uint32) *Group {
 	return g
 }
 
-// One origin hangs behind deadlines. It has one caller; a result of another key can be cached, and a Forget forgets it.
+// One origin hangs behind deadlines. It runs once; a result of another key can be cached, and a Forget forgets it.
 func TestOriginThatHangs(t *testing.T) {
 	g := open(t, 16)
 	release := make(chan struct{})
@@ -551,8 +528,8 @@ func TestOriginThatHangs(t *testing.T) {
 		}
 		cancel()
 	}
-	if st := g.Stats(); st.InUse != 1 || st.Leads != 1 {
-		t.Error("it runs once, and has one caller", st)
+	if st := g.Stats(); st.InUse != 1 || st.Loads != 1 {
+		t.Error("it runs once", st)
 	}
 	for i := 0; i < 20; i++ {
 		_, _, _, stamp := doStamped(g, "page", value(3))

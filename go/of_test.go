@@ -51,7 +51,7 @@ func TestOf(t *testing.T) {
 	if got.Val != 3 || err != failed || got.Err != failed {
 		t.Error("an error comes with the value", got, err)
 	}
-	if st := users.Stats(); st.Leads != 2 {
+	if st := users.Stats(); st.Loads != 2 {
 		t.Error("numbers", st)
 	}
 
@@ -80,11 +80,11 @@ func TestOf(t *testing.T) {
 
 	users.Close()
 	if err := users.Err(); err != ErrClosed {
-		t.Error("why it has no library", err)
+		t.Error("it is closed", err)
 	}
 	got, err = users.Do(always, "ada", typed(8))
 	if got.Val != 8 || err != nil || got.Stamp != (Stamp{}) {
-		t.Error("a closed one goes on beside the library", got, err)
+		t.Error("a closed one goes on without stamps", got, err)
 	}
 }
 
@@ -192,8 +192,8 @@ func TestOfDeadlines(t *testing.T) {
 		}
 	})
 	close(release)
-	if got := receiveGot(t, leader); got.Val != 2 || !got.Shared || got.Joiners != 1 {
-		t.Error("who has left is counted", got)
+	if got := receiveGot(t, leader); got.Val != 2 || !got.Shared || got.Joiners != 0 {
+		t.Error("who has left is not counted, and it was shared", got)
 	}
 	until(t, "nothing is left", func() bool { return o.Stats().InUse == 0 && o.InFlight() == 0 })
 }
@@ -235,7 +235,7 @@ func TestOfBoxes(t *testing.T) {
 func TestOfPanics(t *testing.T) {
 	failed := errors.New("failed")
 	for _, ends := range []bool{false, true} {
-		o, err := New[string, int](WithCallers(4), WithName("panics"))
+		o, err := New[string, int](WithLoads(4), WithName("panics"))
 		if err != nil || o.Name() != "panics" {
 			t.Fatal(err, o.Name())
 		}
@@ -263,22 +263,15 @@ func TestOfPanics(t *testing.T) {
 		}
 		o.Close()
 	}
-	if _, err := New[string, int](WithSlots(0)); !errors.Is(err, ErrSize) {
+	if _, err := New[string, int](WithLoads(0)); !errors.Is(err, ErrSize) {
 		t.Error("a size out of range", err)
 	}
 }
 
-// Everyone of a call is told the same number of joiners: by callers of the library, without one,
-// and beside the library.
+// Everyone of a call is told the same number of joiners.
 func TestJoiners(t *testing.T) {
-	for _, callers := range []uint32{16, 3, 1} {
-		g := openFixed(t, callers)
-		if callers == 1 {
-			// The one caller is taken.
-			end := make(chan struct{})
-			defer close(end)
-			g.DoChan("other", func() (any, error) { <-end; return 0, nil })
-		}
+	for _, callers := range []uint32{16, 1} {
+		g := open(t, callers)
 		started, release := chans()
 		all := []<-chan Result{g.DoChan("key", heldAny(1, started, release))}
 		begun(t, started)
@@ -296,7 +289,7 @@ func TestJoiners(t *testing.T) {
 		came(t, gone)
 		close(release)
 		for i, ch := range all {
-			if r := receive(t, ch); r.Val != 1 || !r.Shared || r.Joiners != 6 {
+			if r := receive(t, ch); r.Val != 1 || !r.Shared || r.Joiners != 5 {
 				t.Error("joiners", callers, i, r)
 			}
 		}
@@ -309,10 +302,9 @@ func TestJoiners(t *testing.T) {
 	}
 }
 
-// A caller that has joined another key's call at the slot is not among its joiners, when the call is settled
-// later.
+// A caller of another key of the slot is not among the joiners.
 func TestStrangersAreNoJoiners(t *testing.T) {
-	g := onePlace(t, 8)
+	g := openFew(t)
 	started, release := chans()
 	leader := g.DoChan("key", heldAny(1, started, release))
 	begun(t, started)
@@ -354,7 +346,7 @@ func TestJoinersOfManyCalls(t *testing.T) {
 					return it, nil
 				}
 				var r Result
-				g.pool().do(&r, "key", load, true)
+				g.core().do(&r, "key", load)
 				it := r.Val.(*run)
 				it.got.Add(1)
 				told := it.told.Swap(int64(r.Joiners))
@@ -373,265 +365,4 @@ func TestJoinersOfManyCalls(t *testing.T) {
 		joined += int(it.told.Load())
 	}
 	t.Log(len(runs), "runs,", joined, "joined")
-}
-
-// A ForgetUnshared closes a call that nobody has joined, and leaves one alone that somebody has: by
-// a caller, without one, beside the library, in an epoch that drains, and with a long key.
-func TestForgetUnshared(t *testing.T) {
-	long := strings.Repeat("a long key ", 5)
-	for what, at := range map[string]struct {
-		key     string
-		callers uint32
-		drains  bool
-		leaves  bool
-	}{
-		"by a caller":          {"key", 16, false, false},
-		"without one":          {"key", 16, false, true},
-		"beside the library":   {"key", 1, false, false},
-		"of an old epoch":      {"key", 16, true, false},
-		"a long key":           {long, 16, false, false},
-		"a long key, no cell":  {long, 1, false, true},
-		"a long key, an epoch": {long, 16, true, true},
-	} {
-		g := openFixed(t, at.callers)
-		if at.callers == 1 {
-			end := make(chan struct{})
-			defer close(end)
-			g.DoChan("other", func() (any, error) { <-end; return 0, nil })
-		}
-		if !g.ForgetUnshared(at.key) {
-			t.Error(what, "a key that nobody has asked for")
-		}
-		begin := func(v any) (<-chan Result, chan struct{}) {
-			started, release := chans()
-			ch := g.DoChan(at.key, heldAny(v, started, release))
-			begun(t, started)
-			if at.drains {
-				p := g.pool()
-				p.lock()
-				p.replace(p.size, true)
-				p.mu.Unlock()
-			}
-			return ch, release
-		}
-		joins := func() (done func() any) {
-			ch := make(chan any, 1)
-			go func() {
-				if at.leaves {
-					ctx, cancel := context.WithCancel(always)
-					defer cancel()
-					v, _, _ := doContext(ctx, g, at.key, loadOf("own"))
-					ch <- v
-				} else {
-					v, _, _ := g.Do(at.key, value("own"))
-					ch <- v
-				}
-			}()
-			until(t, what+": it joins and waits", func() bool { return joinedBy(g) > 0 })
-			return func() any { t.Helper(); return came(t, ch) }
-		}
-		// Alone.
-		first, release := begin("first")
-		if n := g.InFlight(); n != 1 && at.callers > 1 {
-			t.Error(what, "in flight", n)
-		}
-		if !g.ForgetUnshared(at.key) {
-			t.Error(what, "nobody has joined the call")
-		}
-		if st := g.Stats(); st.Closed != 1 {
-			t.Error(what, "numbers", st)
-		}
-		// A newer call of the key, with one who joins.
-		second, release2 := begin("second")
-		joined := joins()
-		if g.ForgetUnshared(at.key) {
-			t.Error(what, "somebody has joined the call")
-		}
-		another := g.DoChan(at.key, value("another"))
-		close(release)
-		if r := receive(t, first); r.Val != "first" || r.Shared || r.Joiners != 0 {
-			t.Error(what, "its own result", r)
-		}
-		close(release2)
-		r, v := receive(t, second), joined()
-		want := 2
-		if at.drains {
-			// The second caller joins the call of the first, which takes the result.
-			want = 1
-		}
-		if r.Val != "second" || v != "second" || r.Joiners != want {
-			t.Error(what, "the shared call goes on", r, v)
-		}
-		if r := receive(t, another); r.Val != "second" {
-			t.Error(what, "who asks after a no joins it", r)
-		}
-		// A result that has come is forgotten, as by Forget.
-		third := receive(t, g.DoChan(at.key, value("third")))
-		if !g.ForgetUnshared(at.key) || g.IsStill(third.Stamp) {
-			t.Error(what, "no call is open", third)
-		}
-		if st := g.Stats(); st.Closed != 1 {
-			t.Error(what, "numbers", st)
-		}
-	}
-	var unused Group
-	if !unused.ForgetUnshared("key") || unused.made.Load() != nil {
-		t.Error("nothing is made")
-	}
-}
-
-// How many have joined open calls, and have said so.
-func joinedBy(g *Group) (n int) {
-	p := g.pool()
-	p.lock()
-	defer p.mu.Unlock()
-	count := func(_ uint32, s *seat) {
-		s.mu.Lock()
-		if s.waits != nil {
-			n += s.waits.joined + s.waits.followers
-		}
-		s.mu.Unlock()
-	}
-	p.now.Load().each(count)
-	for _, e := range p.draining {
-		e.each(count)
-	}
-	for _, w := range p.runs {
-		n += w.followers
-	}
-	return n
-}
-
-// A ForgetUnshared of one key leaves another key's call at the slot alone.
-func TestForgetUnsharedOfAnotherKey(t *testing.T) {
-	g := onePlace(t, 4)
-	started, release := chans()
-	first := g.DoChan("ada", heldAny(1, started, release))
-	begun(t, started)
-	if !g.ForgetUnshared("grace") {
-		t.Error("it has no call")
-	}
-	second := g.DoChan("ada", value(2))
-	close(release)
-	if r, s := receive(t, first), receive(t, second); r.Val != 1 || s.Val != 1 {
-		t.Error("the other key's call is joined still", r, s)
-	}
-}
-
-// After a yes of ForgetUnshared within the function nobody but its leader has the function's
-// result; after a no somebody else has joined. Many ask at one time, and epochs are replaced.
-func TestForgetUnsharedAmongMany(t *testing.T) {
-	for _, callers := range []uint32{64, 4} {
-		s := sizes{places: 4, callers: callers, fixed: true, fixedCallers: true, generations: 1000}
-		var g Group
-		g.set(newPool(s))
-		defer g.Close()
-		type run struct{ by, alone int }
-		var yes, no, both, early atomic.Int64
-		rounds := 5000
-		if isRaceDetected || testing.Short() {
-			rounds = 500
-		}
-		var all sync.WaitGroup
-		for i := 0; i < 8; i++ {
-			all.Add(1)
-			go func(i int) {
-				defer all.Done()
-				for n := 0; n < rounds; n++ {
-					key := fmt.Sprint("key-", n%3)
-					load := func(context.Context) (any, error) {
-						it := &run{by: i}
-						for spin := 0; spin < n%4; spin++ {
-							runtime.Gosched()
-						}
-						if g.ForgetUnshared(key) {
-							it.alone = 1
-						}
-						return it, nil
-					}
-					var v any
-					var shared bool
-					if n%8 == 0 {
-						ctx, cancel := context.WithCancel(always)
-						v, _, shared = doContext(ctx, &g, key, load)
-						cancel()
-					} else {
-						v, _, shared = g.Do(key, func() (any, error) { return load(always) })
-					}
-					it := v.(*run)
-					switch {
-					case it.by != i && it.alone == 1:
-						t.Error("a result after a yes, of another's function")
-					case it.by != i:
-						both.Add(1)
-					case it.alone == 1:
-						yes.Add(1)
-					case !shared:
-						early.Add(1)
-					default:
-						no.Add(1)
-					}
-				}
-			}(i)
-		}
-		within(t, time.Minute, "ForgetUnshared", all.Wait)
-		t.Log("yes, no, joined, about to:", yes.Load(), no.Load(), both.Load(), early.Load())
-		// A caller in a new epoch that is about to join an older call.
-		if most := 8 * int64(g.Stats().Epochs-1); early.Load() > most {
-			t.Error("a no, and nobody has joined", early.Load(), most)
-		}
-		until(t, "all seats are back", func() bool {
-			return g.Stats().InUse == 0 && g.InFlight() == 0
-		})
-	}
-}
-
-// The key has an open call in an epoch that was replaced, which nobody has joined, and one in the new
-// epoch whose leader has not looked for the older yet, and which somebody has joined. A
-// ForgetUnshared closes neither: else the new leader would run its function beside the older one.
-func TestForgetUnsharedOfTwoOpenCalls(t *testing.T) {
-	g := open(t, 8)
-	p := g.pool()
-	started, release := chans()
-	old := g.DoChan("key", heldAny("old", started, release))
-	begun(t, started)
-	p.lock()
-	p.replace(p.size, true)
-	p.mu.Unlock()
-	k := p.keyed("key")
-	leader := p.take(p.now.Load())
-	if code, _ := p.askBy(leader, k); code == codeJoined {
-		t.Fatal("it leads in the new epoch", code)
-	}
-	s := p.take(p.now.Load())
-	var joins, leads asking
-	code, call := p.askBy(s, k)
-	if code != codeJoined || !p.asked(&joins, s, code, call, k) {
-		t.Fatal("it joins there", code)
-	}
-	joined := make(chan any, 1)
-	go func() {
-		var r Result
-		p.join(&r, &joins, k, nil, true)
-		joined <- r.Val
-	}()
-	until(t, "it waits", func() bool { return joinedBy(g) == 1 })
-	if g.ForgetUnshared("key") {
-		t.Error("somebody has joined")
-	}
-	if !p.confirm(&leads, leader, k, false) || leads.wait == nil {
-		t.Fatal("the new leader takes the older call's result", leads)
-	}
-	led := make(chan any, 1)
-	go func() {
-		var r Result
-		p.lead(&r, &leads, k, value("new"), nil, nil, nil)
-		led <- r.Val
-	}()
-	close(release)
-	r := receive(t, old)
-	if r.Val != "old" || came(t, led) != "old" || came(t, joined) != "old" {
-		t.Error("one function for all", r)
-	}
-	until(t, "nothing is left", func() bool { return g.InFlight() == 0 && g.Stats().InUse == 0 })
 }

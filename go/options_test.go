@@ -47,13 +47,7 @@ func TestRecorder(t *testing.T) {
 	var all records
 	long := strings.Repeat("a long key ", 5)
 	for _, callers := range []uint32{16, 1} {
-		g := recorded(t, all.record, WithCallers(callers), func(s *sizes) { s.fixedCallers = true })
-		if callers == 1 {
-			// All calls of other keys run beside the library.
-			end := make(chan struct{})
-			defer close(end)
-			g.DoChan("other", func() (any, error) { <-end; return 0, nil })
-		}
+		g := recorded(t, all.record, WithLoads(callers))
 		failed := errors.New("failed")
 		ctx, cancel := context.WithCancel(always)
 		defer cancel()
@@ -94,7 +88,7 @@ func TestRecorder(t *testing.T) {
 	}
 }
 
-// A function whose callers have all left is told, with how many had joined.
+// A function whose callers have all left is told.
 func TestRecorderOfAbandonedCalls(t *testing.T) {
 	var all records
 	g := recorded(t, all.record)
@@ -122,31 +116,8 @@ func TestRecorderOfAbandonedCalls(t *testing.T) {
 	close(release)
 	var told []Load
 	until(t, "it is told", func() bool { told = append(told, all.take()...); return len(told) > 0 })
-	if told[0].Joiners != 1 || told[0].Err != nil {
+	if told[0].Joiners != 0 || told[0].Err != nil {
 		t.Error("its numbers", told)
-	}
-}
-
-// A leader that takes the result of an older run ran no function.
-func TestRecorderOfAdoptedResults(t *testing.T) {
-	var all records
-	g := recorded(t, all.record)
-	p := g.pool()
-	started, release := chans()
-	old := g.DoChan("key", func() (any, error) { close(started); <-release; return "old", nil })
-	begun(t, started)
-	p.lock()
-	p.replace(p.size, true)
-	p.mu.Unlock()
-	taken := make(chan any, 1)
-	go func() { v, _, _ := g.Do("key", value("new")); taken <- v }()
-	until(t, "it waits for the old one", func() bool { return joinedBy(g) == 1 })
-	close(release)
-	if r := receive(t, old); r.Val != "old" || came(t, taken) != "old" {
-		t.Error("one run for two calls", r)
-	}
-	if told := all.take(); len(told) != 1 || told[0].Joiners != 1 {
-		t.Error("one load, which one has joined", told)
 	}
 }
 
@@ -174,7 +145,9 @@ func TestRecorderBlocksNobodyElse(t *testing.T) {
 		g.Forget("key")
 		g.Stats()
 	})
+	joins := uint64(0)
 	for _, ends := range []bool{false, true} {
+		joins++
 		ctx, cancel := always, func() {}
 		if ends {
 			ctx, cancel = context.WithCancel(always)
@@ -192,7 +165,7 @@ func TestRecorderBlocksNobodyElse(t *testing.T) {
 		}()
 		begun(t, started)
 		go func() { v, _, _ := g.Do("key", value(3)); joined <- v }()
-		until(t, "one joins", func() bool { return joinedBy(g) == 1 })
+		until(t, "one joins", func() bool { return g.Stats().Joins == joins })
 		close(release)
 		within(t, 60*time.Second, "the leader", func() {
 			if v := <-leader; v != 1 {
@@ -268,11 +241,9 @@ func loadOf(v any) func(context.Context) (any, error) {
 	return func(context.Context) (any, error) { return v, nil }
 }
 
-// Calls in the library, beside it, in an old epoch and after a Forget are all in flight; and
-// neither InFlight nor Stats waits for the pool's lock.
+// Calls that a Forget has closed are in flight too.
 func TestInFlight(t *testing.T) {
-	g := openFixed(t, 3)
-	p := g.pool()
+	g := open(t, 3)
 	var ends []func()
 	begin := func(key string) {
 		started, release := chans()
@@ -282,32 +253,21 @@ func TestInFlight(t *testing.T) {
 	}
 	told := func(what string, want int) {
 		t.Helper()
-		p.lock()
-		defer p.mu.Unlock()
-		within(t, 20*time.Second, what+": it waits for a lock", func() {
-			if n := g.InFlight(); n != want {
-				t.Error(what, n)
-			}
-			if st := g.Stats(); st.Leads+st.Alone != uint64(want) {
-				t.Error(what, st)
-			}
-		})
+		if n := g.InFlight(); n != want {
+			t.Error(what, n)
+		}
+		if st := g.Stats(); st.Loads != uint64(want) || st.InUse != uint64(want) {
+			t.Error(what, st)
+		}
 	}
 	begin("ada")
 	told("one", 1)
 	g.Forget("ada")
 	begin("ada")
 	told("one was forgotten", 2)
-	p.lock()
-	p.replace(p.size, true)
-	p.mu.Unlock()
-	told("in an old epoch", 2)
 	for i := 0; i < 5; i++ {
 		begin(fmt.Sprint("key-", i))
-		told("of other keys, two of them beside the library", 3+i)
-	}
-	if st := g.Stats(); st.Alone != 2 {
-		t.Error("how many beside the library", st)
+		told("of other keys", 3+i)
 	}
 	for _, end := range ends {
 		end()
@@ -318,8 +278,7 @@ func TestInFlight(t *testing.T) {
 // Errors tell sizes from memory, and a closed group from one without memory.
 func TestErrors(t *testing.T) {
 	for i, o := range []Option{
-		WithSlots(0), WithSlots(1<<27 + 1), WithSlots(1<<32 - 1),
-		WithCallers(0), WithCallers(65535), WithCallers(1<<32 - 1),
+		WithLoads(0), WithLoads(1<<20 + 1), WithLoads(1<<32 - 1),
 	} {
 		g, err := NewGroup(o)
 		of, err2 := New[[]byte, int](o)
@@ -332,13 +291,13 @@ func TestErrors(t *testing.T) {
 	}
 	refused := true
 	none := func(s *sizes) { s.refused = func() bool { return refused } }
-	if _, err := New[string, int](none); err != ErrMemory {
+	if _, err := New[string, int](none); isProved && err != ErrMemory {
 		t.Error("no memory", err)
 	}
 	refused = false
-	o, err := New[string, int](none, WithName("users"), WithSlots(1), WithCallers(1))
+	o, err := New[string, int](none, WithName("users"), WithLoads(1))
 	if err != nil || o.Err() != nil || o.Name() != "users" {
-		t.Fatal("the least sizes", err, o.Err(), o.Name())
+		t.Fatal("the least size", err, o.Err(), o.Name())
 	}
 	o.Close()
 	if o.Err() != ErrClosed {
@@ -350,31 +309,33 @@ func TestErrors(t *testing.T) {
 	}
 }
 
-// The callers grow with the calls that are open; the slots too, unless WithSlots has said how many.
+// A group grows with the calls that are open. No stamp ends.
 func TestGrowth(t *testing.T) {
-	for _, options := range [][]Option{{WithCallers(2)}, {WithCallers(2), WithSlots(4096)}} {
-		g, err := NewGroup(options...)
-		if err != nil {
-			t.Fatal(err)
+	g, err := NewGroup(WithLoads(2))
+	if err != nil {
+		t.Fatal(err)
+	}
+	defer g.Close()
+	_, _, _, stamp := doStamped(g, "page", value(1))
+	end := make(chan struct{})
+	var all []<-chan Result
+	held := func() (any, error) { <-end; return nil, nil }
+	for i := 0; i < 5000; i++ {
+		all = append(all, g.DoChan(fmt.Sprint("key-", i), held), g.DoChan(fmt.Sprint("key-", i/2), held))
+	}
+	if st := g.Stats(); st.Loads != 5001 || st.Joins != 5000 || st.InUse != 5000 {
+		t.Error("each key has one load", st)
+	}
+	if !g.IsStill(stamp) {
+		t.Error("a stamp has ended")
+	}
+	close(end)
+	for _, ch := range all {
+		if r := receive(t, ch); r.Err != nil {
+			t.Error(r)
 		}
-		defer g.Close()
-		places := g.pool().size.places
-		end := make(chan struct{})
-		var all []<-chan Result
-		for i := 0; i < 12; i++ {
-			held := func() (any, error) { <-end; return nil, nil }
-			all = append(all, g.DoChan(fmt.Sprint("key-", i), held))
-		}
-		size, st := g.pool().size, g.Stats()
-		if st.Epochs < 2 || size.callers <= 2 {
-			t.Error("the callers grow", size, st)
-		}
-		if grows := size.places > places; grows != (len(options) == 1) {
-			t.Error("the slots", len(options), places, size.places)
-		}
-		close(end)
-		for _, ch := range all {
-			receive(t, ch)
-		}
+	}
+	if st := g.Stats(); st.InUse != 0 || !g.IsStill(stamp) {
+		t.Error("nothing is left", st)
 	}
 }

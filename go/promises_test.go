@@ -57,84 +57,9 @@ func TestLoadsThatHang(t *testing.T) {
 	}
 }
 
-// A group of one slot may not grow. However often keys meet there, it stays as it is.
-func TestFixedSlots(t *testing.T) {
-	const calls = 1000
-	started, release := chans()
-	g := onePlace(t, 8)
-	hung := g.DoChan("hangs", heldAny(1, started, release))
-	begun(t, started)
-	for i := 0; i < calls; i++ {
-		g.Do("key", value(i))
-	}
-	if st := g.Stats(); st.Epochs != 1 || st.Alone != calls {
-		t.Error("a group", st)
-	}
-	cached, load := chans()
-	c := newCache(t, 4, func(_ context.Context, key string) (int, error) {
-		if key == "hangs" {
-			close(cached)
-			<-load
-		}
-		return 1, nil
-	}, WithSlots(1))
-	done := make(chan struct{})
-	go func() { c.Get(always, "hangs"); close(done) }()
-	begun(t, cached)
-	for i := 0; i < calls; i++ {
-		c.Get(always, "key")
-	}
-	if st := c.Stats().Calls; st.Epochs != 1 || st.Alone != calls {
-		t.Error("a cache", st)
-	}
-	close(release)
-	close(load)
-	receive(t, hung)
-	came(t, done)
-	_, _, _, stamp := doStamped(g, "key", value(2))
-	if !g.IsStill(stamp) {
-		t.Error("the slot is free again")
-	}
-}
-
-// A key that hangs leaves its slot to others, whose results can then be cached again, where the number of slots is not
-// fixed.
-func TestSlotsOfLoadsThatHang(t *testing.T) {
-	g, err := NewGroup(WithCallers(8), func(s *sizes) { s.places = 1 })
-	if err != nil {
-		t.Fatal(err)
-	}
-	defer g.Close()
-	release := make(chan struct{})
-	hung := g.DoChan("hangs", func() (any, error) { <-release; return 1, nil })
-	until(t, "a result that can be cached", func() bool {
-		_, _, _, stamp := doStamped(g, "page", value(2))
-		return g.IsStill(stamp)
-	})
-	joined := g.DoChan("hangs", value(3))
-	close(release)
-	for _, ch := range []<-chan Result{hung, joined} {
-		if r := receive(t, ch); r.Val != 1 || !r.Shared {
-			t.Error("the call that hung is joined still", r)
-		}
-	}
-	until(t, "nothing is left", func() bool { return g.Stats().InUse == 0 })
-}
-
 // A load takes no notice of its deadline. No second one begins while it runs.
 func TestOneRunAfterADeadline(t *testing.T) {
-	for _, places := range []uint32{1, 64} {
-		g, err := NewGroup(WithSlots(places))
-		if err != nil {
-			t.Fatal(err)
-		}
-		defer g.Close()
-		if places == 1 {
-			// The slot is taken by another key, so that the call runs beside the library.
-			end := make(chan struct{})
-			defer close(end)
-			g.DoChan("other", func() (any, error) { <-end; return nil, nil })
-		}
+	for _, g := range []*Group{openFew(t), open(t, 64)} {
 		var running, most atomic.Int64
 		release := make(chan struct{})
 		load := func(context.Context) (any, error) {
@@ -164,41 +89,6 @@ func TestOneRunAfterADeadline(t *testing.T) {
 	}
 }
 
-// More than a thousand times callers are spent and the library's group is made anew, under load.
-func TestNothingWearsOut(t *testing.T) {
-	s := sizes{places: 16, callers: 4, fixed: true, fixedCallers: true, generations: 25, onPanic: func(any, []byte) {}}
-	p := newPool(s)
-	var g Group
-	g.set(p)
-	defer g.Close()
-	target := uint64(1000)
-	if isRaceDetected {
-		target = 100
-	}
-	stress(t, &g, 8, 20, func() bool { return g.Stats().Epochs > target })
-	if st := g.Stats(); st.Epochs <= target {
-		t.Error("renewed", st)
-	}
-	// One caller that is spent at once.
-	p = newPool(sizes{places: 1, callers: 1, fixed: true, fixedCallers: true, generations: 1})
-	var one Group
-	one.set(p)
-	defer one.Close()
-	for i := 0; i < 100; i++ {
-		if v, _, _, stamp := doStamped(&one, "key", value(i)); v != i || stamp == (Stamp{}) {
-			t.Error("each result has a stamp", v, stamp)
-		}
-	}
-	// What a drained epoch had is freed.
-	old := p.now.Load()
-	p.lock()
-	p.replace(p.size, true)
-	p.mu.Unlock()
-	if old.root.live {
-		t.Error("an epoch with no calls is freed")
-	}
-}
-
 // Calls of all kinds from many goroutines over few slots. SFLIGHT_CALLS says how many; 10,000,000 take some minutes.
 func TestStress(t *testing.T) {
 	calls := 200000
@@ -211,7 +101,7 @@ func TestStress(t *testing.T) {
 			t.Fatal("SFLIGHT_CALLS", err)
 		}
 	}
-	for _, options := range [][]Option{{WithSlots(64)}, {WithSlots(64), fixedCallers(24)}, {}} {
+	for _, options := range [][]Option{{fewSlots}, {WithLoads(1)}, {}} {
 		g, err := NewGroup(append(options, WithOnPanic(func(any, []byte) {}))...)
 		if err != nil {
 			t.Fatal(err)
@@ -294,7 +184,7 @@ func stress(t *testing.T, g *Group, goroutines, keys int, enough func() bool) {
 			}
 			slow, nested, panics, fails := random.Intn(40) == 0, random.Intn(4) == 0, random.Intn(200) == 0, random.Intn(100) == 0
 			failed := errors.New("the load failed")
-			load := func() (any, error) {
+			load := func(stamp Stamp) (any, error) {
 				me := &page{key: key, asked: asked, started: clock.Add(1)}
 				s.mu.Lock()
 				for other := range s.running {
@@ -321,6 +211,10 @@ func stress(t *testing.T, g *Group, goroutines, keys int, enough func() bool) {
 				if fails {
 					return nil, failed
 				}
+				// Before the call is settled.
+				if g.IsStill(stamp) {
+					cache[key].Store(&cached{me, stamp})
+				}
 				return me, nil
 			}
 			defer func() {
@@ -336,7 +230,7 @@ func stress(t *testing.T, g *Group, goroutines, keys int, enough func() bool) {
 				// The load may outlive this call, and then has no random source of its own.
 				slow, nested, panics = random.Intn(2) == 0, false, false
 				wait := time.Duration(random.Intn(200)) * time.Microsecond
-				v, err, _ := doContext(ctx, g, names[key], func(own context.Context) (any, error) {
+				r, err := g.DoStamped(ctx, names[key], func(own context.Context, stamp Stamp) (any, error) {
 					if slow {
 						select {
 						case <-own.Done():
@@ -345,20 +239,18 @@ func stress(t *testing.T, g *Group, goroutines, keys int, enough func() bool) {
 						}
 					}
 					slow = false
-					return load()
+					return load(stamp)
 				})
 				if err == nil {
-					check(key, v, asked, forgotten)
+					check(key, r.Val, asked, forgotten)
 				} else if err == context.Canceled {
 					t.Error("the end of a load that others had left")
 				}
 				return
 			}
-			v, err, _, stamp := doStamped(g, names[key], load)
+			r, err := g.DoStamped(always, names[key], func(_ context.Context, stamp Stamp) (any, error) { return load(stamp) })
 			if err == nil {
-				if it := check(key, v, asked, forgotten); it != nil && g.IsStill(stamp) {
-					cache[key].Store(&cached{it, stamp})
-				}
+				check(key, r.Val, asked, forgotten)
 			} else if err == context.Canceled {
 				t.Error("the end of a load that others had left")
 			}
@@ -399,18 +291,18 @@ func stress(t *testing.T, g *Group, goroutines, keys int, enough func() bool) {
 	until(t, "all seats are back", func() bool { return g.Stats().InUse == 0 })
 }
 
-// A Forget needs no caller and no memory: where all callers are taken, where a call runs beside the library, after Close.
+// A Forget forgets, whatever the group is: while other calls run, of few slots, and after Close.
 func TestForgetAlwaysForgets(t *testing.T) {
 	for what, made := range map[string]func() *Group{
-		"no caller is free": func() *Group {
-			g := openFixed(t, 1)
+		"another call runs": func() *Group {
+			g := open(t, 1)
 			end := make(chan struct{})
 			t.Cleanup(func() { close(end) })
 			g.DoChan("other", func() (any, error) { <-end; return nil, nil })
 			return g
 		},
 		"the slot is another key's": func() *Group {
-			g := onePlace(t, 4)
+			g := openFew(t)
 			end := make(chan struct{})
 			t.Cleanup(func() { close(end) })
 			g.DoChan("other", func() (any, error) { <-end; return nil, nil })
@@ -437,108 +329,13 @@ func TestForgetAlwaysForgets(t *testing.T) {
 		if r := receive(t, old); r.Val != "old" {
 			t.Error(what, r)
 		}
-		if st := g.Stats(); st.Closed != 1 || st.Idle != 0 {
+		if st := g.Stats(); st.Forgets != 1 {
 			t.Error(what, st)
 		}
 	}
 }
 
 func chans() (a, b chan struct{}) { return make(chan struct{}), make(chan struct{}) }
-
-// There is no memory for the library's group, and later there is: the promises hold meanwhile, and results can be cached
-// as soon as may be.
-func TestNoMemory(t *testing.T) {
-	var none atomic.Bool
-	var tries atomic.Int64
-	none.Store(true)
-	s := defaultSizes()
-	s.refused = func() bool { tries.Add(1); return none.Load() }
-	var g Group
-	g.set(newPool(s))
-	defer g.Close()
-	started, release := chans()
-	old := g.DoChan("key", func() (any, error) { close(started); <-release; return "old", nil })
-	<-started
-	joined := g.DoChan("key", value("joined"))
-	g.Forget("key")
-	if v, _, _, stamp := doStamped(&g, "key", value("new")); v != "new" || g.IsStill(stamp) {
-		t.Error("a Forget forgets, and nothing can be cached", v)
-	}
-	for i := 0; i < 200; i++ {
-		g.Do("other", value(i))
-	}
-	if st := g.Stats(); st.Leads != 0 || st.Epochs != 0 || tries.Load() < 3 || tries.Load() > 10 {
-		t.Error("it was tried again now and then", tries.Load(), st)
-	}
-	none.Store(false)
-	until(t, "a result that can be cached", func() bool {
-		_, _, _, stamp := doStamped(&g, "page", value(1))
-		return g.IsStill(stamp)
-	})
-	close(release)
-	for _, ch := range []<-chan Result{old, joined} {
-		if r := receive(t, ch); r.Val != "old" || !r.Shared {
-			t.Error("the call that ran", r)
-		}
-	}
-	if _, err := NewGroup(func(s *sizes) { s.refused = func() bool { return true } }); err != ErrMemory {
-		t.Error("New tells of it", err)
-	}
-}
-
-// The library's group is made anew while a call of the key runs. A Forget closes that call, and a caller that asks without one joins
-// it.
-func TestCallsOfAnOldEpoch(t *testing.T) {
-	for _, forgets := range []bool{false, true} {
-		g := open(t, 4)
-		p := g.made.Load()
-		started, release := chans()
-		old := g.DoChan("key", func() (any, error) { close(started); <-release; return "old", nil })
-		<-started
-		p.lock()
-		p.replace(p.size, true)
-		p.mu.Unlock()
-		if forgets {
-			g.Forget("key")
-		}
-		joined := g.DoChan("key", value("new"))
-		if forgets {
-			if r := receive(t, joined); r.Val != "new" || !g.IsStill(r.Stamp) {
-				t.Error("a call after the Forget", r)
-			}
-		}
-		close(release)
-		r := receive(t, old)
-		if r.Val != "old" || r.Shared == forgets || g.IsStill(r.Stamp) {
-			t.Error("the old call", r)
-		}
-		if !forgets {
-			if r := receive(t, joined); r.Val != "old" || !r.Shared {
-				t.Error("who asks meanwhile has its result", r)
-			}
-		}
-	}
-}
-
-// Two keys with one fingerprint never exchange results.
-func TestFingerprintsThatMeet(t *testing.T) {
-	g := onePlace(t, 4)
-	p := g.made.Load()
-	ada, grace := keyed{"ada", 7}, keyed{"grace", 7}
-	var a, b asking
-	p.ask(&a, ada, false)
-	p.ask(&b, grace, true)
-	if !a.leads || b.leads || b.wait == nil {
-		t.Fatal("it follows the call", a, b)
-	}
-	ended := make(chan outcome)
-	var r Result
-	go func() { ended <- p.join(&r, &b, grace, nil, true) }()
-	p.settle(&a, &Result{Val: "ada"}, ada, nil)
-	if how := <-ended; how != again || r.Val != nil {
-		t.Error("it asks again", how, r)
-	}
-}
 
 // A panic of a load whose leader has left goes on in those who wait, and where nobody does it is told to the hook.
 func TestPanicsOfLoadsThatWereLeft(t *testing.T) {
@@ -590,7 +387,7 @@ func TestPanicsOfLoadsThatWereLeft(t *testing.T) {
 }
 
 // What a load comes to comes to all who have joined: a value with an error, a panic, and the end of the
-// goroutine. They joined by callers of their own and without one, in the library and beside it.
+// goroutine.
 func TestJoinersOfLoadsThatFail(t *testing.T) {
 	failed := errors.New("failed")
 	type end struct {
@@ -604,13 +401,7 @@ func TestJoinersOfLoadsThatFail(t *testing.T) {
 			"a panic":  func() (any, error) { panic(failed) },
 			"an end":   func() (any, error) { runtime.Goexit(); return nil, nil },
 		} {
-			g := openFixed(t, callers)
-			if callers == 1 {
-				// The one caller is taken.
-				busy := make(chan struct{})
-				defer close(busy)
-				g.DoChan("other", func() (any, error) { <-busy; return 0, nil })
-			}
+			g := open(t, callers)
 			ctx, cancel := context.WithCancel(always)
 			defer cancel()
 			all := make(chan end, 3)
@@ -643,7 +434,7 @@ func TestJoinersOfLoadsThatFail(t *testing.T) {
 	}
 }
 
-// Who joins one call after the other that ends for want of callers asks again each time.
+// A caller that joins one call after the other, each of which ends since all have left, asks again each time.
 func TestRoundsOfOneWhoJoins(t *testing.T) {
 	const rounds = 5
 	failed := errors.New("the load was ended")
@@ -651,12 +442,7 @@ func TestRoundsOfOneWhoJoins(t *testing.T) {
 	defer cancel()
 	for _, ctx := range []context.Context{always, ends} {
 		for _, callers := range []uint32{16, 1} {
-			g := openFixed(t, callers)
-			if callers == 1 {
-				busy := make(chan struct{})
-				defer close(busy)
-				g.DoChan("other", func() (any, error) { <-busy; return 0, nil })
-			}
+			g := open(t, callers)
 			// A call whose one caller has left.
 			left := func() (release chan struct{}) {
 				own, leave := context.WithCancel(always)

@@ -18,7 +18,7 @@ var ErrRecording = errors.New("singleflight: the group is recorded already")
 
 // Recording is what Record has begun. Its method may be called by any number of goroutines.
 type Recording struct {
-	p *pool
+	p *core
 	r *recorder
 }
 
@@ -34,12 +34,12 @@ type Recorded struct {
 //
 // A call that ran a load function is recorded when it has ended and every joiner has the result:
 // its Lead, an Enter of each that joined, the Forget or ForgetCall that closed it, its Settle and
-// its Handed. A Forget that found no open call, and a ForgetCall that cleared one, are recorded when
-// they have ended. A call that began before Record is not in the recording, nor is one that had not
+// its Handed. A Forget that found no open call is recorded when it has ended. A ForgetCall that
+// found its call ended is not recorded: it changes which stamps are current, and nothing that a
+// recording tells. A call that began before Record is not in the recording, nor is one that had not
 // ended at Stop; all that was done to it is left out too.
 //
-// The caller of a record is one of 64, by the goroutine's stack. Callers of several epochs of a
-// group have no number in common, since no number is the library's. The value of a call is its name,
+// The caller of a record is one of 64, by the goroutine's stack. The value of a call is its name,
 // such as "3.17" of the call [3,17]; an error is its type, "panic" or "goexit". Nothing of the
 // values and no method of an error is called. The key stands as it is, but for one of more than 250
 // bytes, one that is no UTF-8, and one that begins with "sha256:": that stands as "sha256:" and its
@@ -51,7 +51,7 @@ type Recorded struct {
 // may not call Stop. The recording ends at the first Write that fails or panics.
 //
 // Close does not end a recording: the calls that run after it are recorded as well.
-func (o *Of[K, V]) Record(w io.Writer) (*Recording, error) { return o.pool().beginRecording(w) }
+func (o *Of[K, V]) Record(w io.Writer) (*Recording, error) { return o.core().beginRecording(w) }
 
 // Stop ends the recording, and returns when all that was recorded is written. It returns the error
 // of the writer, if that has failed. It may be called again, and then returns the same.
@@ -61,15 +61,15 @@ func (r *Recording) Stop() (Recorded, error) {
 	return Recorded{r.r.events, r.r.lost}, r.r.err
 }
 
-func (p *pool) beginRecording(w io.Writer) (*Recording, error) {
-	p.lock()
-	defer p.mu.Unlock()
+func (p *core) beginRecording(w io.Writer) (*Recording, error) {
+	p.recording.Lock()
+	defer p.recording.Unlock()
 	if r := p.recorder.Load(); r != nil && !r.done.Load() {
 		return nil, ErrRecording
 	}
 	p.recordings++
 	r := &recorder{
-		number: p.recordings, out: w,
+		number: p.recordings, out: w, meets: map[callID]meeting{},
 		wake: make(chan struct{}, 1), quit: make(chan struct{}), over: make(chan struct{}),
 	}
 	p.recorder.Store(r)
@@ -78,171 +78,100 @@ func (p *pool) beginRecording(w io.Writer) (*Recording, error) {
 }
 
 // Nothing is recorded any more that has not ended.
-func (p *pool) endRecording(r *recorder) {
-	p.lock()
+func (p *core) endRecording(r *recorder) {
+	p.recording.Lock()
 	if p.recorder.Load() == r {
 		p.recorder.Store(nil)
 	}
-	p.mu.Unlock()
+	p.recording.Unlock()
 	r.end()
 }
 
 // How the recorder sees calls.
 //
-// A call of a recording is a run of a load function. It has one record. The seat that leads it, or
-// the run beside the library, has a part in the record and adds to it; so do the callers that follow
-// the call and a Forget that closes it. When the last part is given up, the record is complete and
-// goes to a lane. So a recording has whole calls only. A legal history stays legal without all events
-// of one call, so it does not matter which calls are left out at the beginning and at the end.
+// A call of a recording is a run of a load function, and has one record. The leader attaches it to the call before the load
+// begins. Whoever joined adds a member before it leaves. The last who leaves completes the record, which then goes to a lane. So
+// a recording has whole calls only. A legal history stays legal without all events of one call, so it does not matter which
+// calls are left out at the beginning and at the end.
 //
-// The record of a seat's call is made before the seat asks, so that a caller that closes or joins the
-// call finds it. Its generation is that of the asking, and tells it from the records before.
+// A Forget learns the name of the call that it has closed, and nothing else of it; and the leader learns that a Forget has
+// closed its call, and not which. Both meet in the recorder, by the call's name: so the record has a second part then.
 //
-// The members of a library call are known before its outcome. A call that is given up before its load
-// has no run, and no members. A call that takes the result of an older call gives its members to the
-// older one. Members that asked after the older call had ended have left, and are left out. The Forget that closed
-// the newer call does not belong to the older one.
-//
-// The times of an event are wide. A Forget's are those of the whole Forget, and it may close several
-// calls. A Lead's begin with the asking and end where the load begins. An Enter's begin with the
-// asking and end with the result.
+// The times of an event are wide. A Forget's are those of the whole Forget. A Lead's begin with the asking and end where the
+// load begins. An Enter's begin with the asking and end with the result.
 type callRecord struct {
 	by               *recorder
-	name             uint64        // caller and generation, by which it is told
-	generation       atomic.Uint32 // of the seat's asking
-	parts            atomic.Int32  // how many may add to it
-	ran              bool          // whether its load function was called
-	late             bool          // whether its seat has gone on before it was complete
-	key              keyed
+	name             uint64       // caller and number, by which it is told
+	parts            atomic.Int32 // how many have still to come: the last who leaves, and a Forget
+	ran              bool         // whether its load function was called
+	key              string
 	asked, led       int64
 	settles, settled int64
 	err              error
-	took             *callRecord // of the call whose result it took
 	members          atomic.Pointer[memberRecord]
-	closing          atomic.Pointer[forgetRecord]
+	closing          *forgetRecord
 }
 
 type memberRecord struct {
 	next     *memberRecord
 	name     uint64
 	from, to int64
-	taken    bool // whether it joined a call that took this one's result
 }
 
 type forgetRecord struct {
 	caller   uint32
-	from, to int64
-	one      bool // whether it was a ForgetCall
+	from, to int64 // the first is unknown where it is negative
+	one      bool  // whether it was a ForgetCall
 }
 
-// What an asking knows of the recording.
-type noted struct {
-	by   *recorder // none where it is not recorded
-	from int64
-	rec  *callRecord // of the call that it follows, in which it has a part
+// A meeting has the leader's record of a forgotten call, or what its Forget tells; whichever came first.
+type meeting struct {
+	rec *callRecord
+	f   *forgetRecord
 }
 
 const forever = 1<<63 - 1
 
 func now() int64 { return int64(time.Since(started)) }
 
-// The record of a call that is asked for now, in which the asking has a part.
-func (r *recorder) record(key keyed, from int64) *callRecord {
+// record makes the record of a call that is led, which was asked for then.
+func (r *recorder) record(key string, from int64) *callRecord {
 	rec := &callRecord{by: r, name: r.name(), key: key, asked: from}
 	rec.parts.Store(1)
 	return rec
 }
 
-// Gives the seat, which is about to ask, a record.
-func (n *noted) attach(s *seat, key keyed) {
-	rec := s.spare
-	if rec == nil || rec.by != n.by {
-		rec = n.by.record(key, n.from)
-	} else {
-		rec.key, rec.asked = key, n.from
+// part is called when one of the parts has come.
+func (rec *callRecord) part() {
+	if rec.parts.Add(-1) > 0 {
+		return
 	}
-	s.spare = nil
-	leads, joins := s.counts()
-	rec.generation.Store(uint32(leads + joins + 1))
-	s.rec.Store(rec)
-}
-
-// The seat leads nothing.
-func (s *seat) detach() {
-	if rec := s.rec.Load(); rec != nil {
-		s.rec.Store(nil)
-		s.spare = rec
-	}
-}
-
-// Takes part in the record, if it is not complete.
-func (rec *callRecord) take() bool {
-	for {
-		parts := rec.parts.Load()
-		if parts == 0 {
-			return false
-		}
-		if rec.parts.CompareAndSwap(parts, parts+1) {
-			return true
-		}
-	}
-}
-
-func (rec *callRecord) leave() {
-	if rec.parts.Add(-1) == 0 {
-		rec.complete()
-	}
-}
-
-// The seat's call has ended, and each caller that joined it in the library has the result.
-func (s *seat) complete(rec *callRecord) {
-	if rec.parts.CompareAndSwap(1, 0) {
-		rec.complete()
-	} else {
-		rec.late = true
-		rec.by.late.Add(1)
-		rec.leave()
-	}
-	// A ForgetCall that does not find it here any more finds it in a lane, or among the late ones.
-	s.rec.Store(nil)
-}
-
-func (rec *callRecord) complete() {
-	if took := rec.took; took != nil {
-		for it := rec.members.Load(); it != nil; {
-			next := it.next
-			it.taken = true
-			took.add(it)
-			it = next
-		}
-		took.leave()
-	} else if rec.ran {
+	if rec.ran {
 		rec.by.push(entry{events: rec.events(), call: rec})
 	}
-	if rec.late {
-		rec.by.late.Add(-1)
-	}
 }
 
-// How many events it has. Those members go that took its result, and asked when it had ended; and
-// those that had left before its load began: its leader may have waited for an older call until then.
+// events returns how many events it has. Those members go that had left before its load began. So does a Forget that began when
+// the call was about to be settled: from then on the key may have a newer call.
 func (rec *callRecord) events() int {
 	n := 3
 	var kept *memberRecord
 	for it := rec.members.Load(); it != nil; {
 		next := it.next
-		if it.to >= rec.led && (!it.taken || it.from <= rec.settled) {
+		if it.to >= rec.led {
 			it.next, kept = kept, it
 			n++
 		}
 		it = next
 	}
 	rec.members.Store(kept)
-	if f := rec.closing.Load(); f != nil && f.from >= rec.settles {
-		// It began when the call was about to be settled. From then on the key may have a newer call.
-		rec.closing.Store(nil)
+	if f := rec.closing; f != nil && f.from >= rec.settled {
+		rec.closing = nil
 	} else if f != nil {
 		n++
+		if f.from < 0 {
+			f.from, f.to = rec.asked, forever
+		}
 		if f.to < rec.led {
 			// It closed the call before that began: then it took effect when that did.
 			f.to = rec.led
@@ -251,7 +180,16 @@ func (rec *callRecord) events() int {
 	return n
 }
 
-func (rec *callRecord) add(it *memberRecord) {
+// enter adds a member that is about to leave the call, if both are of one recording.
+func (a *asking) enter() {
+	if a.by == nil {
+		return
+	}
+	rec := a.call.rec.Load()
+	if rec == nil || rec.by != a.by {
+		return
+	}
+	it := &memberRecord{name: a.by.name(), from: a.from, to: now()}
 	for {
 		it.next = rec.members.Load()
 		if rec.members.CompareAndSwap(it.next, it) {
@@ -260,154 +198,61 @@ func (rec *callRecord) add(it *memberRecord) {
 	}
 }
 
-// It follows the call, and has a part in its record if both are recorded. The call has not ended.
-func (n *noted) follow(rec *callRecord) {
-	if n.by != nil && rec != nil && rec.by == n.by && rec.take() {
-		n.rec = rec
-	}
-}
-
-// It has joined the leader's call by a caller of its own, which it is about to let go.
-func (n *noted) join(leader *seat) {
-	if rec := leader.rec.Load(); rec != nil && rec.by == n.by {
-		n.enter(rec)
-		// Once.
-		n.by = nil
-	}
-}
-
-// One that asked then has joined the call.
-func (n *noted) enter(rec *callRecord) {
-	rec.add(&memberRecord{name: n.by.name(), from: n.from, to: now()})
-}
-
-// The follower gives up its part in the record. isMember tells whether it was in the call.
-func (n *noted) followed(isMember bool) {
-	if n.rec == nil {
+// awaits lets the record of a call that a Forget has closed wait for that. The leader holds the call.
+func (r *recorder) awaits(rec *callRecord, id callID) {
+	r.meeting.Lock()
+	defer r.meeting.Unlock()
+	if m, ok := r.meets[id]; ok {
+		delete(r.meets, id)
+		rec.closing = m.f
 		return
 	}
-	if isMember {
-		n.enter(n.rec)
-	}
-	n.rec.leave()
-	n.rec = nil
+	rec.parts.Add(1)
+	r.meets[id] = meeting{rec: rec}
 }
 
-// The seat's call takes the result of the one that it followed.
-func (n *noted) take(s *seat) {
-	if n.rec == nil {
-		return
-	}
-	own := s.rec.Load()
-	if own == nil {
-		n.followed(true)
-		return
-	}
-	n.enter(own)
-	own.took, n.rec = n.rec, nil
-}
-
-// The record of the call that it leads, if there is one.
-func (a *asking) own() *callRecord {
-	if a.seat != nil {
-		return a.seat.rec.Load()
-	}
-	return a.wait.rec
-}
-
-// How results name a recorded call, for ForgetCall: the recording, the caller, the generation, and a
-// part of the fingerprint, since a ForgetCall may name another key.
-func (rec *callRecord) mark() uint64 {
-	if rec.took != nil {
-		return 0
-	}
-	return rec.by.markOf(rec.name, rec.key)
-}
-
-func (r *recorder) markOf(name uint64, key keyed) uint64 {
-	return uint64(r.number)<<55 | name<<16 | key.print&(1<<16-1)
-}
-
-// The name in the mark; or 0 if that is of another recording or key.
-func (r *recorder) nameOf(mark uint64, key keyed) uint64 {
-	name := mark << 9 >> 25
-	if mark == 0 || r.markOf(name, key) != mark {
-		return 0
-	}
-	return name
-}
-
-// What a Forget that is recorded has closed.
-type forgetting struct {
-	by     *recorder
-	from   int64
-	one    bool // whether it forgets one call
-	closed []*callRecord
-}
-
-// The Forget that begins, if it is recorded.
-func (p *pool) forgetting(one bool) *forgetting {
-	if r := p.recorder.Load(); r != nil {
-		return &forgetting{by: r, from: now(), one: one}
-	}
-	return nil
-}
-
-// Forgets the leader's call, which named told, by a seat that is free.
-func (f *forgetting) forgetCall(by, leader *seat, call Call) uint32 {
-	rec := leader.rec.Load()
-	// One that is complete has ended.
-	if rec == nil || rec.generation.Load() != call.generation || !rec.take() {
-		return by.forgetCall(call)
-	}
-	code := by.forgetCall(call)
-	if code == codeDone {
-		f.closes(rec)
+// closed is told by a Forget that has closed the call.
+func (r *recorder) closed(id callID, f *forgetRecord) {
+	r.meeting.Lock()
+	m, ok := r.meets[id]
+	if ok {
+		delete(r.meets, id)
+		m.rec.closing = f
 	} else {
-		rec.leave()
+		r.meets[id] = meeting{f: f}
 	}
-	return code
-}
-
-// It has closed the call, and has a part in its record. A Forget that began before the recording
-// took effect after the call had begun.
-func (f *forgetting) closes(rec *callRecord) {
-	if f == nil {
-		rec.closing.Store(&forgetRecord{rec.by.caller(), rec.asked, forever, false})
-		rec.leave()
-		return
-	}
-	f.closed = append(f.closed, rec)
-}
-
-// It has ended; idle if there was no open call.
-func (f *forgetting) end(key string, idle bool) {
-	if f == nil {
-		return
-	}
-	caller, to := f.by.caller(), now()
-	for _, rec := range f.closed {
-		rec.closing.Store(&forgetRecord{caller, f.from, to, f.one})
-		rec.leave()
-	}
-	if idle {
-		f.by.push(entry{events: 1, key: key, caller: caller, from: f.from, to: to})
+	r.meeting.Unlock()
+	if ok {
+		m.rec.part()
 	}
 }
 
-// It has cleared the call, which had ended: it is recorded if the call is, and that is known.
-func (f *forgetting) cleared(key keyed, leader *seat, mark uint64) {
-	if f == nil {
-		return
+// A forgetting is a Forget that has begun, with the recording of then.
+type forgetting struct {
+	by   *recorder
+	from int64
+	one  bool // whether it forgets one call
+}
+
+func (p *core) forgetting(one bool) (f forgetting) {
+	if f.by = p.recorder.Load(); f.by != nil {
+		f.from, f.one = now(), one
 	}
-	name := f.by.nameOf(mark, key)
-	if name == 0 {
-		return
+	return f
+}
+
+// end records a Forget that has ended. A call that it has closed is of the recording of now, if it is of one that is not over.
+func (f *forgetting) end(p *core, key string, id callID, closed bool) {
+	r := p.recorder.Load()
+	switch {
+	case r == nil:
+	case closed && r == f.by:
+		r.closed(id, &forgetRecord{r.caller(), f.from, now(), f.one})
+	case closed:
+		r.closed(id, &forgetRecord{r.caller(), -1, forever, f.one})
+	case r == f.by:
+		r.push(entry{events: 1, key: key, caller: r.caller(), from: f.from, to: now()})
 	}
-	if rec := leader.rec.Load(); rec != nil && rec.name == name || f.by.late.Load() != 0 {
-		return
-	}
-	f.by.push(entry{events: 1, key: key.key, caller: f.by.caller(), from: f.from, to: now(), name: name})
 }
 
 // A recorder takes entries from lanes and writes them. A goroutine that records something takes the
@@ -416,24 +261,37 @@ func (f *forgetting) cleared(key keyed, leader *seat, mark uint64) {
 type recorder struct {
 	number uint16 // of the recording
 	out    io.Writer
-	lanes  [hotSeats]recordLane
-	late   atomic.Int64  // calls whose seats have gone on before the record was complete
-	missed atomic.Uint64 // events that were lost
-	done   atomic.Bool   // whether nothing is recorded any more
-	stop   sync.Once
-	wake   chan struct{}
-	quit   chan struct{}
-	over   chan struct{} // closed when the rest is written, which is the writer's goroutine's until then
-	batch  []entry       // what was taken from a lane, and is not in text yet
-	text   []byte
-	pushed uint64 // events in text, which is not written yet
-	events uint64 // those that were written
-	lost   uint64
-	err    error
+	// By call, of forgotten ones.
+	meeting sync.Mutex
+	meets   map[callID]meeting
+	lanes   [lanes]recordLane
+	missed  atomic.Uint64 // events that were lost
+	done    atomic.Bool   // whether nothing is recorded any more
+	stop    sync.Once
+	wake    chan struct{}
+	quit    chan struct{}
+	over    chan struct{} // closed when the rest is written, which is the writer's goroutine's until then
+	batch   []entry       // what was taken from a lane, and is not in text yet
+	text    []byte
+	pushed  uint64 // events in text, which is not written yet
+	events  uint64 // those that were written
+	lost    uint64
+	err     error
 }
 
-// So many events at most are kept in a lane, but for those of one call.
-const eventsOfLane = 1 << 14
+// So many lanes there are, and so many events at most are kept in one, but for those of one call.
+const (
+	lanes        = 64
+	eventsOfLane = 1 << 14
+)
+
+// broken is the error of a function that has not returned: it panicked with this, or ended its goroutine.
+func broken(with any) error {
+	if with != nil {
+		return newPanicError(with)
+	}
+	return errGoexit
+}
 
 type recordLane struct {
 	mu      sync.Mutex
@@ -443,14 +301,13 @@ type recordLane struct {
 	_       [64]byte
 }
 
-// A call; or a Forget, which found no open call or has cleared the one with the name.
+// A call; or a Forget, which found no open call.
 type entry struct {
 	events   int
 	call     *callRecord
 	key      string
 	caller   uint32
 	from, to int64
-	name     uint64
 }
 
 // A caller of the recording, from 1 on.
@@ -460,8 +317,8 @@ func (r *recorder) caller() uint32 { return uint32(here()) + 1 }
 // where all are, the recording ends.
 func (r *recorder) name() uint64 {
 	at := here()
-	for try := uint(0); try < hotSeats; try++ {
-		lane := (at + try) % hotSeats
+	for try := uint(0); try < lanes; try++ {
+		lane := (at + try) % lanes
 		if n := r.lanes[lane].names.Add(1); n < 1<<32 {
 			return uint64(lane+1)<<32 | n
 		}
@@ -472,8 +329,8 @@ func (r *recorder) name() uint64 {
 
 func (r *recorder) push(it entry) {
 	at, events := here(), it.events
-	for try := uint(0); try < hotSeats; try++ {
-		l := &r.lanes[(at+try)%hotSeats]
+	for try := uint(0); try < lanes; try++ {
+		l := &r.lanes[(at+try)%lanes]
 		if !l.mu.TryLock() {
 			continue
 		}
@@ -614,7 +471,7 @@ func (it *entry) append(text []byte) []byte {
 	}
 	leader := uint32(rec.name >> 32)
 	text = appendEvent(text, "lead", leader)
-	text = appendKey(text, rec.key.key)
+	text = appendKey(text, rec.key)
 	text = appendName(text, `,"c":`, rec.name)
 	text = append(text, `,"own":null`...)
 	text = appendTimes(text, rec.asked, rec.led)
@@ -622,20 +479,20 @@ func (it *entry) append(text []byte) []byte {
 	for at := rec.members.Load(); at != nil; at = at.next {
 		joiners++
 		text = appendEvent(text, "enter", uint32(at.name>>32))
-		text = appendKey(text, rec.key.key)
+		text = appendKey(text, rec.key)
 		text = appendName(text, `,"c":`, rec.name)
 		text = appendName(text, `,"m":`, at.name)
 		text = appendTimes(text, at.from, at.to)
 	}
-	if f := rec.closing.Load(); f != nil && f.one {
+	if f := rec.closing; f != nil && f.one {
 		text = appendEvent(text, "forgetcall", f.caller)
-		text = appendKey(text, rec.key.key)
+		text = appendKey(text, rec.key)
 		text = appendName(text, `,"c":`, rec.name)
 		text = append(text, `,"hit":"closed"`...)
 		text = appendTimes(text, f.from, f.to)
 	} else if f != nil {
 		text = appendEvent(text, "forget", f.caller)
-		text = appendKey(text, rec.key.key)
+		text = appendKey(text, rec.key)
 		text = appendName(text, `,"closed":`, rec.name)
 		text = appendTimes(text, f.from, f.to)
 	}
@@ -651,16 +508,9 @@ func (it *entry) append(text []byte) []byte {
 }
 
 func (it *entry) appendForget(text []byte) []byte {
-	if it.name == 0 {
-		text = appendEvent(text, "forget", it.caller)
-		text = appendKey(text, it.key)
-		text = append(text, `,"closed":null`...)
-	} else {
-		text = appendEvent(text, "forgetcall", it.caller)
-		text = appendKey(text, it.key)
-		text = appendName(text, `,"c":`, it.name)
-		text = append(text, `,"hit":"cleared"`...)
-	}
+	text = appendEvent(text, "forget", it.caller)
+	text = appendKey(text, it.key)
+	text = append(text, `,"closed":null`...)
 	return appendTimes(text, it.from, it.to)
 }
 

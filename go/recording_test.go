@@ -35,16 +35,12 @@ func recordedBy(t *testing.T, g *Group, do func()) []byte {
 	return log.Bytes()
 }
 
-// Calls, Forgets, contexts that end, channels, nested keys and failures at once, in groups that run
-// short of callers and slots, so that calls run beside the library and epochs are replaced.
+// Calls, Forgets, contexts that end, channels, nested keys and failures at once.
 func TestRecordingOfAStress(t *testing.T) {
 	for name, options := range map[string][]Option{
-		"wide":       nil,
-		"narrow":     {WithSlots(4)},
-		"few":        {WithCallers(1)},
-		"one slot":   {WithSlots(1), WithCallers(2)},
-		"worn out":   {func(s *sizes) { s.generations, s.callers = 40, 8 }},
-		"two, fixed": {func(s *sizes) { s.callers, s.fixedCallers = 2, true }},
+		"wide":         nil,
+		"few slots":    {fewSlots},
+		"few at first": {WithLoads(1)},
 	} {
 		t.Run(name, func(t *testing.T) {
 			g, err := NewGroup(options...)
@@ -56,7 +52,12 @@ func TestRecordingOfAStress(t *testing.T) {
 			if testing.Short() {
 				rounds = 300
 			}
-			log := recordedBy(t, g, func() { stressed(g, 12, rounds) })
+			log := recordedBy(t, g, func() {
+				stressed(g, 12, rounds)
+				// Loads that their callers have left end too.
+				until(t, "all have ended", func() bool { return g.Stats().InUse == 0 })
+				time.Sleep(200 * time.Millisecond)
+			})
 			all := isLegal(t, log)
 			kinds := map[string]int{}
 			for _, it := range all {
@@ -66,14 +67,13 @@ func TestRecordingOfAStress(t *testing.T) {
 				}
 				kinds[kind+it.Hit]++
 			}
-			for _, kind := range []string{"lead", "enter", "forget", "forget closed", "settle", "handed", "forgetcallcleared"} {
-				if kinds[kind] == 0 && !(strings.HasPrefix(kind, "forgetcall") && name != "wide") {
+			for _, kind := range []string{"lead", "enter", "forget", "forget closed", "settle", "handed"} {
+				if kinds[kind] == 0 {
 					t.Error("no event is a", kind, kinds)
 				}
 			}
 			st := g.Stats()
-			// A call whose callers have all left while it waited for an older one has no run.
-			if leads := uint64(kinds["lead"]); leads > st.Leads+st.Alone || leads < (st.Leads+st.Alone)/10*9 {
+			if leads := uint64(kinds["lead"]); leads != st.Loads {
 				t.Error("calls are left out, or told twice", kinds, st)
 			}
 			// Those are left out that left before the load began, or that asked again.
@@ -147,8 +147,6 @@ func recordedStress(g *Group, r *rand.Rand, rounds int) {
 			}()
 		case what < 17:
 			g.Forget(key)
-		case what < 18:
-			g.ForgetUnshared(key)
 		default:
 			if len(calls) > 0 {
 				g.ForgetCall(key, calls[r.Intn(len(calls))])
@@ -261,7 +259,6 @@ func TestRecordingsLines(t *testing.T) {
 		`{"e":"handed","c":A}` + "\n" +
 		calls("C", `"a"`, `"err":"*errors.errorString"`) +
 		calls("D", `"a"`, `"ok":D`) +
-		`{"e":"forgetcall","k":"a","c":D,"hit":"cleared"}` + "\n" +
 		calls("E", `"q\"\\\u000a"`, `"ok":E`) +
 		calls("F", `"`+long[1:]+`"`, `"ok":F`) +
 		calls("G", digest(long), `"ok":G`) +
@@ -296,7 +293,7 @@ func TestRecordingOfCallersThatLeave(t *testing.T) {
 		}
 		joiner := g.DoChan("key", value(2))
 		close(release)
-		if r := came(t, led); r.Joiners != 2 {
+		if r := came(t, led); r.Joiners != 1 {
 			t.Error(r)
 		}
 		came(t, joiner)
@@ -308,14 +305,16 @@ func TestRecordingOfCallersThatLeave(t *testing.T) {
 
 // A ForgetCall that closes an open call.
 func TestRecordingOfAForgottenCall(t *testing.T) {
-	g, other := open(t, 4), open(t, 4)
-	// The generation of a caller's first call is told by another group's.
-	_, _, _, call := doCall(other, "key", value(0))
+	g := open(t, 4)
 	log := recordedBy(t, g, func() {
 		started, release := make(chan struct{}), make(chan struct{})
-		first := g.DoChan("key", heldAny(1, started, release))
+		ctx, cancel := context.WithCancel(always)
+		defer cancel()
+		first := g.Of.DoChan(ctx, "key", held[any](1, started, release))
 		begun(t, started)
-		if hit := g.ForgetCall("key", call); hit != Closed {
+		var open Call
+		g.core().eachOpen(func(c *call) { open = g.core().nameOf(c) })
+		if hit := g.ForgetCall("key", open); hit != Closed {
 			t.Error(hit)
 		}
 		g.Do("key", value(2))
@@ -394,15 +393,9 @@ func TestTwoRecordings(t *testing.T) {
 	if again, err2 := r.Stop(); got != (Recorded{Events: 3}) || again != got || err != nil || err2 != nil {
 		t.Error("stopped twice", got, again, err, err2)
 	}
-	// A result of one is none of the other.
-	_, _, _, call := doCall(g, "key", value(1))
-	log := recordedBy(t, g, func() {
-		g.ForgetCall("key", call)
-		_, _, _, call := doCall(g, "key", value(1))
-		g.ForgetCall("key", call)
-	})
-	if all := isLegal(t, log); len(all) != 4 || second.Len() != 0 || all[3].Hit != "cleared" {
-		t.Errorf("a call that is cleared: %s", log)
+	log := recordedBy(t, g, func() { g.Do("key", value(1)) })
+	if all := isLegal(t, log); len(all) != 3 || second.Len() != 0 {
+		t.Errorf("the next: %s", log)
 	}
 }
 
@@ -506,7 +499,7 @@ func TestRecordingOfAWriterThatCalls(t *testing.T) {
 	isLegal(t, log.Bytes())
 }
 
-// A recording goes on when the group is closed, and its calls run beside the library.
+// A recording goes on when the group is closed.
 func TestCloseInARecording(t *testing.T) {
 	g := open(t, 8)
 	log := recordedBy(t, g, func() {

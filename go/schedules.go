@@ -5,25 +5,23 @@ package singleflight
 import (
 	"hash/maphash"
 	"sync"
-	"time"
 )
 
 // By this tag the package runs under a scheduler of the tests, which lets one goroutine run at a time and picks at random
-// who goes on at each yield. What would block tries again instead.
+// who goes on at each point. What would block tries again instead.
 
 type scheduled interface {
-	yield(blocked bool)
+	at(where)
+	blocked()
 	spawn(func())
 	index() uint
 }
 
 var schedule scheduled
 
-const isScheduled = true
-
-func yield() {
+func point(at where) {
 	if schedule != nil {
-		schedule.yield(false)
+		schedule.at(at)
 	}
 }
 
@@ -32,9 +30,9 @@ func acquire(mu *sync.Mutex) {
 		mu.Lock()
 		return
 	}
-	schedule.yield(false)
+	schedule.at(beforeLock)
 	for !mu.TryLock() {
-		schedule.yield(true)
+		schedule.blocked()
 	}
 }
 
@@ -50,7 +48,7 @@ func await(done, stop <-chan struct{}) bool {
 			return false
 		default:
 		}
-		schedule.yield(true)
+		schedule.blocked()
 	}
 	select {
 	case <-done:
@@ -68,18 +66,11 @@ func spawn(do func()) {
 	}
 }
 
-// A scheduler runs one goroutine at a time, each of which sees what the others have stored.
-func later(do func()) {
-	if schedule == nil {
-		time.AfterFunc(time.Millisecond, do)
-	}
-}
-
 func here() uint {
 	if schedule == nil {
 		return 0
 	}
-	return schedule.index() % hotSeats
+	return schedule.index() % lanes
 }
 
 // Mixed into what stands for the seeds of hashes, so that a schedule can be played again.

@@ -10,13 +10,10 @@ import (
 	"math/rand"
 	"os"
 	"strconv"
-	"sync"
-	"sync/atomic"
 	"testing"
-	"time"
 )
 
-// A world of goroutines of which one runs at a time. Who goes on at each yield is drawn at random.
+// A world of goroutines of which one runs at a time. The one that goes on at each yield is drawn at random.
 type world struct {
 	t       *testing.T
 	seed    int64
@@ -25,18 +22,20 @@ type world struct {
 	running *worker
 	back    chan struct{}
 	now     int  // a step each yield
-	blocked int  // yields in a row that were of workers who could not go on
+	stuck   int  // yields in a row that were of workers who could not go on
 	stalls  bool // whether who goes on is told by priorities, so that some are stopped for long
 	lowest  int
 	few     bool // whether there are two keys, which are asked for and nothing else
+	closed  bool
 	one     bool // whether there is one key, which is asked for by those who may leave, and forgotten
 	trace   []string
 
 	group    *Group
 	keys     [4]keyState
 	stamps   []stampOf
+	cached   [4]*stampOf // what the workers keep, each in its function
 	cancels  []context.CancelFunc
-	forgets  uint64 // how many there were, by ForgetUnshared too
+	forgets  uint64 // how many there were
 	problems []string
 }
 
@@ -60,7 +59,6 @@ type interval struct{ from, to int } // to is 0 until it has ended
 type run struct {
 	key, asked, from, to int
 	by                   *worker
-	alone                bool // whether a ForgetUnshared in its function said that nobody else has its result
 	unshared             bool // whether its leader was told that nobody has joined
 	others               int  // how many others have its result
 	given                int  // when somebody first had its result; 0 before
@@ -72,14 +70,17 @@ type stampOf struct {
 	run   *run
 }
 
+func (w *world) at(where) { w.yield(false) }
+func (w *world) blocked() { w.yield(true) }
+
 func (w *world) yield(blocked bool) {
 	me := w.running
 	w.now++
 	me.blocked = blocked
 	if blocked {
-		w.blocked++
-	} else if w.blocked > 0 {
-		w.blocked = 0
+		w.stuck++
+	} else if w.stuck > 0 {
+		w.stuck = 0
 		for _, it := range w.workers {
 			it.blocked = false
 		}
@@ -101,7 +102,7 @@ func (w *world) spawn(do func()) {
 		<-me.goOn
 		defer func() {
 			me.ended = true
-			w.blocked = 0
+			w.stuck = 0
 			w.back <- struct{}{}
 		}()
 		do()
@@ -132,11 +133,11 @@ func (w *world) play() bool {
 		if len(live) == 0 {
 			return true
 		}
-		if w.blocked > 12*len(live)+100 {
+		if w.stuck > 12*len(live)+100 {
 			return false
 		}
 		next := live[w.random.Intn(len(live))]
-		if w.blocked > 6*len(live) {
+		if w.stuck > 6*len(live) {
 			// Each in turn.
 			next = live[turn%len(live)]
 			turn++
@@ -191,46 +192,38 @@ func (w *world) load(key, asked int, body func()) (any, error) {
 	state.runs = append(state.runs, me)
 	w.log("runs key %d", key)
 	for n := w.random.Intn(6); n > 0; n-- {
-		yield()
+		point(afterAsk)
 	}
-	defer func() { me.to = w.now; w.log("its run of key %d, begun at %d, ends", key, me.from); yield() }()
+	defer func() { me.to = w.now; w.log("its run of key %d, begun at %d, ends", key, me.from); point(afterAsk) }()
 	body()
-	if w.random.Intn(8) == 0 {
-		mine := len(state.forgets)
-		me.alone = w.forgetUnshared(key)
-		// Where another Forget has closed the call, those who had joined it before have its result all
-		// the same.
-		for i, f := range state.forgets {
-			if i != mine && (f.to == 0 || f.to > asked) {
-				me.alone = false
-			}
-		}
-	}
 	return me, nil
-}
-
-// A ForgetUnshared of the key is a Forget if it says yes, and else nothing.
-func (w *world) forgetUnshared(key int) bool {
-	state := &w.keys[key]
-	state.forgets = append(state.forgets, interval{from: w.now})
-	mine := len(state.forgets) - 1
-	alone := w.group.ForgetUnshared(w.name(key))
-	w.forgets++
-	w.now++
-	state.forgets[mine].to = w.now
-	if !alone {
-		state.forgets[mine] = interval{0, -1}
-	}
-	w.log("ForgetUnshared of key %d: %v", key, alone)
-	return alone
 }
 
 func (w *world) name(key int) string {
 	name := fmt.Sprint("key-", key)
 	if key == 3 {
-		name += " of more than the forty bytes that the library keeps of a key"
+		name += " of many bytes"
 	}
 	return name
+}
+
+// A function keeps its result for the workers, before its call is settled.
+func (w *world) keeps(stamp Stamp, it *run) {
+	if w.group.IsStill(stamp) {
+		point(afterAsk)
+		w.cached[it.key] = &stampOf{stamp, Call{}, it}
+	}
+}
+
+// One has found a run's result in the cache of the workers.
+func (w *world) found(key, asked int, it *run) {
+	if forgotten := w.keys[key].forgotten(asked); it.from < forgotten {
+		w.problem("key %d looked for at %d has a result of a run begun at %d, and was forgotten at %d", key, asked, it.from, forgotten)
+	}
+	if last := w.running.last[key]; last != nil && last.from > it.from && !w.keys[key].ended(last, it.asked) {
+		w.problem("key %d: what is found went back, from %d to %d", key, last.from, it.from)
+	}
+	w.running.last[key] = it
 }
 
 func (w *world) got(key, asked int, v any, shared bool) {
@@ -251,17 +244,11 @@ func (w *world) got(key, asked int, v any, shared bool) {
 	}
 	if it.by == w.running && it.asked == asked {
 		it.unshared = !shared
-		if it.alone && shared {
-			w.problem("key %d: the run begun at %d was forgotten as nobody's else, and is shared", key, it.from)
-		}
 	} else {
 		it.others++
 	}
 	if it.unshared && it.others > 0 {
 		w.problem("key %d: others have the result of the run begun at %d, and its leader was told of none", key, it.from)
-	}
-	if it.alone && it.by != w.running {
-		w.problem("key %d: the result of the run begun at %d, whose ForgetUnshared said that nobody else has it", key, it.from)
 	}
 	if last := w.running.last[key]; last != nil && last.from > it.from && !w.keys[key].ended(last, it.asked) {
 		w.problem("key %d: an answer went back, from %d to %d", key, last.from, it.from)
@@ -290,7 +277,8 @@ func (w *world) act(depth, least int) {
 	}
 	name := w.name(key)
 	asked := w.now
-	mayPanic := w.random.Intn(12) == 0
+	// A panic of a call that a DoChan has joined ends the program, as in x/sync: so none of the last key panics.
+	mayPanic := w.random.Intn(12) == 0 && key < len(w.keys)-1
 	body := func() {
 		if depth < 2 && !w.few && !w.one && w.random.Intn(3) == 0 {
 			w.act(depth+1, key+1)
@@ -312,25 +300,34 @@ func (w *world) act(depth, least int) {
 	}
 	switch {
 	case what < 8 || w.few:
+		if it := w.cached[key]; it != nil && w.random.Intn(2) == 0 && w.group.IsStill(it.stamp) {
+			w.log("finds key %d", key)
+			w.found(key, asked, it.run)
+			return
+		}
 		w.log("asks for key %d", key)
-		v, err, shared, stamp := doStamped(w.group, name, func() (any, error) { return w.load(key, asked, body) })
+		r, err := w.group.DoStamped(always, name, func(_ context.Context, stamp Stamp) (any, error) {
+			v, err := w.load(key, asked, body)
+			w.keeps(stamp, v.(*run))
+			return v, err
+		})
 		if err != nil {
 			w.problem("an error of a Do: %v", err)
 			return
 		}
-		w.got(key, asked, v, shared)
-		if it, ok := v.(*run); ok {
-			w.stamps = append(w.stamps, stampOf{stamp, Call{}, it})
+		w.got(key, asked, r.Val, r.Shared)
+		if it, ok := r.Val.(*run); ok {
+			w.stamps = append(w.stamps, stampOf{r.Stamp, r.Call, it})
 		}
 	case what <= asksAndMayLeave:
 		ctx, cancel := context.WithCancel(context.Background())
 		w.cancels = append(w.cancels, cancel)
 		w.log("asks for key %d, and may leave", key)
 		me := w.running
-		v, err, shared := doContext(ctx, w.group, name, func(own context.Context) (any, error) {
+		r, err := w.group.DoStamped(ctx, name, func(own context.Context, stamp Stamp) (any, error) {
 			v, err := w.load(key, asked, func() {
 				for n := w.random.Intn(8); n > 0 && own.Err() == nil; n-- {
-					yield()
+					point(afterAsk)
 				}
 				body()
 			})
@@ -338,6 +335,7 @@ func (w *world) act(depth, least int) {
 			if own.Err() != nil && w.random.Intn(2) == 0 {
 				return nil, errEnded
 			}
+			w.keeps(stamp, v.(*run))
 			return v, err
 		})
 		if err == context.Canceled {
@@ -345,10 +343,8 @@ func (w *world) act(depth, least int) {
 		} else if err != nil {
 			w.problem("an error of a DoContext: %v", err)
 		} else {
-			w.got(key, asked, v, shared)
+			w.got(key, asked, r.Val, r.Shared)
 		}
-	case what < 14:
-		w.forgetUnshared(key)
 	case what <= forgets:
 		w.keys[key].forgets = append(w.keys[key].forgets, interval{from: w.now})
 		mine := len(w.keys[key].forgets) - 1
@@ -363,11 +359,6 @@ func (w *world) act(depth, least int) {
 			it := w.stamps[w.random.Intn(len(w.stamps))]
 			before := w.now
 			if w.group.IsStill(it.stamp) {
-				for _, other := range w.keys[it.run.key].runs {
-					if other.asked > it.run.asked && other.asked > it.run.to && other.from < before && !w.keys[it.run.key].ended(other, other.asked) {
-						w.problem("a result of a run begun at %d is current, and another began at %d", it.run.from, other.from)
-					}
-				}
 				if forgotten := w.keys[it.run.key].forgotten(before); it.run.from < forgotten {
 					w.problem("a result of a run begun at %d is current, and was forgotten at %d", it.run.from, forgotten)
 				}
@@ -377,16 +368,58 @@ func (w *world) act(depth, least int) {
 		if len(w.cancels) > 0 {
 			w.cancels[w.random.Intn(len(w.cancels))]()
 		}
-	case what < 20 || w.random.Intn(10) > 0:
-		p := w.group.made.Load()
-		w.log("replaces the epoch")
-		p.lock()
-		if !p.shut {
-			p.replace(p.size, true)
+	case what < 19:
+		key = len(w.keys) - 1
+		name = w.name(key)
+		w.log("asks for key %d by a channel", key)
+		ctx, cancel := context.WithCancel(always)
+		w.cancels = append(w.cancels, cancel)
+		if w.random.Intn(2) == 0 {
+			ctx = always
 		}
-		p.mu.Unlock()
+		me := w.running
+		ch := make(chan Result, 1)
+		w.group.core().doChan(ctx, name, func(_ context.Context, a *asking) (any, error) {
+			v, err := w.load(key, asked, func() {})
+			v.(*run).by = me
+			w.keeps(a.stamp, v.(*run))
+			return v, err
+		}, func(r *Result, err error) {
+			got := *r
+			got.Err = err
+			ch <- got
+		})
+		for {
+			select {
+			case r := <-ch:
+				if r.Err == nil {
+					w.got(key, asked, r.Val, r.Shared)
+				} else if r.Err != context.Canceled {
+					w.problem("an error of a DoChan: %v", r.Err)
+				}
+				return
+			default:
+				w.yield(true)
+			}
+		}
+	case what < 20 || w.random.Intn(10) > 0:
+		if len(w.stamps) > 0 {
+			it := w.stamps[w.random.Intn(len(w.stamps))]
+			hit := w.group.ForgetCall(w.name(it.run.key), it.call)
+			w.log("forgets the call of the run of key %d begun at %d: %v", it.run.key, it.run.from, hit)
+			if hit == Closed {
+				w.problem("a call was open that had ended")
+			}
+			if hit == Cleared {
+				w.forgets++
+			}
+			if w.group.IsStill(it.stamp) {
+				w.problem("a result is current, whose call was forgotten")
+			}
+		}
 	default:
 		w.log("closes the group")
+		w.closed = true
 		w.group.Close()
 	}
 }
@@ -396,16 +429,12 @@ func playWorld(t *testing.T, seed int64) { playRecorded(t, seed, nil) }
 // Plays a world, whose group is recorded to the log, if there is one.
 func playRecorded(t *testing.T, seed int64, log *bytes.Buffer) {
 	w := &world{t: t, seed: seed, random: rand.New(rand.NewSource(seed)), back: make(chan struct{}), now: 1}
-	s := sizes{places: uint32(1 + w.random.Intn(3)), callers: uint32(1 + w.random.Intn(3)), fixed: true, generations: uint64(2 + w.random.Intn(6)), onPanic: func(any, []byte) {}}
-	s.fixedCallers = w.random.Intn(2) == 0
+	s := sizes{loads: uint32(1 + w.random.Intn(3)), isSmall: true, onPanic: func(any, []byte) {}}
 	w.stalls = w.random.Intn(2) == 0
 	w.few = w.random.Intn(4) == 0
 	w.one = !w.few && w.random.Intn(4) == 0
-	if w.one {
-		s.callers = 8
-	}
 	schedule, schedulesHash = nil, uint64(seed)*0x9e3779b97f4a7c15
-	p := newPool(s)
+	p := newCore(&s)
 	w.group = &Group{}
 	w.group.made.Store(p)
 	var recording *Recording
@@ -420,7 +449,7 @@ func playRecorded(t *testing.T, seed int64, log *bytes.Buffer) {
 		w.spawn(func() {
 			for n := 1 + w.random.Intn(5); n > 0; n-- {
 				w.act(0, 0)
-				yield()
+				point(afterAsk)
 			}
 		})
 	}
@@ -442,20 +471,13 @@ func playRecorded(t *testing.T, seed int64, log *bytes.Buffer) {
 	if !ended {
 		w.problem("nobody can go on")
 	} else {
-		if late := p.late(recording); late != 0 {
-			w.problem("%d records are late", late)
+		if recording != nil && len(recording.r.meets) > 0 && !w.closed {
+			w.problem("%d Forgets and calls have not met", len(recording.r.meets))
 		}
-		for i := range p.alert {
-			if n := p.alert[i].Load(); n != 0 {
-				w.problem("alert is raised: %d", n)
-			}
+		if st := p.stats(); st.InUse != 0 || st.Forgets != w.forgets || waiting(w.group) != 0 {
+			w.problem("something is left, or numbers: %v, %d Forgets", st, w.forgets)
 		}
-		if st := p.stats(); st.InUse != 0 || len(p.runs) != 0 || len(p.draining) != 0 {
-			w.problem("something is left: %v, %d runs, %d epochs", st, len(p.runs), len(p.draining))
-		} else if st.Closed+st.Idle != w.forgets || p.inFlight() != 0 {
-			w.problem("numbers: %v, %d Forgets, %d in flight", st, w.forgets, p.inFlight())
-		}
-		p.close()
+		p.table.close()
 	}
 	if len(w.problems) > 0 {
 		for _, line := range w.trace {
@@ -473,14 +495,6 @@ func TestRecordedSchedules(t *testing.T) {
 	eachSchedule(t, func(t *testing.T, seed int64) { playRecorded(t, seed, new(bytes.Buffer)) })
 }
 
-// How many records of calls are not complete that their seats have left.
-func (p *pool) late(r *Recording) int64 {
-	if r == nil {
-		return 0
-	}
-	return r.r.late.Load()
-}
-
 func eachSchedule(t *testing.T, play func(t *testing.T, seed int64)) {
 	count, from := 2000, int64(1)
 	for name, set := range map[string]func(int){"SFLIGHT_SCHEDULES": func(n int) { count = n }, "SFLIGHT_SEED": func(n int) { from = int64(n) }} {
@@ -494,335 +508,5 @@ func eachSchedule(t *testing.T, play func(t *testing.T, seed int64)) {
 	}
 	for seed := from; seed < from+int64(count); seed++ {
 		play(t, seed)
-	}
-}
-
-// A scheduler that stops the first goroutine that yields once it is armed.
-type stopper struct {
-	armed            atomic.Int32
-	stopped, release chan struct{}
-}
-
-func (s *stopper) yield(blocked bool) {
-	if blocked {
-		time.Sleep(time.Millisecond)
-	} else if s.armed.CompareAndSwap(1, 2) {
-		close(s.stopped)
-		<-s.release
-	}
-}
-
-func (s *stopper) spawn(do func()) { go do() }
-func (s *stopper) index() uint     { return 0 }
-
-// A leader is stopped between its mark and its settling. Nobody has a newer result meanwhile and then joins the older call.
-func TestSettlingIsNotEnded(t *testing.T) {
-	schedule, schedulesHash = nil, 1
-	p := newPool(sizes{places: 64, callers: 2, fixed: true, fixedCallers: true, generations: generations})
-	var g Group
-	g.made.Store(p)
-	s := &stopper{stopped: make(chan struct{}), release: make(chan struct{})}
-	schedule = s
-	defer func() { schedule = nil }()
-	old := g.DoChan("key", func() (any, error) { s.armed.Store(1); return 1, nil })
-	<-s.stopped
-	// The other caller leads a call at another slot.
-	end := make(chan struct{})
-	leads := g.Stats().Leads
-	var busy <-chan Result
-	for i := 0; busy == nil; i++ {
-		other := fmt.Sprint("other-", i)
-		if it := p.look(p.now.Load(), p.keyed(other)); it != foreign {
-			busy = g.DoChan(other, func() (any, error) { <-end; return nil, nil })
-		}
-	}
-	if st := g.Stats(); st.Leads != leads+1 {
-		t.Fatal("it leads", st)
-	}
-	newer := make(chan any, 1)
-	go func() {
-		v, _, _ := g.Do("key", func() (any, error) { return 2, nil })
-		newer <- v
-	}()
-	var first any
-	select {
-	case first = <-newer:
-	case <-time.After(100 * time.Millisecond):
-	}
-	close(end)
-	<-busy
-	if first == nil {
-		// It waits for the older call's end, as it should.
-		close(s.release)
-		<-newer
-		<-old
-		return
-	}
-	second := make(chan any, 1)
-	go func() {
-		v, _, _ := g.Do("key", func() (any, error) { return 3, nil })
-		second <- v
-	}()
-	time.Sleep(50 * time.Millisecond)
-	close(s.release)
-	if v := <-second; v.(int) < first.(int) {
-		t.Error("an answer went back", first, v)
-	}
-	<-old
-}
-
-// A scheduler that stops each goroutine of some at one of its yields.
-type stops struct {
-	mu sync.Mutex
-	by map[string]*stop // by the goroutine's name
-}
-
-type stop struct {
-	left             int // how many yields are before it
-	stopped, release chan struct{}
-}
-
-// Stops the goroutine that calls it.
-func (s *stops) stopMe(at *stop) {
-	s.mu.Lock()
-	defer s.mu.Unlock()
-	s.by[goroutine()] = at
-}
-
-func (s *stops) yield(blocked bool) {
-	if blocked {
-		time.Sleep(time.Millisecond)
-		return
-	}
-	s.mu.Lock()
-	at := s.by[goroutine()]
-	stops := at != nil && at.left == 0
-	if at != nil {
-		at.left--
-	}
-	s.mu.Unlock()
-	if stops {
-		close(at.stopped)
-		<-at.release
-	}
-}
-
-func (s *stops) spawn(do func()) { go do() }
-func (s *stops) index() uint     { return 0 }
-
-func stopAt(yields int) *stop {
-	stopped, release := chans()
-	return &stop{yields, stopped, release}
-}
-
-// Whether it is soon closed.
-func isDone(done <-chan struct{}) bool {
-	select {
-	case <-done:
-		return true
-	case <-time.After(20 * time.Millisecond):
-		return false
-	}
-}
-
-// A group whose goroutines stop.
-func openStopped(callers uint32) (*Group, *stops) {
-	g, s := new(Group), &stops{by: map[string]*stop{}}
-	g.made.Store(newPool(sizes{places: 64, callers: callers, fixed: true, fixedCallers: true, generations: generations}))
-	schedule, schedulesHash = s, 1
-	return g, s
-}
-
-// A joiner that has its letter before the leader has told how many joined counts them itself: those of
-// this call, and not of the one that the leader's caller led before.
-func TestJoinersWhileSettling(t *testing.T) {
-	defer func() { schedule = nil }()
-	early := 0
-	for at := 0; ; at++ {
-		g, s := openStopped(3)
-		started, release := chans()
-		all := []<-chan Result{g.DoChan("key", heldAny(1, started, release))}
-		begun(t, started)
-		all = append(all, g.DoChan("key", value(2)), g.DoChan("key", value(2)))
-		close(release)
-		for _, ch := range all {
-			if r := receive(t, ch); r.Joiners != 2 {
-				t.Error("the call before", at, r)
-			}
-		}
-		leader := stopAt(at)
-		started, release = chans()
-		led := g.DoChan("key", func() (any, error) {
-			close(started)
-			<-release
-			s.stopMe(leader)
-			return 3, nil
-		})
-		begun(t, started)
-		joined := g.DoChan("key", value(4))
-		close(release)
-		var first, last Result
-		select {
-		case <-leader.stopped:
-			select {
-			case last = <-joined:
-				early++
-				close(leader.release)
-			case <-time.After(50 * time.Millisecond):
-				close(leader.release)
-				last = receive(t, joined)
-			}
-			first = receive(t, led)
-		case first = <-led:
-			// It has settled its call in fewer yields.
-			last = receive(t, joined)
-			at = -1
-		}
-		if first.Joiners != 1 || last.Joiners != 1 || last.Val != 3 {
-			t.Error("one joiner", at, first, last)
-		}
-		g.Close()
-		if at < 0 {
-			break
-		}
-	}
-	if early == 0 {
-		t.Error("no joiner had its letter while the leader stood")
-	}
-}
-
-// A joiner, and one who forgets the call if it is unshared, are stopped at each of their yields, and the
-// joiner goes on first, while the call is settled. Where the call was closed as unshared the joiner has
-// another result, and where the joiner has its result the leader is told so.
-func TestForgetUnsharedWhileSettling(t *testing.T) {
-	defer func() { schedule = nil }()
-	closed, waits := 0, false
-	for i := 0; !waits; i++ {
-		for j, isOver := 0, false; !isOver; j++ {
-			g, s := openStopped(3)
-			joins, forgets := stopAt(i), stopAt(j)
-			started, release := chans()
-			led := g.DoChan("key", heldAny(1, started, release))
-			begun(t, started)
-			joined, forgotten := make(chan any, 1), make(chan struct{})
-			go func() {
-				s.stopMe(joins)
-				v, _, _ := g.Do("key", value(2))
-				joined <- v
-			}()
-			// Without a stop it waits for its result.
-			waits = !isDone(joins.stopped)
-			go func() {
-				s.stopMe(forgets)
-				g.ForgetUnshared("key")
-				close(forgotten)
-			}()
-			// Without a stop it is over, or waits for the joiner.
-			isOver = !isDone(forgets.stopped)
-			close(release)
-			// The leader settles the call, and may wait for who forgets then.
-			time.Sleep(5 * time.Millisecond)
-			close(joins.release)
-			var v any
-			select {
-			case v = <-joined:
-			case <-time.After(20 * time.Millisecond):
-			}
-			close(forgets.release)
-			came(t, forgotten)
-			if v == nil {
-				v = came(t, joined)
-			}
-			r := receive(t, led)
-			if st := g.Stats(); st.Closed > 0 {
-				closed++
-				if v == 1 {
-					t.Error("it was closed as unshared, and a joiner has its result", i, j, st)
-				}
-			}
-			if v == 1 && !r.Shared {
-				t.Error("a joiner has its result, and the leader is told of none", i, j)
-			}
-			g.Close()
-		}
-	}
-	if closed == 0 {
-		t.Error("no call was closed")
-	}
-}
-
-// A leader of an old epoch is stopped at each of its yields while it settles its call. A caller that has joined it, and has
-// its result then, asks again in the new epoch, where the key's call waits for the older one. It has another result.
-func TestLateWhileSettling(t *testing.T) {
-	defer func() { schedule = nil }()
-	early, at := 0, 0
-	for joins, isOver := 0, false; !isOver; {
-		g, s := openStopped(8)
-		leader, joiner := stopAt(at), stopAt(joins)
-		started, release := chans()
-		led := g.DoChan("key", func() (any, error) {
-			close(started)
-			<-release
-			s.stopMe(leader)
-			return 1, nil
-		})
-		begun(t, started)
-		got := make(chan any, 2)
-		go func() {
-			s.stopMe(joiner)
-			v, _, _ := g.Do("key", value(2))
-			got <- v
-			v, _, _ = g.Do("key", value(3))
-			got <- v
-		}()
-		came(t, joiner.stopped)
-		if g.Stats().Joins == 0 {
-			// It is stopped when it has joined, and has not looked for its letter.
-			joins++
-			close(joiner.release)
-			close(leader.release)
-			close(release)
-			receive(t, led)
-			g.Close()
-			continue
-		}
-		p := g.pool()
-		p.lock()
-		p.replace(p.size, true)
-		p.mu.Unlock()
-		waiting := g.DoChan("key", value(4))
-		close(release)
-		var r Result
-		select {
-		case <-leader.stopped:
-		case r = <-led:
-			// It has settled its call in fewer yields.
-			isOver = true
-		}
-		close(joiner.release)
-		var first any
-		if !isOver {
-			select {
-			case first = <-got:
-				early++
-				// It asks again meanwhile.
-				time.Sleep(5 * time.Millisecond)
-			case <-time.After(20 * time.Millisecond):
-			}
-			close(leader.release)
-			r = receive(t, led)
-		}
-		if first == nil {
-			first = came(t, got)
-		}
-		if second := came(t, got); r.Val != 1 || first == 1 && second == 1 {
-			t.Error("it knew the result", at, first, second)
-		}
-		receive(t, waiting)
-		g.Close()
-		at++
-	}
-	if early == 0 {
-		t.Error("nobody had the result while the leader stood")
 	}
 }

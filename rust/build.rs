@@ -1,5 +1,5 @@
-//! Chooses the body of the group. On Linux on x86-64 it links the static library: the one at the
-//! path `SFLIGHT_LIB`, or else the one in `native`. On other platforms, and with `--cfg
+//! Chooses the body of the group. On Linux on x86-64 and arm64 it links the static library: the one
+//! at the path `SFLIGHT_LIB`, or else the one in `native`. On other platforms, and with `--cfg
 //! singleflight_plain`, it links nothing, and the crate runs plain Rust.
 
 use std::env::{var, var_os};
@@ -13,9 +13,6 @@ mod sha256;
 /// number in the head of an object file.
 const LIBRARIES: [(&str, &str, u16); 2] =
     [("x86_64", "x86_64-linux-gnu", 62), ("aarch64", "aarch64-linux-gnu", 183)];
-
-/// The processors for which the crate links it.
-const LINKED: [&str; 1] = ["x86_64"];
 
 /// What stands before the version in a library. A NUL ends it.
 const VERSION: &[u8] = b"sflight-version ";
@@ -32,7 +29,7 @@ fn main() {
         return;
     };
     println!("cargo::rustc-cfg=sflight_schedules");
-    if !LINKED.contains(&library.0) || var_os("CARGO_CFG_SINGLEFLIGHT_PLAIN").is_some() {
+    if var_os("CARGO_CFG_SINGLEFLIGHT_PLAIN").is_some() {
         return;
     }
     println!("cargo::rustc-cfg=sflight_library");

@@ -1,5 +1,6 @@
-/* Times of the calls of sflight.h and of sflight_do.h, the least of some rounds; tools/figures runs it. */
+/* Times of the calls of sflight.h, sflight_do.h and sflight_cache.h, the least of some rounds; tools/figures runs it. */
 #include "sflight.h"
+#include "sflight_cache.h"
 #include "sflight_do.h"
 #include <pthread.h>
 #include <stdio.h>
@@ -21,22 +22,36 @@ static void check(bool holds) {
     if (!holds) abort();
 }
 
-/* Nanoseconds of an sflight_ask that leads, with its sflight_finish. */
-static double pair(sflight_slot *slot, const uint8_t *key, size_t len) {
+/* A handle of a group, and a call. */
+struct caller {
+    sflight_handle handle;
+    sflight_call call;
+};
+
+/* Nanoseconds of an sflight_ask that leads, with its sflight_settle. */
+static double pair(struct caller *caller, const uint8_t *key, size_t len, sflight_stamp *stamp) {
     double from = now();
     for (int n = 0; n < GETS; n++) {
-        sflight_stamp stamp;
-        sflight_answer answer;
-        check(sflight_ask(slot, key, len, 16, &stamp) == SFLIGHT_LED);
-        check(sflight_finish(slot, (uint64_t)n, &answer) == SFLIGHT_DONE);
+        sflight_id id;
+        sflight_audience audience;
+        check(sflight_ask(&caller->handle, &caller->call, key, len, 64, &id, stamp) == SFLIGHT_LED);
+        check(sflight_settle(&caller->handle, &caller->call, (uint64_t)n, &audience) == SFLIGHT_ALONE);
     }
     return (now() - from) / GETS;
 }
 
 /* Nanoseconds of an sflight_is_still. */
-static double still(sflight_slot *slot, const sflight_stamp *stamp, bool answer) {
+static double still(struct caller *caller, const sflight_stamp *stamp, bool answer) {
     double from = now();
-    for (int n = 0; n < GETS; n++) check(sflight_is_still(slot, stamp) == answer);
+    for (int n = 0; n < GETS; n++) check(sflight_is_still(&caller->handle, stamp) == answer);
+    return (now() - from) / GETS;
+}
+
+/* Nanoseconds of an sflight_forget of a key that nobody loads. */
+static double forgets(struct caller *caller, const uint8_t *key, size_t len) {
+    sflight_id id;
+    double from = now();
+    for (int n = 0; n < GETS; n++) check(sflight_forget(&caller->handle, key, len, 64, &id) == SFLIGHT_NOTHING);
     return (now() - from) / GETS;
 }
 
@@ -67,6 +82,30 @@ struct getter {
     pthread_barrier_t *barrier;
     char key[16];
 };
+
+/* What a cache keeps. */
+static void *load_nothing(void *context, const uint8_t *key, size_t len, uint64_t *weight) {
+    (void)key, (void)len, (void)weight;
+    return context;
+}
+
+/* Nanoseconds of an sflight_cache_get that finds its value, with the release. */
+static double hits(void) {
+    int value = 0;
+    sflight_cache_options options = {.limit = 100, .entries = 100, .load = load_nothing, .context = &value};
+    sflight_cache *cache = sflight_cache_open(&options);
+    sflight_value got;
+    check(cache && sflight_cache_get(cache, (const uint8_t *)"key-0", 5, &got) == SFLIGHT_CACHE_LOADED);
+    sflight_cache_release(cache, &got);
+    double from = now();
+    for (int n = 0; n < GETS; n++) {
+        check(sflight_cache_get(cache, (const uint8_t *)"key-0", 5, &got) == SFLIGHT_CACHE_HIT);
+        sflight_cache_release(cache, &got);
+    }
+    double took = (now() - from) / GETS;
+    sflight_cache_close(cache);
+    return took;
+}
 
 static void *get_all(void *at) {
     struct getter *getter = at;
@@ -107,7 +146,7 @@ static void recorded(int threads) {
     uint64_t events = 0, lost = 0;
     for (int round = 0; round < ROUNDS; round++) {
         sflight_recorded recorded;
-        sflight_pool *pool = sflight_do_open(NULL, NULL);
+        sflight_pool *pool = sflight_do_open(0, NULL);
         check(pool != NULL);
         without[round] = gets(pool, threads);
         check(sflight_do_record(pool, discard, NULL) == SFLIGHT_DO_DONE);
@@ -127,25 +166,27 @@ int main(void) {
     static const size_t lengths[] = {8, 16, 32, 64, 128, 250, 1000};
     enum { KEYS = sizeof lengths / sizeof *lengths };
     uint64_t seeds[2];
-    sflight_stamp none = {0};
-    sflight_answer answer;
+    sflight_stamp old, stamp = {0, 0, 0};
     uint8_t key[1000];
-    double pairs[KEYS] = {0}, yes = 0, no = 0;
-    sflight_slot slot = SFLIGHT_SLOT_NONE;
+    double pairs[KEYS] = {0}, yes = 0, no = 0, forgotten = 0, hit = 0;
+    struct caller caller = {SFLIGHT_HANDLE_NONE, SFLIGHT_CALL_NONE};
     memset(key, 'k', sizeof key);
     check(getrandom(seeds, sizeof seeds, 0) == sizeof seeds);
-    check(sflight_open(&slot, 1048576, 16, seeds[0], seeds[1]) == SFLIGHT_DONE);
+    check(sflight_open(&caller.handle, 64, seeds[0], seeds[1]) == SFLIGHT_DONE && sflight_make(&caller.handle, &caller.call) == SFLIGHT_DONE);
     for (int round = 0; round < ROUNDS; round++) {
-        for (int i = 0; i < KEYS; i++) least(&pairs[i], pair(&slot, key, lengths[i]));
-        sflight_stamp stamp;
-        check(sflight_ask(&slot, key, lengths[0], 16, &stamp) == SFLIGHT_LED);
-        check(sflight_finish(&slot, 0, &answer) == SFLIGHT_DONE);
-        least(&yes, still(&slot, &answer.stamp, true));
-        least(&no, still(&slot, &none, false));
+        for (int i = KEYS - 1; i >= 0; i--) least(&pairs[i], pair(&caller, key, lengths[i], &stamp));
+        least(&yes, still(&caller, &stamp, true));
+        old = stamp;
+        least(&forgotten, forgets(&caller, key, lengths[0]));
+        least(&no, still(&caller, &old, false));
+        least(&hit, hits());
     }
-    for (int i = 0; i < KEYS; i++) printf("sflight_ask and sflight_finish, a key of %zu bytes: %.0f ns\n", lengths[i], pairs[i]);
+    for (int i = 0; i < KEYS; i++) printf("sflight_ask and sflight_settle, a key of %zu bytes: %.0f ns\n", lengths[i], pairs[i]);
     printf("sflight_is_still: %.1f ns, yes; %.1f ns, no\n", yes, no);
-    sflight_close(&slot);
+    printf("sflight_forget: %.1f ns\n", forgotten);
+    printf("sflight_cache_get, a hit, and sflight_cache_release: %.1f ns\n", hit);
+    check(sflight_free(&caller.call) == SFLIGHT_DONE);
+    sflight_close(&caller.handle);
     recorded(1);
     recorded(4);
     return 0;

@@ -2,7 +2,8 @@
 #   sflight::sflight  the static library, with its header
 #   sflight::shared   the shared library, with its header, where it is installed
 #   sflight::do       sflight_do.c, which blocks, over the static library
-#   sflight::cache    sflight_cache.c, the cache for threads, over the static library
+#   sflight::record   sflight_record.c, which records what that does, and sflight::do
+#   sflight::cache    sflight_cache.c, the cache for threads, and sflight::do
 # It lies in the archive, and tools/install and the Debian package put it beside the library.
 
 # The processor of the library beside this file, where that is installed. In the archive it is empty:
@@ -52,10 +53,12 @@ elseif(NOT TARGET sflight::sflight)
       IMPORTED_LOCATION "${_sflight_lib}/libsflight.so"
       INTERFACE_INCLUDE_DIRECTORIES "${_sflight_include}")
   endif()
-  foreach(_sflight_part do cache)
+  set(_sflight_below "sflight::sflight;Threads::Threads")
+  foreach(_sflight_part do record cache)
     add_library(sflight::${_sflight_part} INTERFACE IMPORTED)
     set_target_properties(sflight::${_sflight_part} PROPERTIES
       INTERFACE_SOURCES "${_sflight_share}/sflight_${_sflight_part}.c"
-      INTERFACE_LINK_LIBRARIES "sflight::sflight;Threads::Threads")
+      INTERFACE_LINK_LIBRARIES "${_sflight_below}")
+    set(_sflight_below "sflight::do")
   endforeach()
 endif()

@@ -4,7 +4,7 @@
  *
  *     cache_server PORT     on 127.0.0.1; port 0 is one that is free, and is printed
  *
- * Built and run by tools/check, with c/sflight_cache.c. */
+ * Built and run by tools/check, with c/sflight_cache.c and c/sflight_do.c. */
 #include "sflight_cache.h"
 #include <arpa/inet.h>
 #include <pthread.h>
@@ -52,7 +52,7 @@ static void answer(int client, const char *status, const char *body) {
     }
 }
 
-static void serve(sflight_reader *reader, int client) {
+static void serve(int client) {
     char text[REQUEST];
     size_t len = 0;
     /* A client that sends nothing for a second is let go. */
@@ -70,12 +70,12 @@ static void serve(sflight_reader *reader, int client) {
     }
     if (strcmp(method, "POST") == 0) {
         atomic_fetch_add(&revision, 1);
-        sflight_cache_forget(reader, (const uint8_t *)name, strlen(name));
+        sflight_cache_forget(cache, (const uint8_t *)name, strlen(name));
         answer(client, "200 OK", "written\n");
         return;
     }
     sflight_value page;
-    int code = sflight_cache_get(reader, (const uint8_t *)name, strlen(name), &page);
+    int code = sflight_cache_get(cache, (const uint8_t *)name, strlen(name), &page);
     if (code > SFLIGHT_CACHE_JOINED) {
         answer(client, "503 Service Unavailable", "the page could not be made\n");
         return;
@@ -86,10 +86,7 @@ static void serve(sflight_reader *reader, int client) {
 
 static void *work(void *unused) {
     (void)unused;
-    sflight_reader *reader = sflight_cache_enter(cache);
-    if (!reader) abort();
-    for (int client; (client = accept(listener, NULL, NULL)) >= 0; close(client)) serve(reader, client);
-    sflight_cache_leave(reader);
+    for (int client; (client = accept(listener, NULL, NULL)) >= 0; close(client)) serve(client);
     return NULL;
 }
 
@@ -99,7 +96,7 @@ int main(int count, char **words) {
     address.sin_port = htons((uint16_t)(count > 1 ? atoi(words[1]) : 8080));
     signal(SIGPIPE, SIG_IGN);
     cache = sflight_cache_open(&(sflight_cache_options){
-        .limit = 64 << 20, .entries = 100000, .readers = WORKERS, .load = make_page, .drop = drop_page});
+        .limit = 64 << 20, .entries = 100000, .load = make_page, .drop = drop_page});
     listener = socket(AF_INET, SOCK_STREAM, 0);
     if (!cache || listener < 0 || bind(listener, (struct sockaddr *)&address, size) || listen(listener, 128)
         || getsockname(listener, (struct sockaddr *)&address, &size)) {

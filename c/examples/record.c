@@ -1,9 +1,11 @@
 /* Puts a pool of sflight_do.h under load, with Forgets, timeouts and loads that ask for other keys, and records it in a file:
  *
- *     record LOG [ROUNDS [POOL [SEED]]]
+ *     record LOG [ROUNDS [LOADS [SEED]]]
  *     ./sfctl merge LOG | ./sfctl check --timed
  *
- * ROUNDS is how many calls and Forgets each thread makes (100), and POOL one of those below (0). */
+ * ROUNDS is how many calls and Forgets each thread makes (100), and LOADS what the pool is opened for
+ * (0, loads is the usual size; one that is opened for 1 grows). It is built with c/sflight_do.c and
+ * c/sflight_record.c. */
 #include "sflight_do.h"
 #include <pthread.h>
 #include <sched.h>
@@ -13,10 +15,6 @@
 #include <time.h>
 
 enum { THREADS = 8, KEYS = 6 };
-
-/* The usual one; too few callers; keys that share slots; callers that are spent; and one that grows from the least size. */
-static const sflight_do_sizes pools[] = {
-    {0}, {.callers = 2, .is_fixed = true}, {.slots = 2, .callers = 16, .is_fixed = true}, {.slots = 16, .callers = 4, .is_fixed = true, .calls = 9}, {.slots = 1, .callers = 1}};
 
 static sflight_pool *pool;
 static long rounds = 100;
@@ -45,7 +43,7 @@ static uint64_t load(void *context, const uint8_t *name, size_t len) {
 }
 
 static size_t name_of(int key, char name[80]) {
-    return (size_t)snprintf(name, 80, "%.*skey %d", key % 3 * 25, "a long key, of which the library has a digest ...", key);
+    return (size_t)snprintf(name, 80, "%.*skey %d", key % 3 * 25, "a long key of a recording, loads stands as it is ..", key);
 }
 
 static void ask(int key, unsigned *seed) {
@@ -85,16 +83,16 @@ static int fails(const char *what) {
 int main(int count, char **words) {
     pthread_t threads[THREADS];
     sflight_recorded recorded;
-    unsigned long which = 0;
+    unsigned long loads = 0;
     if (count > 2) rounds = atol(words[2]);
-    if (count > 3) which = strtoul(words[3], NULL, 10);
+    if (count > 3) loads = strtoul(words[3], NULL, 10);
     if (count > 4) first_seed = (unsigned)strtoul(words[4], NULL, 10);
-    if (count < 2 || rounds < 1 || which >= sizeof pools / sizeof *pools) {
-        fputs("usage: record LOG [ROUNDS [POOL [SEED]]]\n", stderr);
+    if (count < 2 || rounds < 1 || loads > SFLIGHT_MOST_CELLS) {
+        fputs("usage: record LOG [ROUNDS [LOADS [SEED]]]\n", stderr);
         return 2;
     }
     FILE *file = fopen(words[1], "w");
-    pool = sflight_do_open(&pools[which], NULL);
+    pool = sflight_do_open((uint32_t)loads, NULL);
     if (!file || !pool) return fails("no file or no pool");
     int code = sflight_do_record(pool, write_file, file);
     if (code != SFLIGHT_DO_DONE) return fails("the recording has not begun");
@@ -104,10 +102,9 @@ int main(int count, char **words) {
     for (size_t i = 0; i < THREADS; i++) pthread_join(threads[i], NULL);
     sflight_do_stop(pool, &recorded);
     if (recorded.failed != 0 || fclose(file) != 0) return fails("the log is not written");
-    sflight_do_stats stats = sflight_do_statistics(pool);
-    printf("%llu events, %llu lost; %llu loads in calls of the library and %llu beside it, %llu joins, %llu epochs\n", (unsigned long long)recorded.events,
-           (unsigned long long)recorded.lost, (unsigned long long)stats.leads, (unsigned long long)stats.alone, (unsigned long long)stats.joins,
-           (unsigned long long)stats.epochs);
+    sflight_stats stats = sflight_do_statistics(pool);
+    printf("%llu events, %llu lost; %llu loads, %llu joins, %llu Forgets\n", (unsigned long long)recorded.events, (unsigned long long)recorded.lost,
+           (unsigned long long)stats.loads, (unsigned long long)stats.joins, (unsigned long long)stats.forgets);
     sflight_do_close(pool);
     return recorded.events > 0 && recorded.lost == 0 ? 0 : 1;
 }

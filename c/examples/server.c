@@ -1,5 +1,5 @@
 /* A server's load path: worker threads get keys from a store behind a cache. Of the threads that miss one key at one time one loads, and
- * after an update no thread gets the old value. It ends with 0 where none did, and every caller of the library is free again.
+ * after an update no thread gets the old value. It ends with 0 where none did, and every call has ended.
  * Built and run by tools/check, with c/sflight_do.c. */
 #include "sflight_do.h"
 #include <pthread.h>
@@ -8,8 +8,8 @@
 #include <stdlib.h>
 #include <time.h>
 
-#ifndef SLOTS
-#define SLOTS 0 /* as many as are usual */
+#ifndef LOADS
+#define LOADS 0 /* as many at one time as are usual */
 #endif
 
 enum { WORKERS = 4, KEYS = 8, REQUESTS = 2000 };
@@ -33,6 +33,19 @@ static size_t name_of(unsigned key, char name[16]) {
 
 static uint64_t load(void *context, const uint8_t *name, size_t len);
 
+/* The thread that loaded the value calls this before the next load of the key can begin, so that no
+ * older value takes the place of a newer one. */
+static void keep(void *context, const uint8_t *name, size_t len, uint64_t value,
+                 const sflight_do_stamp *stamp) {
+    struct page *page = &cache[*(unsigned *)context];
+    (void)name;
+    (void)len;
+    pthread_mutex_lock(&page->lock);
+    page->value = value;
+    page->stamp = *stamp;
+    pthread_mutex_unlock(&page->lock);
+}
+
 /* The value of the key: from the cache, loaded here, or by the worker that is loading it already. */
 static uint64_t get(unsigned key) {
     char name[16];
@@ -45,16 +58,10 @@ static uint64_t get(unsigned key) {
         atomic_fetch_add(&hits, 1);
         return got.value;
     }
-    int code = sflight_do(pool, (const uint8_t *)name, len, load, &key, SFLIGHT_DO_FOREVER, &got);
+    int code = sflight_do_and_keep(pool, (const uint8_t *)name, len, load, keep, &key,
+                                   SFLIGHT_DO_FOREVER, &got);
     if (code != SFLIGHT_DO_DONE) abort();
     atomic_fetch_add(got.led ? &loads : &joined, 1);
-    /* Where the key was forgotten meanwhile, the value may be older than that. */
-    if (sflight_do_is_still(pool, &got.stamp)) {
-        pthread_mutex_lock(&page->lock);
-        page->value = got.value;
-        page->stamp = got.stamp;
-        pthread_mutex_unlock(&page->lock);
-    }
     return got.value;
 }
 
@@ -97,8 +104,7 @@ static void *serve(void *at) {
 int main(void) {
     pthread_t threads[WORKERS];
     size_t stale = 0;
-    const sflight_do_sizes sizes = {.slots = SLOTS, .is_fixed = true};
-    pool = sflight_do_open(SLOTS == 0 ? NULL : &sizes, NULL);
+    pool = sflight_do_open(LOADS, NULL);
     if (!pool) return 1;
     for (int i = 0; i < KEYS; i++) if (pthread_mutex_init(&cache[i].lock, NULL)) return 1;
     for (int i = 0; i < WORKERS; i++) if (pthread_create(&threads[i], NULL, serve, (void *)(size_t)i)) return 1;
@@ -107,8 +113,8 @@ int main(void) {
         pthread_join(threads[i], &count);
         stale += (size_t)count;
     }
-    sflight_do_stats stats = sflight_do_statistics(pool);
-    printf("hits %u, loads %u (%u beside), joined %u, stale %zu\n", atomic_load(&hits), atomic_load(&loads), (unsigned)stats.alone, atomic_load(&joined), stale);
+    sflight_stats stats = sflight_do_statistics(pool);
+    printf("hits %u, loads %u, joined %u, stale %zu\n", atomic_load(&hits), atomic_load(&loads), atomic_load(&joined), stale);
     bool is_well = stale == 0 && stats.in_use == 0 && atomic_load(&hits) > 0;
     sflight_do_close(pool);
     for (int i = 0; i < KEYS; i++) pthread_mutex_destroy(&cache[i].lock);

@@ -1,14 +1,15 @@
-/* Schedules of sflight_cache.c: threads whose steps are in an order that a number draws, which get few keys
- * of few hash slots, with nested loads, loads that fail, Forgets (also by a reader that loads) and readers
- * that have no caller. One load of a key runs at a time, unless a Forget came between; nothing is older than
- * a Forget that had returned, nor than what a get had returned before it was asked for.
+/* Schedules of sflight_cache.c: threads whose steps are in an order that a number draws, which get few keys,
+ * with nested loads, loads that fail, drop functions that get, and Forgets, also in a load. One load of a key
+ * runs at a time, unless a Forget came between; nothing is older than a Forget that had returned, nor than
+ * what a get had returned before it was asked for.
  * usage: cache_schedules_test [NUMBER [COUNT]], the first schedule and how many. */
 #include "schedules.h"
 
 #include "sflight_cache.c"
+#include "sflight_do.c"
 
 #ifndef SCHEDULES
-#define SCHEDULES 3000
+#define SCHEDULES 20000
 #endif
 
 enum { KEYS = 4, DEPTH = 3, MOST_RUNNING = 64 };
@@ -34,7 +35,7 @@ static struct key {
     int count;
 } keys[KEYS] = {
     {.name = "k", .len = 1}, {.name = "k\0", .len = 2}, {.name = "another", .len = 7},
-    {.name = "a long key, which the library keeps on the heap", .len = 47},
+    {.name = "a long key, of more than forty bytes, as it is.", .len = 47},
 };
 
 struct value {
@@ -43,17 +44,16 @@ struct value {
 };
 
 static sflight_cache *cache;
-static sflight_reader *readers[MOST_ACTORS][DEPTH];
 static int live, depths[MOST_ACTORS], loaded[MOST_ACTORS][DEPTH];
 static int most[MOST_ACTORS]; /* the greatest key that the actor is loading, or -1 */
 static bool drops_get, is_in_drop[MOST_ACTORS];
 static uint64_t ended_at[MOST_ACTORS][DEPTH];
-static uint64_t ticks, hits, loads, joins, alone, doubles, stale, backward, refused;
+static uint64_t ticks, hits, loads, joins, evicted, doubles, stale, backward, refused;
 static unsigned rounds, forgetting;
 static bool fails;
 
-static void ask(int number);
-static void forgets(int number, sflight_reader *reader);
+static void ask_for(int number);
+static void forgets(int number);
 
 static void *load(void *context, const uint8_t *name, size_t len, uint64_t *weight) {
     (void)context;
@@ -73,10 +73,10 @@ static void *load(void *context, const uint8_t *name, size_t len, uint64_t *weig
     most[actor] = number;
     if (depth + 1 < DEPTH && other < KEYS && random_below(2) == 0) {
         depths[actor]++;
-        ask(other);
+        ask_for(other);
         depths[actor]--;
     }
-    if (random_below(6) == 0) forgets((int)random_below(KEYS), readers[actor][depth]);
+    if (random_below(6) == 0) forgets((int)random_below(KEYS));
     most[actor] = before;
     for (int i = 0; i < key->count; i++) {
         if (key->running[i].moment == moment) key->running[i] = key->running[--key->count];
@@ -94,28 +94,27 @@ static void drop(void *context, void *value) {
     live--;
     ((struct value *)value)->key = -1;
     free(value);
-    /* A drop function may get values too, by another reader: any, once what its thread loads is over. */
+    /* A drop function may get values too: any, once what its thread loads is over. */
     if (actor < 0 || !drops_get || is_in_drop[actor] || depths[actor] + 1 == DEPTH || random_below(4)) return;
     int other = most[actor] + 1 + (int)random_below(KEYS);
     if (other >= KEYS) return;
     is_in_drop[actor] = true;
     depths[actor]++;
-    ask(other);
+    ask_for(other);
     depths[actor]--;
     is_in_drop[actor] = false;
 }
 
-static void ask(int number) {
+static void ask_for(int number) {
     struct key *key = &keys[number];
     int depth = depths[actor];
-    sflight_reader *reader = readers[actor][depth];
     uint64_t least = key->forgotten, newest = key->newest, ended = key->newest_ended, asked = key->ended;
     sflight_value value;
     int code = SFLIGHT_CACHE_HIT;
     loaded[actor][depth] = number;
     ended_at[actor][depth] = asked;
-    if (random_below(4) > 0) code = sflight_cache_get(reader, (const uint8_t *)key->name, key->len, &value);
-    else if (!sflight_cache_peek(reader, (const uint8_t *)key->name, key->len, &value)) return;
+    if (random_below(4) > 0) code = sflight_cache_get(cache, (const uint8_t *)key->name, key->len, &value);
+    else if (!sflight_cache_peek(cache, (const uint8_t *)key->name, key->len, &value)) return;
     if (code > SFLIGHT_CACHE_JOINED) {
         refused += code != SFLIGHT_CACHE_FAILED || !fails;
         return;
@@ -126,8 +125,8 @@ static void ask(int number) {
     joins += code == SFLIGHT_CACHE_JOINED;
     stale += moment < least || got->key != number;
     backward += moment < newest && key->begun == ended;
-    /* What was joined was not there before. */
-    backward += code != SFLIGHT_CACHE_HIT && moment <= newest && key->begun == ended;
+    /* What was loaded was not there before. What was joined may have been found in the cache already, where it was kept before it was settled. */
+    backward += code == SFLIGHT_CACHE_LOADED && moment <= newest && key->begun == ended;
     if (moment > key->newest) {
         key->newest = moment;
         key->newest_ended = asked;
@@ -136,12 +135,12 @@ static void ask(int number) {
     sflight_cache_release(cache, &value);
 }
 
-static void forgets(int number, sflight_reader *reader) {
+static void forgets(int number) {
     bool is_all = random_below(4) == 0;
     uint64_t began = ++ticks;
     for (int i = 0; i < KEYS; i++) keys[i].begun += is_all || i == number;
-    if (is_all) sflight_cache_forget_all(reader);
-    else sflight_cache_forget(reader, (const uint8_t *)keys[number].name, keys[number].len);
+    if (is_all) sflight_cache_forget_all(cache);
+    else sflight_cache_forget(cache, (const uint8_t *)keys[number].name, keys[number].len);
     for (int i = 0; i < KEYS; i++) {
         if (!is_all && i != number) continue;
         if (keys[i].forgotten < began) keys[i].forgotten = began;
@@ -150,217 +149,174 @@ static void forgets(int number, sflight_reader *reader) {
 }
 
 static void acts_at_random(int number) {
+    (void)number;
     for (unsigned i = 0; i < rounds; i++) {
         int key = (int)random_below(random_below(2) ? 2 : KEYS);
-        if (random_below(forgetting) == 0) forgets(key, readers[number][0]);
-        else ask(key);
+        if (random_below(forgetting) == 0) forgets(key);
+        else ask_for(key);
     }
 }
 
-static void open_cache(sflight_cache_load *by, uint64_t limit) {
-    uint32_t count = (uint32_t)play.actors * DEPTH;
-    cache = sflight_cache_open(&(sflight_cache_options){
-        .limit = limit, .entries = 8, .readers = count, .load = by, .drop = drop});
+static void open_cache(sflight_cache_load *by, uint64_t limit, uint32_t entries) {
+    cache = sflight_cache_open(&(sflight_cache_options){.limit = limit, .entries = entries, .loads = 1, .load = by, .drop = drop});
     if (!cache) abort();
-    if (few_places) cache->places = few_places;
     for (int i = 0; i < KEYS; i++) keys[i] = (struct key){.name = keys[i].name, .len = keys[i].len};
-    for (int i = 0; i < play.actors; i++) {
-        for (int j = 0; j < DEPTH; j++) {
-            readers[i][j] = sflight_cache_enter(cache);
-            if (!readers[i][j]) abort();
-        }
-    }
-}
-
-static sflight_cache_stats leave_readers(void) {
-    for (int i = 0; i < play.actors; i++)
-        for (int j = 0; j < DEPTH; j++) sflight_cache_leave(readers[i][j]);
-    return sflight_cache_statistics(cache);
 }
 
 static void play_at_random(uint64_t number) {
     begin_play(number, 2 + (int)(number % (MOST_ACTORS - 1)));
-    uint32_t count = (uint32_t)play.actors * DEPTH;
-    few_places = 1 + random_below(3);
-    few_callers = random_below(3) == 0 ? 1 + random_below(count) : 0;
     rounds = 1 + random_below(6);
     forgetting = 2 + random_below(10);
     fails = random_below(3) == 0;
     for (int i = 0; i < MOST_ACTORS; i++) most[i] = -1;
     drops_get = true;
-    open_cache(load, 1 + random_below(5));
+    open_cache(load, 1 + random_below(5), random_below(2) ? 8 : 2 * ENTRIES_PER_SHARD);
     play_all(acts_at_random);
-    sflight_cache_stats stats = leave_readers();
+    sflight_cache_stats stats = sflight_cache_statistics(cache);
     loads += stats.loads;
-    alone += stats.alone;
+    evicted += stats.evictions;
     check(doubles == 0, "one load of a key at a time");
     check(stale == 0, "nothing is older than a Forget that had returned");
     check(backward == 0, "nothing is older than what was returned before");
     check(refused == 0, "no get is refused");
-    bool is_bare = atomic_load(&cache->strangers) == 0;
-    for (int i = 0; i < ALERTS; i++) is_bare = is_bare && atomic_load(&cache->alerts[i]) == 0;
-    check(is_bare, "no caller is left with a leader, and no run stands in the table");
+    check(stats.misses == stats.loads + stats.joins && stats.in_use == 0 && stats.weight <= cache->options.limit, "the counts");
+    check(stats.entries == (uint64_t)live, "what is not in the cache is dropped");
+    for (unsigned i = 0; i < cache->count; i++) check(!cache->shards[i].loading, "no load is listed");
     sflight_cache_close(cache);
     check(live == 0, "each value is dropped once");
     doubles = stale = backward = refused = 0;
     live = 0;
 }
 
-/* The leader B of a key finds a run A of it beside the library, and gives its call up. Before it has, A
- * returns, and gets the key again: it joins B's call, and must neither get what A has returned, nor a
- * failure. `phase` says how far it is:
- * 0: the call of another key is open at the place, and B is about to ask, having seen no run;
- * 1: A runs beside the library;
- * 2: the other key's call is over, and B asks and finds A's run;
- * 3: A has returned 1, the store has 2 now, and A asks again;
- * 4: A has asked, and B goes on. */
 static int phase;
-static bool is_other_led, is_waiting, is_second;
+static bool is_second;
 static uint64_t store;
 
-static bool waits_for_phase(int who, const char *where) {
-    if (who == 1 && strcmp(where, "ask") == 0 && phase < 2) return is_waiting = true;
-    if (who == 1 && strcmp(where, "finish") == 0 && phase < 4) {
-        if (phase == 2) phase = 3;
-        return true;
-    }
-    if (who == 0 && is_second && phase == 3 && strcmp(where, "has asked") == 0) phase = 4;
-    return false;
-}
-
-static void *load_in_order(void *context, const uint8_t *name, size_t len, uint64_t *weight) {
-    (void)context;
-    (void)name;
-    (void)weight;
-    struct value *value = malloc(sizeof *value);
-    if (!value) abort();
-    *value = (struct value){store, 0};
-    live++;
-    if (len > 1) {
-        is_other_led = true;
-        while (phase < 1) point(true);
-    } else if (phase == 0) {
-        phase = 1;
-        while (phase < 3) point(true);
-    }
-    return value;
-}
-
-/* What the actor gets of the key, in its first reader; 0 for a failure. */
+/* What the actor gets of the key; 0 for a failure. */
 static uint64_t get(const char *key) {
     sflight_value value;
-    int code = sflight_cache_get(readers[actor][0], (const uint8_t *)key, strlen(key), &value);
+    int code = sflight_cache_get(cache, (const uint8_t *)key, strlen(key), &value);
     if (code > SFLIGHT_CACHE_JOINED) return 0;
     uint64_t moment = ((struct value *)value.at)->moment;
     sflight_cache_release(cache, &value);
     return moment;
 }
 
-static void joins_a_leader_that_gives_up(int number) {
-    switch (number) {
-    case 0:
-        while (!is_other_led || !is_waiting) point(true);
-        check(get("k") == 1, "the first get has the first value");
-        store = 2;
-        is_second = true;
-        check(get("k") == 2, "who joins a leader that gives up gets nothing that was returned before");
-        phase = 4;
-        break;
-    case 1:
-        check(get("k") >= 1, "the leader gets a value");
-        break;
-    default:
-        check(get("another") == 1, "another key's load");
-        phase = 2;
-    }
-}
-
-static void asks_again(uint64_t number) {
-    begin_play(number, 3);
-    few_places = 1;
-    few_callers = 0;
-    phase = 0;
-    is_other_led = is_waiting = is_second = false;
-    store = 1;
-    drops_get = false;
-    open_cache(load_in_order, 5);
-    play.waits = waits_for_phase;
-    play_all(joins_a_leader_that_gives_up);
-    play.waits = NULL;
-    check(leave_readers().alone == 1, "one load beside the library");
-    sflight_cache_close(cache);
-    check(live == 0, "each value is dropped once");
-}
-
-/* The leader of a call stops right after the library's settling, by which who joined has its letter. That one
- * returns the value, and gets the key again, with the alert of a run of another key or without: it joins nothing.
- * `phase` is 1 once the key is loaded, 2 once the other reader has joined, 3 while the leader stops, and 4 once the
- * key was got again. */
-static bool stops_leader(int who, const char *where) {
-    if (who == 1 && phase == 1 && strcmp(where, "has asked") == 0) phase = 2;
-    /* It does not sleep, since nobody would wake it. */
-    if (who == 1) return phase == 2 && strcmp(where, "poll") == 0;
-    if (strcmp(where, "has finished") != 0) return false;
-    if (phase == 2) phase = 3;
-    return phase == 3;
-}
-
-static void *load_until_joined(void *context, const uint8_t *name, size_t len, uint64_t *weight) {
-    (void)context;
-    (void)name;
-    (void)len;
-    (void)weight;
-    struct value *value = malloc(sizeof *value);
-    if (!value) abort();
-    *value = (struct value){phase == 0 ? 1 : 2, 0};
-    live++;
-    if (phase == 0) phase = 1;
-    while (phase < 2) point(true);
-    return value;
-}
-
-static void settles_slowly(int number) {
-    while (phase < number) point(true);
-    uint64_t got = get("k");
-    check(got == 1, "the value of the call");
-    if (number == 0) return;
-    check(phase == 3 && get("k") == 2, "who has returned the value does not join its call again");
-    phase = 4;
-}
-
-static void settles(uint64_t number, bool is_alerted) {
-    begin_play(number, 2);
-    few_places = 1;
-    few_callers = 0;
-    phase = 0;
-    drops_get = false;
-    open_cache(load_until_joined, 5);
-    atomic_uint *alert = alert_of(cache, fingerprint_of(cache, (const uint8_t *)"k", 1));
-    if (is_alerted) atomic_fetch_add(alert, 1);
-    play.waits = stops_leader;
-    play_all(settles_slowly);
-    play.waits = NULL;
-    sflight_cache_stats stats = leave_readers();
-    check(stats.loads == 2 && stats.joins == 1 && stats.alone == 0, "two loads, and one that joined");
-    sflight_cache_close(cache);
-    check(live == 0, "each value is dropped once");
-}
-
-/* A call is settled, and its value takes the place of another. The drop function of that one gets a key, whose
- * load in another thread waits for the very call. `phase` is 1 once the first key is loaded, and 2 once the other
- * thread has joined its call. */
-static uint64_t get_by(int depth, const char *key) {
-    sflight_value value;
-    int code = sflight_cache_get(readers[actor][depth], (const uint8_t *)key, strlen(key), &value);
-    if (code > SFLIGHT_CACHE_JOINED) return 0;
-    sflight_cache_release(cache, &value);
-    return 1;
-}
-
 static void until(int least) {
     for (int i = 0; phase < least && i < 3000; i++) point(true);
 }
 
+static void play_in_order(uint64_t number, int actors, sflight_cache_load *by, uint64_t limit, bool (*waits)(int, const char *), void (*run)(int)) {
+    begin_play(number, actors);
+    phase = 0;
+    is_second = drops_get = false;
+    store = 1;
+    open_cache(by, limit, 8);
+    play.waits = waits;
+    play_all(run);
+    play.waits = NULL;
+    sflight_cache_close(cache);
+    check(live == 0, "each value is dropped once");
+}
+
+/* A leader stops at one place after its load. Before its call is settled nobody loads the key; once it is, nobody has the older value and comes by
+ * it later. `phase` is 1 once the key is loaded, 2 while the leader stops, and 3 once another thread has got the key. */
+static const char *stopping;
+
+static bool stops_leader(int who, const char *where) {
+    if (who != 0 || phase < 1 || strcmp(where, stopping) != 0) return false;
+    if (phase == 1) phase = 2;
+    return phase < 3;
+}
+
+static struct value *new_value(uint64_t moment, int key) {
+    struct value *value = malloc(sizeof *value);
+    if (!value) abort();
+    *value = (struct value){moment, key};
+    live++;
+    return value;
+}
+
+static void *load_store(void *context, const uint8_t *name, size_t len, uint64_t *weight) {
+    (void)context, (void)name, (void)len, (void)weight;
+    if (phase == 0) phase = 1;
+    return new_value(store, 0);
+}
+
+static void leader_is_slow(int number) {
+    if (number == 0) {
+        check(get("k") == 1, "the leader has its value");
+        return;
+    }
+    until(2);
+    check(phase == 2, "the leader stops");
+    store = 2;
+    /* In every place the value is kept already. */
+    check(get("k") == 1, "what is kept is found before its call is settled");
+    phase = 3;
+    check(get("k") == 1, "and later");
+}
+
+/* The same, but the key is forgotten meanwhile: the newer value stays. */
+static void leader_is_forgotten(int number) {
+    if (number == 0) {
+        check(get("k") == 1, "the leader has its value");
+        check(get("k") == 2, "and then the newer one");
+        return;
+    }
+    until(2);
+    check(phase == 2, "the leader stops");
+    store = 2;
+    if (play.number % 3 == 0) sflight_cache_forget_all(cache);
+    else sflight_cache_forget(cache, (const uint8_t *)"k", 1);
+    check(get("k") == 2, "nobody gets what was loaded before a Forget");
+    store = 3;
+    phase = 3;
+    check(get("k") == 2, "and what was loaded after it stays");
+}
+
+/* A Forget has reached the library, and stops before it takes the value out. */
+static bool stops_forget(int who, const char *where) {
+    if (who != 0 || strcmp(where, "forgotten") != 0) return false;
+    if (phase < 2) phase = 2;
+    return phase < 3;
+}
+
+static void forget_is_slow(int number) {
+    if (number == 0) {
+        check(get("k") == 1, "a value is kept");
+        sflight_cache_forget(cache, (const uint8_t *)"k", 1);
+        check(get("k") == 2, "and nobody has it after a Forget");
+        return;
+    }
+    until(2);
+    store = 2;
+    check(phase == 2 && get("k") == 2, "a Forget ends what is kept as soon as the library knows it");
+    phase = 3;
+}
+
+/* A thread has missed, and stops. Another one loads the key. The first goes on: it finds that value, and loads nothing. */
+static bool stops_miss(int who, const char *where) {
+    if (who != 0 || strcmp(where, "miss") != 0) return false;
+    if (phase == 0) phase = 2;
+    return phase < 3;
+}
+
+static void misses_before(int number) {
+    if (number == 0) {
+        check(get("k") == 1, "who has missed before finds what was loaded meanwhile");
+        return;
+    }
+    until(2);
+    check(get("k") == 1, "the first value");
+    store = 2;
+    phase = 3;
+    check(get("k") == 1, "and it stays");
+}
+
+/* The value of a call takes the place of another. The drop function of that one gets a key, whose load in another
+ * thread waits for the very call. `phase` is 1 once the first key is loaded, and 2 once the other thread has joined
+ * its call. */
 static void *load_for_drop(void *context, const uint8_t *name, size_t len, uint64_t *weight) {
     (void)context;
     (void)weight;
@@ -370,7 +326,7 @@ static void *load_for_drop(void *context, const uint8_t *name, size_t len, uint6
     } else if (len == 6 && actor == 1) {
         until(1);
         is_second = true;
-        check(get_by(1, "first") == 1, "a load gets what is settled");
+        check(get("first") > 0, "a load gets what is settled");
     }
     struct value *value = malloc(sizeof *value);
     if (!value) abort();
@@ -383,7 +339,7 @@ static void drop_and_get(void *context, void *value) {
     drop(context, value);
     if (actor != 0 || phase != 2) return;
     phase = 3;
-    check(get_by(1, "second") == 1, "a drop function gets what waits for the call before it");
+    check(get("second") > 0, "a drop function gets what waits for the call before it");
 }
 
 static bool sees_join(int who, const char *where) {
@@ -392,41 +348,48 @@ static bool sees_join(int who, const char *where) {
 }
 
 static void gets_in_drop(int number) {
-    if (number == 0) check(get_by(0, "old") == 1 && get_by(0, "first") == 1, "a key and the next");
-    else check(get_by(0, "second") == 1, "and another");
+    if (number == 0) check(get("old") > 0 && get("first") > 0, "a key and the next");
+    else check(get("second") > 0, "and another");
 }
 
 static void drops_in_order(uint64_t number) {
     begin_play(number, 2);
-    few_places = few_callers = 0;
     phase = 0;
     is_second = drops_get = false;
-    open_cache(load_for_drop, 1);
+    open_cache(load_for_drop, 1, 8);
     cache->options.drop = drop_and_get;
     play.waits = sees_join;
     play_all(gets_in_drop);
     play.waits = NULL;
-    leave_readers();
     sflight_cache_close(cache);
     check(live == 0, "each value is dropped once");
 }
 
 int main(int argc, char **argv) {
     setvbuf(stdout, NULL, _IOLBF, 0);
+    static const char *const kept[] = {"has kept", "settle", "has settled"};
+    static const char *const stops[] = {"keep", "has room", "has kept", "settle", "has settled", "leave"};
     uint64_t from = argc > 1 ? strtoull(argv[1], NULL, 10) : 1;
     uint64_t count = argc > 2 ? strtoull(argv[2], NULL, 10) : argc > 1 ? 1 : SCHEDULES;
     open_plays();
     for (uint64_t i = 0; argc == 1 && i < 200; i++) {
-        asks_again(i);
         drops_in_order(i);
-        settles(i, false);
-        settles(i, true);
+        for (int stop = 0; stop < 3; stop++) {
+            stopping = kept[stop];
+            play_in_order(i, 2, load_store, 5, stops_leader, leader_is_slow);
+        }
+        for (int stop = 0; stop < 5; stop++) {
+            stopping = stops[stop];
+            play_in_order(i, 2, load_store, 5, stops_leader, leader_is_forgotten);
+        }
+        play_in_order(i, 2, load_store, 5, stops_forget, forget_is_slow);
+        play_in_order(i, 2, load_store, 5, stops_miss, misses_before);
     }
     for (uint64_t i = from; i < from + count && failed == 0; i++) play_at_random(i);
     close_plays();
-    printf("%llu hits, %llu loads, %llu beside the library, %llu joined\n", (unsigned long long)hits,
-           (unsigned long long)loads, (unsigned long long)alone, (unsigned long long)joins);
-    if (argc == 1) check(hits > 0 && joins > 0 && alone > 0 && loads > alone, "there was something of each");
+    printf("%llu hits, %llu loads, %llu joined, %llu evicted\n", (unsigned long long)hits, (unsigned long long)loads, (unsigned long long)joins,
+           (unsigned long long)evicted);
+    if (argc == 1) check(hits > 0 && joins > 0 && loads > 0 && evicted > 0, "there was something of each");
     printf("%d passed, %d failed\n", passed, failed);
     return failed > 0;
 }

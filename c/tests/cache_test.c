@@ -1,5 +1,18 @@
-/* Tests of sflight_cache.h. It has the file itself, so that the words of its table are tried alone. */
+/* Tests of sflight_cache.h. It has the files themselves, so that memory is refused in them. */
+#include <stddef.h>
+#include <stdlib.h>
+static void *test_malloc(size_t size);
+static void *test_calloc(size_t count, size_t size);
+static void *test_aligned_alloc(size_t alignment, size_t size);
+#define malloc test_malloc
+#define calloc test_calloc
+#define aligned_alloc test_aligned_alloc
 #include "sflight_cache.c"
+#include "sflight_do.c"
+#undef malloc
+#undef calloc
+#undef aligned_alloc
+#include <malloc.h>
 #include <pthread.h>
 #include <sched.h>
 #include <signal.h>
@@ -14,6 +27,11 @@
  * long form. */
 #ifndef GETS
 #define GETS 60000
+#endif
+
+/* How many values a test of many has. */
+#ifndef MANY
+#define MANY 20000
 #endif
 
 /* After so many seconds it hangs. */
@@ -45,6 +63,22 @@ struct page {
     uint8_t key[];
 };
 
+/* Which allocation of the package is refused, by its number; 0 is none. */
+static atomic_long refused_number;
+static atomic_bool was_refused;
+
+static bool is_refused(void) {
+    if (atomic_load(&refused_number) == 0 || atomic_fetch_sub(&refused_number, 1) != 1) return false;
+    was_refused = true;
+    return true;
+}
+
+static void *test_malloc(size_t size) { return is_refused() ? NULL : malloc(size); }
+
+static void *test_calloc(size_t count, size_t size) { return is_refused() ? NULL : calloc(count, size); }
+
+static void *test_aligned_alloc(size_t alignment, size_t size) { return is_refused() ? NULL : aligned_alloc(alignment, size); }
+
 /* The store: how many pages live, how many loads there were, and a version for each key by number. */
 static atomic_int live, loads;
 static atomic_uint versions[KEYS];
@@ -53,8 +87,7 @@ struct plan {
     bool fails;
     atomic_bool held;  /* a load waits while this is set */
     uint64_t weight;   /* 1 where it is 0 */
-    sflight_reader *inner; /* a load uses this, where it is not null */
-    sflight_cache *cache;
+    sflight_cache *cache; /* a load uses this, where it is not null */
     void (*meanwhile)(struct plan *plan, const uint8_t *key, size_t len); /* what the first load does */
     void (*waits)(const uint8_t *key, size_t len);                        /* and what each load does */
 };
@@ -99,24 +132,17 @@ static void drop(void *context, void *value) {
 
 static sflight_cache *open_cache(uint64_t limit, uint32_t entries, struct plan *plan) {
     sflight_cache *cache = sflight_cache_open(&(sflight_cache_options){
-        .limit = limit, .entries = entries, .readers = 8, .load = load, .drop = drop, .context = plan});
+        .limit = limit, .entries = entries, .load = load, .drop = drop, .context = plan});
     if (!cache) abort();
     return cache;
 }
 
-static sflight_reader *enter(sflight_cache *cache) {
-    sflight_reader *reader = sflight_cache_enter(cache);
-    if (!reader) abort();
-    return reader;
-}
-
 /* Gets the key, looks whether the value is of that key, and releases it. */
-static int get(sflight_cache *cache, sflight_reader *reader, const void *key, size_t len,
-               unsigned *version) {
+static int get(sflight_cache *cache, const void *key, size_t len, unsigned *version) {
     sflight_value value;
-    int code = sflight_cache_get(reader, key, len, &value);
+    int code = sflight_cache_get(cache, key, len, &value);
     if (code > SFLIGHT_CACHE_JOINED) {
-        check(!value.at && !value.word, "no value comes with a failure");
+        check(!value.at && !value.entry, "no value comes with a failure");
         return code;
     }
     struct page *page = value.at;
@@ -124,82 +150,72 @@ static int get(sflight_cache *cache, sflight_reader *reader, const void *key, si
     check(page->len == len && !memcmp(page->key, key, len), "a value is of its key");
     if (version) *version = page->version;
     sflight_cache_release(cache, &value);
-    check(!value.at && !value.word, "a released value is empty");
+    check(!value.at && !value.entry, "a released value is empty");
     sflight_cache_release(cache, &value);
     return code;
 }
 
-static int get_text(sflight_cache *cache, sflight_reader *reader, const char *key) {
-    return get(cache, reader, key, strlen(key), NULL);
+static int get_text(sflight_cache *cache, const char *key) {
+    return get(cache, key, strlen(key), NULL);
 }
 
-static void forget_text(sflight_reader *reader, const char *key) {
-    sflight_cache_forget(reader, (const uint8_t *)key, strlen(key));
+static void forget_text(sflight_cache *cache, const char *key) {
+    sflight_cache_forget(cache, (const uint8_t *)key, strlen(key));
 }
 
 static void test_options(void) {
     struct plan plan = {0};
-    sflight_cache_options good = {.limit = 1, .entries = 1, .readers = 1, .load = load};
-    sflight_cache_options bad[] = {good, good, good, good, good, good};
+    sflight_cache_options good = {.limit = 1, .entries = 1, .load = load};
+    sflight_cache_options bad[] = {good, good, good, good};
     bad[0].limit = 0;
     bad[1].entries = 0;
-    bad[2].entries = SFLIGHT_MOST_SETS * SFLIGHT_WAYS + 1;
-    bad[3].readers = 0;
-    bad[4].readers = SFLIGHT_MOST_CALLERS;
-    bad[5].load = NULL;
-    for (int i = 0; i < 6; i++) check(!sflight_cache_open(&bad[i]), "an option out of range is refused");
+    bad[2].loads = SFLIGHT_MOST_CELLS + 1;
+    bad[3].load = NULL;
+    for (int i = 0; i < 4; i++) check(!sflight_cache_open(&bad[i]), "an option out of range is refused");
     good.context = &plan;
     sflight_cache *cache = sflight_cache_open(&good);
     check(cache != NULL, "the least options are taken");
-    sflight_reader *reader = enter(cache);
-    check(!sflight_cache_enter(cache), "there are no more readers than were asked for");
-    for (int i = 0; i < 10; i++) {
-        sflight_cache_leave(reader);
-        reader = enter(cache);
-        check(reader->slot.live, "a caller of a reader that left is there for the next one");
-    }
     sflight_value value;
-    check(sflight_cache_get(reader, NULL, 0, &value) == SFLIGHT_CACHE_LOADED, "the empty key");
+    check(sflight_cache_get(cache, NULL, 0, &value) == SFLIGHT_CACHE_LOADED, "the empty key");
     void *page = value.at;
     sflight_cache_release(cache, &value);
-    sflight_cache_leave(reader);
     sflight_cache_close(cache);
     free(page);
     live = 0; /* that cache drops nothing */
 }
 
-static void test_one_reader(void) {
+static void test_one_thread(void) {
     struct plan plan = {0};
     sflight_cache *cache = open_cache(100, 100, &plan);
-    sflight_reader *reader = enter(cache);
     sflight_value value;
     loads = 0;
-    check(!sflight_cache_peek(reader, (const uint8_t *)"ada", 3, &value), "nothing is there at first");
-    check(get_text(cache, reader, "ada") == SFLIGHT_CACHE_LOADED, "the first get loads");
-    check(get_text(cache, reader, "ada") == SFLIGHT_CACHE_HIT, "the second one finds it");
-    check(sflight_cache_peek(reader, (const uint8_t *)"ada", 3, &value), "so does a peek");
+    check(!sflight_cache_peek(cache, (const uint8_t *)"ada", 3, &value), "nothing is there at first");
+    check(get_text(cache, "ada") == SFLIGHT_CACHE_LOADED, "the first get loads");
+    check(get_text(cache, "ada") == SFLIGHT_CACHE_HIT, "the second one finds it");
+    check(sflight_cache_peek(cache, (const uint8_t *)"ada", 3, &value), "so does a peek");
     check(loads == 1 && live == 1, "by one load");
-    forget_text(reader, "ada");
+    forget_text(cache, "ada");
     check(live == 1 && ((struct page *)value.at)->mark == LIVE, "a value in use outlives a Forget");
-    check(get_text(cache, reader, "ada") == SFLIGHT_CACHE_LOADED, "after a Forget it is loaded again");
+    check(get_text(cache, "ada") == SFLIGHT_CACHE_LOADED, "after a Forget it is loaded again");
     sflight_cache_release(cache, &value);
     check(live == 1, "then the old one is dropped");
-    forget_text(reader, "nobody");
-    get_text(cache, reader, "bob");
+    forget_text(cache, "nobody");
+    get_text(cache, "bob");
     check(live == 2, "two keys have two values");
-    sflight_cache_forget_all(reader);
+    sflight_cache_forget_all(cache);
     check(live == 0, "a Forget of all drops all");
-    check(get_text(cache, reader, "ada") == SFLIGHT_CACHE_LOADED, "and all are loaded again");
+    check(get_text(cache, "ada") == SFLIGHT_CACHE_LOADED, "and all are loaded again");
     sflight_cache_stats stats = sflight_cache_statistics(cache);
-    check(stats.hits == 2 && stats.loads == 4 && stats.failures == 0 && stats.joins == 0
-              && stats.alone == 0 && stats.evictions == 0 && stats.weight == 1, "the counts");
+    check(stats.hits == 1 && stats.misses == 4 && stats.loads == 4 && stats.failures == 0 && stats.joins == 0
+              && stats.forgets == 2 && stats.evictions == 0 && stats.in_use == 0 && stats.entries == 1 && stats.weight == 1, "the counts");
+    forget_text(cache, "ada");
+    check(live == 0 && sflight_cache_statistics(cache).weight == 0, "what is forgotten leaves at once");
     static uint8_t large[70000];
     memset(large, 'x', sizeof large);
-    check(get(cache, reader, large, sizeof large, NULL) == SFLIGHT_CACHE_LOADED, "a large key");
-    check(get(cache, reader, large, sizeof large, NULL) == SFLIGHT_CACHE_HIT, "is found");
-    check(get(cache, reader, large, sizeof large - 1, NULL) == SFLIGHT_CACHE_LOADED, "but not its beginning");
-    sflight_cache_leave(reader);
-    check(sflight_cache_statistics(cache).loads == 6, "what a reader did is counted after it has left");
+    check(get(cache, large, sizeof large, NULL) == SFLIGHT_CACHE_LOADED, "a large key");
+    check(get(cache, large, sizeof large, NULL) == SFLIGHT_CACHE_HIT, "is found");
+    check(get(cache, large, sizeof large - 1, NULL) == SFLIGHT_CACHE_LOADED, "but not its beginning");
+    check(sflight_cache_statistics(cache).loads == 6, "all loads are counted");
     sflight_cache_close(cache);
     check(live == 0, "a closed cache has dropped all");
 }
@@ -207,23 +223,21 @@ static void test_one_reader(void) {
 static void test_weights(void) {
     struct plan plan = {.weight = 30};
     sflight_cache *cache = open_cache(100, 100, &plan);
-    sflight_reader *reader = enter(cache);
-    char key[16];
+    char key[24];
     for (int i = 0; i < 50; i++) {
         snprintf(key, sizeof key, "key-%d", i);
-        get_text(cache, reader, key);
+        get_text(cache, key);
         check(sflight_cache_statistics(cache).weight <= 100 && live <= 4, "the weight is within the limit");
     }
     check(sflight_cache_statistics(cache).weight == 90 && live == 3, "and three have room");
     plan.weight = 101;
-    check(get_text(cache, reader, "heavy") == SFLIGHT_CACHE_LOADED, "one that is too heavy is loaded");
-    check(get_text(cache, reader, "heavy") == SFLIGHT_CACHE_LOADED, "and not kept");
+    check(get_text(cache, "heavy") == SFLIGHT_CACHE_LOADED, "one that is too heavy is loaded");
+    check(get_text(cache, "heavy") == SFLIGHT_CACHE_LOADED, "and not kept");
     check(live == 3, "and empties nothing");
     plan.weight = 100;
-    get_text(cache, reader, "whole");
-    check(get_text(cache, reader, "whole") == SFLIGHT_CACHE_HIT && live == 1, "one that fills the cache is kept");
+    get_text(cache, "whole");
+    check(get_text(cache, "whole") == SFLIGHT_CACHE_HIT && live == 1, "one that fills the cache is kept");
     check(sflight_cache_statistics(cache).evictions == 50, "each one that left is counted");
-    sflight_cache_leave(reader);
     sflight_cache_close(cache);
     check(live == 0, "all are dropped");
 }
@@ -232,513 +246,233 @@ static void test_weights(void) {
 static void test_order(void) {
     struct plan plan = {0};
     sflight_cache *cache = open_cache(500, 500, &plan);
-    sflight_reader *reader = enter(cache);
-    char key[16];
+    char key[24];
     for (int i = 0; i < 1000; i++) {
         snprintf(key, sizeof key, "old-%d", i / 2);
-        get_text(cache, reader, key);
+        get_text(cache, key);
     }
     loads = 0;
     for (int i = 0; i < 2500; i++) {
         snprintf(key, sizeof key, "key-%d", i % 250);
-        get_text(cache, reader, key);
+        get_text(cache, key);
     }
     check(loads < 700, "keys that are in use come into a full cache and stay");
-    sflight_cache_leave(reader);
     sflight_cache_close(cache);
+}
+
+/* Keys that are got once pass by those that are in use. */
+static void test_scan(void) {
+    struct plan plan = {0};
+    sflight_cache *cache = open_cache(100, 100, &plan);
+    char key[24];
+    int missed = 0;
+    for (int i = 0; i < MANY; i++) {
+        snprintf(key, sizeof key, i % 2 ? "hot-%d" : "scan-%d", i % 2 ? i / 2 % 40 : i);
+        int code = get_text(cache, key);
+        missed += i % 2 && i > 1000 && code != SFLIGHT_CACHE_HIT;
+    }
+    check(missed == 0, "keys in use stay, whatever passes by");
+    check(live == 100 && sflight_cache_statistics(cache).entries == 100, "and the cache is full");
+    sflight_cache_close(cache);
+    check(live == 0, "all are dropped");
+}
+
+/* A value that was found once stays while others that were not pass by. */
+static void test_used(void) {
+    struct plan plan = {0};
+    sflight_cache *cache = open_cache(10, 10, &plan);
+    char key[24];
+    get_text(cache, "used");
+    check(get_text(cache, "used") == SFLIGHT_CACHE_HIT, "a value is found");
+    for (int i = 0; i < 25; i++) {
+        snprintf(key, sizeof key, "once-%d", i);
+        get_text(cache, key);
+    }
+    check(get_text(cache, "used") == SFLIGHT_CACHE_HIT, "and stays");
+    check(get_text(cache, "once-1") == SFLIGHT_CACHE_LOADED, "what was not found has left");
+    sflight_cache_close(cache);
+    check(live == 0, "all are dropped");
+}
+
+/* Many more values than was said, in many shards; and all are found. */
+static void test_many_entries(void) {
+    struct plan plan = {0};
+    const uint32_t entries[] = {1, 10000};
+    char key[24];
+    for (int round = 0; round < 2; round++) {
+        sflight_cache *cache = open_cache(MANY, entries[round], &plan);
+        check(cache->count == (round ? SHARDS : 1), "the number of shards");
+        for (int i = 0; i < MANY; i++) {
+            snprintf(key, sizeof key, "many-%d", i);
+            get_text(cache, key);
+        }
+        int found = 0;
+        for (int i = 0; i < MANY; i++) {
+            snprintf(key, sizeof key, "many-%d", i);
+            found += get_text(cache, key) == SFLIGHT_CACHE_HIT;
+        }
+        check(found == MANY && sflight_cache_statistics(cache).evictions == 0, "what has room is found");
+        check(cache->shards[0].mask + 1 >= (uint64_t)MANY / 2 / cache->count, "and its bucket is short");
+        for (int i = 0; i < 100; i++) {
+            snprintf(key, sizeof key, "more-%d", i);
+            get_text(cache, key);
+        }
+        check(live == MANY && sflight_cache_statistics(cache).evictions == 100, "one leaves for each that comes");
+        sflight_cache_forget_all(cache);
+        check(live == 0 && sflight_cache_statistics(cache).weight == 0, "a Forget of all reaches each shard");
+        sflight_cache_close(cache);
+    }
+}
+
+/* A heavy value takes the room of many light ones, also of other shards. */
+static void test_heavy(void) {
+    struct plan plan = {0};
+    sflight_cache *cache = open_cache(5000, 5000, &plan);
+    char key[24];
+    for (int i = 0; i < 5000; i++) {
+        snprintf(key, sizeof key, "light-%d", i);
+        get_text(cache, key);
+    }
+    plan.weight = 4990;
+    get_text(cache, "heavy");
+    check(get_text(cache, "heavy") == SFLIGHT_CACHE_HIT && live == 11 && sflight_cache_statistics(cache).weight == 5000, "it is kept");
+    plan.weight = 0;
+    get_text(cache, "light");
+    check(sflight_cache_statistics(cache).weight <= 5000, "within the limit");
+    sflight_cache_close(cache);
+    check(live == 0, "all are dropped");
+}
+
+/* Threads come and go, and the pool has as many seats as there were at one time. */
+static void *gets_once(void *cache) {
+    get_text(cache, "seat");
+    return NULL;
+}
+
+static void test_seats(void) {
+    struct plan plan = {0};
+    sflight_cache *cache = open_cache(100, 100, &plan);
+    int seats = 0;
+    for (int i = 0; i < 50; i++) {
+        pthread_t thread;
+        if (pthread_create(&thread, NULL, gets_once, cache)) abort();
+        pthread_join(thread, NULL);
+    }
+    for (struct seat *seat = cache->pool->seats; seat; seat = seat->next) seats++;
+    check(seats == 1, "a thread takes the seat of one that is gone");
+    sflight_cache_close(cache);
+    check(live == 0, "all are dropped");
+}
+
+static size_t room(void) { return mallinfo2().uordblks; }
+
+/* A cache of ten values, all of which it has. */
+static void test_small(void) {
+    enum { CACHES = 100 };
+    struct plan plan = {0};
+    static sflight_cache *caches[CACHES];
+    size_t before = room();
+    for (int c = 0; c < CACHES; c++) {
+        caches[c] = open_cache(10, 10, &plan);
+        for (int i = 0; i < 10; i++) get(caches[c], (char[]){(char)('a' + i)}, 1, NULL);
+    }
+    size_t each = (room() - before) / CACHES;
+    printf("a cache of ten values: %zu bytes\n", each);
+#ifdef SIZES
+    check(each <= 16384, "a small cache is small");
+#endif
+    for (int c = 0; c < CACHES; c++) sflight_cache_close(caches[c]);
+    live = 0;
+}
+
+/* Each allocation of the package is refused in turn. What was refused can be done again. */
+static void test_memory(void) {
+    struct plan plan = {0};
+    static const uint8_t large[3000];
+    sflight_cache_options options = {.limit = 3, .entries = 1, .loads = 1, .load = load, .drop = drop, .context = &plan};
+    bool is_over = false;
+    int refused = 0;
+    for (long number = 1; !is_over; number++) {
+        was_refused = false;
+        atomic_store(&refused_number, number);
+        sflight_cache *cache = sflight_cache_open(&options);
+        check(cache || was_refused, "a cache opens where there is memory");
+        if (!cache) refused++;
+        if (cache) {
+            sflight_value value;
+            int first = get(cache, large, sizeof large, NULL);
+            check(first == SFLIGHT_CACHE_LOADED || (was_refused && first == SFLIGHT_CACHE_NO_MEMORY), "a get without memory says so");
+            sflight_cache_forget(cache, large, sizeof large);
+            check(!sflight_cache_peek(cache, large, sizeof large, &value), "a Forget needs no memory");
+            for (int i = 0; i < 10; i++) {
+                char key = (char)('a' + i);
+                int code = get(cache, &key, 1, NULL);
+                check(code == SFLIGHT_CACHE_LOADED || (was_refused && code == SFLIGHT_CACHE_NO_MEMORY), "a get without memory is refused");
+                if (code == SFLIGHT_CACHE_NO_MEMORY) check(get(cache, &key, 1, NULL) == SFLIGHT_CACHE_LOADED, "and the next one is not");
+            }
+            check(live == 3 && sflight_cache_statistics(cache).in_use == 0, "what is kept, and in use");
+            sflight_cache_close(cache);
+        }
+        check(live == 0, "all are dropped");
+        is_over = !was_refused;
+        atomic_store(&refused_number, 0);
+        if (number > 100) abort();
+    }
+    check(refused > 3, "each was refused in turn");
 }
 
 static void test_failures(void) {
     struct plan plan = {.fails = true};
     sflight_cache *cache = open_cache(100, 100, &plan);
-    sflight_reader *reader = enter(cache);
     loads = 0;
-    check(get_text(cache, reader, "ada") == SFLIGHT_CACHE_FAILED, "a load fails");
-    check(get_text(cache, reader, "ada") == SFLIGHT_CACHE_FAILED && loads == 2, "and is not kept");
+    check(get_text(cache, "ada") == SFLIGHT_CACHE_FAILED, "a load fails");
+    check(get_text(cache, "ada") == SFLIGHT_CACHE_FAILED && loads == 2, "and is not kept");
     plan.fails = false;
-    check(get_text(cache, reader, "ada") == SFLIGHT_CACHE_LOADED, "the next one gives a value");
+    check(get_text(cache, "ada") == SFLIGHT_CACHE_LOADED, "the next one gives a value");
     sflight_cache_stats stats = sflight_cache_statistics(cache);
-    check(stats.failures == 2 && stats.loads == 1, "failures are counted apart");
-    sflight_cache_leave(reader);
+    check(stats.failures == 2 && stats.loads == 3, "failures are counted");
     sflight_cache_close(cache);
 }
 
 static void get_another(struct plan *plan, const uint8_t *key, size_t len) {
     (void)key;
     (void)len;
-    check(get_text(plan->cache, plan->inner, "inner") == SFLIGHT_CACHE_LOADED, "a load gets another key");
+    check(get_text(plan->cache, "inner") == SFLIGHT_CACHE_LOADED, "a load gets another key");
 }
 
 static void forget_own(struct plan *plan, const uint8_t *key, size_t len) {
-    sflight_cache_forget(plan->inner, key, len);
-    check(get(plan->cache, plan->inner, key, len, NULL) == SFLIGHT_CACHE_LOADED,
+    sflight_cache_forget(plan->cache, key, len);
+    check(get(plan->cache, key, len, NULL) == SFLIGHT_CACHE_LOADED,
           "a get after a Forget does not join the load of before");
 }
 
 static void forget_every(struct plan *plan, const uint8_t *key, size_t len) {
-    sflight_cache_forget_all(plan->inner);
-    check(get(plan->cache, plan->inner, key, len, NULL) == SFLIGHT_CACHE_LOADED,
+    sflight_cache_forget_all(plan->cache);
+    check(get(plan->cache, key, len, NULL) == SFLIGHT_CACHE_LOADED,
           "a get after a Forget of all does not join the load of before");
 }
 
-/* Loads that use the cache meanwhile, by a reader of their own. */
+/* Loads that use the cache meanwhile. */
 static void test_meanwhile(void) {
     struct plan plan = {0};
     sflight_cache *cache = open_cache(100, 100, &plan);
-    sflight_reader *reader = enter(cache);
-    plan.inner = enter(cache);
     plan.cache = cache;
     plan.meanwhile = get_another;
-    check(get_text(cache, reader, "outer") == SFLIGHT_CACHE_LOADED && live == 2, "a load that gets another key");
-    check(get_text(cache, plan.inner, "inner") == SFLIGHT_CACHE_HIT, "the inner one is kept");
+    check(get_text(cache, "outer") == SFLIGHT_CACHE_LOADED && live == 2, "a load that gets another key");
+    check(get_text(cache, "inner") == SFLIGHT_CACHE_HIT, "the inner one is kept");
     plan.meanwhile = forget_own;
-    check(get_text(cache, reader, "again") == SFLIGHT_CACHE_LOADED, "what was forgotten meanwhile is told to its leader");
-    check(live == 3 && get_text(cache, reader, "again") == SFLIGHT_CACHE_HIT, "and not kept, but the newer one");
-    /* At many places. */
-    char key[16];
+    check(get_text(cache, "again") == SFLIGHT_CACHE_LOADED, "what was forgotten meanwhile is told to its leader");
+    check(live == 3 && get_text(cache, "again") == SFLIGHT_CACHE_HIT, "and not kept, but the newer one");
+    char key[24];
     for (int i = 0; i < 20; i++) {
         snprintf(key, sizeof key, "key-%d", i);
         plan.meanwhile = forget_every;
-        check(get_text(cache, reader, key) == SFLIGHT_CACHE_LOADED && live == 1, "and all others are gone");
+        check(get_text(cache, key) == SFLIGHT_CACHE_LOADED && live == 1, "and all others are gone");
     }
     sflight_value value;
-    check(sflight_cache_peek(plan.inner, (const uint8_t *)key, strlen(key), &value), "the last one is there");
-    sflight_cache_leave(plan.inner);
-    check(((struct page *)value.at)->mark == LIVE, "what is in use outlives its reader");
+    check(sflight_cache_peek(cache, (const uint8_t *)key, strlen(key), &value), "the last one is there");
+    check(((struct page *)value.at)->mark == LIVE, "it lives");
     sflight_cache_release(cache, &value);
-    sflight_cache_leave(reader);
-    sflight_cache_close(cache);
-    check(live == 0, "all are dropped");
-}
-
-/* A word finds its own value, as long as somebody uses that, and never the next one of its entry. */
-static void test_words(void) {
-    struct plan plan = {0};
-    sflight_cache *cache = open_cache(100, 100, &plan);
-    struct page *pages[2];
-    sflight_value value;
-    uint64_t weight = 1, words[2];
-    for (int i = 0; i < 2; i++) {
-        pages[i] = load(&plan, (const uint8_t *)"page", 4, &weight);
-        words[i] = put(cache, pages[i], 1);
-        check(words[i] && take(cache, words[i], &value) && value.at == pages[i] && value.word == words[i], "a word finds its value");
-        check(i == 0 || !take(cache, words[0], &value), "an older word does not");
-        leave(cache, words[i], 1);
-        check(take(cache, words[i], &value) && live == 1, "nor is it gone while somebody uses it");
-        sflight_cache_release(cache, &value);
-        leave(cache, words[i], 1);
-        check(live == 0 && !take(cache, words[i], &value), "then it is gone");
-    }
-    check((uint32_t)words[0] == (uint32_t)words[1] && words[0] != words[1], "entries are used again");
-    /* Between its last user's going and the next generation. */
-    atomic_store(&entry_of(cache, words[1])->state, words[1] & ~COUNT);
-    check(!take(cache, words[1], &value), "what its last user has left is not taken");
-    sflight_cache_close(cache);
-}
-
-/* Whether the reader finds the key among the values that it remembers, by this hash. */
-static bool finds_near(sflight_cache *cache, sflight_reader *reader, uint64_t hash, const char *key) {
-    sflight_value value = {0};
-    bool found = find_near(reader, hash, (const uint8_t *)key, strlen(key), &value);
-    sflight_cache_release(cache, &value);
-    return found;
-}
-
-static uint64_t hash_text(const char *key) { return hash_of((const uint8_t *)key, strlen(key)); }
-
-/* Gets the key until the reader remembers its value. */
-static void get_near(sflight_cache *cache, sflight_reader *reader, const char *key) {
-    get_text(cache, reader, key);
-    for (int i = 0; i < 2; i++)
-        check(get_text(cache, reader, key) == SFLIGHT_CACHE_HIT, "what was loaded is found");
-    check(finds_near(cache, reader, hash_text(key), key), "what was found twice is remembered");
-}
-
-/* What a reader remembers does as the cache does. */
-static void test_near(void) {
-    struct plan plan = {0};
-    sflight_cache *cache = open_cache(4, 100, &plan);
-    sflight_reader *reader = enter(cache), *other = enter(cache);
-    sflight_value value, second;
-    sflight_stamp stamp;
-    char key[16];
-    get_near(cache, reader, "ada");
-    check(sflight_cache_statistics(cache).hits == 2, "a hit is counted once, wherever it is");
-    check(get_text(cache, reader, "ada") == SFLIGHT_CACHE_HIT
-              && sflight_cache_statistics(cache).hits == 3, "and one of what is remembered too");
-    check(!finds_near(cache, reader, hash_text("ada"), "bob"), "another key of one hash is not found");
-    check(!finds_near(cache, reader, hash_text("ada"), "adam"), "nor a longer one");
-    check(!finds_near(cache, other, hash_text("ada"), "ada"), "one reader remembers nothing for another");
-    forget_text(other, "ada");
-    check(live == 0, "what is forgotten is dropped, whoever remembers it");
-    check(get_text(cache, reader, "ada") == SFLIGHT_CACHE_LOADED, "and is loaded again");
-
-    /* The first half of a Forget, before the value leaves. */
-    get_near(cache, reader, "bob");
-    check(sflight_named(&other->slot, (const uint8_t *)"bob", 3, &stamp) == SFLIGHT_DONE
-              && sflight_forget_call(&other->slot, &stamp, SFLIGHT_MOST_TRIES) == SFLIGHT_CLEARED,
-          "its call is forgotten");
-    check(get_text(cache, reader, "bob") == SFLIGHT_CACHE_LOADED, "what is not current is not found");
-
-    /* Room is made, and what leaves is dropped. */
-    get_near(cache, reader, "eve");
-    for (int i = 0; i < 50; i++) {
-        snprintf(key, sizeof key, "key-%d", i);
-        get_text(cache, other, key);
-    }
-    check(live == 4, "what leaves to make room is dropped, whoever remembers it");
-    check(get_text(cache, reader, "eve") == SFLIGHT_CACHE_LOADED, "and is not found");
-
-    /* A key that is read over and over stays. */
-    get_near(cache, reader, "hot");
-    loads = 0;
-    for (int i = 0; i < 50; i++) {
-        snprintf(key, sizeof key, "key-%d", i % 10);
-        get_text(cache, other, key);
-        for (int j = 0; j <= NEAR_HITS; j++)
-            check(get_text(cache, reader, "hot") == SFLIGHT_CACHE_HIT, "a hot key stays");
-    }
-    check(loads > 20, "while others go");
-
-    /* What is in use outlives the Forget and its reader, and is dropped by its last user. */
-    sflight_cache_forget_all(other);
-    get_near(cache, reader, "ada");
-    check(sflight_cache_peek(reader, (const uint8_t *)"ada", 3, &value) && value.near, "one hit in use");
-    check(sflight_cache_peek(reader, (const uint8_t *)"ada", 3, &second) && second.near == value.near, "and another");
-    sflight_cache_forget_all(other);
-    sflight_cache_release(cache, &second);
-    check(live == 1 && ((struct page *)value.at)->mark == LIVE, "a value in use outlives a Forget");
-    get_near(cache, reader, "bob");
-    sflight_cache_leave(reader);
-    check(live == 2 && ((struct page *)value.at)->mark == LIVE, "and its reader");
-    sflight_cache_release(cache, &value);
-    check(live == 1 && !value.near, "its last user drops it");
-
-    /* A value that leaves just before it is remembered. */
-    check(sflight_cache_peek(other, (const uint8_t *)"bob", 3, &value), "the value is found");
-    forget_text(other, "bob");
-    for (int i = 0; i < 2; i++)
-        remember(other, hash_text("bob"), (const uint8_t *)"bob", 3, &stamp, &value);
-    sflight_cache_release(cache, &value);
-    check(live == 0, "is not remembered");
-
-    /* Keys up to 256 bytes. */
-    static uint8_t large[NEAR_KEY + 1];
-    check(hash_of(large, NEAR_KEY) && !hash_of(large, NEAR_KEY + 1), "long keys are not remembered");
-    for (size_t len = NEAR_KEY; len <= NEAR_KEY + 1; len++)
-        for (int i = 0; i < 5; i++)
-            check((get(cache, other, large, len, NULL) == SFLIGHT_CACHE_HIT) == (i > 0), "and are found");
-    check(hash_of(large, 8) != hash_of(large, 9), "a hash is of the length too");
-    sflight_cache_leave(other);
-    check(live == 2, "what a reader remembered stays in the cache");
-    sflight_cache_close(cache);
-    check(live == 0, "until that is closed");
-}
-
-/* The place of the key, by a get of it. */
-static uint32_t place_by(sflight_cache *cache, sflight_reader *reader, const char *key) {
-    sflight_stamp stamp = {0};
-    get_text(cache, reader, key);
-    if (sflight_named(&reader->slot, (const uint8_t *)key, strlen(key), &stamp) != SFLIGHT_DONE) abort();
-    return stamp.place;
-}
-
-/* Another key of the place of this one. Both are forgotten. */
-static void find_twin(sflight_cache *cache, sflight_reader *reader, const char *key, char twin[16]) {
-    uint32_t place = place_by(cache, reader, key);
-    int i = 0;
-    do snprintf(twin, 16, "twin-%d", i++);
-    while (place_by(cache, reader, twin) != place);
-    sflight_cache_forget_all(reader);
-}
-
-static const char *twin_key;
-
-static void get_twin(struct plan *plan, const uint8_t *key, size_t len) {
-    (void)key;
-    (void)len;
-    for (int i = 0; i < 3; i++)
-        check(get_text(plan->cache, plan->inner, twin_key) == SFLIGHT_CACHE_LOADED,
-              "a load gets another key of its place");
-    forget_text(plan->inner, twin_key);
-    check(get_text(plan->cache, plan->inner, "elsewhere") <= SFLIGHT_CACHE_LOADED,
-          "and one of another place");
-}
-
-static void get_by_own(struct plan *plan, const uint8_t *key, size_t len) {
-    sflight_value value = {.word = 1};
-    check(sflight_cache_get(plan->inner, (const uint8_t *)"there", 5, &value) == SFLIGHT_CACHE_BUSY
-              && !value.at && !value.word, "a get of a reader that is in a load is refused");
-    check(sflight_cache_get(plan->inner, key, len, &value) == SFLIGHT_CACHE_BUSY,
-          "also of the key that is loaded");
-    check(sflight_cache_peek(plan->inner, (const uint8_t *)"there", 5, &value),
-          "a peek finds what is there");
-    sflight_cache_release(plan->cache, &value);
-    check(!sflight_cache_peek(plan->inner, key, len, &value), "and not what is loaded");
-}
-
-static void forget_by_own(struct plan *plan, const uint8_t *key, size_t len) {
-    sflight_cache_forget(plan->inner, key, len);
-    forget_text(plan->inner, "there");
-}
-
-static void forget_all_by_own(struct plan *plan, const uint8_t *key, size_t len) {
-    (void)key;
-    (void)len;
-    sflight_cache_forget_all(plan->inner);
-}
-
-/* Whether all callers are back that readers have left with leaders. */
-static bool are_back(sflight_cache *cache) {
-    sflight_slot slots[64] = {{0}};
-    int count = 0;
-    while (count < 64 && sflight_split(&cache->root, &slots[count]) == SFLIGHT_DONE) count++;
-    for (int i = 0; i < count; i++)
-        if (sflight_take_back(&cache->root, &slots[i]) != SFLIGHT_DONE) abort();
-    return atomic_load(&cache->strangers) == 0
-           && (uint32_t)count + cache->entered == 2 * cache->options.readers;
-}
-
-/* Loads of two keys of one place, in one thread; and a reader that is in a load. */
-static void test_one_place(void) {
-    struct plan plan = {0};
-    char twin[16];
-    sflight_cache *cache = open_cache(100, 100, &plan);
-    sflight_reader *reader = enter(cache);
-    plan.cache = cache;
-    plan.inner = enter(cache);
-    find_twin(cache, reader, "outer", twin);
-    twin_key = twin;
-    for (int i = 0; i < 100; i++) {
-        plan.meanwhile = get_twin;
-        check(get_text(cache, reader, "outer") == SFLIGHT_CACHE_LOADED, "and is loaded itself");
-        check(get_text(cache, reader, "outer") == SFLIGHT_CACHE_HIT, "and kept");
-        forget_text(reader, "outer");
-        check(live <= 1, "what is not kept is dropped");
-    }
-    check(sflight_cache_statistics(cache).alone == 300, "loads beside the library are counted");
-    check(are_back(cache), "and all callers are back");
-
-    sflight_cache_leave(plan.inner);
-    plan.inner = reader;
-    get_text(cache, reader, "there");
-    plan.meanwhile = get_by_own;
-    check(get_text(cache, reader, "outer") == SFLIGHT_CACHE_LOADED, "what was refused changes nothing");
-    check(get_text(cache, reader, "outer") == SFLIGHT_CACHE_HIT, "it is kept");
-    check(get_text(cache, reader, "there") == SFLIGHT_CACHE_HIT, "so is what was there");
-    forget_text(reader, "outer");
-    plan.meanwhile = forget_by_own;
-    check(get_text(cache, reader, "outer") == SFLIGHT_CACHE_LOADED, "a reader forgets in its load");
-    check(get_text(cache, reader, "outer") == SFLIGHT_CACHE_LOADED, "the key that it loads");
-    check(get_text(cache, reader, "there") == SFLIGHT_CACHE_LOADED, "and another");
-    forget_text(reader, "outer");
-    plan.meanwhile = forget_all_by_own;
-    check(get_text(cache, reader, "outer") == SFLIGHT_CACHE_LOADED, "and all");
-    check(get_text(cache, reader, "outer") == SFLIGHT_CACHE_LOADED, "the key that it loads too");
-    check(get_text(cache, reader, "there") == SFLIGHT_CACHE_LOADED, "and what was there");
-    sflight_cache_leave(reader);
-    sflight_cache_close(cache);
-    check(live == 0, "all are dropped");
-}
-
-/* A thread that gets one key, in whose load it waits for `over`. */
-struct held {
-    pthread_t thread;
-    sflight_cache *cache;
-    sflight_reader *reader;
-    const char *key;
-    atomic_bool begun, over;
-    int code;
-};
-
-static struct held *_Atomic holds[2];
-
-static void hold_load(const uint8_t *key, size_t len) {
-    for (int i = 0; i < 2; i++) {
-        struct held *held = holds[i];
-        if (!held || strlen(held->key) != len || memcmp(held->key, key, len) || held->begun) continue;
-        held->begun = true;
-        while (!held->over) sched_yield();
-        return;
-    }
-}
-
-static void *get_held(void *arg) {
-    struct held *held = arg;
-    held->code = get_text(held->cache, held->reader, held->key);
-    return NULL;
-}
-
-static void begin_held(struct held *held, int number) {
-    holds[number] = held;
-    if (pthread_create(&held->thread, NULL, get_held, held)) abort();
-}
-
-static void end_held(struct held *held) {
-    held->over = true;
-    pthread_join(held->thread, NULL);
-}
-
-/* How many follow the run of the key, with the reader that loads. */
-static unsigned users_of(sflight_cache *cache, const char *key) {
-    pthread_mutex_lock(&cache->slow);
-    struct run *run = run_of(cache, fingerprint_of(cache, (const uint8_t *)key, strlen(key)),
-                             (const uint8_t *)key, strlen(key));
-    unsigned users = run ? atomic_load(&run->users) : 0;
-    pthread_mutex_unlock(&cache->slow);
-    return users;
-}
-
-/* The load of one key is held, and so is that of another one of its place, which runs beside the
- * library. Of that one there is one load at a time, which others follow and a Forget reaches. The
- * Forget of the one leaves the call of the other. */
-static void test_beside(void) {
-    struct plan plan = {0};
-    char twin[16];
-    sflight_cache *cache = open_cache(100, 100, &plan);
-    sflight_reader *readers[5];
-    for (int i = 0; i < 5; i++) readers[i] = enter(cache);
-    find_twin(cache, readers[0], "outer", twin);
-    struct held outer = {.cache = cache, .reader = readers[0], .key = "outer"};
-    struct held run = {.cache = cache, .reader = readers[1], .key = twin};
-    struct held follower = {.cache = cache, .reader = readers[2], .key = twin};
-    struct held second = {.cache = cache, .reader = readers[3], .key = "outer"};
-    plan.waits = hold_load;
-    loads = 0;
-    begin_held(&outer, 0);
-    while (!outer.begun) sched_yield();
-    begin_held(&run, 1);
-    while (!run.begun) sched_yield();
-    if (pthread_create(&follower.thread, NULL, get_held, &follower)) abort();
-    while (users_of(cache, twin) < 2) sched_yield();
-    forget_text(readers[4], twin);
-    check(users_of(cache, twin) == 0, "a Forget takes the run out");
-    check(get_text(cache, readers[4], twin) == SFLIGHT_CACHE_LOADED, "a get after it loads anew");
-    check(loads == 3, "once");
-    /* The Forget of the twin did not end the call of the other key. */
-    if (pthread_create(&second.thread, NULL, get_held, &second)) abort();
-    for (int i = 0; i < 1000 && loads == 3; i++) sched_yield();
-    end_held(&run);
-    pthread_join(follower.thread, NULL);
-    check(run.code == SFLIGHT_CACHE_LOADED && follower.code == SFLIGHT_CACHE_JOINED,
-          "whoever asked before has the value of the run");
-    end_held(&outer);
-    pthread_join(second.thread, NULL);
-    check(outer.code == SFLIGHT_CACHE_LOADED && loads == 3
-              && (second.code == SFLIGHT_CACHE_JOINED || second.code == SFLIGHT_CACHE_HIT),
-          "a Forget of another key of the place ends no call");
-    check(get_text(cache, readers[4], "outer") == SFLIGHT_CACHE_HIT, "nor its value");
-    sflight_cache_stats stats = sflight_cache_statistics(cache);
-    check(stats.alone == 2, "two loads ran beside the library");
-
-    /* A failure is shared too, and a Forget of all takes a run out. */
-    sflight_cache_forget_all(readers[4]);
-    outer = (struct held){.cache = cache, .reader = readers[0], .key = "outer"};
-    run = (struct held){.cache = cache, .reader = readers[1], .key = twin};
-    begin_held(&outer, 0);
-    while (!outer.begun) sched_yield();
-    begin_held(&run, 1);
-    while (!run.begun) sched_yield();
-    if (pthread_create(&follower.thread, NULL, get_held, &follower)) abort();
-    while (users_of(cache, twin) < 2) sched_yield();
-    sflight_cache_forget_all(readers[4]);
-    check(users_of(cache, twin) == 0, "a Forget of all takes the run out");
-    plan.fails = true;
-    end_held(&run);
-    pthread_join(follower.thread, NULL);
-    check(run.code == SFLIGHT_CACHE_FAILED && follower.code == SFLIGHT_CACHE_FAILED,
-          "a failure beside the library is shared");
-    end_held(&outer);
-    plan.waits = NULL;
-    holds[0] = holds[1] = NULL;
-    check(are_back(cache), "all callers are back");
-    for (int i = 0; i < 5; i++) sflight_cache_leave(readers[i]);
-    sflight_cache_close(cache);
-    check(live == 0, "all are dropped");
-}
-
-/* Takes all callers that no reader has, and the reader's own. */
-static int take_callers(sflight_cache *cache, sflight_reader *reader, sflight_slot slots[64]) {
-    int count = 0;
-    while (count < 63 && sflight_split(&cache->root, &slots[count]) == SFLIGHT_DONE) count++;
-    slots[count++] = reader->slot;
-    reader->slot = SFLIGHT_SLOT_NONE;
-    return count;
-}
-
-static void put_callers(sflight_cache *cache, sflight_slot slots[64], int count) {
-    for (int i = 0; i < count; i++)
-        if (sflight_take_back(&cache->root, &slots[i]) != SFLIGHT_DONE) abort();
-}
-
-static struct plan *keeping;
-static int met_while_kept;
-
-/* Between the settling of a call and the keeping of its value: the first value that is dropped makes
- * room for that. A reader without a caller loads the key anew, beside the library. */
-static void drop_beside(void *context, void *value) {
-    struct plan *plan = keeping;
-    keeping = NULL;
-    if (plan) {
-        unsigned version = 0;
-        atomic_fetch_add(&versions[7], 1);
-        check(get(plan->cache, plan->inner, "key-7", 5, &version) == SFLIGHT_CACHE_LOADED
-                  && version == atomic_load(&versions[7]), "a newer value is loaded beside the library");
-        met_while_kept++;
-    }
-    drop(context, value);
-}
-
-/* Readers that have no caller. */
-static void test_no_caller(void) {
-    struct plan plan = {0};
-    sflight_cache *cache = open_cache(2, 100, &plan);
-    sflight_reader *reader = enter(cache), *bare = enter(cache);
-    sflight_slot slots[64] = {{0}};
-    sflight_value value;
-    cache->options.drop = drop_beside;
-    plan.cache = cache;
-    plan.inner = bare;
-    get_text(cache, reader, "one");
-    get_text(cache, reader, "two");
-    int count = take_callers(cache, bare, slots);
-    keeping = &plan;
-    unsigned version = 0;
-    check(get(cache, reader, "key-7", 5, &version) == SFLIGHT_CACHE_LOADED && met_while_kept == 1, "a value that is about to be kept");
-    check(get(cache, reader, "key-7", 5, &version) == SFLIGHT_CACHE_LOADED
-              && version == atomic_load(&versions[7]), "is not, once a newer one was returned");
-    check(sflight_cache_peek(bare, (const uint8_t *)"key-7", 5, &value), "a reader without a caller finds values");
-    sflight_cache_release(cache, &value);
-    forget_text(bare, "key-7");
-    check(!sflight_cache_peek(reader, (const uint8_t *)"key-7", 5, &value), "and forgets");
-    check(get_text(cache, bare, "key-7") == SFLIGHT_CACHE_LOADED && get_text(cache, bare, "key-7") == SFLIGHT_CACHE_LOADED,
-          "and loads beside the library");
-    /* It waits for the load of its own key, and then finds the value. */
-    struct held held = {.cache = cache, .reader = reader, .key = "key-7"};
-    struct held waits = {.cache = cache, .reader = bare, .key = "key-7"};
-    plan.waits = hold_load;
-    begin_held(&held, 0);
-    while (!held.begun) sched_yield();
-    if (pthread_create(&waits.thread, NULL, get_held, &waits)) abort();
-    sflight_stamp stamp;
-    pthread_mutex_lock(&cache->lock);
-    if (sflight_named(&cache->root, (const uint8_t *)"key-7", 5, &stamp) != SFLIGHT_DONE) abort();
-    pthread_mutex_unlock(&cache->lock);
-    while (!(atomic_load(&cache->seats[stamp.caller].word) & AWAITED)) sched_yield();
-    end_held(&held);
-    pthread_join(waits.thread, NULL);
-    /* Where it looks before the value is kept, it loads anew. */
-    check(held.code == SFLIGHT_CACHE_LOADED
-              && (waits.code == SFLIGHT_CACHE_HIT || waits.code == SFLIGHT_CACHE_LOADED), "one load of its key at a time");
-    plan.waits = NULL;
-    holds[0] = holds[1] = NULL;
-    sflight_cache_forget_all(bare);
-    check(live == 0, "it forgets all");
-    put_callers(cache, slots, count);
-    check(get_text(cache, bare, "key-7") == SFLIGHT_CACHE_LOADED && bare->slot.live, "it has a caller again");
-    check(get_text(cache, bare, "key-7") == SFLIGHT_CACHE_HIT, "and keeps values");
-    sflight_cache_leave(reader);
-    sflight_cache_leave(bare);
     sflight_cache_close(cache);
     check(live == 0, "all are dropped");
 }
@@ -753,11 +487,9 @@ struct asker {
     atomic_bool *stop;
 };
 
-static void *ask(void *arg) {
+static void *asks(void *arg) {
     struct asker *a = arg;
-    sflight_reader *reader = enter(a->cache);
-    a->code = get_text(a->cache, reader, a->key);
-    sflight_cache_leave(reader);
+    a->code = get_text(a->cache, a->key);
     return NULL;
 }
 
@@ -769,7 +501,7 @@ static void test_shared(bool fails) {
     loads = 0;
     for (int i = 0; i < 6; i++) {
         askers[i] = (struct asker){.cache = cache, .key = "ada"};
-        if (pthread_create(&askers[i].thread, NULL, ask, &askers[i])) abort();
+        if (pthread_create(&askers[i].thread, NULL, asks, &askers[i])) abort();
     }
     while (!loads) sched_yield();
     /* The others get time to join. Those that come later find the value, or load where that failed. */
@@ -793,11 +525,45 @@ static void test_shared(bool fails) {
     check(live == 0, "what they shared is dropped once");
 }
 
+enum { MEET = 4, MEETINGS = 3000 };
+
+struct meeting {
+    sflight_cache *cache;
+    pthread_barrier_t barrier;
+};
+
+static void *meets(void *arg) {
+    struct meeting *m = arg;
+    for (int i = 0; i < MEETINGS; i++) {
+        if (pthread_barrier_wait(&m->barrier) == PTHREAD_BARRIER_SERIAL_THREAD) forget_text(m->cache, "ada");
+        pthread_barrier_wait(&m->barrier);
+        get_text(m->cache, "ada");
+    }
+    return NULL;
+}
+
+/* Between two Forgets of a key one load runs, also where a get missed before the load had ended, and asked after. */
+static void test_one_load(void) {
+    struct plan plan = {0};
+    struct meeting m = {.cache = open_cache(100, 100, &plan)};
+    pthread_t threads[MEET];
+    loads = 0;
+    pthread_barrier_init(&m.barrier, NULL, MEET);
+    for (int i = 0; i < MEET; i++) {
+        if (pthread_create(&threads[i], NULL, meets, &m)) abort();
+    }
+    for (int i = 0; i < MEET; i++) pthread_join(threads[i], NULL);
+    pthread_barrier_destroy(&m.barrier);
+    sflight_cache_stats stats = sflight_cache_statistics(m.cache);
+    check(loads == MEETINGS && stats.loads == MEETINGS, "one load between two Forgets");
+    check(stats.hits + stats.misses == MEET * MEETINGS, "each get is a hit or a miss");
+    sflight_cache_close(m.cache);
+}
+
 static void *read_beside_forgets(void *arg) {
     struct asker *a = arg;
-    sflight_reader *reader = enter(a->cache);
     unsigned state = a->number * 2654435761u + 1;
-    char key[16];
+    char key[24];
     for (unsigned i = 0; i < GETS; i++) {
         state = state * 1664525 + 1013904223;
         unsigned n = (state >> 16) % KEYS, version = 0;
@@ -805,29 +571,26 @@ static void *read_beside_forgets(void *arg) {
         unsigned seen = atomic_load(&versions[n]);
         /* An even version says that the Forget of the odd one before has returned: what was loaded
          * before that may not come. */
-        if (get(a->cache, reader, key, (size_t)len, &version) > SFLIGHT_CACHE_JOINED) a->unseen++;
+        if (get(a->cache, key, (size_t)len, &version) > SFLIGHT_CACHE_JOINED) a->unseen++;
         else if (version + 1 < (seen & ~1u)) a->old++;
     }
-    sflight_cache_leave(reader);
     return NULL;
 }
 
 /* Each change is a version that is odd, a Forget, and the next version, which is even. */
 static void *forget_beside(void *arg) {
     struct asker *a = arg;
-    sflight_reader *reader = enter(a->cache);
     unsigned state = 12345;
-    char key[16];
+    char key[24];
     for (unsigned i = 0; i < GETS / 10 * THREADS || !atomic_load(a->stop); i++) {
         state = state * 1664525 + 1013904223;
         unsigned n = (state >> 16) % KEYS;
         int len = snprintf(key, sizeof key, "key-%u", n);
         atomic_fetch_add(&versions[n], 1);
-        sflight_cache_forget(reader, (const uint8_t *)key, (size_t)len);
+        sflight_cache_forget(a->cache, (const uint8_t *)key, (size_t)len);
         atomic_fetch_add(&versions[n], 1);
         if (sflight_cache_statistics(a->cache).weight > 40) a->old++;
     }
-    sflight_cache_leave(reader);
     return NULL;
 }
 
@@ -859,18 +622,21 @@ int main(void) {
     signal(SIGALRM, hangs_at);
     alarm(LIMIT);
     test_options();
-    test_one_reader();
+    test_one_thread();
     test_weights();
     test_order();
     test_failures();
     test_meanwhile();
-    test_one_place();
-    test_beside();
-    test_no_caller();
-    test_words();
-    test_near();
+    test_used();
+    test_scan();
+    test_many_entries();
+    test_heavy();
+    test_seats();
+    test_small();
+    test_memory();
     test_shared(false);
     test_shared(true);
+    test_one_load();
     test_forgets_beside_gets();
     printf("%d passed, %d failed\n", passed, failed);
     return failed != 0;

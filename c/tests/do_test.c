@@ -17,7 +17,7 @@
 #define STRESSING 16
 #endif
 #ifndef ROUNDS
-#define ROUNDS 4000
+#define ROUNDS 1500
 #endif
 
 /* After so many seconds it hangs. */
@@ -47,9 +47,6 @@ static int get(sflight_pool *pool, const char *key, sflight_load *load, void *co
 static bool forget(sflight_pool *pool, const char *key) { return sflight_do_forget(pool, (const uint8_t *)key, strlen(key)); }
 
 static void sleep_ms(long ms) { nanosleep(&(struct timespec){ms / 1000, ms % 1000 * 1000000}, NULL); }
-
-/* All keys share one slot, and there is one caller. */
-static const sflight_do_sizes one = {.slots = 1, .callers = 1, .is_fixed = true};
 
 static uint64_t plain(void *context, const uint8_t *key, size_t len) {
     (void)key;
@@ -81,33 +78,80 @@ static void runs_nested(struct inner *inner) {
 }
 
 static void sizes(void) {
-    sflight_do_sizes bad = {.slots = SFLIGHT_MOST_PLACES + 1, .callers = 1}, many = {.slots = 1, .callers = SFLIGHT_MOST_CALLERS};
-    check(!sflight_do_open(&bad, NULL) && !sflight_do_open(&many, NULL), "sizes that are refused");
-    sflight_pool *pool = sflight_do_open(NULL, NULL);
+    check(!sflight_do_open(SFLIGHT_MOST_CELLS + 1, NULL), "a size that is refused");
+    sflight_pool *pool = sflight_do_open(0, NULL);
     sflight_got got;
     check(get(pool, "k", plain, (void *)(size_t)7, SFLIGHT_DO_FOREVER, &got) == SFLIGHT_DO_DONE && got.value == 7 && got.led && got.joiners == 0, "a load");
     check(sflight_do_is_still(pool, &got.stamp) && !sflight_do_is_still(pool, &(sflight_do_stamp){0}), "its stamp is current");
     check(!forget(pool, "k") && !sflight_do_is_still(pool, &got.stamp), "until the key is forgotten");
     check(sflight_do(pool, NULL, 0, plain, NULL, SFLIGHT_DO_FOREVER, &got) == SFLIGHT_DO_DONE, "the empty key");
-    sflight_do_stats stats = sflight_do_statistics(pool);
-    check(stats.leads == 2 && stats.joins == 0 && stats.alone == 0 && stats.epochs == 1 && stats.in_use == 0, "its numbers");
+    sflight_stats stats = sflight_do_statistics(pool);
+    check(stats.loads == 2 && stats.joins == 0 && stats.forgets == 1 && stats.in_use == 0, "its numbers");
+    check(stats.hits == 0 && stats.misses == 0 && stats.evictions == 0, "a pool has no cache");
     sflight_do_close(pool);
     sflight_do_close(NULL);
 }
 
-/* A load that asks for another key of its slot. */
+/* A load that asks for another key. */
 static void nested(void) {
-    const sflight_do_sizes wide = {.slots = 1, .callers = 4, .is_fixed = true};
-    const sflight_do_sizes *all[] = {&one, &wide};
-    for (int i = 0; i < 2; i++) {
-        sflight_pool *pool = sflight_do_open(all[i], NULL);
+    for (uint32_t loads = 0; loads < 3; loads++) {
+        sflight_pool *pool = sflight_do_open(loads, NULL);
         struct inner inner = {.pool = pool, .run = runs_nested, .key = "b"};
         sflight_got got;
         check(get(pool, "a", outer, &inner, SFLIGHT_DO_FOREVER, &got) == SFLIGHT_DO_DONE && got.value == 1, "the outer call");
-        check(inner.code == SFLIGHT_DO_DONE && inner.got.value == 2 && inner.got.led && inner.got.stamp.epoch == 0, "the inner call, beside the library");
-        check(sflight_do_statistics(pool).in_use == 0 && sflight_do_statistics(pool).alone == 1, "all callers are back");
+        check(inner.code == SFLIGHT_DO_DONE && inner.got.value == 2 && inner.got.led && sflight_do_is_still(pool, &inner.got.stamp), "the inner call");
+        check(sflight_do_statistics(pool).in_use == 0 && sflight_do_statistics(pool).loads == 2, "all calls have ended");
         sflight_do_close(pool);
     }
+}
+
+/* A load that forgets its own key has no stamp, and one that began after that has. */
+static uint64_t forgets_itself(void *context, const uint8_t *key, size_t len) {
+    struct inner *inner = context;
+    check(sflight_do_statistics(inner->pool).in_use == 1, "one call runs");
+    check(sflight_do_forget(inner->pool, key, len) && !sflight_do_forget(inner->pool, key, len), "a load is forgotten once");
+    inner->code = get(inner->pool, inner->key, plain, (void *)(size_t)2, SFLIGHT_DO_FOREVER, &inner->got);
+    return 1;
+}
+
+static void forgotten(void) {
+    sflight_pool *pool = sflight_do_open(0, NULL);
+    struct inner inner = {.pool = pool, .key = "k"};
+    const sflight_do_stamp none = {0};
+    sflight_got got;
+    check(get(pool, "k", forgets_itself, &inner, SFLIGHT_DO_FOREVER, &got) == SFLIGHT_DO_DONE && got.value == 1, "the load that was forgotten");
+    check(inner.code == SFLIGHT_DO_DONE && inner.got.value == 2 && inner.got.led, "who asks after a Forget joins no load of before");
+    check(memcmp(&got.stamp, &none, sizeof none) == 0 && sflight_do_is_still(pool, &inner.got.stamp), "what was forgotten has no stamp");
+    sflight_do_close(pool);
+}
+
+/* A leader keeps its value before another load of the key can begin, and with its stamp. */
+struct keeping {
+    sflight_pool *pool;
+    int kept;
+    bool is_open, is_still;
+};
+
+static uint64_t loads_for_cache(void *context, const uint8_t *key, size_t len) {
+    (void)context, (void)key, (void)len;
+    return 9;
+}
+
+static void keeps(void *context, const uint8_t *key, size_t len, uint64_t value, const sflight_do_stamp *stamp) {
+    struct keeping *keeping = context;
+    sflight_got got;
+    keeping->kept++;
+    keeping->is_still = value == 9 && sflight_do_is_still(keeping->pool, stamp);
+    keeping->is_open = sflight_do(keeping->pool, key, len, plain, NULL, 0, &got) == SFLIGHT_DO_TIMED_OUT;
+}
+
+static void kept(void) {
+    struct keeping keeping = {.pool = sflight_do_open(0, NULL)};
+    sflight_got got;
+    int code = sflight_do_and_keep(keeping.pool, (const uint8_t *)"k", 1, loads_for_cache, keeps, &keeping, SFLIGHT_DO_FOREVER, &got);
+    check(code == SFLIGHT_DO_DONE && got.value == 9 && keeping.kept == 1 && keeping.is_still, "a value is kept once");
+    check(keeping.is_open, "before the key can be loaded again");
+    sflight_do_close(keeping.pool);
 }
 
 static void waits_until_over(struct inner *inner) {
@@ -123,10 +167,8 @@ static void *hangs(void *at) {
 
 /* While a load hangs: other keys are loaded and forgotten, and its own is joined, in time, and forgotten. */
 static void hung(void) {
-    const sflight_do_sizes few = {.slots = 64, .callers = 2, .is_fixed = true};
-    const sflight_do_sizes *all[] = {&one, &few, NULL};
-    for (int i = 0; i < 3; i++) {
-        sflight_pool *pool = sflight_do_open(all[i], NULL);
+    for (uint32_t i = 0; i < 3; i++) {
+        sflight_pool *pool = sflight_do_open(i, NULL);
         struct inner inner = {.pool = pool, .run = waits_until_over, .key = "hung"};
         pthread_t thread;
         sflight_got got;
@@ -145,8 +187,8 @@ static void hung(void) {
         check(get(pool, "hung", plain, (void *)(size_t)5, SFLIGHT_DO_FOREVER, &got) == SFLIGHT_DO_DONE && got.value == 5, "and loaded anew");
         atomic_store(&inner.over, 1);
         pthread_join(thread, NULL);
-        check(inner.code == SFLIGHT_DO_DONE && inner.got.value == 1 && inner.got.led, "what hung");
-        check(sflight_do_statistics(pool).in_use == 0, "all callers are back");
+        check(inner.code == SFLIGHT_DO_DONE && inner.got.value == 1 && inner.got.led && inner.got.joiners == 0, "what hung");
+        check(sflight_do_statistics(pool).in_use == 0, "all calls have ended");
         sflight_do_close(pool);
     }
 }
@@ -158,12 +200,11 @@ static void counts(uint64_t value, uint32_t others) {
     atomic_fetch_add(&shared, others);
 }
 
-/* More threads than there are callers ask for one key. */
+/* Many threads ask for one key. */
 static void many(void) {
     enum { THREADS = 40 };
-    const sflight_do_sizes *all[] = {&one, NULL};
-    for (int i = 0; i < 2; i++) {
-        sflight_pool *pool = sflight_do_open(all[i], counts);
+    for (uint32_t i = 0; i < 2; i++) {
+        sflight_pool *pool = sflight_do_open(i, counts);
         struct inner inner = {.pool = pool, .run = waits_until_over, .key = "k"}, joined[THREADS];
         pthread_t first, threads[THREADS];
         atomic_store(&shared, 0);
@@ -182,11 +223,98 @@ static void many(void) {
             pthread_join(threads[t], NULL);
             check(joined[t].code == SFLIGHT_DO_DONE && joined[t].got.value == 1 && !joined[t].got.led && joined[t].got.joiners == THREADS, "joined");
         }
-        sflight_do_stats stats = sflight_do_statistics(pool);
-        check(inner.got.led && inner.got.joiners == THREADS && stats.leads + stats.alone == 1, "one load");
+        sflight_stats stats = sflight_do_statistics(pool);
+        check(inner.got.led && inner.got.joiners == THREADS && stats.loads == 1, "one load");
         check(atomic_load(&shared) == THREADS, "so many counts were given");
         sflight_do_close(pool);
     }
+}
+
+/* Threads come and go, and so do pools: a thread that exits gives back what it had, and one that exits after the pool has nothing to give. */
+struct passer {
+    pthread_t thread;
+    sflight_pool *pools[12];
+    int count;
+    bool is_well;
+    atomic_int stage; /* 1: it has asked; 2: it may exit */
+};
+
+static void *passes(void *at) {
+    struct passer *passer = at;
+    sflight_got got;
+    passer->is_well = true;
+    for (int round = 0; round < 3; round++) {
+        for (int i = 0; i < passer->count; i++) {
+            bool is_got = get(passer->pools[i], "k", plain, (void *)(size_t)i, SFLIGHT_DO_FOREVER, &got) == SFLIGHT_DO_DONE && got.value == (uint64_t)i;
+            passer->is_well = passer->is_well && is_got && sflight_do_is_still(passer->pools[i], &got.stamp);
+        }
+    }
+    atomic_store(&passer->stage, 1);
+    while (atomic_load(&passer->stage) < 2) sleep_ms(1);
+    return NULL;
+}
+
+static void threads_and_pools(void) {
+    static struct passer passers[4];
+    sflight_pool *pool = sflight_do_open(1, NULL), *kept[3];
+    for (int i = 0; i < 100; i++) {
+        passers[0] = (struct passer){.pools = {pool}, .count = 1, .stage = 0};
+        pthread_create(&passers[0].thread, NULL, passes, &passers[0]);
+        while (atomic_load(&passers[0].stage) != 1) sched_yield();
+        atomic_store(&passers[0].stage, 2);
+        pthread_join(passers[0].thread, NULL);
+        check(passers[0].is_well, "a thread after another");
+    }
+    sflight_stats stats = sflight_do_statistics(pool);
+    check(stats.loads == 300 && stats.in_use == 0, "what threads have done is counted after they are gone");
+    /* More pools than a thread keeps seats of, and they are closed before the threads exit. */
+    for (int i = 0; i < 3; i++) kept[i] = sflight_do_open(0, NULL);
+    for (int i = 0; i < 4; i++) {
+        passers[i] = (struct passer){.count = 12};
+        for (int p = 0; p < 12; p++) passers[i].pools[p] = p % 4 == 3 ? kept[p / 4] : sflight_do_open(1, NULL);
+        pthread_create(&passers[i].thread, NULL, passes, &passers[i]);
+    }
+    for (int i = 0; i < 4; i++) {
+        while (atomic_load(&passers[i].stage) != 1) sched_yield();
+        for (int p = 0; p < 12; p++) if (p % 4 != 3) sflight_do_close(passers[i].pools[p]);
+    }
+    for (int i = 0; i < 4; i++) {
+        atomic_store(&passers[i].stage, 2);
+        pthread_join(passers[i].thread, NULL);
+        check(passers[i].is_well, "each thread with many pools");
+    }
+    for (int i = 0; i < 3; i++) {
+        sflight_got got;
+        stats = sflight_do_statistics(kept[i]);
+        check(stats.loads + stats.joins == 12 && stats.in_use == 0, "a pool of many threads");
+        check(get(kept[i], "k", plain, NULL, SFLIGHT_DO_FOREVER, &got) == SFLIGHT_DO_DONE, "goes on");
+        sflight_do_close(kept[i]);
+    }
+    sflight_do_close(pool);
+}
+
+/* So many loads are open at one time, by one thread, that the pool grows several times; each ends as it began. */
+enum { DEEPEST = 2000 };
+
+static uint64_t goes_deeper(void *context, const uint8_t *key, size_t len) {
+    sflight_pool *pool = context;
+    uint32_t depth;
+    sflight_got got;
+    memcpy(&depth, key, len);
+    if (++depth == DEEPEST) return 1;
+    if (sflight_do(pool, (const uint8_t *)&depth, sizeof depth, goes_deeper, pool, SFLIGHT_DO_FOREVER, &got) != SFLIGHT_DO_DONE) abort();
+    check(sflight_do_is_still(pool, &got.stamp), "no stamp ends as a pool grows");
+    return got.value + 1;
+}
+
+static void deep(void) {
+    sflight_pool *pool = sflight_do_open(1, NULL);
+    uint32_t depth = 0;
+    sflight_got got;
+    check(sflight_do(pool, (const uint8_t *)&depth, sizeof depth, goes_deeper, pool, SFLIGHT_DO_FOREVER, &got) == SFLIGHT_DO_DONE && got.value == DEEPEST, "a pool grows");
+    sflight_stats stats = sflight_do_statistics(pool);
+    check(stats.loads == DEEPEST && stats.in_use == 0, "with nothing given up");
+    sflight_do_close(pool);
 }
 
 /* Threads with nested calls, deadlines and Forgets: one load of a key at a time, nothing older than a Forget, and nothing older than what was
@@ -204,8 +332,13 @@ static struct key {
     sflight_do_stamp cached;
 } keys[KEYS];
 
-static atomic_ullong ticks, loads, hits, doubles, stale, backward, refused;
+static atomic_ullong ticks, loads, hits, doubles, stale, backward, refused, given, received;
 static sflight_pool *stressed;
+
+static void takes(uint64_t value, uint32_t others) {
+    (void)value;
+    atomic_fetch_add(&given, others);
+}
 
 struct asking {
     int key, depth;
@@ -241,6 +374,16 @@ static uint64_t loading(void *context, const uint8_t *name, size_t len) {
     return moment << 8 | (uint64_t)asking->key;
 }
 
+static void keeping_it(void *context, const uint8_t *name, size_t len, uint64_t value, const sflight_do_stamp *stamp) {
+    struct key *key = &keys[((struct asking *)context)->key];
+    (void)name, (void)len;
+    if (rand_r(((struct asking *)context)->seed) % 4 == 0) sched_yield();
+    pthread_mutex_lock(&key->lock);
+    key->cached = *stamp;
+    key->cached_moment = value >> 8;
+    pthread_mutex_unlock(&key->lock);
+}
+
 static void ask(int number, int depth, unsigned *seed) {
     struct key *key = &keys[number];
     struct asking asking = {number, depth, seed, atomic_load(&key->ended)};
@@ -257,11 +400,12 @@ static void ask(int number, int depth, unsigned *seed) {
     }
     sflight_got got;
     int64_t timeout = rand_r(seed) % 4 ? SFLIGHT_DO_FOREVER : (int64_t)(rand_r(seed) % 50000);
-    int code = get(stressed, key->name, loading, &asking, timeout, &got);
+    int code = sflight_do_and_keep(stressed, (const uint8_t *)key->name, strlen(key->name), loading, keeping_it, &asking, timeout, &got);
     if (code != SFLIGHT_DO_DONE) {
         refused += code != SFLIGHT_DO_TIMED_OUT || timeout == SFLIGHT_DO_FOREVER;
         return;
     }
+    received += !got.led;
     stale += got.value >> 8 < least || (got.value & 255) != (uint64_t)number;
     backward += got.value >> 8 <= newest && atomic_load(&key->begun) == ended;
     pthread_mutex_lock(&key->lock);
@@ -270,12 +414,6 @@ static void ask(int number, int depth, unsigned *seed) {
         key->newest_ended = asking.ended;
     }
     pthread_mutex_unlock(&key->lock);
-    if (sflight_do_is_still(stressed, &got.stamp)) {
-        pthread_mutex_lock(&key->lock);
-        key->cached = got.stamp;
-        key->cached_moment = got.value >> 8;
-        pthread_mutex_unlock(&key->lock);
-    }
 }
 
 static void *stress_one(void *at) {
@@ -296,9 +434,9 @@ static void *stress_one(void *at) {
     return NULL;
 }
 
-/* One run of the stress; whether it met what it is for: so many epochs, somebody who joined, and a hit. Threads that a busy machine runs one
-   after the other may meet none of these. */
-static bool stress_once(const char *what, const sflight_do_sizes *size, uint64_t least_epochs) {
+/* One run of the stress; whether it met what it is for: somebody who joined, and a hit. Threads that a busy machine runs one after the other
+   may meet none of these. */
+static bool stress_once(const char *what, uint32_t size) {
     pthread_t threads[STRESSING];
     memset(keys, 0, sizeof keys);
     for (int i = 0; i < KEYS; i++) {
@@ -307,37 +445,26 @@ static bool stress_once(const char *what, const sflight_do_sizes *size, uint64_t
     }
     atomic_store(&loads, 0);
     atomic_store(&hits, 0);
-    stressed = sflight_do_open(size, NULL);
+    stressed = sflight_do_open(size, takes);
     for (size_t i = 0; i < STRESSING; i++) pthread_create(&threads[i], NULL, stress_one, (void *)i);
     for (size_t i = 0; i < STRESSING; i++) pthread_join(threads[i], NULL);
-    sflight_do_stats stats = sflight_do_statistics(stressed);
-    printf("%s: %llu loads (%llu by the library, %llu beside), %llu joined, %llu hits, %llu epochs\n", what, (unsigned long long)loads, (unsigned long long)stats.leads,
-           (unsigned long long)stats.alone, (unsigned long long)stats.joins, (unsigned long long)hits, (unsigned long long)stats.epochs);
+    sflight_stats stats = sflight_do_statistics(stressed);
+    printf("%s: %llu loads, %llu joined, %llu hits, %llu Forgets\n", what, (unsigned long long)loads, (unsigned long long)stats.joins,
+           (unsigned long long)hits, (unsigned long long)stats.forgets);
     check(atomic_load(&doubles) == 0, "one load of a key at a time");
     check(atomic_load(&stale) == 0, "nothing is older than a Forget");
     check(atomic_load(&backward) == 0, "nothing is older than what was returned before");
     check(atomic_load(&refused) == 0, "no call is refused");
-    check(stats.leads + stats.alone == atomic_load(&loads) && stats.in_use == 0, "loads are counted, and all callers are back");
+    check(atomic_load(&given) == atomic_load(&received), "each who joined has one count, and who gave up has none");
+    check(stats.loads == atomic_load(&loads) && stats.in_use == 0, "loads are counted, and all calls have ended");
     sflight_do_close(stressed);
-    return stats.epochs >= least_epochs && stats.joins > 0 && atomic_load(&hits) > 0;
+    return stats.joins > 0 && atomic_load(&hits) > 0;
 }
 
-static void stress(const char *what, const sflight_do_sizes *size, uint64_t least_epochs) {
+static void stress(const char *what, uint32_t size) {
     bool met = false;
-    for (int runs = 0; !met && runs < MOST_RUNS; runs++) met = stress_once(what, size, least_epochs);
+    for (int runs = 0; !met && runs < MOST_RUNS; runs++) met = stress_once(what, size);
     check(met, what);
-}
-
-static void spent(void) {
-    const sflight_do_sizes size = {.slots = 4, .callers = 3, .is_fixed = true, .calls = 5};
-    sflight_pool *pool = sflight_do_open(&size, NULL);
-    sflight_got got;
-    size_t well = 0;
-    for (size_t i = 0; i < 20000; i++) well += get(pool, "k", plain, (void *)i, SFLIGHT_DO_FOREVER, &got) == SFLIGHT_DO_DONE && got.value == i && sflight_do_is_still(pool, &got.stamp);
-    sflight_do_stats stats = sflight_do_statistics(pool);
-    check(well == 20000 && stats.leads == 20000 && stats.alone == 0, "callers that are spent are replaced");
-    check(stats.epochs >= 1000, "often");
-    sflight_do_close(pool);
 }
 
 /* Kilobytes of memory that the process has. */
@@ -355,7 +482,7 @@ static void small(void) {
     long before = memory();
     for (int i = 0; i < POOLS; i++) {
         sflight_got got;
-        pools[i] = sflight_do_open(NULL, NULL);
+        pools[i] = sflight_do_open(0, NULL);
         get(pools[i], "k", plain, NULL, SFLIGHT_DO_FOREVER, &got);
     }
     printf("a pool: %ld kB\n", (memory() - before) / POOLS);
@@ -365,7 +492,7 @@ static void small(void) {
     for (int i = 0; i < POOLS; i++) sflight_do_close(pools[i]);
 }
 
-/* Two hundred loads of long keys, each in the load of another, so that as many callers are taken at one time. */
+/* Two hundred loads of long keys, each in the load of another, so that as many calls are open at one time. */
 enum { LONG_KEY = 65536, DEEP = 200 };
 static uint8_t long_key[LONG_KEY];
 
@@ -383,7 +510,7 @@ static uint64_t deeper(void *context, const uint8_t *key, size_t len) {
 }
 
 static void long_keys(void) {
-    sflight_pool *pool = sflight_do_open(NULL, NULL);
+    sflight_pool *pool = sflight_do_open(0, NULL);
     sflight_got got;
     long before = memory();
     check(sflight_do(pool, long_key, LONG_KEY, deeper, pool, SFLIGHT_DO_FOREVER, &got) == SFLIGHT_DO_DONE && got.value == DEEP, "long keys");
@@ -392,19 +519,19 @@ static void long_keys(void) {
 #ifdef SIZES
     malloc_trim(0);
     printf("after long keys: %ld kB\n", memory() - before);
-    check(memory() - before < 6000, "callers that are idle keep nothing of a long key");
+    check(memory() - before < 6000, "calls that are idle keep nothing of a long key");
 #else
     (void)before;
 #endif
     sflight_do_close(pool);
 }
 
-/* Eight keys of 70,000 bytes that differ in their last byte, each in the load of another: no two are one key, nor always of one slot. */
-enum { NEAR_KEY = 70000, NEAR = 8 };
+/* Eight keys of 70,000 bytes that differ in their last byte, each in the load of another: no two are one key. */
+enum { NEAR_KEY = 70000, NEAR_KEYS = 8 };
 
 static uint64_t nearer(void *context, const uint8_t *key, size_t len) {
     sflight_got got;
-    if (len != NEAR_KEY || key[len - 1] == NEAR) return len;
+    if (len != NEAR_KEY || key[len - 1] == NEAR_KEYS) return len;
     uint8_t *next = malloc(len);
     if (!next) abort();
     memcpy(next, key, len);
@@ -416,16 +543,13 @@ static uint64_t nearer(void *context, const uint8_t *key, size_t len) {
 
 static void near_keys(void) {
     static uint8_t key[NEAR_KEY];
-    const sflight_do_sizes slot = {.slots = 1, .callers = 16, .is_fixed = true};
-    const sflight_do_sizes *all[] = {&slot, NULL};
-    for (int i = 0; i < 2; i++) {
-        sflight_pool *pool = sflight_do_open(all[i], NULL);
+    for (uint32_t i = 0; i < 2; i++) {
+        sflight_pool *pool = sflight_do_open(i, NULL);
         sflight_got got, shorter;
         int code = sflight_do(pool, key, NEAR_KEY, nearer, pool, SFLIGHT_DO_FOREVER, &got);
-        check(code == SFLIGHT_DO_DONE && got.value == NEAR_KEY + NEAR, "each loads its own");
+        check(code == SFLIGHT_DO_DONE && got.value == NEAR_KEY + NEAR_KEYS, "each loads its own");
         code = sflight_do(pool, key, NEAR_KEY - 1, nearer, pool, SFLIGHT_DO_FOREVER, &shorter);
         check(code == SFLIGHT_DO_DONE && shorter.value == NEAR_KEY - 1, "a shorter one too");
-        check(all[i] || sflight_do_statistics(pool).alone < NEAR - 2, "few share a slot");
         sflight_do_close(pool);
     }
 }
@@ -441,18 +565,17 @@ int main(void) {
     nested();
     hung();
     many();
-    spent();
+    forgotten();
+    kept();
+    threads_and_pools();
+    deep();
     small();
     if (failed > 0) {
         printf("%d passed, %d failed\n", passed, failed);
         return 1;
     }
-    const sflight_do_sizes shared_slots = {.slots = 16, .callers = 64, .is_fixed = true}, few = {.slots = 16, .callers = 3, .is_fixed = true};
-    const sflight_do_sizes worn = {.slots = 16, .callers = 4, .is_fixed = true, .calls = 1}, grows = {.slots = 1, .callers = 1};
-    stress("keys that share slots", &shared_slots, 1);
-    stress("too few callers", &few, 1);
-    stress("callers that are spent", &worn, ROUNDS / 4);
-    stress("a pool that grows", &grows, 2);
+    stress("a pool of the usual size", 0);
+    stress("a pool that grows", 1);
     printf("%d passed, %d failed\n", passed, failed);
     return failed > 0;
 }

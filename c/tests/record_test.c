@@ -11,28 +11,26 @@
 #include <time.h>
 #include <unistd.h>
 
-static uint32_t test_ask(sflight_slot *slot, const uint8_t *key, size_t len, uint32_t tries, sflight_stamp *stamp);
-static uint32_t test_finish(sflight_slot *slot, uint64_t value, sflight_answer *answer);
-static uint32_t test_named(sflight_slot *slot, const uint8_t *key, size_t len, sflight_stamp *stamp);
-static uint32_t test_forget_call(sflight_slot *slot, const sflight_stamp *stamp, uint32_t tries);
+static uint32_t test_ask(sflight_handle *handle, sflight_call *call, const uint8_t *key, size_t len, uint32_t tries, sflight_id *id, sflight_stamp *stamp);
+static uint32_t test_settle(sflight_handle *handle, sflight_call *call, uint64_t value, sflight_audience *audience);
+static uint32_t test_forget(sflight_handle *handle, const uint8_t *key, size_t len, uint32_t tries, sflight_id *id);
 static int test_clock(clockid_t clock, struct timespec *now);
 static int test_create(pthread_t *thread, const pthread_attr_t *attributes, void *(*run)(void *), void *context);
 static void *test_malloc(size_t size);
 static void *test_aligned_alloc(size_t alignment, size_t size);
 
 #define sflight_ask test_ask
-#define sflight_finish test_finish
-#define sflight_named test_named
-#define sflight_forget_call test_forget_call
+#define sflight_settle test_settle
+#define sflight_forget test_forget
 #define clock_gettime test_clock
 #define pthread_create test_create
+#include "sflight_do.c"
 #define malloc test_malloc
 #define aligned_alloc test_aligned_alloc
-#include "sflight_do.c"
+#include "sflight_record.c"
 #undef sflight_ask
-#undef sflight_finish
-#undef sflight_named
-#undef sflight_forget_call
+#undef sflight_settle
+#undef sflight_forget
 #undef clock_gettime
 #undef pthread_create
 #undef malloc
@@ -99,31 +97,28 @@ static void reached(struct gate *gate) {
     while (!atomic_load(&gate->is_reached)) sched_yield();
 }
 
-static _Thread_local struct gate *after_ask, *before_finish, *before_named, *before_forget_call;
+static _Thread_local struct gate *before_ask, *after_ask, *before_settle, *before_forget, *after_forget;
 
-static uint32_t test_ask(sflight_slot *slot, const uint8_t *key, size_t len, uint32_t tries, sflight_stamp *stamp) {
-    uint32_t code = sflight_ask(slot, key, len, tries, stamp);
+static uint32_t test_ask(sflight_handle *handle, sflight_call *call, const uint8_t *key, size_t len, uint32_t tries, sflight_id *id, sflight_stamp *stamp) {
+    pass(&before_ask);
+    uint32_t code = sflight_ask(handle, call, key, len, tries, id, stamp);
     tick();
     pass(&after_ask);
     return code;
 }
 
-static uint32_t test_finish(sflight_slot *slot, uint64_t value, sflight_answer *answer) {
-    pass(&before_finish);
-    uint32_t code = sflight_finish(slot, value, answer);
+static uint32_t test_settle(sflight_handle *handle, sflight_call *call, uint64_t value, sflight_audience *audience) {
+    pass(&before_settle);
+    uint32_t code = sflight_settle(handle, call, value, audience);
     tick();
     return code;
 }
 
-static uint32_t test_named(sflight_slot *slot, const uint8_t *key, size_t len, sflight_stamp *stamp) {
-    pass(&before_named);
-    return sflight_named(slot, key, len, stamp);
-}
-
-static uint32_t test_forget_call(sflight_slot *slot, const sflight_stamp *stamp, uint32_t tries) {
-    pass(&before_forget_call);
-    uint32_t code = sflight_forget_call(slot, stamp, tries);
+static uint32_t test_forget(sflight_handle *handle, const uint8_t *key, size_t len, uint32_t tries, sflight_id *id) {
+    pass(&before_forget);
+    uint32_t code = sflight_forget(handle, key, len, tries, id);
     tick();
+    pass(&after_forget);
     return code;
 }
 
@@ -407,7 +402,7 @@ struct job {
     const char *key;
     bool forgets;
     int64_t timeout;
-    struct gate *load, *after_ask, *before_finish, *before_named, *before_forget_call;
+    struct gate *load, *before_ask, *after_ask, *before_settle, *before_forget, *after_forget;
     pthread_t thread;
     int code;
     bool closed;
@@ -431,10 +426,11 @@ static void ask_now(struct job *job) {
 static void *run_job(void *at) {
     struct job *job = at;
     is_timed = true;
+    before_ask = job->before_ask;
     after_ask = job->after_ask;
-    before_finish = job->before_finish;
-    before_named = job->before_named;
-    before_forget_call = job->before_forget_call;
+    before_settle = job->before_settle;
+    before_forget = job->before_forget;
+    after_forget = job->after_forget;
     ask_now(job);
     return NULL;
 }
@@ -469,7 +465,7 @@ static void joined(sflight_pool *pool, uint64_t joins) {
 
 /* Calls of the library. */
 static void calls(void) {
-    sflight_pool *pool = sflight_do_open(NULL, NULL);
+    sflight_pool *pool = sflight_do_open(0, NULL);
     struct log log = {0};
     record(pool, &log);
     run(&(struct job){.pool = pool, .key = "k"}, 1000);
@@ -482,7 +478,7 @@ static void calls(void) {
     run(&(struct job){.pool = pool, .key = "k", .forgets = true}, 2000);
     check(stop(pool).events == 2, "two events");
     expect(&log, "a Forget of what was loaded before, and one more", "{\"e\":\"forget\",\"k\":\"k\",\"closed\":null,\"at\":[1000,1100]}\n"
-                                                                  "{\"e\":\"forget\",\"k\":\"k\",\"closed\":null,\"at\":[2000,2000]}\n");
+                                                                  "{\"e\":\"forget\",\"k\":\"k\",\"closed\":null,\"at\":[2000,2100]}\n");
 
     struct gate gate = {0};
     struct job leader = {.pool = pool, .key = "k", .load = &gate}, joiner = {.pool = pool, .key = "k"};
@@ -502,8 +498,29 @@ static void calls(void) {
     check(is_legal(&log, &recorded), "a call that is closed, and the next");
     expect(&log, "a joiner, a Forget, one that finds nothing, and the next call",
            LEADS("A", "k", "1000", "1100") ENTERS("A", "k", "B", "2000", "6100") CLOSES("A", "k", "3000", "3100") SETTLES("A", "1", "6000", "6100")
-           "{\"e\":\"forget\",\"k\":\"k\",\"closed\":null,\"at\":[4000,4000]}\n"
+           "{\"e\":\"forget\",\"k\":\"k\",\"closed\":null,\"at\":[4000,4100]}\n"
            LEADS("C", "k", "5000", "5100") SETTLES("C", "0", "5100", "5200"));
+    sflight_do_close(pool);
+}
+
+/* Without a recording, in a place that a recorded call has left. */
+static void not_recorded(void) {
+    sflight_pool *pool = sflight_do_open(1, NULL);
+    struct log log = {0};
+    struct gate gate = {0};
+    struct job leader = {.pool = pool, .key = "k", .load = &gate}, joiner = {.pool = pool, .key = "k"};
+    record(pool, &log);
+    run(&(struct job){.pool = pool, .key = "k"}, 1000);
+    stop(pool);
+    start(&leader, 2000);
+    reached(&gate);
+    start(&joiner, 3000);
+    joined(pool, 1);
+    open_at(&gate, 4000);
+    end(&leader);
+    end(&joiner);
+    check(leader.got.joiners == 1 && !joiner.got.led, "a call that is not recorded");
+    expect(&log, "and the one before it", LEADS("A", "k", "1000", "1100") SETTLES("A", "0", "1100", "1200"));
     sflight_do_close(pool);
 }
 
@@ -540,7 +557,7 @@ static void keys_of_records(void) {
         {"\xf0\x8f\xbf\xbf", 4}, {"\xf4\x90\x80\x80", 4}, {"\xf5\x80\x80\x80", 4}, {"\xf0\x9f\x98", 3}, {"a\xff", 2}, {"hash:", 5}, {"hash:x", 6}, {longer, 251},
         {long_one, sizeof long_one}, {long_one, sizeof long_one - 1}};
     enum { TEXTS = sizeof texts / sizeof *texts, DIGESTS = sizeof digests / sizeof *digests };
-    sflight_pool *pool = sflight_do_open(NULL, NULL);
+    sflight_pool *pool = sflight_do_open(0, NULL);
     struct log log = {0};
     record(pool, &log);
     for (int i = 0; i < TEXTS; i++) load_key(pool, texts[i].key, texts[i].len);
@@ -568,31 +585,27 @@ static void keys_of_records(void) {
         check(forgets == 1, "of the same key it is the same");
         for (size_t before = 0; before < i; before++) check(!is_one_key(leads[i], leads[before]), "of another key it is another");
     }
-    /* No digest tells what the library is told of the key. */
-    uint64_t known[4] = {sip_hash(&pool->names[0], (const uint8_t *)longer, 251), sip_hash(&pool->names[2], (const uint8_t *)longer, 251)};
-    char text[17];
-    for (int i = 0; i < 2; i++) {
-        snprintf(text, sizeof text, "%016llx", (unsigned long long)known[i]);
-        check(log.text && !strstr(log.text, text), "the digest has seeds of its own");
-    }
     free(lines);
     free_log(&log);
     sflight_do_close(pool);
 }
 
-static const sflight_do_sizes one = {.slots = 1, .callers = 1, .is_fixed = true};
-
-/* Calls beside the library are told as others are. */
-static void beside(void) {
-    sflight_pool *pool = sflight_do_open(&one, NULL);
+/* A call beside others, in a pool that grows meanwhile. */
+static void grown(void) {
+    sflight_pool *pool = sflight_do_open(1, NULL);
     struct log log = {0};
-    struct gate outer = {0}, gate = {0};
-    struct job other = {.pool = pool, .key = "other", .load = &outer}, leader = {.pool = pool, .key = "k", .load = &gate}, joiner = {.pool = pool, .key = "k"};
-    start(&other, 500);
-    reached(&outer);
+    struct gate outer[3] = {{0}, {0}, {0}}, gate = {0};
+    struct job others[3], leader = {.pool = pool, .key = "k", .load = &gate}, joiner = {.pool = pool, .key = "k"};
+    static const char *const keys[] = {"l", "m", "n"};
     record(pool, &log);
     start(&leader, 1000);
     reached(&gate);
+    for (int i = 0; i < 3; i++) {
+        others[i] = (struct job){.pool = pool, .key = keys[i], .load = &outer[i]};
+        start(&others[i], 1500);
+        reached(&outer[i]);
+    }
+    check(atomic_load(&pool->posts[1]) != NULL, "the pool has grown");
     start(&joiner, 2000);
     joined(pool, 1);
     run(&(struct job){.pool = pool, .key = "k", .forgets = true}, 3000);
@@ -602,19 +615,20 @@ static void beside(void) {
     end(&leader);
     end(&joiner);
     sflight_recorded recorded = stop(pool);
-    open_at(&outer, 7000);
-    end(&other);
-    check(sflight_do_statistics(pool).alone == 2, "two calls ran beside the library");
-    check(is_legal(&log, &recorded), "a call beside the library that is closed, and the next");
-    expect(&log, "calls beside the library",
-           LEADS("A", "k", "1000", "1000") ENTERS("A", "k", "B", "2000", "6000") CLOSES("A", "k", "3000", "3000") SETTLES("A", "1", "6000", "6000")
-           "{\"e\":\"forget\",\"k\":\"k\",\"closed\":null,\"at\":[4000,4000]}\n" LEADS("C", "k", "5000", "5000") SETTLES("C", "0", "5000", "5000"));
+    for (int i = 0; i < 3; i++) {
+        open_at(&outer[i], 7000);
+        end(&others[i]);
+    }
+    check(is_legal(&log, &recorded), "a call that is closed, and the next");
+    /* A thread that asks may have to ask twice, as it gets to know a table: so its times are not said. */
+    check(recorded.events == 9 && recorded.lost == 0, "a joiner, a Forget, one that finds nothing, and the next call");
+    free_log(&log);
     sflight_do_close(pool);
 }
 
 /* Threads that leave: one before the load begins, and one after that. */
 static void timeouts(void) {
-    sflight_pool *pool = sflight_do_open(NULL, NULL);
+    sflight_pool *pool = sflight_do_open(0, NULL);
     struct log log = {0};
     struct gate asked = {0}, gate = {0};
     struct job leader = {.pool = pool, .key = "k", .load = &gate, .after_ask = &asked};
@@ -637,7 +651,7 @@ static void timeouts(void) {
 
 /* Forgets just before a call begins, and just before it ends. */
 static void forgets(void) {
-    sflight_pool *pool = sflight_do_open(NULL, NULL);
+    sflight_pool *pool = sflight_do_open(0, NULL);
     struct log log = {0};
     struct gate asked = {0}, ending = {0};
     struct job leader = {.pool = pool, .key = "k", .after_ask = &asked}, forget = {.pool = pool, .key = "k", .forgets = true};
@@ -652,7 +666,7 @@ static void forgets(void) {
     expect(&log, "it took effect when the load began", LEADS("A", "k", "1000", "3000") CLOSES("A", "k", "2000", "3000") SETTLES("A", "0", "3000", "3100"));
 
     /* The call is about to be settled when the Forget begins. */
-    leader = (struct job){.pool = pool, .key = "k", .before_finish = &ending};
+    leader = (struct job){.pool = pool, .key = "k", .before_settle = &ending};
     record(pool, &log);
     start(&leader, 1000);
     reached(&ending);
@@ -661,38 +675,50 @@ static void forgets(void) {
     open_at(&ending, 3000);
     end(&leader);
     stop(pool);
-    expect(&log, "a Forget that began when the call was about to be settled is left out", LEADS("A", "k", "1000", "1100") SETTLES("A", "0", "1100", "3100"));
+    expect(&log, "and is told, since it came before", LEADS("A", "k", "1000", "1100") CLOSES("A", "k", "2000", "2100") SETTLES("A", "0", "1100", "3100"));
 
-    /* The Forget begins sooner, and marks the call; that is settled before the Forget goes on. The mark has ended it: after a renewal another could run. */
-    struct gate marked = {0}, loading = {0};
-    ending = (struct gate){0};
-    leader = (struct job){.pool = pool, .key = "k", .load = &loading, .before_finish = &ending};
-    forget = (struct job){.pool = pool, .key = "k", .forgets = true, .before_forget_call = &marked};
+    /* The Forget has closed the call, and knows its times when that is settled and told. */
+    struct gate closed = {0}, loading = {0};
+    leader = (struct job){.pool = pool, .key = "k", .load = &loading};
+    forget = (struct job){.pool = pool, .key = "k", .forgets = true, .after_forget = &closed};
     record(pool, &log);
     start(&leader, 1000);
     reached(&loading);
     start(&forget, 2000);
-    reached(&marked);
+    reached(&closed);
     open_at(&loading, 3000);
-    reached(&ending);
-    open_at(&ending, 3000);
     end(&leader);
-    open_at(&marked, 4000);
+    open_at(&closed, 4000);
     end(&forget);
     stop(pool);
-    check(!forget.closed, "the library's call had ended");
-    expect(&log, "but it was forgotten", LEADS("A", "k", "1000", "1100") CLOSES("A", "k", "2000", "4100") SETTLES("A", "0", "3000", "3100"));
+    check(forget.closed, "the Forget has closed the call");
+    expect(&log, "which waits for its times", LEADS("A", "k", "1000", "1100") CLOSES("A", "k", "2000", "4000") SETTLES("A", "0", "3000", "3100"));
+
+    /* The same, and the recording is over before the Forget is. */
+    closed = (struct gate){0};
+    loading = (struct gate){0};
+    record(pool, &log);
+    start(&leader, 1000);
+    reached(&loading);
+    start(&forget, 2000);
+    reached(&closed);
+    open_at(&loading, 3000);
+    end(&leader);
+    stop(pool);
+    open_at(&closed, 4000);
+    end(&forget);
+    expect(&log, "a call whose Forget has not ended is left out", "");
 
     /* A Forget that began before the recording closes a call of it. */
-    struct gate naming = {0}, gate = {0};
-    forget = (struct job){.pool = pool, .key = "k", .forgets = true, .before_named = &naming};
+    struct gate waiting = {0}, gate = {0};
+    forget = (struct job){.pool = pool, .key = "k", .forgets = true, .before_forget = &waiting};
     leader = (struct job){.pool = pool, .key = "k", .load = &gate};
     start(&forget, 1000);
-    reached(&naming);
+    reached(&waiting);
     record(pool, &log);
     start(&leader, 2000);
     reached(&gate);
-    open_at(&naming, 3000);
+    open_at(&waiting, 3000);
     end(&forget);
     open_at(&gate, 4000);
     end(&leader);
@@ -702,76 +728,9 @@ static void forgets(void) {
     sflight_do_close(pool);
 }
 
-/* A key, from this letter on, whose loads beside the library do not make those who ask for "k" look there: which keys do is random. */
-static const char *key_apart(const sflight_pool *pool, char letter) {
-    static char keys[26][2];
-    uint64_t own = fingerprint_of(pool, (const uint8_t *)"k", 1) % ALERTS;
-    for (; letter <= 'z'; letter++) {
-        char *key = keys[letter - 'a'];
-        key[0] = letter;
-        if (fingerprint_of(pool, (const uint8_t *)key, 1) % ALERTS != own) return key;
-    }
-    abort();
-}
-
-/* A call whose epoch is replaced while it runs. Whether the next call of its key was the library's: another key may have its slot, by chance. */
-static bool moved_once(void) {
-    const sflight_do_sizes grows = {.slots = 1, .callers = 3};
-    sflight_pool *pool = sflight_do_open(&grows, NULL);
-    struct log log = {0};
-    struct gate gate = {0}, naming = {0}, others[2] = {{0}, {0}};
-    struct job leader = {.pool = pool, .key = "k", .load = &gate}, old = {.pool = pool, .key = "k", .forgets = true, .before_named = &naming}, joiner = {.pool = pool, .key = "k"};
-    struct job next = {.pool = pool, .key = "k"};
-    struct job more[2] = {{.pool = pool, .key = key_apart(pool, 'l'), .load = &others[0]}, {.pool = pool, .load = &others[1]}};
-    more[1].key = key_apart(pool, (char)(more[0].key[0] + 1));
-    record(pool, &log);
-    start(&leader, 1000);
-    reached(&gate);
-    start(&old, 2000);
-    reached(&naming);
-    /* These have another key's call at their slot, so they run beside; the second has no caller, so the pool grows. */
-    for (int i = 0; i < 2; i++) {
-        start(&more[i], 2500);
-        reached(&others[i]);
-    }
-    check(sflight_do_statistics(pool).epochs == 2, "the pool has grown");
-    start(&joiner, 3000);
-    joined(pool, 1);
-    run(&(struct job){.pool = pool, .key = "k", .forgets = true}, 4000);
-    run(&next, 5000);
-    /* This one has a seat of the old epoch: it closes the call there. The next call is another epoch's, and was led before. */
-    open_at(&naming, 6000);
-    end(&old);
-    open_at(&gate, 7000);
-    end(&leader);
-    end(&joiner);
-    sflight_recorded recorded = stop(pool);
-    for (int i = 0; i < 2; i++) {
-        open_at(&others[i], 8000);
-        end(&more[i]);
-    }
-    check(is_legal(&log, &recorded), "a call that was moved and closed, and the next");
-    bool is_tried = next.got.stamp.epoch != 0;
-    if (is_tried) {
-        expect(&log, "a call of an epoch that was replaced, which two Forgets close",
-               LEADS("A", "k", "1000", "1100") ENTERS("A", "k", "B", "3000", "7100") CLOSES("A", "k", "2000", "6200") SETTLES("A", "1", "7000", "7100")
-               LEADS("C", "k", "5000", "5100") SETTLES("C", "0", "5100", "5200"));
-    } else {
-        free_log(&log);
-    }
-    sflight_do_close(pool);
-    return is_tried;
-}
-
-static void moved(void) {
-    int tries = 0;
-    while (tries < 100 && !moved_once()) tries++;
-    check(tries < 100, "the next call is the library's");
-}
-
 /* A call of one recording is in no other. */
 static void two_recordings(void) {
-    sflight_pool *pool = sflight_do_open(NULL, NULL);
+    sflight_pool *pool = sflight_do_open(0, NULL);
     struct log first = {0}, second = {0};
     struct gate gate = {0};
     struct job leader = {.pool = pool, .key = "k", .load = &gate}, joiner = {.pool = pool, .key = "k"};
@@ -808,6 +767,25 @@ static void two_recordings(void) {
     free_log(&first);
     free_log(&second);
 
+    /* One that began to ask before the recording joins a call of it. */
+    struct gate asking = {0}, late = {0};
+    leader = (struct job){.pool = pool, .key = "k", .load = &late};
+    joiner = (struct job){.pool = pool, .key = "k", .before_ask = &asking};
+    start(&joiner, 1000);
+    reached(&asking);
+    record(pool, &first);
+    start(&leader, 2000);
+    reached(&late);
+    uint64_t before = sflight_do_statistics(pool).joins;
+    open_at(&asking, 3000);
+    joined(pool, before + 1);
+    open_at(&late, 4000);
+    end(&leader);
+    end(&joiner);
+    stop(pool);
+    check(!joiner.got.led && joiner.got.value == 1, "and gets its value");
+    expect(&first, "it is left out, and the call is not", LEADS("A", "k", "2000", "2100") SETTLES("A", "0", "4000", "4100"));
+
     /* The pool is closed while it is recorded. */
     record(pool, &first);
     run(&(struct job){.pool = pool, .key = "k"}, 1000);
@@ -817,7 +795,7 @@ static void two_recordings(void) {
 
 /* Writers that fail, that are slow, and that call the pool. */
 static void failing_writer(void) {
-    sflight_pool *pool = sflight_do_open(NULL, NULL);
+    sflight_pool *pool = sflight_do_open(0, NULL);
     for (int at = 1; at <= 2; at++) {
         struct gate gate = {0};
         struct log log = {.fails_at = at, .waits = &gate}, next = {0};
@@ -849,7 +827,7 @@ static void failing_writer(void) {
 
 static void slow_writer(void) {
     enum { CALLS = 2 * LANE_EVENTS };
-    sflight_pool *pool = sflight_do_open(NULL, NULL);
+    sflight_pool *pool = sflight_do_open(0, NULL);
     struct gate gate = {0};
     struct log log = {.waits = &gate};
     record(pool, &log);
@@ -889,7 +867,7 @@ static int write_and_call(void *context, const char *text, size_t len) {
 }
 
 static void calling_writer(void) {
-    struct calling calling = {.pool = sflight_do_open(NULL, NULL)};
+    struct calling calling = {.pool = sflight_do_open(0, NULL)};
     if (sflight_do_record(calling.pool, write_and_call, &calling) != SFLIGHT_DO_DONE) abort();
     uint64_t calls = 0;
     for (; calls < 10 || calling.log.writes < 5; calls++) {
@@ -925,7 +903,7 @@ static void no_memory(void) {
         {"no room in a lane", sizeof(struct chunk) + CHUNK, 0, 6},
     };
     for (size_t i = 0; i < sizeof sizes / sizeof *sizes; i++) {
-        sflight_pool *pool = sflight_do_open(NULL, NULL);
+        sflight_pool *pool = sflight_do_open(0, NULL);
         struct log log = {0};
         record(pool, &log);
         refused_size = sizes[i].size;
@@ -940,7 +918,7 @@ static void no_memory(void) {
     /* Each allocation in turn. */
     bool is_over = false;
     for (long number = 1; !is_over; number++) {
-        sflight_pool *pool = sflight_do_open(NULL, NULL);
+        sflight_pool *pool = sflight_do_open(0, NULL);
         struct log log = {0};
         record(pool, &log);
         was_refused = false;
@@ -956,7 +934,7 @@ static void no_memory(void) {
     }
     /* A recording that cannot begin. */
     for (long number = 1; number <= 2; number++) {
-        sflight_pool *pool = sflight_do_open(NULL, NULL);
+        sflight_pool *pool = sflight_do_open(0, NULL);
         struct log log = {0};
         refused_number = number;
         check(sflight_do_record(pool, write_log, &log) == SFLIGHT_DO_NO_MEMORY, "no memory for a recording");
@@ -976,7 +954,7 @@ static void no_memory(void) {
 
 /* Names of a caller that are used up are another's, and where none is left the call is lost. */
 static void names(void) {
-    sflight_pool *pool = sflight_do_open(NULL, NULL);
+    sflight_pool *pool = sflight_do_open(0, NULL);
     struct log log = {0};
     record(pool, &log);
     for (int i = 0; i < LANES; i++) atomic_store(&pool->kept->lanes[i].names, i == 5 ? UINT32_MAX - 1 : UINT32_MAX);
@@ -1003,7 +981,7 @@ static int write_mask(void *context, const char *text, size_t len) {
 }
 
 static void signals(void) {
-    sflight_pool *pool = sflight_do_open(NULL, NULL);
+    sflight_pool *pool = sflight_do_open(0, NULL);
     sigset_t there, here_after;
     sigemptyset(&there);
     if (sflight_do_record(pool, write_mask, &there) != SFLIGHT_DO_DONE) abort();
@@ -1054,7 +1032,7 @@ static void *stress_one(void *at) {
     return NULL;
 }
 
-static void stress(const char *what, const sflight_do_sizes *sizes, bool stands) {
+static void stress(const char *what, uint32_t sizes, bool stands) {
     pthread_t threads[THREADS];
     uint64_t events = 0, lost = 0;
     int recordings = 0;
@@ -1075,9 +1053,8 @@ static void stress(const char *what, const sflight_do_sizes *sizes, bool stands)
         free_log(&log);
     } while (running > 0);
     for (size_t i = 0; i < THREADS; i++) pthread_join(threads[i], NULL);
-    sflight_do_stats stats = sflight_do_statistics(stressed);
-    printf("%s: %llu events in %d recordings; %llu loads, %llu epochs\n", what, (unsigned long long)events, recordings, (unsigned long long)(stats.leads + stats.alone),
-           (unsigned long long)stats.epochs);
+    sflight_stats stats = sflight_do_statistics(stressed);
+    printf("%s: %llu events in %d recordings; %llu loads\n", what, (unsigned long long)events, recordings, (unsigned long long)stats.loads);
     check(lost == 0 && events > 0 && stats.in_use == 0, what);
     sflight_do_close(stressed);
 }
@@ -1087,11 +1064,11 @@ int main(void) {
     signal(SIGALRM, hangs_at);
     alarm(LIMIT);
     calls();
+    not_recorded();
     keys_of_records();
-    beside();
+    grown();
     timeouts();
     forgets();
-    moved();
     two_recordings();
     no_memory();
     names();
@@ -1105,13 +1082,9 @@ int main(void) {
         printf("%d passed, %d failed\n", passed, failed);
         return 1;
     }
-    const sflight_do_sizes few = {.slots = 4, .callers = 2, .is_fixed = true}, grows = {.slots = 1, .callers = 1};
-    const sflight_do_sizes worn = {.slots = 16, .callers = 4, .is_fixed = true, .calls = 5};
-    stress("a stress", NULL, false);
-    stress("few callers", &few, false);
-    stress("callers that are spent", &worn, false);
-    stress("a pool that grows", &grows, false);
-    stress("a clock that stands", &few, true);
+    stress("a stress", 0, false);
+    stress("a pool that grows", 1, false);
+    stress("a clock that stands", 4, true);
     printf("%d passed, %d failed\n", passed, failed);
     return failed > 0;
 }

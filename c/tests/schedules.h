@@ -1,11 +1,8 @@
-/* For tests that include sflight_do.c or sflight_cache.c after this: it plays threads by a schedule. One
+/* For tests that include sflight_do.c and sflight_cache.c after this: it plays threads by a schedule. One
  * thread runs at a time, and before each step that others can see it may be another one's turn, as a random
  * number says. A schedule has a number, and is played again by it. Steps are the atomics, the locks, the
- * waits and the library's functions, in whose places macros are put here. A thread that is no actor of a
- * play runs as ever.
- *
- * The library's functions are one step each, but for one: a Forget that has closed a call and has not
- * cleared its place yet. What others see then is played: the place names the call still. */
+ * waits, the library's functions, in whose places macros are put here, and the points in the code. A thread
+ * that is no actor of a play runs as ever. Each function of the library is one step. */
 #ifndef SFLIGHT_SCHEDULES_H
 #define SFLIGHT_SCHEDULES_H
 
@@ -14,6 +11,7 @@
 #endif
 #include "sflight.h"
 #include <errno.h>
+#include <linux/futex.h>
 #include <pthread.h>
 #include <sched.h>
 #include <semaphore.h>
@@ -23,33 +21,20 @@
 #include <stdio.h>
 #include <stdlib.h>
 #include <string.h>
+#include <stdarg.h>
 #include <sys/random.h>
+#include <sys/syscall.h>
+#include <time.h>
 #include <unistd.h>
 
 enum {
     MOST_ACTORS = 6,
-    MOST_NAMES = 32,
     WAKES = 256,
     MOST_STEPS = 400000, /* a play that takes more of them hangs */
     SWITCHES = 3,        /* one step in so many is followed by another thread's */
     STALLS = 40,         /* one in so many stops its thread for long, */
     STALLS_AFTER = 8,    /* and of those after which others have to find something, */
     LONG = 400           /* for so many steps of others at most */
-};
-
-/* Where it is not 0, a cache has so many places and callers, in place of what it asks for. */
-static uint32_t few_places, few_callers;
-
-static inline uint32_t played_open(sflight_slot *slot, uint32_t places, uint32_t callers, uint64_t a,
-                                   uint64_t b) {
-    return sflight_open(slot, few_places ? few_places : places, few_callers ? few_callers : callers, a, b);
-}
-
-/* What the place of a key named last, since a place cannot be asked for. */
-struct named {
-    uint8_t key[64];
-    size_t len;
-    sflight_stamp stamp;
 };
 
 static struct {
@@ -59,10 +44,7 @@ static struct {
     bool is_over[MOST_ACTORS];
     unsigned stalled[MOST_ACTORS];
     sem_t turn[MOST_ACTORS], end;
-    unsigned wakes[WAKES]; /* of condition variables */
-    sflight_stamp clearing[MOST_ACTORS];
-    struct named names[MOST_NAMES];
-    int names_used;
+    unsigned wakes[WAKES]; /* by the word that is slept on */
     bool (*waits)(int actor, const char *where); /* whether the actor waits at the step of this name */
 } play;
 
@@ -126,11 +108,6 @@ static inline void point_at(const char *where) {
     while (actor >= 0 && play.waits && play.waits(actor, where)) point(true);
 }
 
-static inline uint32_t after(const char *where, uint32_t code) {
-    point_at(where);
-    return code;
-}
-
 /* The parts of the C library that block. */
 
 static inline int played_lock(pthread_mutex_t *lock) {
@@ -146,37 +123,38 @@ static inline int played_unlock(pthread_mutex_t *lock) {
     return code;
 }
 
-static inline unsigned *wakes_of(const pthread_cond_t *condition) {
-    return &play.wakes[(uintptr_t)condition / sizeof *condition % WAKES];
-}
+static inline unsigned *wakes_of(const void *word) { return &play.wakes[(uintptr_t)word / 64 % WAKES]; }
 
-static inline int played_broadcast(pthread_cond_t *condition) {
-    point(false);
-    if (actor >= 0) ++*wakes_of(condition);
-    int code = pthread_cond_broadcast(condition);
-    point_at("has woken");
-    return code;
-}
-
-/* Every other schedule wakes threads for no reason; in the rest one that nobody wakes sleeps. */
-static inline int sleeps(pthread_cond_t *condition, pthread_mutex_t *lock, bool has_deadline) {
-    unsigned before = *wakes_of(condition);
+/* A futex. Every other schedule wakes threads for no reason; in the rest one that nobody wakes sleeps. */
+static inline long played_syscall(long number, void *at, int what, unsigned value, const struct timespec *deadline, void *other, unsigned which) {
+    (void)number;
+    if (actor < 0) return (syscall)(SYS_futex, at, what, value, deadline, other, which);
+    if ((what & FUTEX_CMD_MASK) == FUTEX_WAKE_BITSET) {
+        point(false);
+        ++*wakes_of(at);
+        point_at("has woken");
+        return 1;
+    }
+    point_at("sleep");
+    unsigned before = *wakes_of(at);
+    /* Whoever changes the word and wakes later finds the thread asleep. */
+    if (*(volatile unsigned *)at != value) {
+        errno = EAGAIN;
+        return -1;
+    }
     bool is_late = false;
-    pthread_mutex_unlock(lock);
     do {
         point(true);
-        is_late = has_deadline && random_below(16) == 0;
-    } while (!is_late && play.number % 2 == 0 && *wakes_of(condition) == before);
-    while (pthread_mutex_trylock(lock) != 0) point(true);
-    return is_late ? ETIMEDOUT : 0;
+        is_late = deadline && random_below(16) == 0;
+    } while (!is_late && play.number % 2 == 0 && *wakes_of(at) == before);
+    errno = ETIMEDOUT;
+    return is_late ? -1 : 0;
 }
 
-static inline int played_wait(pthread_cond_t *condition, pthread_mutex_t *lock) {
-    return actor < 0 ? pthread_cond_wait(condition, lock) : sleeps(condition, lock, false);
-}
-
-static inline int played_timedwait(pthread_cond_t *condition, pthread_mutex_t *lock, const struct timespec *at) {
-    return actor < 0 ? pthread_cond_timedwait(condition, lock, at) : sleeps(condition, lock, true);
+static inline int played_nanosleep(const struct timespec *time, struct timespec *left) {
+    if (actor < 0) return nanosleep(time, left);
+    point(true);
+    return 0;
 }
 
 static inline int played_yield(void) {
@@ -191,57 +169,6 @@ static inline ssize_t played_random(void *to, size_t size, unsigned flags) {
     return (ssize_t)size;
 }
 
-/* The library. */
-
-static inline struct named *name_in(const uint8_t *key, size_t len) {
-    for (int i = 0; i < play.names_used; i++) {
-        struct named *name = &play.names[i];
-        if (name->len == len && memcmp(name->key, key, len) == 0) return name;
-    }
-    return NULL;
-}
-
-static inline uint32_t played_named(sflight_slot *slot, const uint8_t *key, size_t len, sflight_stamp *stamp) {
-    if (actor >= 0) point_at("named");
-    uint32_t code = sflight_named(slot, key, len, stamp);
-    if (actor < 0) return code;
-    struct named *name = name_in(key, len);
-    if (code == SFLIGHT_DONE && len <= sizeof name->key && (name || play.names_used < MOST_NAMES)) {
-        if (!name) name = &play.names[play.names_used++];
-        memcpy(name->key, key, len);
-        name->len = len;
-        name->stamp = *stamp;
-    } else if (code == SFLIGHT_NOTHING && name) {
-        for (int i = 0; i < play.actors; i++) {
-            if (name->stamp.place && memcmp(&play.clearing[i], &name->stamp, sizeof *stamp) == 0) {
-                *stamp = name->stamp;
-                code = SFLIGHT_DONE;
-            }
-        }
-    }
-    point_at("has named");
-    return code;
-}
-
-static inline uint32_t played_forget_call(sflight_slot *slot, const sflight_stamp *stamp, uint32_t tries) {
-    if (actor >= 0) point_at("forget");
-    uint32_t code = sflight_forget_call(slot, stamp, tries);
-    if (actor < 0 || code != SFLIGHT_DONE) return code;
-    play.clearing[actor] = *stamp;
-    point_at("has closed");
-    if (random_below(2) == 0) {
-        play.stalled[actor] = random_below(LONG);
-        hand_over(true);
-    }
-    memset(&play.clearing[actor], 0, sizeof play.clearing[actor]);
-    return code;
-}
-
-static inline bool is_after(const char *where, bool is) {
-    point_at(where);
-    return is;
-}
-
 #undef atomic_load
 #undef atomic_store
 #undef atomic_exchange
@@ -249,11 +176,13 @@ static inline bool is_after(const char *where, bool is) {
 #undef atomic_fetch_sub
 #undef atomic_compare_exchange_strong
 #undef atomic_compare_exchange_weak
+#undef atomic_fetch_and
 #define atomic_load(at) (point(false), atomic_load_explicit(at, memory_order_seq_cst))
 #define atomic_store(at, to) (point(false), atomic_store_explicit(at, to, memory_order_seq_cst))
 #define atomic_exchange(at, to) (point(false), atomic_exchange_explicit(at, to, memory_order_seq_cst))
 #define atomic_fetch_add(at, by) (point(false), atomic_fetch_add_explicit(at, by, memory_order_seq_cst))
 #define atomic_fetch_sub(at, by) (point(false), atomic_fetch_sub_explicit(at, by, memory_order_seq_cst))
+#define atomic_fetch_and(at, by) (point(false), atomic_fetch_and_explicit(at, by, memory_order_seq_cst))
 #define atomic_compare_exchange_strong(at, from, to) \
     (point(false), \
      atomic_compare_exchange_strong_explicit(at, from, to, memory_order_seq_cst, memory_order_seq_cst))
@@ -263,22 +192,13 @@ static inline bool is_after(const char *where, bool is) {
 
 #define pthread_mutex_lock played_lock
 #define pthread_mutex_unlock played_unlock
-#define pthread_cond_wait played_wait
-#define pthread_cond_timedwait played_timedwait
-#define pthread_cond_broadcast played_broadcast
 #define sched_yield played_yield
+#define nanosleep played_nanosleep
 #define getrandom played_random
+#define syscall(...) played_syscall(__VA_ARGS__)
 
-#define sflight_open played_open
-#define sflight_named played_named
-#define sflight_forget_call played_forget_call
-#define sflight_ask(...) (point_at("ask"), after("has asked", (sflight_ask)(__VA_ARGS__)))
-#define sflight_finish(...) (point_at("finish"), after("has finished", (sflight_finish)(__VA_ARGS__)))
-#define sflight_poll(...) (point_at("poll"), (sflight_poll)(__VA_ARGS__))
-#define sflight_is_still(...) is_after("is still", (point(false), (sflight_is_still)(__VA_ARGS__)))
-#define sflight_look(...) after("has looked", (point(false), (sflight_look)(__VA_ARGS__)))
-#define sflight_keep(...) after("has kept", (point_at("keep"), (sflight_keep)(__VA_ARGS__)))
-#define sflight_take_out(...) after("has taken out", (point(false), (sflight_take_out)(__VA_ARGS__)))
+/* The points in the code, by which a test lets an actor wait. */
+#define SFLIGHT_POINT(where) point_at(where)
 
 /* Plays. */
 
@@ -316,11 +236,9 @@ static inline void begin_play(uint64_t number, int actors) {
     play.actors = actors;
     play.steps = 0;
     play.waited = 0;
-    play.names_used = 0;
     play.waits = NULL;
     memset(play.is_over, 0, sizeof play.is_over);
     memset(play.stalled, 0, sizeof play.stalled);
-    memset(play.clearing, 0, sizeof play.clearing);
 }
 
 /* Each actor runs this with its number. Returns when all have ended. */

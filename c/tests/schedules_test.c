@@ -1,14 +1,15 @@
-/* Schedules of sflight_do.c: threads whose steps are in an order that a number draws, which ask for few keys
- * at few slots, with nested loads, deadlines, Forgets, callers that are spent and pools that grow. One load of a
- * key runs at a time, unless a Forget came between; nothing is older than a Forget that had returned; and
- * nothing is older than what a call had returned before it was asked for, nor the same.
+/* Schedules of sflight_do.c: threads whose steps are in an order that a number draws, which ask for few keys,
+ * with nested loads, deadlines, Forgets, a cache of the program's own and pools that grow. One load of a key
+ * runs at a time, unless a Forget came between; nothing is older than a Forget that had returned; nothing is
+ * older than what a call had returned before it was asked for, nor the same; and so many counts of a value are
+ * given as threads get it.
  * usage: schedules_test [NUMBER [COUNT]], the first schedule and how many. */
 #include "schedules.h"
 
 #include "sflight_do.c"
 
 #ifndef SCHEDULES
-#define SCHEDULES 3000
+#define SCHEDULES 100000
 #endif
 
 enum { KEYS = 4, MOST_RUNNING = 64 };
@@ -39,7 +40,7 @@ static struct key {
 };
 
 static sflight_pool *pool;
-static uint64_t ticks, loads, joined, hits, doubles, stale, backward, refused;
+static uint64_t ticks, loads, joined, hits, late, doubles, stale, backward, refused, given, received;
 static unsigned rounds, forgetting;
 
 struct loads {
@@ -47,7 +48,7 @@ struct loads {
     uint64_t ended;
 };
 
-static void ask(int number, int depth);
+static void ask_for(int number, int depth);
 
 static uint64_t loading(void *context, const uint8_t *name, size_t len) {
     struct loads *load = context;
@@ -62,14 +63,27 @@ static uint64_t loading(void *context, const uint8_t *name, size_t len) {
     loads++;
     for (unsigned i = random_below(6); i > 0; i--) point(false);
     int other = load->key + 1 + (int)random_below(KEYS);
-    if (load->depth < 2 && other < KEYS && random_below(2) == 0) ask(other, load->depth + 1);
+    if (load->depth < 2 && other < KEYS && random_below(2) == 0) ask_for(other, load->depth + 1);
     for (int i = 0; i < key->count; i++) {
         if (key->running[i].moment == moment) key->running[i] = key->running[--key->count];
     }
     return moment << 8 | (uint64_t)load->key;
 }
 
-static void ask(int number, int depth) {
+static void gives(uint64_t value, uint32_t others) {
+    (void)value;
+    given += others;
+}
+
+static void keeping(void *context, const uint8_t *name, size_t len, uint64_t value, const sflight_do_stamp *stamp) {
+    struct key *key = &keys[((struct loads *)context)->key];
+    (void)name, (void)len;
+    for (unsigned i = random_below(4); i > 0; i--) point(false);
+    key->cached = *stamp;
+    key->cached_moment = value >> 8;
+}
+
+static void ask_for(int number, int depth) {
     struct key *key = &keys[number];
     struct loads load = {number, depth, key->ended};
     uint64_t least = key->forgotten, newest = key->newest, ended = key->newest_ended, cached = key->cached_moment;
@@ -85,22 +99,20 @@ static void ask(int number, int depth) {
     ended = key->newest_ended;
     load.ended = key->ended;
     int64_t timeout = random_below(6) ? SFLIGHT_DO_FOREVER : 1000000000;
-    int code = sflight_do(pool, (const uint8_t *)key->name, key->len, loading, &load, timeout, &got);
+    int code = sflight_do_and_keep(pool, (const uint8_t *)key->name, key->len, loading, keeping, &load, timeout, &got);
     if (code != SFLIGHT_DO_DONE) {
+        late++;
         refused += code != SFLIGHT_DO_TIMED_OUT || timeout == SFLIGHT_DO_FOREVER;
         return;
     }
     uint64_t moment = got.value >> 8;
     joined += !got.led;
+    received += !got.led;
     stale += moment < least || (got.value & 255) != (uint64_t)number;
     backward += moment <= newest && key->begun == ended;
     if (moment > key->newest) {
         key->newest = moment;
         key->newest_ended = load.ended;
-    }
-    if (random_below(2) == 0 && sflight_do_is_still(pool, &got.stamp)) {
-        key->cached = got.stamp;
-        key->cached_moment = moment;
     }
 }
 
@@ -118,39 +130,32 @@ static void acts_at_random(int number) {
     for (unsigned i = 0; i < rounds; i++) {
         int key = (int)random_below(random_below(2) ? 2 : KEYS);
         if (random_below(forgetting) == 0) forgets(key);
-        else ask(key, 0);
+        else ask_for(key, 0);
     }
 }
 
-static void open_pool(const sflight_do_sizes *sizes) {
-    pool = sflight_do_open(sizes, NULL);
+static void open_pool(uint32_t size) {
+    pool = sflight_do_open(size, gives);
     if (!pool) abort();
     for (int i = 0; i < KEYS; i++) keys[i] = (struct key){.name = keys[i].name, .len = keys[i].len};
 }
 
 static void play_at_random(uint64_t number) {
     begin_play(number, 2 + (int)(number % (MOST_ACTORS - 1)));
-    sflight_do_sizes sizes = {.slots = 1 + random_below(3), .callers = 1 + random_below(4), .is_fixed = random_below(2) == 0};
-    if (random_below(2) == 0) sizes.calls = 1 + random_below(3);
     rounds = 1 + random_below(6);
     forgetting = 2 + random_below(6);
-    open_pool(&sizes);
+    open_pool(1 + random_below(4));
     uint64_t before = loads;
     play_all(acts_at_random);
-    sflight_do_stats stats = sflight_do_statistics(pool);
+    sflight_stats stats = sflight_do_statistics(pool);
     check(doubles == 0, "one load of a key at a time");
     check(stale == 0, "nothing is older than a Forget that had returned");
     check(backward == 0, "nothing is older than what was returned before");
     check(refused == 0, "no call is refused");
-    check(stats.leads + stats.alone == loads - before && stats.in_use == 0, "loads are counted, and all callers are back");
-    doubles = stale = backward = refused = 0;
+    check(given == received, "each that joined has one count, and who gave up has none");
+    check(stats.loads == loads - before && stats.in_use == 0, "loads are counted, and all calls have ended");
+    doubles = stale = backward = refused = given = received = 0;
     sflight_do_close(pool);
-}
-
-static uint64_t returns(void *context, const uint8_t *key, size_t len) {
-    (void)key;
-    (void)len;
-    return *(uint64_t *)context;
 }
 
 static uint64_t get(const char *key, sflight_load *load, void *context, sflight_got *got) {
@@ -158,127 +163,12 @@ static uint64_t get(const char *key, sflight_load *load, void *context, sflight_
     return got->value;
 }
 
-/* One key gets 1, and the thread stops before it caches that. All callers are taken. Another thread loads 2 beside the library and returns
- * it. Then the stamp of 1 is asked, which is current no more. */
-static uint64_t loads_beside(void *context, const uint8_t *key, size_t len) {
-    uint64_t two = 2;
-    sflight_got newer;
-    const sflight_do_stamp *stamp = context;
-    (void)key;
-    (void)len;
-    if (!sflight_do_is_still(pool, stamp)) return 0; /* this key has the slot of the other */
-    check(get("k", returns, &two, &newer) == 2 && newer.led && newer.stamp.epoch == 0, "it is loaded beside the library");
-    check(!sflight_do_is_still(pool, stamp), "a run beside the library ends the stamp of its key's last result");
-    return 1;
-}
-
-static void stamps_beside(void) {
-    const sflight_do_sizes sizes = {.slots = 1024, .callers = 1, .is_fixed = true};
-    uint64_t one = 1, met = 0;
-    char other[32];
-    sflight_got got, outer;
-    begin_play(0, 0);
-    open_pool(&sizes);
-    for (int i = 0; i < 8; i++) {
-        snprintf(other, sizeof other, "other %d", i);
-        check(get("k", returns, &one, &got) == 1 && sflight_do_is_still(pool, &got.stamp), "a stamp is current");
-        met += get(other, loads_beside, &got.stamp, &outer);
-    }
-    check(met > 0, "at another slot");
-    sflight_do_close(pool);
-}
-
-/* The leader B of a key finds a run A of it beside the library, and gives its call up. Before it has, A returns, and asks again: it joins
- * B's call, and must not get what A has returned. `phase` says how far it is:
- * 0: the call of another key is open at the slot, and B is about to ask, having seen no run;
- * 1: A runs beside the library;
- * 2: the other key's call is over, and B asks and finds A's run;
- * 3: A has returned 1, the store has 2 now, and A asks again;
- * 4: A has asked, and B goes on. */
 static int phase;
-static bool is_other_led;
-static uint64_t store, first, second;
-
-static bool waits_for_phase(int who, const char *where) {
-    if (who == 1 && strcmp(where, "ask") == 0 && phase < 2) return true;
-    if (who == 1 && strcmp(where, "finish") == 0) {
-        if (phase == 2) phase = 3;
-        return phase < 4;
-    }
-    if (who == 0 && phase == 3 && second == 0 && strcmp(where, "has asked") == 0) {
-        second = 1;
-        phase = 4;
-    }
-    return false;
-}
-
-static uint64_t waits_until_beside(void *context, const uint8_t *key, size_t len) {
-    (void)context;
-    (void)key;
-    (void)len;
-    is_other_led = true;
-    while (phase < 1) point(true);
-    return 9;
-}
-
-static uint64_t waits_until_led(void *context, const uint8_t *key, size_t len) {
-    (void)context;
-    (void)key;
-    (void)len;
-    uint64_t value = store;
-    if (phase == 0) phase = 1;
-    while (phase < 3) point(true);
-    return value;
-}
+static uint64_t store;
 
 static uint64_t reads_store(void *context, const uint8_t *key, size_t len) {
-    (void)context;
-    (void)key;
-    (void)len;
+    (void)context, (void)key, (void)len;
     return store;
-}
-
-static unsigned open_calls(void) {
-    unsigned count = 0;
-    for (uint32_t i = 0; i < pool->current->callers + 2; i++) count += atomic_load(&pool->current->seats[i].word) != 0;
-    return count;
-}
-
-static void joins_a_leader_that_gives_up(int number) {
-    sflight_got got;
-    switch (number) {
-    case 0:
-        /* B and the other key's leader come first. */
-        while (!is_other_led || open_calls() < 2) point(true);
-        first = get("k", waits_until_led, NULL, &got);
-        store = 2;
-        second = 0;
-        second = get("k", reads_store, NULL, &got);
-        phase = 4;
-        break;
-    case 1:
-        check(get("k", reads_store, NULL, &got) >= 1, "the leader gets a value");
-        break;
-    default:
-        check(get("another", waits_until_beside, NULL, &got) == 9, "another key's load");
-        phase = phase < 2 ? 2 : phase;
-    }
-}
-
-static void asks_again(uint64_t number) {
-    const sflight_do_sizes sizes = {.slots = 1, .callers = 4, .is_fixed = true};
-    begin_play(number, 3);
-    open_pool(&sizes);
-    phase = 0;
-    is_other_led = false;
-    store = 1;
-    first = second = 0;
-    play.waits = waits_for_phase;
-    play_all(joins_a_leader_that_gives_up);
-    play.waits = NULL;
-    check(first == 1, "the first call got the first value");
-    check(second == 2, "who joins a leader that gives up gets nothing that was returned before");
-    sflight_do_close(pool);
 }
 
 /* Waits for a phase, but not for ever. */
@@ -286,213 +176,193 @@ static void until(int least) {
     for (int i = 0; phase < least && i < 5000; i++) point(true);
 }
 
-static uint64_t loads_until_the_end(void *context, const uint8_t *key, size_t len) {
-    (void)context;
-    (void)key;
-    (void)len;
-    uint64_t value = store;
-    phase = 1;
-    until(5);
-    return value;
-}
-
-/* The leader of the call of a key loads. A caller of another key has joined that call, so each asking looks at the slot first. A Forget
- * closes the call, and is stopped before it clears the slot. A second Forget finds nothing to close, and returns. Who asks then finds
- * that the slot names the call, which is open for its leader still, and must not follow it. */
-static bool stops_forget(int who, const char *where) {
-    if (who != 2 || strcmp(where, "has closed") != 0) return false;
-    if (phase == 2) phase = 3;
-    return phase < 5;
-}
-
-static void forgets_twice(int number) {
-    sflight_got got;
-    switch (number) {
-    case 0:
-        get("k", loads_until_the_end, NULL, &got);
-        break;
-    case 1:
-        until(1);
-        get("another", reads_store, NULL, &got);
-        phase = 2;
-        break;
-    case 2:
-        until(2);
-        sflight_do_forget(pool, (const uint8_t *)"k", 1);
-        break;
-    default:
-        until(3);
-        check(phase == 3 && !sflight_do_forget(pool, (const uint8_t *)"k", 1), "the second Forget closes nothing");
-        store = 2;
-        check(get("k", reads_store, NULL, &got) == 2 && got.led, "who knows of it follows no call of before");
-        phase = 5;
-    }
-}
-
-/* A Forget has looked for what is to be forgotten beside the library, and then the pool is renewed, which moves the key's call there. */
-static bool stops_look(int who, const char *where) {
-    if (who != 1 || strcmp(where, "named") != 0) return false;
-    if (phase == 1) phase = 2;
-    return phase < 3;
-}
-
-static void renews_meanwhile(int number) {
-    sflight_got got;
-    switch (number) {
-    case 0:
-        get("k", loads_until_the_end, NULL, &got);
-        break;
-    case 1:
-        until(1);
-        sflight_do_forget(pool, (const uint8_t *)"k", 1);
-        phase = 4;
-        break;
-    default:
-        until(2);
-        renew(pool, pool->current->number, pool->current->slots, pool->current->callers);
-        phase = 3;
-        until(4);
-        store = 2;
-        check(get("k", reads_store, NULL, &got) == 2 && got.led, "a Forget forgets a call that is moved meanwhile");
-        phase = 5;
-    }
-}
-
-static void forgets_in_order(uint64_t number, int actors, bool (*waits)(int, const char *), void (*run)(int)) {
-    const sflight_do_sizes sizes = {.slots = 1, .callers = 6, .is_fixed = true};
+static void play_in_order(uint64_t number, int actors, uint32_t size, bool (*waits)(int, const char *), void (*run)(int)) {
     begin_play(number, actors);
-    open_pool(&sizes);
+    open_pool(size);
     phase = 0;
     store = 1;
     play.waits = waits;
     play_all(run);
     play.waits = NULL;
+    given = 0;
+    check(sflight_do_statistics(pool).in_use == 0, "all calls have ended");
     sflight_do_close(pool);
 }
 
-/* The leader of a call stops right after the library's settling, by which all who joined have their letters, and again before what
- * followed is taken out of the side table. A caller that asks meanwhile finds the call there, as one that was moved, or without a seat by its slot,
- * and gets its value if none was returned before. A caller that has returned the value and asks again gets a newer one. `phase` says how far it is:
+/* The leader of the call of a key loads. A Forget closes the call, and is stopped before it returns. A second Forget finds nothing to close, and
+ * returns. A thread that asks then must not get the value of before. */
+static bool stops_forget(int who, const char *where) {
+    if (who != 1 || strcmp(where, "has forgotten") != 0) return false;
+    if (phase == 1) phase = 2;
+    return phase < 3;
+}
+
+static uint64_t loads_until_the_end(void *context, const uint8_t *key, size_t len) {
+    (void)context, (void)key, (void)len;
+    uint64_t value = store;
+    phase = 1;
+    until(3);
+    return value;
+}
+
+static void forgets_twice(int number) {
+    const sflight_do_stamp none = {0};
+    sflight_got got;
+    switch (number) {
+    case 0:
+        check(get("k", loads_until_the_end, NULL, &got) == 1, "the leader gets its value");
+        check(memcmp(&got.stamp, &none, sizeof none) == 0, "and no stamp");
+        break;
+    case 1:
+        until(1);
+        check(sflight_do_forget(pool, (const uint8_t *)"k", 1), "a Forget closes the call");
+        break;
+    default:
+        until(2);
+        check(phase == 2 && !sflight_do_forget(pool, (const uint8_t *)"k", 1), "the second Forget closes nothing");
+        store = 2;
+        check(get("k", reads_store, NULL, &got) == 2 && got.led && sflight_do_is_still(pool, &got.stamp), "who knows of it joins no call of before");
+        phase = 3;
+    }
+}
+
+/* The leader of a call stops at one place from its settling to its end. Another thread has joined the call before. One that asks meanwhile leads a
+ * newer call, and does not wait. Once it is told, the one that joined has the value, asks again, and gets a newer one. `phase` says how far it is:
  * 0: the leader is about to ask;
  * 1: it loads;
- * 2: another one follows, and, where that is wanted, the pool was renewed;
- * 3: the call is settled in the library, and the leader stops;
- * 4: those who follow are woken, and the leader stops;
- * 5: one of them has asked again. */
-static bool is_to_move;
-static int stopped;
+ * 2: another one has joined;
+ * 3: the call is settled, and the leader stops;
+ * 4: another one has asked. */
+static const char *stopping;
 
 static bool stops_leader(int who, const char *where) {
-    if (who != 0) return false;
-    if (phase == 2 && strcmp(where, "has finished") == 0) phase = 3;
-    if (phase == 3 && strcmp(where, "has finished") == 0) return ++stopped < 500;
-    if (phase == 3 && strcmp(where, "has woken") == 0) phase = 4;
-    return phase == 4 && strcmp(where, "has woken") == 0 && ++stopped < 5000;
+    if (who == 1 && phase == 1 && strcmp(where, strcmp(stopping, "has woken") == 0 || play.number % 2 ? "sleep" : "has asked") == 0) phase = 2;
+    if (who != 0 || phase < 2 || strcmp(where, stopping) != 0) return false;
+    if (phase == 2) phase = 3;
+    return phase < 4;
 }
 
-static uint64_t loads_until_followed(void *context, const uint8_t *key, size_t len) {
-    (void)context;
-    (void)key;
-    (void)len;
-    if (phase > 0) return 2;
+static uint64_t loads_until_joined(void *context, const uint8_t *key, size_t len) {
+    (void)context, (void)key, (void)len;
+    uint64_t value = store;
     phase = 1;
     until(2);
-    return 1;
+    return value;
 }
 
-static bool is_followed(void) {
-    for (uint32_t i = 0; i < pool->current->callers + 2; i++) {
-        struct wait *wait = pool->current->seats[i].wait;
-        if (wait && wait->followers > 0) return true;
+static void leader_is_slow(int number) {
+    sflight_got got;
+    switch (number) {
+    case 0:
+        check(get("k", loads_until_joined, NULL, &got) == 1 && got.led && got.joiners == 1, "the leader's value");
+        break;
+    case 1:
+        until(1);
+        check(get("k", reads_store, NULL, &got) == 1 && !got.led && got.joiners == 1, "who joined has the leader's value");
+        store++;
+        check(get("k", reads_store, NULL, &got) > 1, "who has returned the value gets a newer one");
+        break;
+    default:
+        until(3);
+        store++;
+        check(phase == 3 && get("k", reads_store, NULL, &got) > 1, "who asks when the call is settled leads a newer one");
+        phase = 4;
+    }
+}
+
+/* One that joined gives up as the call is settled: it has its value, or none; and it is counted, or not. `is_told` says what it got. */
+static bool is_early;
+static int given_up;
+
+static bool waits_to_leave(int who, const char *where) {
+    if (who == 1 && phase == 1 && strcmp(where, "has asked") == 0) phase = 2;
+    /* It has given up before the leader settles, or after that. */
+    if (is_early && who == 0 && strcmp(where, "settle") == 0 && phase < 3) return true;
+    if (!is_early && who == 1 && strcmp(where, "sleep") == 0 && phase < 4) return true;
+    if (!is_early && who == 0 && strcmp(where, "tell") == 0 && phase < 4) {
+        phase = 4;
+        return false;
     }
     return false;
 }
 
-static void returns_and_asks(int number) {
+static void gives_up(int number) {
     sflight_got got;
-    until(number == 0 ? 0 : number == 1 ? 1 : 3);
-    uint64_t before = get("k", loads_until_followed, NULL, &got);
-    if (number == 0) return;
-    check(before == 1 || number == 3, "who asks while the call is settled gets its value");
-    check(get("k", loads_until_followed, NULL, &got) == 2, "who has returned the value gets a newer one");
-    phase = 5;
-}
-
-static void settles_slowly(int number) {
-    if (number != 2) {
-        returns_and_asks(number);
+    if (number == 0) {
+        get("k", loads_until_joined, NULL, &got);
+        check(got.joiners == (given_up ? 0 : 1) && given == got.joiners, "so many counts as have the value");
         return;
     }
     until(1);
-    for (int i = 0; !is_followed() && i < 5000; i++) point(true);
-    if (is_to_move) renew(pool, pool->current->number, pool->current->slots, pool->current->callers);
-    phase = 2;
+    int code = sflight_do(pool, (const uint8_t *)"k", 1, reads_store, NULL, 1000, &got);
+    given_up = code == SFLIGHT_DO_TIMED_OUT;
+    check(given_up || (code == SFLIGHT_DO_DONE && got.value == 1 && !got.led), "the value, or none");
+    phase = phase < 3 ? 3 : phase;
 }
 
-static void settles(uint64_t number, bool is_moved, uint32_t callers) {
-    const sflight_do_sizes sizes = {.slots = 1, .callers = callers, .is_fixed = true};
-    begin_play(number, 4);
-    open_pool(&sizes);
-    phase = stopped = 0;
-    is_to_move = is_moved;
-    play.waits = stops_leader;
-    play_all(settles_slowly);
-    play.waits = NULL;
-    check(stopped > 0 && phase == 5, "the leader has stopped");
-    sflight_do_close(pool);
-}
-
-/* Keys that differ in their length alone are told apart while one of them is loaded. */
-static uint64_t loads_longer(void *context, const uint8_t *key, size_t len) {
-    uint64_t two = 2;
-    sflight_got got;
-    (void)context;
-    int code = sflight_do(pool, key, len + 1, returns, &two, 0, &got);
-    check(code == SFLIGHT_DO_DONE && got.value == 2 && got.led, "no call waits for the load of a key of another length");
+/* A pool grows while a call of a key is open: that is joined, and a Forget reaches it. */
+static uint64_t grows_meanwhile(void *context, const uint8_t *key, size_t len) {
+    (void)context, (void)key, (void)len;
+    phase = 1;
+    until(4);
     return 1;
 }
 
-static void lengths(void) {
-    const sflight_do_sizes sizes = {.slots = 1, .callers = 2, .is_fixed = true};
-    static const uint8_t zeros[64];
-    sflight_got got;
-    begin_play(0, 0);
-    open_pool(&sizes);
-    for (size_t len = 0; len < sizeof zeros - 1; len++) {
-        if (sflight_do(pool, zeros, len, loads_longer, NULL, SFLIGHT_DO_FOREVER, &got) != SFLIGHT_DO_DONE) abort();
-    }
-    sflight_do_close(pool);
+static uint64_t stays_open(void *context, const uint8_t *key, size_t len) {
+    (void)context, (void)key, (void)len;
+    phase++;
+    until(4);
+    return 9;
 }
 
-/* Threads have numbers in the order of their first calls. It is the same one whatever schedules are played. */
-static void takes_number(int number) {
-    (void)number;
-    here();
+static void grows_beside(int number) {
+    sflight_got got;
+    char key[] = "a";
+    switch (number) {
+    case 0:
+        check(get("k", grows_meanwhile, NULL, &got) == 1 && got.joiners == 1, "the call that was open before");
+        break;
+    case 1:
+    case 2:
+        until(number);
+        key[0] = (char)(key[0] + number);
+        check(get(key, stays_open, NULL, &got) == 9, "another call");
+        break;
+    default:
+        until(3);
+        check(atomic_load(&pool->posts[1]) != NULL, "the pool has grown");
+        if (number == 4) {
+            check(get("k", reads_store, NULL, &got) == 1 && !got.led, "it is joined still");
+            break;
+        }
+        for (int i = 0; i < 5000 && sflight_do_statistics(pool).joins == 0; i++) point(true);
+        store = 2;
+        check(sflight_do_forget(pool, (const uint8_t *)"k", 1), "a Forget reaches it");
+        check(get("k", reads_store, NULL, &got) == 2 && got.led, "and the next call is a newer one");
+        phase = 4;
+    }
 }
 
 int main(int argc, char **argv) {
+    static const char *const stops[] = {"has settled", "tell", "has woken", "leave"};
     setvbuf(stdout, NULL, _IOLBF, 0);
-    uint64_t from = argc > 1 ? strtoull(argv[1], NULL, 10) : 1;
-    uint64_t count = argc > 2 ? strtoull(argv[2], NULL, 10) : argc > 1 ? 1 : SCHEDULES;
+    uint64_t from = argc > 1 ? strtoull(argv[1], NULL, 10) : 1, count = argc > 2 ? strtoull(argv[2], NULL, 10) : argc > 1 ? 1 : SCHEDULES;
     open_plays();
-    here();
-    begin_play(0, MOST_ACTORS);
-    play_all(takes_number);
-    if (argc == 1) {
-        lengths();
-        stamps_beside();
-        for (uint64_t i = 0; i < 200; i++) {
-            asks_again(i);
-            forgets_in_order(i, 4, stops_forget, forgets_twice);
-            forgets_in_order(i, 3, stops_look, renews_meanwhile);
-            settles(i, true, 6);
-            settles(i, false, 1);
+    for (uint64_t i = 0; argc == 1 && i < 200; i++) {
+        play_in_order(i, 3, 4, stops_forget, forgets_twice);
+        for (int stop = 0; stop < 4; stop++) {
+            stopping = stops[stop];
+            play_in_order(i, 3, 4, stops_leader, leader_is_slow);
         }
+        is_early = i % 4 < 2;
+        given_up = 0;
+        play_in_order(i, 2, 4, waits_to_leave, gives_up);
+        play_in_order(i, 5, 1, NULL, grows_beside);
     }
     for (uint64_t i = from; i < from + count && failed == 0; i++) play_at_random(i);
     close_plays();
-    printf("%llu loads, %llu joined, %llu hits\n", (unsigned long long)loads, (unsigned long long)joined, (unsigned long long)hits);
-    if (argc == 1) check(joined > 0 && hits > 0, "there was something of each");
+    printf("%llu loads, %llu joined, %llu late, %llu hits\n", (unsigned long long)loads, (unsigned long long)joined, (unsigned long long)late, (unsigned long long)hits);
+    if (argc == 1) check(joined > 0 && late > 0 && hits > 0, "there was something of each");
     printf("%d passed, %d failed\n", passed, failed);
     return failed > 0;
 }

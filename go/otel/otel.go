@@ -21,8 +21,8 @@ const (
 )
 
 // The attributes of the spans. Both have GroupKey, and the span of Do has the others. All callers of
-// a call have the same value of CallKey in one group. It is absent if the call ran beside the library,
-// and if the caller left before the call had a result.
+// a call have the same value of CallKey in one group. It is absent if the caller left before the call
+// had a result.
 const (
 	GroupKey   = attribute.Key("singleflight.group")
 	SharedKey  = attribute.Key("singleflight.shared")

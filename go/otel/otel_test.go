@@ -48,8 +48,7 @@ func receive(t *testing.T, ch <-chan struct{}) {
 }
 
 func usersOf(t *testing.T) *singleflight.Of[string, int] {
-	users, err := singleflight.New[string, int](
-		singleflight.WithName("users"), singleflight.WithSlots(1<<20))
+	users, err := singleflight.New[string, int](singleflight.WithName("users"))
 	if err != nil {
 		t.Fatal(err)
 	}
@@ -119,7 +118,7 @@ func TestDo(t *testing.T) {
 		if span.SpanContext().SpanID() == loads[0].Parent().SpanID() {
 			parents++
 		}
-		if valueOf(span, otel.SharedKey) != true || valueOf(span, otel.JoinersKey) != int64(2) {
+		if valueOf(span, otel.SharedKey) != true || valueOf(span, otel.JoinersKey) != int64(1) {
 			t.Error("its numbers", span.Attributes())
 		}
 		if call := valueOf(span, otel.CallKey); call == nil || call != valueOf(dos[1], otel.CallKey) {

@@ -4,8 +4,6 @@
 package prometheus
 
 import (
-	"sync/atomic"
-
 	"github.com/prometheus/client_golang/prometheus"
 
 	"sf.example/singleflight"
@@ -15,100 +13,56 @@ import (
 type Source interface {
 	Name() string
 	Stats() singleflight.Stats
-	InFlight() int
-}
-
-// The numbers of one collection.
-type numbers struct {
-	singleflight.Stats
-	inFlight int
 }
 
 type metric struct {
 	desc *prometheus.Desc
 	kind prometheus.ValueType
-	of   func(numbers) float64
+	of   func(singleflight.Stats) float64
 }
 
 type collector struct {
-	source       Source
-	metrics      []metric
-	leads, joins atomic.Uint64 // the highest that were collected
+	source  Source
+	metrics []metric
 }
 
 // NewCollector returns a collector of the source's numbers. The name of the source is the value of
 // the label group. So each registered source needs a name of its own: a registry does not take two
-// collectors of one name. A collection takes no lock of the group. It has:
+// collectors of one name. It has:
 //
-//	singleflight_loads_total{path="library"}  load functions that were called for a proved call
-//	singleflight_loads_total{path="beside"}   load functions that were called beside the library
-//	singleflight_joins_total                  calls that joined another's
-//	singleflight_forgets_total{hit="closed"}  Forgets that closed a call
-//	singleflight_forgets_total{hit="none"}    Forgets that closed none
-//	singleflight_epochs_total                 how often the library's group was made
-//	singleflight_callers                      callers that were made for the present epoch
-//	singleflight_callers_in_use               callers that lead or wait
-//	singleflight_in_flight                    calls that have not ended
-//	singleflight_proved                       1 if the proved library runs, 0 if plain Go does
+//	singleflight_loads_total    calls that were led, each of which ran a load function
+//	singleflight_joins_total    calls that joined another's
+//	singleflight_forgets_total  Forgets of keys
+//	singleflight_in_use         load functions that run
+//	singleflight_proved         1 if the proved library runs, 0 if plain Go does
 func NewCollector(source Source) prometheus.Collector {
 	c := &collector{source: source}
-	add := func(
-		kind prometheus.ValueType, name, help, label, value string, of func(numbers) float64,
-	) {
+	add := func(kind prometheus.ValueType, name, help string, of func(singleflight.Stats) float64) {
 		labels := prometheus.Labels{"group": source.Name()}
-		if label != "" {
-			labels[label] = value
-		}
 		desc := prometheus.NewDesc("singleflight_"+name, help, nil, labels)
 		c.metrics = append(c.metrics, metric{desc, kind, of})
 	}
-	counter := func(name, help, label, value string, of func(numbers) uint64) {
-		add(prometheus.CounterValue, name+"_total", help, label, value, func(n numbers) float64 {
+	counter := func(name, help string, of func(singleflight.Stats) uint64) {
+		add(prometheus.CounterValue, name+"_total", help, func(n singleflight.Stats) float64 {
 			return float64(of(n))
 		})
 	}
-	gauge := func(name, help string, of func(numbers) float64) {
-		add(prometheus.GaugeValue, name, help, "", "", of)
-	}
-	counter("loads", "Load functions that were called.", "path", "library",
-		func(n numbers) uint64 { return raise(&c.leads, n.Leads) })
-	counter("loads", "Load functions that were called.", "path", "beside",
-		func(n numbers) uint64 { return n.Alone })
-	counter("joins", "Calls that joined another's.", "", "",
-		func(n numbers) uint64 { return raise(&c.joins, n.Joins) })
-	counter("forgets", "Forgets of keys.", "hit", "closed",
-		func(n numbers) uint64 { return n.Closed })
-	counter("forgets", "Forgets of keys.", "hit", "none",
-		func(n numbers) uint64 { return n.Idle })
-	counter("epochs", "How often the library's group was made.", "", "",
-		func(n numbers) uint64 { return n.Epochs })
-	gauge("callers", "Callers that were made for the present epoch.",
-		func(n numbers) float64 { return float64(n.Made) })
-	gauge("callers_in_use", "Callers that lead or wait.",
-		func(n numbers) float64 { return float64(n.InUse) })
-	gauge("in_flight", "Calls that have not ended.",
-		func(n numbers) float64 { return float64(n.inFlight) })
-	gauge("proved", "Whether the proved library runs.", func(n numbers) float64 {
-		if n.Proved {
-			return 1
-		}
-		return 0
-	})
+	counter("loads", "Calls that were led, each of which ran a load function.",
+		func(n singleflight.Stats) uint64 { return n.Loads })
+	counter("joins", "Calls that joined another's.",
+		func(n singleflight.Stats) uint64 { return n.Joins })
+	counter("forgets", "Forgets of keys.",
+		func(n singleflight.Stats) uint64 { return n.Forgets })
+	add(prometheus.GaugeValue, "in_use", "Load functions that run.",
+		func(n singleflight.Stats) float64 { return float64(n.InUse) })
+	add(prometheus.GaugeValue, "proved", "Whether the proved library runs.",
+		func(n singleflight.Stats) float64 {
+			if n.Proved {
+				return 1
+			}
+			return 0
+		})
 	return c
-}
-
-// The number, or the highest before it. Stats takes a call that asks anew out of its numbers again,
-// and to Prometheus a counter that goes down is that of a new process.
-func raise(highest *atomic.Uint64, n uint64) uint64 {
-	for {
-		was := highest.Load()
-		if n <= was {
-			return was
-		}
-		if highest.CompareAndSwap(was, n) {
-			return n
-		}
-	}
 }
 
 func (c *collector) Describe(ch chan<- *prometheus.Desc) {
@@ -118,7 +72,7 @@ func (c *collector) Describe(ch chan<- *prometheus.Desc) {
 }
 
 func (c *collector) Collect(ch chan<- prometheus.Metric) {
-	n := numbers{c.source.Stats(), c.source.InFlight()}
+	n := c.source.Stats()
 	for _, m := range c.metrics {
 		ch <- prometheus.MustNewConstMetric(m.desc, m.kind, m.of(n))
 	}

@@ -67,8 +67,7 @@ func receive(t *testing.T, ch <-chan singleflight.ResultOf[int]) {
 }
 
 func TestCollector(t *testing.T) {
-	users, err := singleflight.New[string, int](
-		singleflight.WithName("users"), singleflight.WithSlots(1<<20))
+	users, err := singleflight.New[string, int](singleflight.WithName("users"))
 	if err != nil {
 		t.Fatal(err)
 	}
@@ -100,17 +99,11 @@ func TestCollector(t *testing.T) {
 	}
 	got := gather(t, ours.NewCollector(users), ours.NewCollector(pages))
 	want := map[string]float64{
-		"loads_total group=users path=library": 4, "loads_total group=users path=beside": 0,
-		"joins_total group=users": 1, "epochs_total group=users": 1,
-		"forgets_total group=users hit=closed": 1, "forgets_total group=users hit=none": 2,
-		"callers group=users": float64(users.Stats().Made), "callers_in_use group=users": 2,
-		"in_flight group=users": 1, "proved group=users": proved,
+		"loads_total group=users": 4, "joins_total group=users": 1, "forgets_total group=users": 3,
+		"in_use group=users": 1, "proved group=users": proved,
 
-		"loads_total group=pages path=library": 0, "loads_total group=pages path=beside": 1,
-		"joins_total group=pages": 0, "epochs_total group=pages": 1,
-		"forgets_total group=pages hit=closed": 0, "forgets_total group=pages hit=none": 0,
-		"callers group=pages": 0, "callers_in_use group=pages": 0,
-		"in_flight group=pages": 0, "proved group=pages": proved,
+		"loads_total group=pages": 1, "joins_total group=pages": 0, "forgets_total group=pages": 0,
+		"in_use group=pages": 0, "proved group=pages": proved,
 	}
 	for name, value := range want {
 		if there, ok := got[name]; !ok || there != value {
@@ -123,36 +116,13 @@ func TestCollector(t *testing.T) {
 	close(release)
 	receive(t, open)
 	receive(t, joined)
-	if got := gather(t, ours.NewCollector(users)); got["in_flight group=users"] != 0 {
+	if got := gather(t, ours.NewCollector(users)); got["in_use group=users"] != 0 {
 		t.Error("a call has ended", got)
 	}
 	registry := prometheus.NewRegistry()
 	registry.MustRegister(ours.NewCollector(users))
 	if err := registry.Register(ours.NewCollector(users)); err == nil {
 		t.Error("two of one name")
-	}
-}
-
-// A source whose numbers are as a test says.
-type source struct{ stats singleflight.Stats }
-
-func (s *source) Name() string              { return "source" }
-func (s *source) Stats() singleflight.Stats { return s.stats }
-func (s *source) InFlight() int             { return 0 }
-
-// A counter never goes down, and what goes down for a moment is counted once.
-func TestCountersNeverGoDown(t *testing.T) {
-	s := &source{singleflight.Stats{Leads: 7, Joins: 5}}
-	c := ours.NewCollector(s)
-	for _, step := range []struct{ leads, joins, wantLeads, wantJoins uint64 }{
-		{7, 5, 7, 5}, {6, 4, 7, 5}, {7, 5, 7, 5}, {8, 4, 8, 5}, {9, 6, 9, 6},
-	} {
-		s.stats.Leads, s.stats.Joins = step.leads, step.joins
-		got := gather(t, c)
-		if got["loads_total group=source path=library"] != float64(step.wantLeads) ||
-			got["joins_total group=source"] != float64(step.wantJoins) {
-			t.Error("counters", step, got)
-		}
 	}
 }
 
@@ -239,7 +209,7 @@ func ExampleNewCollector() {
 	users.Do(ctx, "user-7", func(context.Context) (string, error) { return "Ada", nil })
 	families, err := registry.Gather()
 	for _, family := range families {
-		if family.GetName() == "singleflight_in_flight" {
+		if family.GetName() == "singleflight_in_use" {
 			fmt.Println(family.Metric[0].GetGauge().GetValue(), err)
 		}
 	}

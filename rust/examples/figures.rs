@@ -52,7 +52,7 @@ impl Asker for &Plain {
         calls.insert(key.to_vec(), call.clone());
         drop(calls);
         let answer = Arc::new(load());
-        // Who asks from now on leads a call of its own: this one's load has ended.
+        // A caller that asks from now on leads a call of its own: this one's load has ended.
         self.calls.lock().unwrap().remove(key);
         *call.answer.lock().unwrap() = Some(answer.clone());
         call.settled.notify_all();
@@ -144,7 +144,7 @@ fn chosen(count: usize) -> Vec<[u8; 8]> {
 
 // Nanoseconds a get of these keys in turn, by one thread over 65,536 places.
 fn in_turn(keys: &[[u8; 8]]) -> f64 {
-    let group = Group::<u64>::open(65_536, 4).unwrap();
+    let group = Group::<u64>::open(4).unwrap();
     let mut caller = group.caller();
     let from = Instant::now();
     for key in keys {
@@ -227,7 +227,7 @@ fn beside_waiters<A: Asker>(waiters: usize, asker: impl Fn() -> A + Sync) -> [u6
 fn recorded(threads: usize) -> ([f64; 2], [f64; 2], f64) {
     let (mut with, mut without, mut events, mut lost) = (Vec::new(), Vec::new(), 0, 0);
     for _ in 0..7 {
-        let group = Group::<u64>::open(1 << 20, 4).unwrap();
+        let group = Group::<u64>::open(4).unwrap();
         without.push(gets(threads, false, || group.caller()));
         let recording = group.record(std::io::sink()).unwrap();
         with.push(gets(threads, false, || group.caller()));
@@ -242,7 +242,7 @@ fn recorded(threads: usize) -> ([f64; 2], [f64; 2], f64) {
 }
 
 fn main() {
-    let open = |callers| Group::<u64>::open(1 << 20, callers).unwrap();
+    let open = |callers| Group::<u64>::open(callers).unwrap();
     for len in [8, 32, 128, 250, 1000] {
         let group = open(1);
         let ours = best(|| by_length(len, group.caller()));

@@ -1,24 +1,26 @@
-//! A cache over a group: the values of loads, within a limit of weight, for as long as their calls
-//! are current.
+//! A cache over a group: the values of loads, within a limit of weight, for as long as no Forget has
+//! ended them.
 //!
-//! A value lies in a shard, which is a map under a lock, beside the stamp of its call. A hit asks
-//! the library whether that call is current still, by the caller of the thread's lane, and so a
-//! Forget makes a value stale before its entry is removed. A lane remembers the values that its
+//! A value lies in a shard, which is a map under a lock, beside its stamp. A hit asks the keyed group
+//! whether the stamp is good still, by the handle of the thread's lane, and so a Forget makes a value
+//! stale before its entry is removed. A leader keeps its value before it settles its call: the next
+//! load of the key begins later, so it is kept later, and values do not go backwards. A lane remembers the values that its
 //! threads found lately, each with a count of its own, so that a hot key takes no lock and no count
 //! that all share. A value that leaves the cache leaves the lanes too. The key that the group knows
 //! begins with the number of the era. `invalidate_all` begins a new era, so no later call joins a load
 //! of an era before.
 
 use crate::hash::Fingerprints;
+use crate::keyed::Handle;
 use crate::sync::{lock, point};
-use crate::{Caller, Error, Group, Loaded, Stamp};
+use crate::{Error, Group, Stamp, Stats};
 use std::cell::Cell;
 use std::collections::HashMap;
 use std::convert::Infallible;
 use std::fmt;
 use std::future::Future;
 use std::hash::{BuildHasherDefault, Hasher};
-use std::sync::atomic::{AtomicBool, AtomicU64, AtomicU8, AtomicUsize, Ordering};
+use std::sync::atomic::{AtomicBool, AtomicU32, AtomicU64, AtomicU8, AtomicUsize, Ordering};
 use std::sync::{Arc, Mutex};
 use std::time::{Duration, Instant};
 
@@ -28,18 +30,21 @@ const MOST_LANES: usize = 64;
 /// How many entries a shard has room for at least. With few entries in each, what leaves is hardly
 /// chosen: the only entry of a shard makes room whatever its marks.
 const LEAST_OF_SHARD: u64 = 32;
-/// How many hash slots of the group each entry has, and how many where that would be more than the
-/// common number; how many there are at least and at most. A load of one key at the slot of another
-/// ends that one's value, so with few slots a cache that misses often loses what it has.
-const SLOTS_PER_ENTRY: u64 = 64;
-const FEWER_PER_ENTRY: u64 = 16;
-const LEAST_SLOTS: u64 = 16_384;
-const COMMON_SLOTS: u64 = 1_048_576;
-const MOST_SLOTS: u64 = 134_217_728;
-/// How many counts of invalidations there are, among which the keys are shared out.
-const INVALIDATIONS: usize = 1024;
-/// How many values a lane remembers.
-const NEAR: usize = 1024;
+/// For how many concurrent loads its group has room at first: one for so many entries, since the
+/// group has its hash slots by that, and a Forget of one key ends the stamps of others of its slot.
+const ENTRIES_PER_LOAD: u64 = 4;
+const MOST_LOADS: u64 = 65_536;
+/// And by the number of loads where the builder says nothing.
+const LOADS: u64 = 64;
+const FEWER_LOADS: u64 = 16;
+/// How many counts of invalidations there are, among which the keys are shared out: so many for each
+/// entry, and at least and at most.
+const INVALIDATIONS_PER_ENTRY: u64 = 16;
+const LEAST_INVALIDATIONS: u64 = 256;
+const MOST_INVALIDATIONS: u64 = 1024;
+/// How many values a lane remembers: as many as the cache has entries, and at least and at most.
+const LEAST_NEAR: u64 = 16;
+const MOST_NEAR: u64 = 1024;
 /// The queues of a shard.
 const SMALL: usize = 0;
 const MAIN: usize = 1;
@@ -53,8 +58,6 @@ const MOST_USED: u8 = 3;
 const MOST_PASSES: usize = 1024;
 /// How many ghosts a row has: as many as there are fingerprints in a line of memory.
 const ROW: usize = 8;
-/// How many loads run by the library at a time, where the builder says nothing.
-const LOADS: u32 = 1024;
 
 type Weigher<V> = dyn Fn(&[u8], &V) -> u64 + Send + Sync;
 type Listener<V> = dyn Fn(&[u8], &Arc<V>) + Send + Sync;
@@ -291,39 +294,48 @@ enum Known<V, R> {
     Hit(R),
     /// A value whose call is not current. It may be the last of it, which is dropped when the lane's
     /// lock is free again.
-    Stale { _copy: Arc<Copy<V>> },
+    Stale { _copy: Option<Arc<Copy<V>>> },
     /// Nothing. This tells whether the key was the last one that was found there.
     Nothing { again: bool },
 }
 
-/// What a lane has under its lock: a caller of the group, values that were found lately, and counts.
-struct Own<T, V> {
-    caller: Caller<T>,
+/// What a lane has under its lock: a handle of the group, values that were found lately, and counts.
+/// The handle and the places of the values are made when the lane is used first.
+struct Own<V> {
+    handle: Handle,
     near: Box<[Near<V>]>,
     hits: u64,
     misses: u64,
-    joins: u64,
 }
 
-impl<T: Send + Sync, V> Own<T, V> {
-    fn is_current(&mut self, stamp: Stamp) -> bool {
-        self.caller.0.refresh();
-        self.caller.is_current(stamp)
+impl<V> Own<V> {
+    fn is_current<T: Send + Sync>(&mut self, group: &Group<T>, stamp: Stamp) -> bool {
+        if !self.handle.is_open() {
+            match group.shared.split() {
+                Some(handle) => self.handle = handle,
+                None => return group.is_current(stamp),
+            }
+        }
+        point();
+        !stamp.is_none() && self.handle.is_still(&stamp.0)
     }
 
-    fn place(fingerprint: u64) -> usize {
-        (fingerprint >> 8) as usize % NEAR
+    /// The place of a fingerprint, where there are places.
+    fn near(&mut self, fingerprint: u64) -> Option<&mut Near<V>> {
+        let mask = self.near.len().wrapping_sub(1);
+        self.near.get_mut((fingerprint >> 8) as usize & mask)
     }
 
     /// What is taken of the key's value, if it is remembered and its call is current.
-    fn find<R>(
+    fn find<T: Send + Sync, R>(
         &mut self,
+        group: &Group<T>,
         key: &[u8],
         fingerprint: u64,
         era: u64,
         take: impl FnOnce(&Arc<Copy<V>>) -> R,
     ) -> Known<V, R> {
-        let near = &self.near[Self::place(fingerprint)];
+        let Some(near) = self.near(fingerprint) else { return Known::Nothing { again: false } };
         let again = near.last == fingerprint;
         let Some(copy) = near.copy.as_ref() else { return Known::Nothing { again } };
         if copy.fingerprint != fingerprint || copy.name.era != era || *copy.name.key != *key {
@@ -334,22 +346,26 @@ impl<T: Send + Sync, V> Own<T, V> {
         }
         copy.name.mark();
         let stamp = copy.stamp;
-        if !self.is_current(stamp) {
-            return match self.near[Self::place(fingerprint)].copy.take() {
-                Some(_copy) => Known::Stale { _copy },
-                None => Known::Nothing { again },
-            };
-        }
-        self.hits += 1;
-        match &self.near[Self::place(fingerprint)].copy {
-            Some(copy) => Known::Hit(take(copy)),
-            None => Known::Nothing { again },
+        let is_current = self.is_current(group, stamp);
+        self.hits += u64::from(is_current);
+        match self.near(fingerprint).map(|near| &mut near.copy) {
+            Some(Some(copy)) if is_current => Known::Hit(take(copy)),
+            Some(copy @ Some(_)) => Known::Stale { _copy: copy.take() },
+            _ => Known::Nothing { again },
         }
     }
 
     /// Remembers a value that was found in its shard, and hands out what it displaces.
-    fn remember(&mut self, fingerprint: u64, found: &Found<V>) -> Option<Arc<Copy<V>>> {
-        let near = &mut self.near[Self::place(fingerprint)];
+    fn remember(
+        &mut self,
+        fingerprint: u64,
+        found: &Found<V>,
+        places: usize,
+    ) -> Option<Arc<Copy<V>>> {
+        if self.near.is_empty() {
+            self.near = (0..places).map(|_| Near { last: 0, copy: None }).collect();
+        }
+        let near = self.near(fingerprint)?;
         near.last = fingerprint;
         let name = found.name.as_ref()?;
         name.near.store(true, Ordering::SeqCst);
@@ -389,9 +405,9 @@ impl<V> std::ops::Deref for Held<V> {
 
 /// What the threads of one lane share. No two lanes lie in one line of memory.
 #[repr(align(128))]
-struct Lane<T, V>(Mutex<Own<T, V>>);
+struct Lane<V>(Mutex<Own<V>>);
 
-/// Counts of a [`Cache`], since it was made.
+/// Counts of a [`Cache`], since it was made. Those that a [`Group`] has too mean the same there.
 ///
 /// ```
 /// let cache = singleflight::Cache::<String>::new(100);
@@ -407,12 +423,17 @@ pub struct CacheStats {
     pub hits: u64,
     /// Calls that found none, and those of [`Cache::get`] too.
     pub misses: u64,
-    /// Loads that gave a value, and those that [`Cache::insert`] makes of its own.
+    /// Calls that were led: each runs its load, unless it is given up before. [`Cache::insert`]
+    /// makes one of its own.
     pub loads: u64,
     /// Loads that gave an error.
     pub failures: u64,
-    /// Calls that got the value of another caller's load.
+    /// Calls that joined another's load.
     pub joins: u64,
+    /// Invalidations of a key. [`Cache::insert`] makes one too.
+    pub forgets: u64,
+    /// Calls that load or wait now.
+    pub in_use: u64,
     /// Values that left to make room.
     pub evictions: u64,
     /// Values that are in the cache.
@@ -434,7 +455,7 @@ pub struct CacheStats {
 pub struct CacheBuilder<V, E = Infallible> {
     limit: u64,
     entries: Option<u64>,
-    loads: u32,
+    loads: Option<u32>,
     time_to_live: Option<Duration>,
     weigher: Option<Box<Weigher<V>>>,
     listener: Option<Box<Listener<V>>>,
@@ -448,7 +469,8 @@ impl<V, E> fmt::Debug for CacheBuilder<V, E> {
 }
 
 impl<V: Send + Sync, E: Send + Sync> CacheBuilder<V, E> {
-    /// What an entry weighs, of its key and value. Without one each weighs 1.
+    /// What an entry weighs, of its key and value. Without one each weighs 1. It is called before
+    /// the load has ended for others: it may use the cache, but not for the same key.
     ///
     /// ```
     /// let cache: singleflight::Cache<Vec<u8>> = singleflight::Cache::builder(1000)
@@ -463,11 +485,9 @@ impl<V: Send + Sync, E: Send + Sync> CacheBuilder<V, E> {
         self
     }
 
-    /// Sets how many entries the cache is to have, by which the group gets its hash slots of 8 bytes:
-    /// 64 for each, in a cache of more than 65,536 entries 16 for each, and 16,384 at least. Where
-    /// there are more entries, a load of one key makes the value of another stale more often. Where
-    /// there are fewer, the cache has more shards than it needs, and those with few entries hardly
-    /// choose what leaves. Without this, there are as many entries as the limit, and at most 65,536.
+    /// Sets how many entries the cache is to have, by which it gets its size. Where there are fewer,
+    /// the cache has more shards than it needs, and those with few entries hardly choose what leaves.
+    /// Without this, there are as many entries as the limit, and at most 65,536.
     ///
     /// ```
     /// let cache: singleflight::Cache<u32> =
@@ -479,15 +499,14 @@ impl<V: Send + Sync, E: Send + Sync> CacheBuilder<V, E> {
         self
     }
 
-    /// How many loads run by the library at a time, 1 to 65,470; 1,024 without it. The values of
-    /// loads beyond them are not kept.
+    /// How many loads are expected at a time, 1 to 1,048,576. It is a hint: more can run.
     ///
     /// ```
     /// let cache: singleflight::Cache<u32> = singleflight::Cache::builder(100).loads(16).build()?;
     /// # Ok::<(), singleflight::Error>(())
     /// ```
     pub fn loads(mut self, loads: u32) -> Self {
-        self.loads = loads;
+        self.loads = Some(loads);
         self
     }
 
@@ -525,34 +544,33 @@ impl<V: Send + Sync, E: Send + Sync> CacheBuilder<V, E> {
     /// Makes the cache.
     ///
     /// # Errors
-    /// [`Error::Callers`] where the number of loads is out of range. [`Error::OutOfMemory`].
+    /// [`Error::Loads`] where the number of loads is out of range. [`Error::OutOfMemory`].
     pub fn build(self) -> Result<Cache<V, E>, Error> {
         let lanes = std::thread::available_parallelism().map_or(4, usize::from);
         let lanes = (2 * lanes).next_power_of_two().min(MOST_LANES);
         let entries = self.entries.unwrap_or(self.limit.min(65_536));
-        let wide = entries.saturating_mul(SLOTS_PER_ENTRY).clamp(LEAST_SLOTS, COMMON_SLOTS);
-        let slots = entries.saturating_mul(FEWER_PER_ENTRY).clamp(wide, MOST_SLOTS);
-        if self.loads == 0 {
-            return Err(Error::Callers(0));
-        }
-        let callers = self.loads.saturating_add(lanes as u32);
-        let group = Group::open(slots as u32, callers)?;
+        let enough = (entries / ENTRIES_PER_LOAD).clamp(1, MOST_LOADS) as u32;
+        let loads = self.loads.unwrap_or(entries.clamp(FEWER_LOADS, LOADS) as u32);
+        let group = Group::open(if loads == 0 { 0 } else { loads.max(enough) })?;
+        let counts = entries
+            .saturating_mul(INVALIDATIONS_PER_ENTRY)
+            .clamp(LEAST_INVALIDATIONS, MOST_INVALIDATIONS);
         let parts = (4 * lanes).min(MOST_SHARDS);
-        let enough = (entries.min(self.limit) / LEAST_OF_SHARD).max(1);
-        let shards = parts.min(1 << enough.ilog2());
-        let near = || (0..NEAR).map(|_| Near { last: 0, copy: None }).collect();
-        let own = || Own { caller: group.caller(), near: near(), hits: 0, misses: 0, joins: 0 };
+        let of_shards = (entries.min(self.limit) / LEAST_OF_SHARD).max(1);
+        let shards = parts.min(1 << of_shards.ilog2());
+        let own = || Own { handle: Handle::NONE, near: Box::default(), hits: 0, misses: 0 };
         let lane = |_| Lane(Mutex::new(own()));
         Ok(Cache {
             lanes: (0..lanes).map(lane).collect(),
             shards: (0..shards).map(|_| Mutex::new(Shard::new())).collect(),
             fingerprints: Fingerprints::new(),
             era: AtomicU64::new(0),
-            invalidations: (0..INVALIDATIONS).map(|_| AtomicU64::new(0)).collect(),
+            near: entries.clamp(LEAST_NEAR, MOST_NEAR).next_power_of_two() as usize,
+            invalidations: (0..counts.next_power_of_two()).map(|_| AtomicU32::new(0)).collect(),
             weight: AtomicU64::new(0),
             evictions: AtomicU64::new(0),
-            loads: AtomicU64::new(0),
             failures: AtomicU64::new(0),
+            found: AtomicU64::new(0),
             group,
             limit: self.limit,
             time_to_live: self.time_to_live,
@@ -582,15 +600,18 @@ impl<V: Send + Sync, E: Send + Sync> CacheBuilder<V, E> {
 /// ```
 pub struct Cache<V, E = Infallible> {
     group: Group<Outcome<V, E>>,
-    lanes: Box<[Lane<Outcome<V, E>, V>]>,
+    lanes: Box<[Lane<V>]>,
+    /// How many values a lane remembers.
+    near: usize,
     shards: Box<[Mutex<Shard<V>>]>,
     fingerprints: Fingerprints,
     era: AtomicU64,
     /// By a part of the fingerprints, how many invalidations of keys have begun.
-    invalidations: Box<[AtomicU64]>,
+    invalidations: Box<[AtomicU32]>,
     weight: AtomicU64,
     evictions: AtomicU64,
-    loads: AtomicU64,
+    /// Calls that were led, and whose value was kept by then: they loaded nothing.
+    found: AtomicU64,
     failures: AtomicU64,
     limit: u64,
     time_to_live: Option<Duration>,
@@ -611,7 +632,7 @@ struct Since {
     fingerprint: u64,
     era: u64,
     /// The count of invalidations to which the key belongs.
-    invalidations: u64,
+    invalidations: u32,
 }
 
 /// A write of a key to the store, taken before it. [`Cache::write_token`] returns one.
@@ -630,7 +651,8 @@ impl<V: Send + Sync, E: Send + Sync> WriteToken<'_, V, E> {
     /// unless the key was invalidated since the token was taken, by whatever call: the invalidation
     /// may be of a later write. It invalidates the key in any case. Returns whether the value is kept.
     ///
-    /// An invalidation of another key counts as one of this key in about one case of a thousand.
+    /// An invalidation of another key counts as one of this key in about one case of a thousand, and
+    /// in a cache of few entries in one of 256.
     ///
     /// ```
     /// let cache = singleflight::Cache::<u32>::new(100);
@@ -741,7 +763,7 @@ impl<V: Send + Sync, E: Send + Sync> Cache<V, E> {
         CacheBuilder {
             limit,
             entries: None,
-            loads: LOADS,
+            loads: None,
             time_to_live: None,
             weigher: None,
             listener: None,
@@ -830,9 +852,8 @@ impl<V: Send + Sync, E: Send + Sync> Cache<V, E> {
     /// then keeps the value, unless the key is invalidated again meanwhile, or a load began after the
     /// invalidation, whose value is as new.
     ///
-    /// Returns whether the value is kept. It is not kept either where it weighs too much, or where as
-    /// many loads run as the cache may have ([`CacheBuilder::loads`]). The next call that gets the key
-    /// loads it then.
+    /// Returns whether the value is kept. It is not kept either where it weighs too much. The next call
+    /// that gets the key loads it then.
     ///
     /// The cache does not know which of two writes was the later one. Where two threads may write one
     /// key at one time, one could insert the older value after the other has invalidated the key, and
@@ -886,12 +907,17 @@ impl<V: Send + Sync, E: Send + Sync> Cache<V, E> {
         // ends the call that is led now, so no call that begins after it gets this value.
         point();
         let invalidations = self.invalidations(fingerprint).load(Ordering::SeqCst);
-        if era != since.era || invalidations != since.invalidations + 1 {
+        if era != since.era || invalidations != since.invalidations.wrapping_add(1) {
             return false;
         }
-        let got = job.run(|| self.count(Ok(value)));
-        let value = got.value.as_ref().as_ref().ok().cloned();
-        value.is_some_and(|value| self.keep(key, fingerprint, era, value, got.stamp()))
+        let (mut left, mut is_kept) = (Vec::new(), false);
+        job.run_with(|stamp| {
+            let value = Arc::new(value);
+            is_kept = self.keep(key, fingerprint, era, &value, stamp, &mut left);
+            Ok(value)
+        });
+        self.tell(left);
+        is_kept
     }
 
     /// Forgets the key: a call that begins after this has returned gets no value of it whose load
@@ -927,11 +953,10 @@ impl<V: Send + Sync, E: Send + Sync> Cache<V, E> {
         for shard in &self.shards {
             let emptied = std::mem::replace(&mut *lock(shard), Shard::new());
             let entries = || emptied.entries.iter().flatten();
-            // All weights first: a listener may panic.
             let weight = entries().map(|entry| entry.weight).sum();
             self.weight.fetch_sub(weight, Ordering::SeqCst);
             entries().for_each(|entry| self.unremember(entry));
-            entries().for_each(|entry| self.tell(entry));
+            self.tell(emptied.entries.into_iter().flatten());
         }
     }
 
@@ -953,8 +978,12 @@ impl<V: Send + Sync, E: Send + Sync> Cache<V, E> {
     /// assert_eq!(cache.stats(), Default::default());
     /// ```
     pub fn stats(&self) -> CacheStats {
+        let Stats { loads, joins, forgets, in_use } = self.group.stats();
         let mut stats = CacheStats {
-            loads: self.loads.load(Ordering::Relaxed),
+            loads,
+            joins,
+            forgets,
+            in_use,
             failures: self.failures.load(Ordering::Relaxed),
             evictions: self.evictions.load(Ordering::Relaxed),
             weight: self.weight(),
@@ -965,8 +994,12 @@ impl<V: Send + Sync, E: Send + Sync> Cache<V, E> {
             let own = lock(&lane.0);
             stats.hits += own.hits;
             stats.misses += own.misses;
-            stats.joins += own.joins;
         }
+        // A get that found the value once it led is a hit after all.
+        let found = self.found.load(Ordering::Relaxed).min(stats.misses);
+        stats.hits += found;
+        stats.misses -= found;
+        stats.loads = stats.loads.saturating_sub(found);
         stats
     }
 
@@ -975,7 +1008,7 @@ impl<V: Send + Sync, E: Send + Sync> Cache<V, E> {
         self.era.load(Ordering::SeqCst)
     }
 
-    fn lane(&self) -> &Lane<Outcome<V, E>, V> {
+    fn lane(&self) -> &Lane<V> {
         &self.lanes[lane_number() & (self.lanes.len() - 1)]
     }
 
@@ -991,7 +1024,8 @@ impl<V: Send + Sync, E: Send + Sync> Cache<V, E> {
         };
         drop(shard);
         if let Some(entry) = entry {
-            self.left(entry);
+            self.leave(&entry);
+            self.tell([entry]);
         }
     }
 
@@ -1009,7 +1043,7 @@ impl<V: Send + Sync, E: Send + Sync> Cache<V, E> {
         (fingerprint >> 32) as usize & (self.shards.len() - 1)
     }
 
-    fn invalidations(&self, fingerprint: u64) -> &AtomicU64 {
+    fn invalidations(&self, fingerprint: u64) -> &AtomicU32 {
         &self.invalidations[(fingerprint >> 32) as usize & (self.invalidations.len() - 1)]
     }
 
@@ -1018,7 +1052,7 @@ impl<V: Send + Sync, E: Send + Sync> Cache<V, E> {
     }
 
     fn is_current(&self, stamp: Stamp) -> bool {
-        lock(&self.lane().0).is_current(stamp)
+        lock(&self.lane().0).is_current(&self.group, stamp)
     }
 
     fn find(&self, key: &[u8], fingerprint: u64) -> Option<Arc<V>> {
@@ -1036,7 +1070,7 @@ impl<V: Send + Sync, E: Send + Sync> Cache<V, E> {
         let lane = self.lane();
         // Before a value is read: one of an older era is no answer to a call that began later.
         let era = self.era();
-        let known = lock(&lane.0).find(key, fingerprint, era, near);
+        let known = lock(&lane.0).find(&self.group, key, fingerprint, era, near);
         let again = match known {
             Known::Hit(taken) => return Some(taken),
             Known::Stale { .. } => false,
@@ -1045,9 +1079,9 @@ impl<V: Send + Sync, E: Send + Sync> Cache<V, E> {
         let found = self.find_far(key, fingerprint, era, again);
         let mut own = lock(&lane.0);
         match found {
-            Some(found) if own.is_current(found.stamp) => {
+            Some(found) if own.is_current(&self.group, found.stamp) => {
                 own.hits += 1;
-                let displaced = own.remember(fingerprint, &found);
+                let displaced = own.remember(fingerprint, &found, self.near);
                 drop(own);
                 drop(displaced);
                 Some(far(found.value))
@@ -1074,11 +1108,35 @@ impl<V: Send + Sync, E: Send + Sync> Cache<V, E> {
         Some(Found { value: entry.value.clone(), name, stamp: entry.stamp, until: entry.until })
     }
 
-    /// Counts what a load gave.
-    fn count(&self, loaded: Result<V, E>) -> Outcome<V, E> {
-        let count = if loaded.is_ok() { &self.loads } else { &self.failures };
-        count.fetch_add(1, Ordering::Relaxed);
-        loaded.map(Arc::new).map_err(Arc::new)
+    /// What a load gave, of which a value is kept. The load has not ended for others yet.
+    fn came(
+        &self,
+        (key, fingerprint, era): (&[u8], u64, u64),
+        loaded: Result<V, E>,
+        stamp: Stamp,
+        left: &mut Vec<Entry<V>>,
+    ) -> Outcome<V, E> {
+        match loaded.map(Arc::new) {
+            Ok(value) => {
+                self.keep(key, fingerprint, era, &value, stamp, left);
+                Ok(value)
+            }
+            Err(error) => {
+                self.failures.fetch_add(1, Ordering::Relaxed);
+                Err(Arc::new(error))
+            }
+        }
+    }
+
+    /// The key's value, for a leader: the call before may have ended since its get missed, and that
+    /// has kept the value by then.
+    fn kept(&self, key: &[u8], fingerprint: u64) -> Option<Arc<V>> {
+        let found = self.find_far(key, fingerprint, self.era(), false)?;
+        if !self.is_current(found.stamp) {
+            return None;
+        }
+        self.found.fetch_add(1, Ordering::Relaxed);
+        Some(found.value)
     }
 
     fn get_by(&self, key: &[u8], load: impl FnOnce() -> Result<V, E>) -> Outcome<V, E> {
@@ -1086,9 +1144,14 @@ impl<V: Send + Sync, E: Send + Sync> Cache<V, E> {
         if let Some(value) = self.find(key, fingerprint) {
             return Ok(value);
         }
-        let era = self.era();
-        let got = self.group.get_or_load(name(era, key), || self.count(load()));
-        self.came(key, fingerprint, era, got)
+        let (era, mut left) = (self.era(), Vec::new());
+        let load = |stamp| match self.kept(key, fingerprint) {
+            Some(value) => Ok(value),
+            None => self.came((key, fingerprint, era), load(), stamp, &mut left),
+        };
+        let got = self.group.asker().get_until(&name(era, key), None, load);
+        self.tell(left);
+        (*got.expect("a wait without a deadline").value).clone()
     }
 
     async fn get_by_async(
@@ -1100,43 +1163,46 @@ impl<V: Send + Sync, E: Send + Sync> Cache<V, E> {
         if let Some(value) = self.find(key, fingerprint) {
             return Ok(value);
         }
-        let era = self.era();
-        let load = async { self.count(load.await) };
-        let got = self.group.get_or_load_async(name(era, key), load).await;
-        self.came(key, fingerprint, era, got)
+        let (era, mut left) = (self.era(), Vec::new());
+        let of = (key, fingerprint, era);
+        let load = async {
+            match self.kept(key, fingerprint) {
+                Some(value) => Err(value),
+                None => Ok(load.await),
+            }
+        };
+        let keep = |came: Result<Result<V, E>, Arc<V>>, stamp| match came {
+            Ok(loaded) => self.came(of, loaded, stamp, &mut left),
+            Err(value) => Ok(value),
+        };
+        let got = self.group.asker().get_async(&name(era, key), load, keep).await;
+        self.tell(left);
+        (*got.value).clone()
     }
 
-    /// What became of a call of the group. Its leader keeps the value.
-    fn came(
+    /// Keeps a value whose stamp is good, if there is room for it. Returns whether it is kept. What
+    /// leaves for it goes to `left`, and is told once the load has ended: a listener may get the key.
+    fn keep(
         &self,
         key: &[u8],
         fingerprint: u64,
         era: u64,
-        got: Loaded<Outcome<V, E>>,
-    ) -> Outcome<V, E> {
-        let stamp = got.stamp();
-        let outcome = (*got.value).clone();
-        if got.led {
-            if let Ok(value) = &outcome {
-                self.keep(key, fingerprint, era, value.clone(), stamp);
-            }
-        } else {
-            lock(&self.lane().0).joins += 1;
-        }
-        outcome
-    }
-
-    /// Keeps a value whose call is current, if there is room for it. Returns whether it is kept.
-    fn keep(&self, key: &[u8], fingerprint: u64, era: u64, value: Arc<V>, stamp: Stamp) -> bool {
-        let weight = self.weigher.as_ref().map_or(1, |weigher| weigher(key, &value));
+        value: &Arc<V>,
+        stamp: Stamp,
+        left: &mut Vec<Entry<V>>,
+    ) -> bool {
+        let weight = self.weigher.as_ref().map_or(1, |weigher| weigher(key, value));
         let until = self.time_to_live.and_then(|time| Instant::now().checked_add(time));
-        if weight > self.limit || !self.is_current(stamp) || !self.make_room(fingerprint, weight) {
+        if weight > self.limit
+            || !self.is_current(stamp)
+            || !self.make_room(fingerprint, weight, left)
+        {
             return false;
         }
         let not = || AtomicBool::new(false);
         let (key, used) = (key.into(), AtomicU8::new(0));
         let name = Arc::new(Name { key, era, near: not(), left: not(), used });
-        let entry = Entry { fingerprint, name, value, stamp, weight, until };
+        let entry = Entry { fingerprint, name, value: value.clone(), stamp, weight, until };
         let mut shard = lock(self.shard(fingerprint));
         // All was invalidated meanwhile. Whoever begins an era empties this shard later, by its lock.
         if era != self.era() {
@@ -1146,13 +1212,14 @@ impl<V: Send + Sync, E: Send + Sync> Cache<V, E> {
         let before = shard.put(entry);
         drop(shard);
         if let Some(before) = before {
-            self.left(before);
+            self.leave(&before);
+            left.push(before);
         }
         true
     }
 
     /// Takes so much of the limit, for which others leave. Returns whether there was room.
-    fn make_room(&self, fingerprint: u64, weight: u64) -> bool {
+    fn make_room(&self, fingerprint: u64, weight: u64, left: &mut Vec<Entry<V>>) -> bool {
         let take = || {
             self.weight
                 .fetch_update(Ordering::SeqCst, Ordering::SeqCst, |now| {
@@ -1173,17 +1240,17 @@ impl<V: Send + Sync, E: Send + Sync> Cache<V, E> {
             if let Some(entry) = evicted {
                 empty = 0;
                 self.evictions.fetch_add(1, Ordering::Relaxed);
-                self.left(entry);
+                self.leave(&entry);
+                left.push(entry);
             }
         }
         take()
     }
 
-    /// An entry has left: its weight is given back, no lane remembers it, and then it is told.
-    fn left(&self, entry: Entry<V>) {
+    /// An entry has left: its weight is given back, and no lane remembers it. Then it is told.
+    fn leave(&self, entry: &Entry<V>) {
         self.weight.fetch_sub(entry.weight, Ordering::SeqCst);
-        self.unremember(&entry);
-        self.tell(&entry);
+        self.unremember(entry);
     }
 
     /// Takes an entry that has left out of the lanes. The entry has its value still, so none is dropped
@@ -1195,16 +1262,20 @@ impl<V: Send + Sync, E: Send + Sync> Cache<V, E> {
         }
         for lane in &self.lanes {
             let mut own = lock(&lane.0);
-            let near = &mut own.near[Own::<Outcome<V, E>, V>::place(entry.fingerprint)];
+            let Some(near) = own.near(entry.fingerprint) else { continue };
             if near.copy.as_ref().is_some_and(|copy| Arc::ptr_eq(&copy.name, &entry.name)) {
                 near.copy = None;
             }
         }
     }
 
-    fn tell(&self, entry: &Entry<V>) {
-        if let Some(listener) = &self.listener {
-            listener(&entry.name.key, &entry.value);
+    /// Tells of entries that have left, and drops them. No lock is held, and no load of this thread
+    /// is under way.
+    fn tell(&self, entries: impl IntoIterator<Item = Entry<V>>) {
+        for entry in entries {
+            if let Some(listener) = &self.listener {
+                listener(&entry.name.key, &entry.value);
+            }
         }
     }
 }
@@ -1274,7 +1345,7 @@ mod tests {
         let found = cache.find_far(b"key", fingerprint, cache.era(), true).unwrap();
         cache.invalidate("key");
         let mut own = lock(&cache.lane().0);
-        assert!(own.remember(fingerprint, &found).is_none());
+        assert!(own.remember(fingerprint, &found, cache.near).is_none());
         assert!(own.near.iter().all(|near| near.copy.is_none()), "it is remembered");
     }
 

@@ -1,9 +1,7 @@
 //! A caller: what a thread or task keeps that asks many times.
 
 use crate::asker::Asker;
-#[cfg(feature = "notes")]
-use crate::notes::Note;
-use crate::pool::Pool;
+use crate::shared::Shared;
 use crate::{Call, Error, ForgetOutcome, Job, Loaded, Receiver, Stamp};
 use std::fmt;
 use std::future::Future;
@@ -13,9 +11,9 @@ use std::time::Duration;
 /// A caller of a group, for one thread or task at a time. [`Group::caller`](crate::Group::caller)
 /// returns one.
 ///
-/// A [`Group`](crate::Group) has the same methods. A caller keeps its place in the library, so its
-/// calls need not look for a free one. It also remembers the value that it got last
-/// ([`Caller::last_is_current`]). When it is dropped, its place goes back to the group.
+/// A [`Group`](crate::Group) has the same methods. A caller remembers the stamp of the value that
+/// it got last ([`Caller::last_is_current`]), and the call that it leads: if a job or future of it
+/// is leaked, the call is settled when the caller is used again or dropped.
 ///
 /// ```
 /// let group = singleflight::Group::<u32>::new();
@@ -30,19 +28,17 @@ use std::time::Duration;
 ///     }
 /// });
 /// ```
-pub struct Caller<T>(pub(crate) Asker<T, Arc<Pool<T>>>);
+pub struct Caller<T>(pub(crate) Asker<T, Arc<Shared<T>>>);
 
 impl<T> fmt::Debug for Caller<T> {
     fn fmt(&self, f: &mut fmt::Formatter<'_>) -> fmt::Result {
-        f.debug_struct("Caller").field("number", &self.0.number()).finish()
+        f.debug_struct("Caller").field("last", &self.0.last).finish_non_exhaustive()
     }
 }
 
 impl<T> Caller<T> {
-    pub(crate) fn of(pool: Arc<Pool<T>>) -> Self {
-        let mut asker = Asker::new(pool);
-        asker.refresh();
-        Caller(asker)
+    pub(crate) fn of(shared: Arc<Shared<T>>) -> Self {
+        Caller(Asker::new(shared))
     }
 }
 
@@ -110,7 +106,7 @@ impl<T: Send + Sync> Caller<T> {
         key: impl AsRef<[u8]>,
         load: impl Future<Output = T>,
     ) -> Loaded<T> {
-        self.0.get_async(key.as_ref(), load).await
+        self.0.get_async(key.as_ref(), load, |value, _| value).await
     }
 
     /// Joins the key's open call or leads a new one, as
@@ -143,7 +139,8 @@ impl<T: Send + Sync> Caller<T> {
     /// });
     /// ```
     pub fn forget(&mut self, key: impl AsRef<[u8]>) -> bool {
-        self.0.forget(key.as_ref())
+        self.0.abandon();
+        self.0.shared.forget(key.as_ref())
     }
 
     /// Forgets one call of the key, as [`Group::forget_call`](crate::Group::forget_call) does.
@@ -157,26 +154,12 @@ impl<T: Send + Sync> Caller<T> {
     /// assert_eq!(caller.forget_call("key", stale), ForgetOutcome::Missed);
     /// ```
     pub fn forget_call(&mut self, key: impl AsRef<[u8]>, call: Call) -> ForgetOutcome {
-        self.0.forget_call(key.as_ref(), call)
-    }
-
-    /// Returns the call that the key names now, as
-    /// [`Group::current_call`](crate::Group::current_call) does.
-    ///
-    /// ```
-    /// let group = singleflight::Group::<u32>::new();
-    /// let mut caller = group.caller();
-    /// assert_eq!(caller.current_call("key"), None);
-    /// let got = caller.get_or_load("key", || 1);
-    /// assert_eq!(caller.current_call("key"), got.call());
-    /// ```
-    pub fn current_call(&mut self, key: impl AsRef<[u8]>) -> Option<Call> {
-        self.0.current_call(key.as_ref())
+        self.0.abandon();
+        self.0.shared.forget_call(key.as_ref(), call)
     }
 
     /// Returns whether a value with this stamp may still be used, as
-    /// [`Group::is_current`](crate::Group::is_current) does. It takes no lock while the caller has
-    /// a place in the library: it makes three loads.
+    /// [`Group::is_current`](crate::Group::is_current) does.
     ///
     /// ```
     /// let group = singleflight::Group::<u32>::new();
@@ -187,12 +170,13 @@ impl<T: Send + Sync> Caller<T> {
     /// assert!(!second.is_current(stamp));
     /// ```
     pub fn is_current(&mut self, stamp: Stamp) -> bool {
-        self.0.is_current(stamp)
+        self.0.abandon();
+        self.0.shared.is_current(stamp)
     }
 
     /// Returns whether the value that this caller got last may still be used. It returns `None` if
-    /// there is no such value: before the first one, after a wait that the caller left, and after a
-    /// load beside the library. A load that ended without a value changes nothing.
+    /// there is no such value: before the first one, and after a wait that the caller left. A load
+    /// that ended without a value changes nothing.
     ///
     /// ```
     /// let group = singleflight::Group::<u32>::new();
@@ -206,39 +190,5 @@ impl<T: Send + Sync> Caller<T> {
     pub fn last_is_current(&mut self) -> Option<bool> {
         let stamp = self.0.last?;
         Some(self.is_current(stamp))
-    }
-
-    /// Returns a note of what this caller has seen, for [`Caller::learn`].
-    ///
-    /// # Errors
-    /// [`Error::OutOfMemory`] if there is no memory.
-    ///
-    /// ```
-    /// let group = singleflight::Group::<u32>::new();
-    /// let (mut first, mut second) = (group.caller(), group.caller());
-    /// first.forget("key");
-    /// let mut note = first.note().unwrap();
-    /// std::thread::spawn(move || second.learn(&mut note).unwrap()).join().unwrap();
-    /// ```
-    #[cfg(feature = "notes")]
-    pub fn note(&mut self) -> Result<Note<T>, Error> {
-        Note::of(&mut self.0)
-    }
-
-    /// Lets this caller see what the note's caller had seen: no value that it gets from now on was
-    /// loaded before a Forget that the note's caller had seen.
-    ///
-    /// # Errors
-    /// [`Error::OtherGroup`] if the note is of another group.
-    ///
-    /// ```
-    /// # use singleflight::{Error, Group};
-    /// let (group, other) = (Group::<u32>::new(), Group::<u32>::new());
-    /// let mut note = group.caller().note().unwrap();
-    /// assert_eq!(other.caller().learn(&mut note), Err(Error::OtherGroup));
-    /// ```
-    #[cfg(feature = "notes")]
-    pub fn learn(&mut self, note: &mut Note<T>) -> Result<(), Error> {
-        note.learned_by(&mut self.0)
     }
 }

@@ -1,12 +1,16 @@
 //! Calls whose value comes to a receiver, and whose load is a job.
 
-use crate::asker::{Asked, By};
-use crate::wait::{Follower, Waker};
-use crate::{Caller, Loaded};
+use crate::asker::Asked;
+use crate::post::Post;
+use crate::shared::Shared;
+use crate::sync::{lock, pause};
+use crate::wait::Ticket;
+use crate::{Call, Caller, Loaded, Stamp};
 use std::fmt;
 use std::future::Future;
 use std::pin::Pin;
 use std::sync::mpsc::{RecvError, RecvTimeoutError, TryRecvError};
+use std::sync::{Arc, Mutex};
 use std::task::{Context, Poll};
 use std::time::{Duration, Instant};
 
@@ -15,7 +19,6 @@ use std::time::{Duration, Instant};
 #[must_use = "a job that is dropped ends its call without a value"]
 pub struct Job<'a, T> {
     caller: Handle<'a, T>,
-    key: Box<[u8]>,
 }
 
 /// A caller that the job has, or has borrowed.
@@ -42,15 +45,35 @@ impl<T> Handle<'_, T> {
 impl<'a, T> Job<'a, T> {
     pub(crate) fn subscribe(mut caller: Handle<'a, T>, key: &[u8]) -> (Receiver<T>, Option<Self>) {
         let asker = &mut caller.caller().0;
-        let (source, loads) = match asker.ask(key, By::Following) {
-            Asked::Loads => (asker.own_wait(key).map_or(Source::Nothing, Source::Call), true),
-            Asked::Follows(wait) => (Source::Call(wait), false),
-            Asked::Settled(got) => (Source::Value(got), false),
-            Asked::Joined(..) => unreachable!("who follows joins by no seat"),
+        let mut tries = 0;
+        let join = loop {
+            match asker.ask(key) {
+                Asked::Loads => break None,
+                Asked::Joined(join) => break Some(join),
+                Asked::Crowded => pause(&mut tries),
+            }
         };
-        let receiver = Receiver { key: key.into(), source, waker: Waker::default() };
-        let job = loads.then(|| Job { caller, key: key.into() });
-        (receiver, job)
+        match join {
+            None => (Receiver(Source::Own(asker.own(), 0)), Some(Job { caller })),
+            Some(join) => (Receiver(Source::Call(Ticket::new(asker.shared.clone(), join))), None),
+        }
+    }
+
+    /// Returns the call that the job leads, for [`Group::forget_call`](crate::Group::forget_call);
+    /// or `None` if there was no memory for one.
+    ///
+    /// ```
+    /// use singleflight::{ForgetOutcome, Group};
+    /// let group = Group::<u32>::new();
+    /// let (_receiver, job) = group.subscribe("key");
+    /// let call = job.as_ref().unwrap().call().unwrap();
+    /// assert_eq!(group.forget_call("key", call), ForgetOutcome::Closed);
+    /// ```
+    pub fn call(&self) -> Option<Call> {
+        match &self.caller {
+            Handle::Own(caller) => caller.0.call(),
+            Handle::Lent(caller) => caller.0.call(),
+        }
     }
 
     /// Runs the load, settles the call with its value, and returns that value.
@@ -61,9 +84,13 @@ impl<'a, T> Job<'a, T> {
     /// assert_eq!(*job.unwrap().run(|| 7).value, 7);
     /// # drop(receiver);
     /// ```
-    pub fn run(mut self, load: impl FnOnce() -> T) -> Loaded<T> {
-        let guard = self.caller.caller().0.load();
-        guard.end(&self.key, load())
+    pub fn run(self, load: impl FnOnce() -> T) -> Loaded<T> {
+        self.run_with(|_| load())
+    }
+
+    /// The same, with the stamp that the value will have.
+    pub(crate) fn run_with(mut self, load: impl FnOnce(Stamp) -> T) -> Loaded<T> {
+        self.caller.caller().0.run(load)
     }
 
     /// Awaits the load, settles the call with its value, and returns that value. If the future is
@@ -80,7 +107,7 @@ impl<'a, T> Job<'a, T> {
     /// assert_eq!(*receiver.recv().unwrap().value, 7);
     /// ```
     pub async fn run_async(mut self, load: impl Future<Output = T>) -> Loaded<T> {
-        self.caller.caller().0.load_async(&self.key, load).await
+        self.caller.caller().0.load_async(load, |value, _| value).await
     }
 }
 
@@ -97,9 +124,33 @@ impl<T> fmt::Debug for Job<'_, T> {
     }
 }
 
+/// What the receiver of a job waits on: it is not counted as one who joined the job's call.
+pub(crate) struct Own<T> {
+    post: Post,
+    got: Mutex<Option<Loaded<T>>>,
+}
+
+impl<T> Default for Own<T> {
+    fn default() -> Self {
+        Own { post: Post::default(), got: Mutex::new(None) }
+    }
+}
+
+/// The generation of the only call of its post.
+const ONLY: u64 = 1;
+
+impl<T> Own<T> {
+    /// The job has ended, with a value or without one.
+    pub(crate) fn end(&self, got: Option<&Loaded<T>>) {
+        *lock(&self.got) = got.map(|got| Loaded { led: false, ..got.clone() });
+        self.post.tell(ONLY).wake();
+    }
+}
+
 enum Source<T> {
-    Call(Follower<T>),
-    Value(Loaded<T>),
+    Call(Ticket<T, Arc<Shared<T>>>),
+    /// Of its own job, with the number of its task's waker.
+    Own(Arc<Own<T>>, u64),
     // The value was taken, or there was none.
     Nothing,
 }
@@ -119,11 +170,7 @@ enum Source<T> {
 /// # assert_eq!(value, 7);
 /// ```
 #[must_use = "a receiver that is dropped leaves its call"]
-pub struct Receiver<T> {
-    key: Box<[u8]>,
-    source: Source<T>,
-    waker: Waker,
-}
+pub struct Receiver<T>(Source<T>);
 
 impl<T> Receiver<T> {
     /// Returns the value if it is there.
@@ -140,7 +187,12 @@ impl<T> Receiver<T> {
     /// assert_eq!(*receiver.try_recv().unwrap().value, 7);
     /// ```
     pub fn try_recv(&mut self) -> Result<Loaded<T>, TryRecvError> {
-        if matches!(&self.source, Source::Call(wait) if !wait.is_settled()) {
+        let is_told = match &self.0 {
+            Source::Call(ticket) => ticket.is_told(),
+            Source::Own(own, _) => own.post.is_told(ONLY),
+            Source::Nothing => true,
+        };
+        if !is_told {
             return Err(TryRecvError::Empty);
         }
         self.read().ok_or(TryRecvError::Disconnected)
@@ -158,9 +210,7 @@ impl<T> Receiver<T> {
     /// assert!(receiver.recv().is_err());
     /// ```
     pub fn recv(&mut self) -> Result<Loaded<T>, RecvError> {
-        if let Source::Call(wait) = &self.source {
-            wait.wait(None);
-        }
+        self.wait(None);
         self.read().ok_or(RecvError)
     }
 
@@ -179,18 +229,24 @@ impl<T> Receiver<T> {
     /// # drop(job);
     /// ```
     pub fn recv_timeout(&mut self, timeout: Duration) -> Result<Loaded<T>, RecvTimeoutError> {
-        if let Source::Call(wait) = &self.source {
-            if !wait.wait(Instant::now().checked_add(timeout)) {
-                return Err(RecvTimeoutError::Timeout);
-            }
+        if !self.wait(Instant::now().checked_add(timeout)) {
+            return Err(RecvTimeoutError::Timeout);
         }
         self.read().ok_or(RecvTimeoutError::Disconnected)
     }
 
+    fn wait(&self, deadline: Option<Instant>) -> bool {
+        match &self.0 {
+            Source::Call(ticket) => ticket.wait(deadline),
+            Source::Own(own, _) => own.post.wait(ONLY, deadline),
+            Source::Nothing => true,
+        }
+    }
+
     fn read(&mut self) -> Option<Loaded<T>> {
-        match std::mem::replace(&mut self.source, Source::Nothing) {
-            Source::Call(wait) => wait.read(&self.key),
-            Source::Value(got) => Some(got),
+        match std::mem::replace(&mut self.0, Source::Nothing) {
+            Source::Call(ticket) => ticket.read(),
+            Source::Own(own, _) => lock(&own.got).take(),
             Source::Nothing => None,
         }
     }
@@ -200,11 +256,13 @@ impl<T> Future for Receiver<T> {
     type Output = Result<Loaded<T>, RecvError>;
 
     fn poll(mut self: Pin<&mut Self>, context: &mut Context<'_>) -> Poll<Self::Output> {
-        let Receiver { source, waker, .. } = &mut *self;
-        if let Source::Call(wait) = source {
-            if wait.poll(waker, context.waker()).is_pending() {
-                return Poll::Pending;
-            }
+        let is_told = match &mut self.0 {
+            Source::Call(ticket) => ticket.poll(context.waker()).is_ready(),
+            Source::Own(own, waker) => own.post.poll(ONLY, waker, context.waker()),
+            Source::Nothing => true,
+        };
+        if !is_told {
+            return Poll::Pending;
         }
         Poll::Ready(self.read().ok_or(RecvError))
     }
@@ -215,8 +273,8 @@ impl<T> Unpin for Receiver<T> {}
 
 impl<T> Drop for Receiver<T> {
     fn drop(&mut self) {
-        if let Source::Call(wait) = &self.source {
-            wait.leave(&mut self.waker);
+        if let Source::Own(own, waker) = &self.0 {
+            drop(own.post.give_up(ONLY, *waker, &mut None));
         }
     }
 }

@@ -1,57 +1,10 @@
-//! Fingerprints of keys, and what the library knows of long ones.
+//! Fingerprints of keys.
 
 use std::collections::hash_map::RandomState;
 use std::hash::BuildHasher;
-use std::ops::Deref;
-
-/// The library keeps keys of so many bytes in a caller's slot. It would keep a longer one on the
-/// heap until the caller's next call.
-const LONGEST: usize = 40;
-
-/// The names of keys for the library: their own bytes, or of a longer key a digest of 128 bits, two
-/// hashes by SipHash-1-3 under secret seeds. Two long keys have one digest with a probability of
-/// one in 2^128.
-pub(crate) struct Names([RandomState; 2]);
-
-/// What the library is told of a key.
-pub(crate) enum Name<'a> {
-    Own(&'a [u8]),
-    Digest([u8; 16]),
-}
-
-impl Names {
-    pub(crate) fn new() -> Self {
-        Names([RandomState::new(), RandomState::new()])
-    }
-
-    #[inline]
-    pub(crate) fn of<'a>(&self, key: &'a [u8]) -> Name<'a> {
-        if key.len() <= LONGEST {
-            return Name::Own(key);
-        }
-        let [first, second] = &self.0;
-        let mut digest = [0; 16];
-        digest[..8].copy_from_slice(&first.hash_one(key).to_le_bytes());
-        digest[8..].copy_from_slice(&second.hash_one(key).to_le_bytes());
-        Name::Digest(digest)
-    }
-}
-
-impl Deref for Name<'_> {
-    type Target = [u8];
-
-    #[inline]
-    fn deref(&self) -> &[u8] {
-        match self {
-            Name::Own(key) => key,
-            Name::Digest(digest) => digest,
-        }
-    }
-}
 
 /// A hash of 64 bits under secret seeds. Two keys have one fingerprint with a probability of one in
-/// 2^64, and who chooses keys does not know which. Where it happens a call may wait for the other
-/// key's load; no answer is given to the wrong key.
+/// 2^64, and who chooses keys does not know which. No value is returned for the wrong key.
 pub(crate) struct Fingerprints([u64; 3]);
 
 #[inline]

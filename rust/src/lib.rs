@@ -16,9 +16,8 @@
 //! });
 //! ```
 //!
-//! A [`Group`] can be shared between threads by reference, or cloned. A thread or task that asks
-//! often can keep a [`Caller`]. A leader that nobody joins takes no lock on the usual path. A
-//! joiner sleeps until its leader wakes it.
+//! A [`Group`] can be shared between threads by reference, or cloned. A leader that nobody joins
+//! takes no lock that other threads take. A joiner sleeps until its leader wakes it.
 //!
 //! # Promises
 //!
@@ -30,13 +29,7 @@
 //! 4. A Forget always forgets.
 //! 5. A new group is small, and grows with its use.
 //!
-//! Keys are bytes of any length, and any number of them can come and go. A group hashes them to
-//! slots, and two keys can share one. The library has one open call per slot. If another key's call
-//! is open there, or no caller of the library is free, a call runs beside the library: it joins the
-//! key's open call, or loads, under a lock. [`Stats::alone`] counts these loads. They have no
-//! current stamp, so a cache cannot keep their values. A group of [`Group::new`] grows if they are
-//! frequent. Give [`Group::open`] 1,000 slots per call that is open at one time, or 16 per cached
-//! value.
+//! Keys are bytes of any length, and any number of them can come and go.
 //!
 //! # Loads that fail
 //!
@@ -80,19 +73,17 @@
 //! for _ in 0..2 {
 //!     assert_eq!(*get(&cache, &group, "ada"), "the page of ada");
 //! }
-//! assert_eq!(group.stats().leads, 1);
+//! assert_eq!(group.stats().loads, 1);
 //! group.forget("ada");
 //! get(&cache, &group, "ada");
-//! assert_eq!(group.stats().leads, 2);
+//! assert_eq!(group.stats().loads, 2);
 //! ```
 //!
-//! # Features and platforms
+//! # Platforms
 //!
-//! With the feature `notes`, a [`Caller`] can pass on what it has seen. No program needs it.
-//!
-//! On Linux on x86-64 (v2) the crate links the proved library. On every other platform it runs plain
-//! Rust instead, which is tested and not proved. [`is_proved`] tells which of the two runs.
-//! `RUSTFLAGS='--cfg singleflight_plain'` chooses plain Rust on Linux on x86-64 too.
+//! On Linux on x86-64 (v2) and arm64 the crate links the proved library. On every other platform it
+//! runs plain Rust instead, which is tested and not proved. [`is_proved`] tells which of the two
+//! runs. `RUSTFLAGS='--cfg singleflight_plain'` chooses plain Rust there too.
 
 #![deny(unsafe_op_in_unsafe_fn)]
 #![deny(clippy::undocumented_unsafe_blocks)]
@@ -102,21 +93,17 @@ mod asker;
 mod cache;
 mod caller;
 mod chan;
-mod epoch;
 mod hash;
-mod lent;
-#[cfg(feature = "notes")]
-mod notes;
-mod pool;
+mod keyed;
+mod places;
 mod post;
-mod raw;
 mod recording;
 #[cfg(all(test, sflight_schedules))]
 mod schedules;
 #[cfg(all(test, not(sflight_schedules)))]
 #[path = "schedules/elsewhere.rs"]
 mod schedules;
-mod stash;
+mod shared;
 mod sync;
 mod wait;
 
@@ -130,24 +117,16 @@ pub use cache::{Cache, CacheBuilder, CacheStats, WriteToken};
 pub use caller::Caller;
 use chan::Handle;
 pub use chan::{Job, Receiver};
-#[cfg(feature = "notes")]
-pub use notes::Note;
-pub use pool::Stats;
-use pool::{Plan, Pool};
 pub use recording::{RecordError, Recorded, Recording};
+use shared::Shared;
 use std::fmt;
 use std::future::Future;
 use std::sync::Arc;
 use std::time::Duration;
 
-/// What a new group begins with.
-const PLACES: u32 = 1024;
-const CALLERS: u32 = 32;
-/// What a group may have at most.
-const MOST_PLACES: u32 = 134_217_728;
-const MOST_CALLERS: u32 = 65_534;
-/// After so many calls a caller of the library is spent.
-const CALLS: u32 = u32::MAX - 1;
+/// For how many concurrent loads a new group has room, and for how many it can have at first.
+const LOADS: u32 = 64;
+const MOST_LOADS: u32 = 1 << 20;
 
 /// Returns whether groups run the proved library. If not, they run plain Rust, which is tested and
 /// not proved: on platforms for which there is no library, and if `--cfg singleflight_plain` asks
@@ -165,23 +144,19 @@ pub const fn is_proved() -> bool {
 ///
 /// ```
 /// use singleflight::{Error, Group};
-/// let why = Group::<u32>::open(0, 16).unwrap_err();
-/// assert_eq!(why, Error::Slots(0));
-/// assert_eq!(why.to_string(), "0 hash slots: a group has from 1 to 134,217,728");
+/// let why = Group::<u32>::open(0).unwrap_err();
+/// assert_eq!(why, Error::Loads(0));
+/// assert_eq!(why.to_string(), "0 concurrent loads: a group is for 1 to 1,048,576");
 /// ```
 #[derive(Clone, Copy, Debug, PartialEq, Eq)]
 #[non_exhaustive]
 pub enum Error {
-    /// [`Group::open`] was called with this number of hash slots, which is out of range.
-    Slots(u32),
-    /// [`Group::open`] was called with this number of callers, which is out of range.
-    Callers(u32),
-    /// There is no memory for a group, or for a note.
+    /// [`Group::open`] was called with this number of concurrent loads, which is out of range.
+    Loads(u32),
+    /// There is no memory for a group.
     OutOfMemory,
     /// The load of another caller took longer than the timeout.
     TimedOut,
-    /// The note is of another group.
-    OtherGroup,
     /// The library needs a processor of the level x86-64-v2, which this one is below.
     OldProcessor,
 }
@@ -189,19 +164,15 @@ pub enum Error {
 impl fmt::Display for Error {
     fn fmt(&self, f: &mut fmt::Formatter<'_>) -> fmt::Result {
         match self {
-            Error::Slots(count) => {
-                write!(f, "{count} hash slots: a group has from 1 to 134,217,728")
+            Error::Loads(count) => {
+                write!(f, "{count} concurrent loads: a group is for 1 to 1,048,576")
             }
-            Error::Callers(count) => write!(f, "{count} callers: a group has from 1 to 65,534"),
             Error::OutOfMemory => {
-                f.write_str("out of memory: free some, or open the group with fewer hash slots")
+                f.write_str("out of memory: free some, or open the group for fewer loads")
             }
             Error::TimedOut => f.write_str(
                 "timed out: the key's load goes on; ask again, or forget the key to load it anew",
             ),
-            Error::OtherGroup => {
-                f.write_str("the note is of another group: learn it with a caller of its own group")
-            }
             Error::OldProcessor => f.write_str(
                 "the processor is below x86-64-v2: build with --cfg singleflight_plain for it",
             ),
@@ -227,7 +198,30 @@ impl std::error::Error for Error {}
 /// let group = singleflight::Group::<std::cell::Cell<u32>>::new();
 /// ```
 pub struct Group<T> {
-    pool: Arc<Pool<T>>,
+    shared: Arc<Shared<T>>,
+}
+
+/// The numbers of a group. [`Group::stats`] returns them. Each has the meaning that it has in
+/// [`CacheStats`], and in the Go and C packages.
+///
+/// ```
+/// let group = singleflight::Group::<u32>::new();
+/// group.get_or_load("key", || 7);
+/// group.forget("key");
+/// let stats = group.stats();
+/// assert!(stats.loads == 1 && stats.joins == 0 && stats.forgets == 1 && stats.in_use == 0);
+/// ```
+#[derive(Clone, Copy, Debug, Default, PartialEq, Eq)]
+#[non_exhaustive]
+pub struct Stats {
+    /// Calls that were led: each runs its load, unless it is given up before.
+    pub loads: u64,
+    /// Calls that joined another's, including those that left it.
+    pub joins: u64,
+    /// Forgets of a key, and of one call, whatever they found.
+    pub forgets: u64,
+    /// Calls that load or wait now.
+    pub in_use: u64,
 }
 
 /// The value that a caller received, and how it was loaded.
@@ -245,17 +239,16 @@ pub struct Group<T> {
 pub struct Loaded<T> {
     /// The value, which all callers of the call share.
     pub value: Arc<T>,
-    /// The number of other callers that joined the call. A joiner may know of fewer than the leader
-    /// does, but of at least one: itself. Callers of another key of the hash slot may be counted
-    /// too.
+    /// The number of other callers that waited for the value when it was there. Callers that had
+    /// joined and left count as one if nobody else waited.
     pub joiners: u32,
     /// Whether this caller loaded the value.
     pub led: bool,
-    call: Option<Call>,
-    stamp: Stamp,
+    // Its generation is 0 where there is none.
+    call: Call,
 }
 
-/// A call of a group. No two calls of one group have all numbers the same.
+/// A call of a group, for [`Group::forget_call`]. No two calls of one group are equal.
 ///
 /// ```
 /// let group = singleflight::Group::<u32>::new();
@@ -264,17 +257,17 @@ pub struct Loaded<T> {
 /// ```
 #[derive(Clone, Copy, Debug, PartialEq, Eq, Hash)]
 pub struct Call {
-    /// The table of the group in which it was led, from 1 on. A group that grows, or whose callers
-    /// are spent, opens a new one.
-    pub epoch: u32,
-    /// The number of its leader, from 1 to 65,535.
-    pub caller: u32,
-    /// The number of the call among those that its leader led or joined, from 1 on.
-    pub generation: u32,
+    id: keyed::Id,
+    stamp: Stamp,
 }
 
-/// The hash slot and the call of a value, for [`Group::is_current`]: 16 plain bytes, to be kept
-/// with the value. The default is the stamp of no call, which is never current.
+impl Call {
+    const NONE: Call =
+        Call { id: keyed::Id { table: 0, cell: 0, generation: 0 }, stamp: Stamp::NONE };
+}
+
+/// Tells of a value whether a Forget has ended it, for [`Group::is_current`]: 24 plain bytes, to be
+/// kept with the value. The default is the stamp of no value, which is never current.
 ///
 /// ```
 /// use singleflight::{Group, Stamp};
@@ -282,8 +275,23 @@ pub struct Call {
 /// let stamp = group.get_or_load("key", || 1).stamp();
 /// assert!(group.is_current(stamp) && !group.is_current(Stamp::default()));
 /// ```
-#[derive(Clone, Copy, Debug, Default, PartialEq, Eq, Hash)]
-pub struct Stamp([u64; 2]);
+#[derive(Clone, Copy, Debug, PartialEq, Eq, Hash)]
+pub struct Stamp(keyed::Stamp);
+
+impl Stamp {
+    /// A table that there is not.
+    const NONE: Stamp = Stamp(keyed::Stamp { table: u64::MAX, slot: 0, age: 0 });
+
+    fn is_none(&self) -> bool {
+        self.0.table == Self::NONE.0.table
+    }
+}
+
+impl Default for Stamp {
+    fn default() -> Self {
+        Stamp::NONE
+    }
+}
 
 /// What [`Group::forget_call`] found.
 ///
@@ -297,9 +305,10 @@ pub struct Stamp([u64; 2]);
 pub enum ForgetOutcome {
     /// The call was open. It takes no more joiners, and its value is not current.
     Closed,
-    /// The call was settled, and its value was current. It is no longer current.
+    /// The call was settled, and its value was current. It is no longer current. Nor are other
+    /// values that have the same stamp, such as that of a newer call of the key.
     Cleared,
-    /// The call was not current, and nothing changed.
+    /// The value of the call was not current.
     Missed,
 }
 
@@ -320,20 +329,19 @@ impl<T> Loaded<T> {
         self.joiners > 0
     }
 
-    /// Returns the call that the value came from, for [`Group::forget_call`]; or `None` if the
-    /// value was loaded beside the library.
+    /// Returns the call that the value came from, for [`Group::forget_call`]; or `None` if there
+    /// was no memory for a call.
     ///
     /// ```
     /// let group = singleflight::Group::<u32>::new();
-    /// let got = group.get_or_load("key", || 1);
-    /// assert_eq!(group.current_call("key"), got.call());
+    /// assert!(group.get_or_load("key", || 1).call().is_some());
     /// ```
     pub fn call(&self) -> Option<Call> {
-        self.call
+        (self.call.id.generation != 0).then_some(self.call)
     }
 
     /// Returns the stamp of the value, with which [`Group::is_current`] tells later whether it is
-    /// current. A value that was loaded beside the library has the default stamp.
+    /// current. A value whose call was forgotten before it was there has the default stamp.
     ///
     /// ```
     /// let group = singleflight::Group::<u32>::new();
@@ -342,13 +350,12 @@ impl<T> Loaded<T> {
     /// assert!(!group.is_current(stamp));
     /// ```
     pub fn stamp(&self) -> Stamp {
-        self.stamp
+        self.call.stamp
     }
 }
 
 impl<T: Send + Sync> Group<T> {
-    /// Makes a group that begins with 1,024 hash slots and 32 callers of the library, in 40 kB, and
-    /// grows with its use: to 1,048,576 slots and 65,534 callers.
+    /// Makes a group. It begins with room for 64 concurrent loads, and grows with its use.
     ///
     /// # Panics
     /// Panics if there is no memory, or if the processor is below x86-64-v2.
@@ -358,55 +365,40 @@ impl<T: Send + Sync> Group<T> {
     /// assert_eq!(*group.get_or_load("any key", || 7).value, 7);
     /// ```
     pub fn new() -> Self {
-        let plan = Plan { places: PLACES, callers: CALLERS, grows: true, calls: CALLS };
-        Self::of(plan).unwrap_or_else(|why| panic!("no group: {why}"))
+        Self::open(LOADS).unwrap_or_else(|why| panic!("no group: {why}"))
     }
 
-    /// Makes a group that does not grow, with 1 to 134,217,728 hash slots and 1 to 65,534 callers
-    /// of the library. A slot takes 8 bytes, and twice that while the group is opened. A caller
-    /// takes 240 bytes, and 300 more once it was used. Calls for which no caller is free run
-    /// beside the library, under a lock.
+    /// Makes a group that expects so many concurrent loads, from 1 to 1,048,576. It is a hint: the
+    /// group has room for them from the beginning, and grows where there are more.
     ///
     /// # Errors
-    /// [`Error::Slots`] and [`Error::Callers`] if a number is out of range; [`Error::OutOfMemory`]
-    /// if there is no memory; [`Error::OldProcessor`] if the processor is below x86-64-v2.
+    /// [`Error::Loads`] if the number is out of range; [`Error::OutOfMemory`] if there is no
+    /// memory; [`Error::OldProcessor`] if the processor is below x86-64-v2.
     ///
     /// ```
     /// use singleflight::{Error, Group};
-    /// assert!(Group::<u32>::open(65_536, 16).is_ok());
-    /// assert_eq!(Group::<u32>::open(65_536, 0).err(), Some(Error::Callers(0)));
+    /// assert!(Group::<u32>::open(1_000).is_ok());
+    /// assert_eq!(Group::<u32>::open(0).err(), Some(Error::Loads(0)));
     /// ```
-    pub fn open(slots: u32, callers: u32) -> Result<Self, Error> {
-        Self::open_spent_after(slots, callers, CALLS)
-    }
-
-    /// For tests: `open` with callers that are spent after so many calls.
-    #[doc(hidden)]
-    pub fn open_spent_after(slots: u32, callers: u32, calls: u32) -> Result<Self, Error> {
-        if !(1..=MOST_PLACES).contains(&slots) {
-            return Err(Error::Slots(slots));
+    pub fn open(loads: u32) -> Result<Self, Error> {
+        if !(1..=MOST_LOADS).contains(&loads) {
+            return Err(Error::Loads(loads));
         }
-        if !(1..=MOST_CALLERS).contains(&callers) {
-            return Err(Error::Callers(callers));
-        }
-        Self::of(Plan { places: slots, callers, grows: false, calls: calls.clamp(1, CALLS) })
-    }
-
-    fn of(plan: Plan) -> Result<Self, Error> {
-        let pool = Arc::new(Pool::open(plan)?);
-        Ok(Group { pool })
+        Ok(Group { shared: Arc::new(Shared::open(loads)?) })
     }
 
     // One who asks once.
-    fn asker(&self) -> Asker<T, &Pool<T>> {
-        Asker::new(&*self.pool)
+    #[inline]
+    fn asker(&self) -> Asker<T, &Shared<T>> {
+        Asker::new(&*self.shared)
     }
 
     /// Returns the value of the key. If a call of the key is open, it joins that call, and blocks
     /// until the leader has the value. Otherwise it leads a new call, and runs `load`.
     ///
     /// It never fails, however many callers there are. If `load` panics, the panic continues in
-    /// this caller, and each joiner asks again.
+    /// this caller, and each joiner asks again. If there is no memory for a call, it runs `load`
+    /// and shares the value with nobody: then other loads of the key may run at the same time.
     ///
     /// ```
     /// let group = singleflight::Group::<String>::new();
@@ -469,8 +461,8 @@ impl<T: Send + Sync> Group<T> {
         K: AsRef<[u8]>,
         F: Future<Output = T>,
     {
-        let pool = self.pool.clone();
-        async move { Asker::new(pool).get_async(key.as_ref(), load).await }
+        let shared = self.shared.clone();
+        async move { Asker::new(shared).get_async(key.as_ref(), load, |value, _| value).await }
     }
 
     /// Joins the key's open call, or leads a new one. Returns a receiver of its value and, if it
@@ -491,7 +483,7 @@ impl<T: Send + Sync> Group<T> {
     where
         T: 'a,
     {
-        Job::subscribe(Handle::Own(Caller(Asker::new(self.pool.clone()))), key.as_ref())
+        Job::subscribe(Handle::Own(self.caller()), key.as_ref())
     }
 
     /// Forgets the key: a caller that asks from now on never receives a value whose load began
@@ -507,12 +499,12 @@ impl<T: Send + Sync> Group<T> {
     /// });
     /// ```
     pub fn forget(&self, key: impl AsRef<[u8]>) -> bool {
-        self.asker().forget(key.as_ref())
+        self.shared.forget(key.as_ref())
     }
 
-    /// Forgets this call of the key alone, and leaves a newer one as it is. So if two callers
-    /// reload one stale value, the later one does not end the call that the first one made. Returns
-    /// what it found.
+    /// Forgets this call of the key, and leaves a newer one open. So if two callers reload one
+    /// stale value, the later one does not end the call that the first one made. Returns what it
+    /// found.
     ///
     /// ```
     /// use singleflight::{ForgetOutcome, Group};
@@ -522,26 +514,12 @@ impl<T: Send + Sync> Group<T> {
     /// assert_eq!(group.forget_call("key", stale), ForgetOutcome::Missed);
     /// ```
     pub fn forget_call(&self, key: impl AsRef<[u8]>, call: Call) -> ForgetOutcome {
-        self.asker().forget_call(key.as_ref(), call)
+        self.shared.forget_call(key.as_ref(), call)
     }
 
-    /// Returns the call that was led last at the key's hash slot, unless a Forget has ended it. It
-    /// may be of another key that shares the slot.
-    ///
-    /// ```
-    /// let group = singleflight::Group::<u32>::new();
-    /// assert_eq!(group.current_call("key"), None);
-    /// let got = group.get_or_load("key", || 1);
-    /// assert_eq!(group.current_call("key"), got.call());
-    /// ```
-    pub fn current_call(&self, key: impl AsRef<[u8]>) -> Option<Call> {
-        self.asker().current_call(key.as_ref())
-    }
-
-    /// Returns whether the call of the stamp is the current one of its hash slot: no Forget of a
-    /// key of that slot has ended it, and no newer call was led there. `true` is right for any
-    /// stamp of the group, whichever caller got it. `false` can come too early, if another key uses
-    /// the same slot or the group has grown.
+    /// Returns whether no Forget of the value's key has ended the stamp. `true` is right for any
+    /// stamp of the group, whichever caller got it. `false` can come too early, if a Forget of
+    /// another key of the same hash slot has ended the stamp. Loads end none.
     ///
     /// ```
     /// let group = singleflight::Group::<u32>::new();
@@ -551,11 +529,10 @@ impl<T: Send + Sync> Group<T> {
     /// assert!(!group.is_current(stamp));
     /// ```
     pub fn is_current(&self, stamp: Stamp) -> bool {
-        self.pool.is_current_by_any(stamp)
+        self.shared.is_current(stamp)
     }
 
-    /// Returns a caller, for one thread or task at a time. It always returns one. A caller for
-    /// which the library has no room runs its calls beside the library.
+    /// Returns a caller, for one thread or task at a time.
     ///
     /// ```
     /// let group = singleflight::Group::<u32>::new();
@@ -564,7 +541,7 @@ impl<T: Send + Sync> Group<T> {
     /// assert_eq!(*got.value, 7);
     /// ```
     pub fn caller(&self) -> Caller<T> {
-        Caller::of(self.pool.clone())
+        Caller::of(self.shared.clone())
     }
 
     /// Begins to write to the writer what the group's calls do, until [`Recording::stop`]: records
@@ -610,24 +587,24 @@ impl<T: Send + Sync> Group<T> {
         &self,
         writer: impl std::io::Write + Send + 'static,
     ) -> Result<Recording, RecordError> {
-        self.pool.recordings.begin(writer)
+        self.shared.recordings.begin(writer)
     }
 
-    /// Returns the numbers of the group's calls. It looks at each caller that was made.
+    /// Returns the numbers of the group's calls. It costs a look at the counts of each processor.
     ///
     /// ```
     /// let group = singleflight::Group::<u32>::new();
     /// group.get_or_load("key", || 1);
-    /// assert!(group.stats().leads == 1 && group.stats().in_use == 0);
+    /// assert!(group.stats().loads == 1 && group.stats().in_use == 0);
     /// ```
     pub fn stats(&self) -> Stats {
-        self.pool.stats()
+        self.shared.stats()
     }
 }
 
 impl<T> Clone for Group<T> {
     fn clone(&self) -> Self {
-        Group { pool: self.pool.clone() }
+        Group { shared: self.shared.clone() }
     }
 }
 
@@ -639,6 +616,6 @@ impl<T: Send + Sync> Default for Group<T> {
 
 impl<T> fmt::Debug for Group<T> {
     fn fmt(&self, f: &mut fmt::Formatter<'_>) -> fmt::Result {
-        f.debug_struct("Group").field("stats", &self.pool.stats()).finish()
+        f.debug_struct("Group").field("stats", &self.shared.stats()).finish()
     }
 }

@@ -4,27 +4,28 @@
 //! # How the recorder sees calls
 //!
 //! A call of a recording is a run of a load. It has one record ([`CallRecord`]), which counts those
-//! who have a part in it: the leader; its value, until each caller that joined by a seat has it; the
-//! wait of those who follow the call, until it is settled; and a Forget that has closed it, until
-//! that returns. Where the last part is dropped, the record is complete and goes to a lane. So a
-//! recording has whole calls only. A legal history stays legal without all events of one call, so it
-//! does not matter which calls are left out at the beginning and at the end.
+//! who have a part in it: the leader; the value, until each caller that joined has it; and a Forget
+//! that has closed the call, until that returns. Where the last part is dropped, the record is
+//! complete and goes to a lane. So a recording has whole calls only. A legal history stays legal
+//! without all events of one call, so it does not matter which calls are left out at the beginning
+//! and at the end.
 //!
-//! The record of a library's call is made before the library is asked, so that a caller that closes
-//! or follows the call finds it, at the post of its leader or in the wait. A caller that joined by a
-//! seat finds it beside the value.
+//! A caller that joined finds the record beside the value. One that leaves before the call is
+//! settled says so at the call's post, where the leader finds it. A Forget knows which call it has
+//! closed, and the leader knows that its call was forgotten. So each leaves its part with the
+//! recorder for the other, and whoever comes later puts the two together (`Half`).
 //!
 //! A call that was given up before its load has no run, and no record. The callers that joined it ask
 //! again, as do the callers that joined a call whose load ended without a value: none is a member.
 //!
-//! The times of an event are wide. A Forget's are those of the whole Forget, and it may close several
-//! calls. A Lead's begin with the asking and end where the load begins: until then its leader may
-//! find a run beside the library that has to end first. An Enter's begin with the asking and end with
-//! the value, or where the caller has left.
+//! The keyed group takes its steps within the times of the events: a Lead's begin with the asking and
+//! end where the load begins, an Enter's begin with the asking and end with the value, or where the
+//! caller has left, and a Forget's are those of the whole Forget.
 
-use crate::stash::thread_number;
-use crate::Call;
-use std::collections::hash_map::RandomState;
+use crate::keyed::Id;
+use crate::places::thread_number;
+use std::collections::hash_map::{Entry as Found, RandomState};
+use std::collections::HashMap;
 use std::fmt;
 use std::hash::BuildHasher;
 use std::io::{self, Write};
@@ -165,7 +166,7 @@ const EVERY: Duration = Duration::from_millis(10);
 const BYTES: usize = 1 << 16;
 /// A line has fewer bytes: a key of 250 bytes, each as six, and names and numbers.
 const LONGEST_LINE: usize = 2048;
-/// How many calls that have ended a recorder remembers, by the fingerprints of their keys.
+/// How many calls that have ended a recorder remembers, by their keys.
 const REMEMBERED: usize = 4096;
 
 // The recorder's locks are held for a few steps, in none of which the schedule test stops a caller.
@@ -182,7 +183,7 @@ fn try_lock<T>(mutex: &Mutex<T>) -> Option<MutexGuard<'_, T>> {
 }
 
 /// Nanoseconds of one clock for all recordings, from 1 on.
-fn now() -> u64 {
+pub(crate) fn now() -> u64 {
     #[cfg(test)]
     if let Some(steps) = crate::schedules::steps() {
         return steps + 1;
@@ -251,7 +252,16 @@ impl Recordings {
     #[inline]
     pub(crate) fn forgetting(&self, is_of_one: bool) -> Option<Forgetting> {
         let noted = self.noted()?;
-        Some(Forgetting { by: noted.by, from: noted.from, is_of_one, closed: Vec::new() })
+        Some(Forgetting { by: noted.by, from: noted.from, is_of_one })
+    }
+
+    /// A Forget that is not recorded has closed this call, which may be recorded: it began before
+    /// the recording, and took effect after the call had begun.
+    pub(crate) fn closed(&self, id: Id) {
+        if self.is_on() {
+            let recorder = lock(&self.current).clone();
+            recorder.iter().for_each(|recorder| recorder.closed(id, None));
+        }
     }
 
     pub(crate) fn begin(
@@ -328,19 +338,12 @@ pub(crate) struct Noted {
 }
 
 impl Noted {
-    /// The record of a call that is asked for now; or of a run beside the library, which has no
-    /// name in it.
+    /// The record of a call that this asking leads.
     #[cold]
-    pub(crate) fn record(
-        &self,
-        key: &[u8],
-        fingerprint: u64,
-        call: Option<Call>,
-    ) -> Arc<CallRecord> {
+    pub(crate) fn record(self, key: &[u8], id: Id) -> Arc<CallRecord> {
         Arc::new(CallRecord {
-            by: self.by.clone(),
-            call,
-            fingerprint,
+            by: self.by,
+            id,
             key: key.into(),
             asked: self.from,
             name: AtomicU64::new(0),
@@ -350,12 +353,6 @@ impl Noted {
             outcome: AtomicU8::new(VALUE),
             others: Mutex::new(Others { members: Vec::new(), closing: None }),
         })
-    }
-
-    /// The caller that asked has the value of the call, which it joined by a seat.
-    #[cold]
-    pub(crate) fn entered(self, record: &CallRecord) {
-        record.enter(&self, now());
     }
 }
 
@@ -367,9 +364,7 @@ const DROPPED: u8 = 2;
 /// The record of a call. The leader has a share, and so has each other part of the call.
 pub(crate) struct CallRecord {
     by: Arc<By>,
-    /// None for a run beside the library.
-    call: Option<Call>,
-    fingerprint: u64,
+    id: Id,
     key: Box<[u8]>,
     asked: u64,
     // The leader writes the rest. 0 where no load was run.
@@ -393,8 +388,6 @@ struct Member {
     to: u64,
 }
 
-/// Of a member that waits still.
-const OPEN: u64 = u64::MAX;
 /// When a Forget has ended that nobody records.
 const FOREVER: u64 = i64::MAX as u64;
 
@@ -408,18 +401,11 @@ struct Closing {
 }
 
 impl CallRecord {
-    /// Whether this is the record of the call of this generation, at the post of its leader.
-    pub(crate) fn is_of(&self, generation: u32) -> bool {
-        self.call.is_some_and(|call| call.generation == generation)
-    }
-
     /// Its load begins.
     #[cold]
     pub(crate) fn leads(&self) {
         let recorder = &self.by.recorder;
-        if self.call.is_none() {
-            recorder.remembered(self.fingerprint).clear();
-        }
+        recorder.remembered(&self.key).clear();
         if let Some(name) = recorder.name(self.by.lane) {
             self.name.store(name, Relaxed);
             self.led.store(now(), Relaxed);
@@ -438,40 +424,59 @@ impl CallRecord {
         self.settles.store(now(), Relaxed);
     }
 
-    /// It is settled, also for those who follow it.
+    /// It is settled.
     #[cold]
     pub(crate) fn settled(&self) {
         self.settled.store(now(), Relaxed);
     }
 
-    /// The caller joins the call, and waits. Which of the members it is.
-    pub(crate) fn joins(&self, noted: &Noted) -> Option<usize> {
-        self.enter(noted, OPEN)
+    /// A Forget had closed it before it was settled.
+    #[cold]
+    pub(crate) fn was_forgotten(self: &Arc<Self>) {
+        let recorder = &self.by.recorder;
+        let mut halves = lock(&recorder.halves);
+        if recorder.is_over.load(SeqCst) {
+            return;
+        }
+        match halves.entry(self.id) {
+            Found::Vacant(entry) => {
+                entry.insert(Half::Record(self.clone()));
+            }
+            Found::Occupied(entry) => {
+                if let Half::Closing(closing) = entry.remove() {
+                    self.close(closing);
+                }
+            }
+        }
     }
 
-    fn enter(&self, noted: &Noted, to: u64) -> Option<usize> {
+    /// The caller that asked has the value.
+    #[cold]
+    pub(crate) fn entered(&self, noted: &Noted) {
+        self.enter(noted, now());
+    }
+
+    /// The caller that asked had joined the call, and has left it, or has the value.
+    #[cold]
+    pub(crate) fn enter(&self, noted: &Noted, to: u64) {
         if !Arc::ptr_eq(&self.by.recorder, &noted.by.recorder) {
-            return None;
+            return;
         }
-        let name = noted.by.recorder.name(noted.by.lane)?;
-        let mut others = lock(&self.others);
-        others.members.push(Member { name, from: noted.from, to });
-        Some(others.members.len() - 1)
+        let Some(name) = noted.by.recorder.name(noted.by.lane) else { return };
+        // One that has left before the leader marked its Lead may have forgotten an older call
+        // since, which is recorded as the key's last one until that mark.
+        let to = to.max(self.led.load(Relaxed));
+        lock(&self.others).members.push(Member { name, from: noted.from, to });
     }
 
-    /// The member leaves the call, which is not settled.
-    pub(crate) fn left(&self, member: usize) {
-        if let Some(member) = lock(&self.others).members.get_mut(member) {
-            member.to = now();
-        }
-    }
-
-    // Where two have closed it, the later one has found it where the epoch before had left it.
-    fn close(&self, closing: Closing) {
-        let mut others = lock(&self.others);
-        if others.closing.is_none_or(|before| closing.from < before.from) {
-            others.closing = Some(closing);
-        }
+    fn close(&self, closing: Option<Closing>) {
+        let closing = closing.unwrap_or(Closing {
+            caller: self.by.caller(),
+            from: self.asked,
+            to: FOREVER,
+            is_of_one: false,
+        });
+        lock(&self.others).closing = Some(closing);
     }
 }
 
@@ -488,36 +493,19 @@ impl Drop for CallRecord {
         if outcome != VALUE {
             members.clear();
         }
-        for member in &mut members {
-            if member.to == OPEN {
-                member.to = settled;
-            }
-        }
-        // Those who had left before the load began were not in the call: its leader may have waited
-        // for the lock meanwhile, and another call of the key may have ended.
-        members.retain(|member| member.to >= led);
-        // A Forget that began when the call was about to be settled closed it, or not: from then on
-        // the key may have a newer call.
-        let mut closing = others.closing.filter(|closing| closing.from < settles);
-        if let Some(closing) = &mut closing {
-            // One that had ended before the load began took effect when that did.
-            closing.to = closing.to.max(led);
-        }
+        let closing = others.closing;
         let name = *self.name.get_mut();
         let key = std::mem::take(&mut self.key);
         let asked = self.asked;
         let call =
             CallEvents { name, key, asked, led, settles, settled, outcome, members, closing };
         let recorder = &self.by.recorder;
-        if recorder.push(Entry::Call(call)) {
-            if let Some(call) = self.call {
-                recorder.remembered(self.fingerprint).keep(Ended {
-                    call,
-                    fingerprint: self.fingerprint,
-                    name,
-                    settles,
-                });
-            }
+        let ended = Ended { id: self.id, name, settles };
+        // With the lock held: whoever leads the key next clears it later.
+        let mut remembers = recorder.remembered(&call.key);
+        // One that was forgotten cannot be cleared.
+        if recorder.push(Entry::Call(call)) && closing.is_none() {
+            remembers.keep(ended);
         }
     }
 }
@@ -527,75 +515,64 @@ pub(crate) struct Forgetting {
     by: Arc<By>,
     from: u64,
     is_of_one: bool,
-    closed: Vec<Arc<CallRecord>>,
 }
 
 impl Forgetting {
-    /// It has ended, and found no open call if it `is_idle`.
-    pub(crate) fn end(self, key: &[u8], is_idle: bool) {
+    /// It has ended, and has closed this call.
+    #[cold]
+    pub(crate) fn closed(self, id: Id) {
         let (caller, from, to) = (self.by.caller(), self.from, now());
-        let is_idle = is_idle && self.closed.is_empty();
-        for record in self.closed {
-            record.close(Closing { caller, from, to, is_of_one: self.is_of_one });
-        }
-        if is_idle {
-            let forget = ForgetEvent { key: key.into(), caller, from, to, cleared: None };
-            self.by.recorder.push(Entry::Forget(forget));
-        }
+        let closing = Closing { caller, from, to, is_of_one: self.is_of_one };
+        self.by.recorder.closed(id, Some(closing));
     }
 
-    /// It has cleared the call, which had ended: that is recorded if the call is, and that is known.
-    pub(crate) fn cleared(self, key: &[u8], fingerprint: u64, call: Call) {
-        if !self.closed.is_empty() {
-            return self.end(key, false);
-        }
+    /// It has ended, and found no open call.
+    #[cold]
+    pub(crate) fn found_nothing(self, key: &[u8]) {
+        let (caller, from, to) = (self.by.caller(), self.from, now());
+        let forget = ForgetEvent { key: key.into(), caller, from, to, cleared: None };
+        self.by.recorder.push(Entry::Forget(forget));
+    }
+
+    /// It has cleared the call, which had ended: that is recorded, once, if the call is known as the
+    /// last one of its key.
+    #[cold]
+    pub(crate) fn cleared(self, key: &[u8], id: Id) {
         let recorder = &self.by.recorder;
-        let cleared = recorder.remembered(fingerprint).find(call, fingerprint);
-        if cleared.is_some() {
+        let mut remembered = recorder.remembered(key);
+        if let Some(cleared) = remembered.take(id) {
+            // With the lock held: the next Lead of the key ends later.
             let (caller, from, to) = (self.by.caller(), self.from, now());
-            let forget = ForgetEvent { key: key.into(), caller, from, to, cleared };
-            recorder.push(Entry::Forget(forget));
+            drop(remembered);
+            let cleared = Some(cleared);
+            recorder.push(Entry::Forget(ForgetEvent {
+                key: key.into(),
+                caller,
+                from,
+                to,
+                cleared,
+            }));
         }
     }
 }
 
-/// A Forget has closed a call, which has this record if it is recorded.
-#[inline]
-pub(crate) fn closes(forgetting: &mut Option<Forgetting>, record: Option<Arc<CallRecord>>) {
-    if let Some(record) = record {
-        closes_recorded(forgetting, record);
-    }
+/// What one of two knows of a call that was forgotten, for the other: its leader, and the Forget that
+/// has closed it. The Forget may not be recorded.
+enum Half {
+    Record(Arc<CallRecord>),
+    Closing(Option<Closing>),
 }
 
-// A Forget that began before the recording took effect after the call had begun.
-#[cold]
-#[inline(never)]
-fn closes_recorded(forgetting: &mut Option<Forgetting>, record: Arc<CallRecord>) {
-    match forgetting {
-        Some(forgetting) if Arc::ptr_eq(&forgetting.by.recorder, &record.by.recorder) => {
-            forgetting.closed.push(record);
-        }
-        _ => record.close(Closing {
-            caller: record.by.caller(),
-            from: record.asked,
-            to: FOREVER,
-            is_of_one: false,
-        }),
-    }
-}
-
-/// The call that ended last of those whose keys have some fingerprints.
+/// The call that ended last of those of some keys.
 #[derive(Default)]
 struct Remembered {
     ended: Option<Ended>,
-    // When a run beside the library began: what ended before it is not the key's current call any
-    // more, though the library may say so.
+    // When a call began: what ended before it is not the key's current call any more.
     since: u64,
 }
 
 struct Ended {
-    call: Call,
-    fingerprint: u64,
+    id: Id,
     name: u64,
     settles: u64,
 }
@@ -611,9 +588,8 @@ impl Remembered {
         }
     }
 
-    fn find(&self, call: Call, fingerprint: u64) -> Option<u64> {
-        let ended = self.ended.as_ref()?;
-        (ended.call == call && ended.fingerprint == fingerprint).then_some(ended.name)
+    fn take(&mut self, id: Id) -> Option<u64> {
+        self.ended.take_if(|ended| ended.id == id).map(|ended| ended.name)
     }
 }
 
@@ -673,6 +649,7 @@ struct Lane {
 struct Recorder {
     lanes: Box<[Lane]>,
     ended: Box<[Mutex<Remembered>]>,
+    halves: Mutex<HashMap<Id, Half>>,
     // Events that were lost.
     missed: AtomicU64,
     // Whether nothing is recorded any more.
@@ -695,6 +672,7 @@ impl Recorder {
         Ok(Recorder {
             lanes: made(LANES)?,
             ended: made(REMEMBERED)?,
+            halves: Mutex::default(),
             missed: AtomicU64::new(0),
             is_over: AtomicBool::new(false),
             ends: Mutex::new(false),
@@ -709,8 +687,29 @@ impl Recorder {
         self.wakes.notify_one();
     }
 
-    fn remembered(&self, fingerprint: u64) -> MutexGuard<'_, Remembered> {
-        lock(&self.ended[(fingerprint >> 32) as usize % REMEMBERED])
+    fn remembered(&self, key: &[u8]) -> MutexGuard<'_, Remembered> {
+        lock(&self.ended[self.hashes[0].hash_one(key) as usize % REMEMBERED])
+    }
+
+    // A Forget has closed the call, and has ended.
+    #[cold]
+    fn closed(&self, id: Id, closing: Option<Closing>) {
+        let mut halves = lock(&self.halves);
+        if self.is_over.load(SeqCst) {
+            return;
+        }
+        let half = match halves.entry(id) {
+            Found::Vacant(entry) => {
+                entry.insert(Half::Closing(closing));
+                return;
+            }
+            Found::Occupied(entry) => entry.remove(),
+        };
+        // The record may be complete with this, and locks are taken where it is dropped.
+        drop(halves);
+        if let Half::Record(record) = half {
+            record.close(closing);
+        }
     }
 
     // The name of a call or member that no other has. Where a caller's are used up, another gives
@@ -753,6 +752,10 @@ impl Recorder {
 
     // What is kept and not written is dropped.
     fn empty(&self) {
+        // A record that is kept here keeps the recorder. None is added any more: that it is over was
+        // said before.
+        let halves = std::mem::take(&mut *lock(&self.halves));
+        drop(halves);
         for lane in &self.lanes {
             drop(lane.take(Vec::new()));
         }

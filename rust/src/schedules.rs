@@ -1,13 +1,12 @@
 //! The crate's own code under schedules that are drawn at random: callers run as coroutines of one
 //! thread, and take turns at each step that others can see (`sync::point`). The library's calls are
-//! steps of their own, which its proof allows, but for a Forget that has still to clear its place
-//! (`Closing`).
+//! steps of their own, which its proof allows.
 //!
 //! Of each schedule it is checked that it ends, that no load of a key begins while another one runs
 //! that no Forget ended, that no answer is older than one that was returned before its asking
-//! began, or than a Forget that had returned, that a stamp that is current is no older either, that
-//! no caller joins a load whose value somebody had before it asked, that each who joined is counted,
-//! and that all callers of the library are back.
+//! began, or than a Forget that had returned, that a stamp that is current is of no value from
+//! before a Forget, that no caller joins a load whose value somebody had before it asked, that each
+//! who joined is counted, and that all calls are idle and all values dropped in the end.
 //!
 //! Others are recorded, and their logs are judged: each is legal in time, by a clock that counts
 //! steps. Others again play a cache (`cached`).
@@ -15,9 +14,7 @@
 //! `SFLIGHT_SCHEDULES` says how many are drawn, `SFLIGHT_RECORDED` how many are recorded,
 //! `SFLIGHT_CACHED` how many play a cache, and `SFLIGHT_SEED` with which one each begins.
 
-use crate::asker::Asker;
-use crate::sync::lock;
-use crate::{raw, Caller, Group, Loaded, Plan, Stamp};
+use crate::{Caller, Group, Loaded, Stamp};
 use judge::Log;
 use std::cell::Cell;
 use std::collections::HashMap;
@@ -27,7 +24,7 @@ use std::pin::{pin, Pin};
 use std::ptr::null_mut;
 use std::rc::Rc;
 use std::sync::atomic::{AtomicBool, Ordering::SeqCst};
-use std::sync::{Arc, Mutex};
+use std::sync::Arc;
 use std::task::{Context, Poll, Wake, Waker};
 use std::time::Duration;
 
@@ -84,6 +81,12 @@ pub(crate) fn point() {
 /// The same, where the turn often ends with a long stall.
 pub(crate) fn stall_point() {
     step(Step::Stalled);
+}
+
+/// Whether a step of the keyed group has to be tried again.
+#[cfg(not(sflight_library))]
+pub(crate) fn is_unlucky() -> bool {
+    with(|play| play.random.below(16) == 0).unwrap_or(false)
 }
 
 /// It cannot go on before another has taken a turn.
@@ -236,29 +239,6 @@ impl Random {
     }
 }
 
-/// The library's Forget closes a call and then clears its place. The library is not stopped between
-/// the two here; but a Forget that is stopped after both makes the place name the call as long as
-/// it would, had it been stopped between. All other answers are equal.
-#[derive(Default)]
-pub(crate) struct Closing(Mutex<Vec<(Vec<u8>, raw::Stamp)>>);
-
-impl Closing {
-    /// The call that the key's place would name, where it names none.
-    pub(crate) fn named(&self, key: &[u8]) -> Option<raw::Stamp> {
-        lock(&self.0).iter().find(|(of, _)| of == key).map(|(_, stamp)| *stamp)
-    }
-
-    /// A Forget of the key has closed the call: may it be stopped.
-    pub(crate) fn stops(&self, key: &[u8], stamp: raw::Stamp) {
-        lock(&self.0).push((key.into(), stamp));
-        point();
-        let mut all = lock(&self.0);
-        if let Some(at) = all.iter().position(|(of, it)| of == key && *it == stamp) {
-            all.remove(at);
-        }
-    }
-}
-
 /// A value: when its load began, and whether no Forget had ended its call before.
 struct Value {
     moment: u64,
@@ -285,7 +265,7 @@ impl Drop for Value {
 
 const KEYS: usize = 3;
 const NAMES: [&[u8]; KEYS] =
-    [b"a", b"b", b"a key of more than forty bytes, which the library keeps on the heap"];
+    [b"a", b"b", b"a key of more bytes than the library keeps in its own words, so on the heap"];
 
 #[derive(Default)]
 struct Key {
@@ -349,6 +329,16 @@ impl World {
             is_alone: Cell::new(false),
             is_joined: Cell::new(false),
         }
+    }
+
+    // A Forget may end any call that was asked for before it has returned.
+    fn forgets<R>(&self, key: usize, run: impl FnOnce() -> R) {
+        let of = &self.keys[key];
+        of.forgetting.set(of.forgetting.get() + 1);
+        of.running.set(Vec::new());
+        run();
+        of.forgetting.set(of.forgetting.get() - 1);
+        of.forgot.set(self.tick());
     }
 
     // What an answer has to be at least that is asked for now.
@@ -441,9 +431,6 @@ struct Actor {
     group: Group<Value>,
     caller: Caller<Value>,
     second: Option<Caller<Value>>,
-    // Whether it asks by the group alone. Its callers have no seats then, so that those of the
-    // group come and go.
-    is_grouped: bool,
     random: Random,
     // Of how many keys it asks for one.
     keys: u64,
@@ -455,7 +442,7 @@ struct Actor {
 
 impl Actor {
     fn by_group(&mut self) -> bool {
-        self.is_grouped || self.random.below(2) == 0
+        self.random.below(2) == 0
     }
 
     fn got(&mut self, key: usize, asked: (u64, u64), got: Loaded<Value>, has_joined: bool) {
@@ -540,12 +527,18 @@ impl Actor {
     fn channel(&mut self, key: usize) {
         let (world, asked) = (self.world.clone(), self.world.asks(key));
         let (is_run, by_group) = (self.random.below(4) > 0, self.by_group());
+        let is_forgotten = self.random.below(3) == 0;
+        let forgets = self.group.clone();
         let (receiver, job) = match by_group {
             true => self.group.subscribe(NAMES[key]),
             false => self.caller.subscribe(NAMES[key]),
         };
         let has_joined = job.is_none();
         let run = |job: crate::Job<'_, Value>| {
+            if let Some(call) = job.call().filter(|_| is_forgotten) {
+                // A newer call may run beside it then.
+                world.forgets(key, || forgets.forget_call(NAMES[key], call));
+            }
             if is_run {
                 let got = job.run(|| {
                     let moment = world.begins(key, asked.0);
@@ -574,7 +567,7 @@ impl Actor {
             is_blocked();
         }
         if !by_group {
-            self.caller.current_call(NAMES[key]);
+            assert!(!self.caller.is_current(Stamp::default()));
         }
         if let Some(Ok(got)) = polled(&mut self.random, receives.as_mut(), 10) {
             self.got(key, asked, got, has_joined);
@@ -582,50 +575,27 @@ impl Actor {
     }
 
     fn forget(&mut self, key: usize) {
-        let world = self.world.clone();
-        let (began, of) = (world.tick(), &world.keys[key]);
-        of.forgetting.set(of.forgetting.get() + 1);
-        of.running.set(Vec::new());
-        match self.by_group() {
+        let (world, by_group) = (self.world.clone(), self.by_group());
+        let began = world.tick();
+        world.forgets(key, || match by_group {
             false => self.caller.forget(NAMES[key]),
             true => self.group.forget(NAMES[key]),
-        };
-        of.forgetting.set(of.forgetting.get() - 1);
-        of.forgot.set(world.tick());
+        });
+        let of = &world.keys[key];
         of.forgotten.set(of.forgotten.get().max(began));
     }
 
-    // Forgets the call alone that the key has now. A newer one may run beside it then.
-    fn forget_now(&mut self, key: usize) {
-        let Some(call) = self.caller.current_call(NAMES[key]) else { return };
-        let world = self.world.clone();
-        let of = &world.keys[key];
-        of.forgetting.set(of.forgetting.get() + 1);
-        of.running.set(Vec::new());
-        match self.by_group() {
-            false => self.caller.forget_call(NAMES[key], call),
-            true => self.group.forget_call(NAMES[key], call),
-        };
-        of.forgetting.set(of.forgetting.get() - 1);
-        of.forgot.set(world.tick());
-    }
-
-    // Asks about what it got last, or forgets that call alone; or the one that the key has now.
+    // Asks about what it got last, or forgets that call alone.
     fn last(&mut self, key: usize) {
-        if !self.is_grouped && self.random.below(3) == 0 {
-            return self.forget_now(key);
-        }
         let Some((moment, stamp, call)) = self.last.get(&key).copied() else { return };
-        let floor = self.world.least(key);
+        let floor = self.world.keys[key].forgotten.get();
         let is_current = match self.by_group() {
             false => self.caller.is_current(stamp),
             true => self.group.is_current(stamp),
         };
         if is_current {
             check(moment >= floor, || {
-                format!(
-                    "a stamp of {key} from {moment} is current after a value or a Forget from {floor}"
-                )
+                format!("a stamp of {key} from {moment} is current after a Forget from {floor}")
             });
             self.world.current.set(self.world.current.get() + 1);
         }
@@ -657,8 +627,7 @@ impl Actor {
     }
 }
 
-/// Forgets of a key that is loaded, while the table is replaced for want of a caller for another
-/// key.
+/// Forgets of a key that is loaded, while the group grows for another key.
 const SCENE: [&[(u64, usize)]; 4] =
     [&[(0, 0)], &[(12, 0), (0, 0)], &[(12, 0), (0, 0)], &[(0, 1), (0, 1)]];
 
@@ -667,7 +636,7 @@ struct Played {
     steps: u64,
     loads: u64,
     current: u64,
-    epochs: u64,
+    grown: u64,
     events: u64,
 }
 
@@ -680,14 +649,7 @@ fn schedule(
 ) -> Result<(), String> {
     let mut random = Random::new(seed);
     let is_scene = random.below(4) == 0;
-    let callers = if is_scene { 1 } else { 1 + random.below(4) as u32 };
-    let plan = Plan {
-        places: 1 + random.below(2) as u32,
-        callers,
-        grows: is_scene || random.below(2) == 0,
-        calls: [1, 2, 4, 1000][random.below(4) as usize],
-    };
-    let group = Group::of(plan).map_err(|why| why.to_string())?;
+    let group = Group::open(1 + random.below(3) as u32).map_err(|why| why.to_string())?;
     let log = Log::default();
     let recording = Rc::new(Cell::new(None));
     let begins = {
@@ -698,16 +660,13 @@ fn schedule(
     let actors = if is_scene { 4 } else { 2 + random.below(3) as usize };
     let turn = [1, 2, 4, 16][random.below(4) as usize];
     let (acts, keys) = (1 + random.below(5), 1 + random.below(KEYS as u64));
-    let is_grouped = random.below(3) == 0;
     let tasks = (0..actors).map(|number| {
         let (world, group, random) = (world.clone(), group.clone(), Random::new(random.next()));
         let script = if is_scene { SCENE[number] } else { &[] };
         Box::new(move || {
-            let caller =
-                || if is_grouped { Caller(Asker::new(group.pool.clone())) } else { group.caller() };
-            let (caller, second, last) = (caller(), Some(caller()), HashMap::new());
-            let mut actor =
-                Actor { world, group, caller, second, is_grouped, random, keys, script, last };
+            let (caller, second) = (group.caller(), Some(group.caller()));
+            let last = HashMap::new();
+            let mut actor = Actor { world, group, caller, second, random, keys, script, last };
             for _ in 0..acts {
                 actor.act();
             }
@@ -744,21 +703,15 @@ fn schedule(
     let stats = group.stats();
     all.loads += world.loads.get();
     all.current += world.current.get();
-    all.epochs += u64::from(group.pool.now());
-    if stats.in_use != 0 || stats.leads + stats.alone < world.loads.get() {
-        return Err(format!(
-            "{} loads, and not all callers are back: {stats:?}",
-            world.loads.get()
-        ));
+    all.grown += u64::from(group.shared.size().tables > 1);
+    if stats.in_use != 0 || stats.loads < world.loads.get() {
+        return Err(format!("{} loads, and not all calls are idle: {stats:?}", world.loads.get()));
     }
     if stats.joins < world.joined.get() {
         return Err(format!(
             "{} have joined, and not all are counted: {stats:?}",
             world.joined.get()
         ));
-    }
-    if group.pool.is_alert_anywhere() {
-        return Err("the side table is not empty".into());
     }
     drop(group);
     if world.live.get() != 0 {
@@ -776,7 +729,7 @@ fn schedules_drawn_at_random() {
     let count = number("SFLIGHT_SCHEDULES", 100_000);
     let all = each_schedule("SFLIGHT_SCHEDULES", count, false);
     assert!(
-        count < 1000 || all.loads > count && all.current > 0 && all.epochs > count,
+        count < 1000 || all.loads > count && all.current > 0 && all.grown > 0,
         "they do something"
     );
 }
@@ -797,7 +750,7 @@ fn each_schedule(name: &str, count: u64, is_recorded: bool) -> Played {
         steps: sum(|all| all.steps),
         loads: sum(|all| all.loads),
         current: sum(|all| all.current),
-        epochs: sum(|all| all.epochs),
+        grown: sum(|all| all.grown),
         events: sum(|all| all.events),
     };
     println!("{count} schedules: {all:?}");

@@ -1,288 +1,124 @@
-//! Those who follow a call without a caller of the library: threads that sleep, and tasks that are
-//! woken.
+//! Those who joined a call and wait for its value: threads that sleep, and tasks that are woken.
 
-use crate::recording::{CallRecord, Noted};
-use crate::sync::{lock, point, sleep};
-use crate::{Call, Loaded, Stamp};
-use std::collections::BTreeMap;
+use crate::keyed::Id;
+use crate::places::processors;
+use crate::post::Post;
+use crate::shared::{Join, Shared};
+use crate::sync::{point, stall_point};
+use crate::Loaded;
 use std::future::Future;
 use std::ops::Deref;
-use std::panic::{catch_unwind, AssertUnwindSafe};
 use std::pin::Pin;
-use std::sync::atomic::{
-    AtomicBool,
-    Ordering::{Acquire, Release},
-};
-use std::sync::{Arc, Condvar, Mutex};
-use std::task::{self, Context, Poll};
-use std::time::Instant;
+use std::sync::atomic::{AtomicUsize, Ordering::Relaxed};
+use std::task::{Context, Poll, Waker};
+use std::time::{Duration, Instant};
 
-/// What a call came to.
-enum Outcome<T> {
-    /// Nothing: its load ended without an answer, or it had none. Who followed asks again.
-    Void,
-    Answer {
-        key: Box<[u8]>,
-        value: Arc<T>,
-        joiners: u32,
-        stamp: Stamp,
-    },
+/// So long one looks for the mark of a call before one sleeps, about as long as it takes to sleep
+/// and be woken.
+const LOOKING_TIME: Duration = Duration::from_micros(10);
+
+/// How many threads look for a mark now.
+static LOOKING: AtomicUsize = AtomicUsize::new(0);
+
+/// Looks for the mark for some time, unless as many look as may: each with a processor of its own,
+/// and one left for who loads.
+fn look(post: &Post, generation: u64) {
+    let before = LOOKING.fetch_add(1, Relaxed);
+    if before + 1 < processors() && !cfg!(test) {
+        let until = Instant::now() + LOOKING_TIME;
+        while !post.is_told(generation) && Instant::now() < until {
+            std::hint::spin_loop();
+        }
+    }
+    LOOKING.fetch_sub(1, Relaxed);
 }
 
-struct State<T> {
-    outcome: Option<Outcome<T>>,
-    followers: u32,
-    asleep: u32,
-    wakers: BTreeMap<u64, task::Waker>,
-    next: u64,
-    // Of the call, if that is recorded, until it is settled.
-    record: Option<Arc<CallRecord>>,
+/// A call that was joined. If it is dropped, it leaves the call.
+pub(crate) struct Ticket<T, P: Deref<Target = Shared<T>>> {
+    shared: P,
+    // None once it has left.
+    join: Option<Join>,
+    // The number of a task's waker at the post.
+    waker: u64,
 }
 
-/// The number of a task's waker, which is 0 before it has one.
-#[derive(Default)]
-pub(crate) struct Waker(u64);
-
-/// A call that others follow: of the library, or of a run beside it.
-pub(crate) struct Wait<T> {
-    pub(crate) fingerprint: u64,
-    /// None for a run beside the library.
-    pub(crate) call: Option<Call>,
-    /// That of a run beside the library.
-    pub(crate) key: Box<[u8]>,
-    /// Whether it was entered into the table of calls that were moved. Written with the lock of
-    /// its post held.
-    pub(crate) moved: AtomicBool,
-    is_settled: AtomicBool,
-    state: Mutex<State<T>>,
-    settled: Condvar,
-}
-
-impl<T> Wait<T> {
-    /// One of a call of the library.
-    pub(crate) fn new(fingerprint: u64, call: Call, record: Option<Arc<CallRecord>>) -> Arc<Self> {
-        Self::with(fingerprint, Some(call), Box::default(), record)
+impl<T, P: Deref<Target = Shared<T>>> Ticket<T, P> {
+    pub(crate) fn new(shared: P, join: Join) -> Self {
+        Ticket { shared, join: Some(join), waker: 0 }
     }
 
-    /// One of a run beside the library.
-    pub(crate) fn run(fingerprint: u64, key: &[u8], record: Option<Arc<CallRecord>>) -> Arc<Self> {
-        Self::with(fingerprint, None, key.into(), record)
+    fn post(&self) -> Option<(&Post, u64)> {
+        let id = self.join.as_ref()?.id;
+        Some((self.shared.post(&id), id.generation))
     }
 
-    fn with(
-        fingerprint: u64,
-        call: Option<Call>,
-        key: Box<[u8]>,
-        record: Option<Arc<CallRecord>>,
-    ) -> Arc<Self> {
-        Arc::new(Wait {
-            fingerprint,
-            call,
-            key,
-            moved: AtomicBool::new(false),
-            is_settled: AtomicBool::new(false),
-            state: Mutex::new(State {
-                outcome: None,
-                followers: 0,
-                asleep: 0,
-                wakers: BTreeMap::new(),
-                next: 0,
-                record,
-            }),
-            settled: Condvar::new(),
-        })
-    }
-
-    pub(crate) fn is_settled(&self) -> bool {
+    pub(crate) fn is_told(&self) -> bool {
         point();
-        self.is_settled.load(Acquire)
+        self.post().is_none_or(|(post, generation)| post.is_told(generation))
     }
 
-    /// Counts one more follower; or does not, where the call is settled: its members were counted
-    /// then. So each member's answer is shared or none is.
-    pub(crate) fn join(self: &Arc<Self>, noted: Option<&Noted>) -> Option<Follower<T>> {
-        let mut state = lock(&self.state);
-        if state.outcome.is_some() {
-            return None;
-        }
-        state.followers += 1;
-        let member = state.joins(noted);
-        drop(state);
-        Some(Follower { wait: self.clone(), member })
-    }
-
-    /// The same for one who was counted elsewhere.
-    pub(crate) fn watch(self: &Arc<Self>, noted: Option<&Noted>) -> Follower<T> {
-        let member = lock(&self.state).joins(noted);
-        Follower { wait: self.clone(), member }
-    }
-
-    /// The record of the call, if that is recorded and is not settled.
-    pub(crate) fn record(&self) -> Option<Arc<CallRecord>> {
-        lock(&self.state).record.clone()
-    }
-
-    /// Sleeps until it is settled, or until the deadline: whether it is settled.
+    /// Sleeps until the call is told, or until the deadline: whether it is told.
     pub(crate) fn wait(&self, deadline: Option<Instant>) -> bool {
-        let mut state = lock(&self.state);
-        while state.outcome.is_none() {
-            let time = match deadline {
-                None => None,
-                Some(deadline) => match deadline.checked_duration_since(Instant::now()) {
-                    Some(time) => Some(time),
-                    None => return false,
-                },
-            };
-            state.asleep += 1;
-            state = sleep(&self.settled, &self.state, state, time);
-            state.asleep -= 1;
+        point();
+        let Some((post, generation)) = self.post() else { return true };
+        if post.is_told(generation) {
+            return true;
         }
-        true
+        if deadline.is_none() {
+            look(post, generation);
+        }
+        post.wait(generation, deadline)
     }
 
-    /// Whether it is settled; else the task is woken when it is.
-    pub(crate) fn poll(&self, own: &mut Waker, waker: &task::Waker) -> Poll<()> {
-        if self.is_settled() {
-            return Poll::Ready(());
-        }
-        // A waker's code runs without the lock: it may ask the group itself.
-        let waker = waker.clone();
-        let mut state = lock(&self.state);
-        if state.outcome.is_some() {
-            return Poll::Ready(());
-        }
-        if own.0 == 0 {
-            state.next += 1;
-            own.0 = state.next;
-        }
-        let before = state.wakers.insert(own.0, waker);
-        drop(state);
-        drop(before);
-        Poll::Pending
-    }
-
-    /// The task does not wait any more.
-    pub(crate) fn leave(&self, own: &mut Waker) {
-        if own.0 != 0 {
-            let waker = lock(&self.state).wakers.remove(&own.0);
-            drop(waker);
+    /// Whether the call is told; else the task is woken when it is.
+    pub(crate) fn poll(&mut self, waker: &Waker) -> Poll<()> {
+        point();
+        let Some(id) = self.join.as_ref().map(|join| join.id) else { return Poll::Ready(()) };
+        if self.shared.post(&id).poll(id.generation, &mut self.waker, waker) {
+            Poll::Ready(())
+        } else {
+            Poll::Pending
         }
     }
 
-    /// Settles it with an answer, and wakes who follows: how many do, and `joiners` more joined by
-    /// callers.
-    pub(crate) fn end(&self, key: &[u8], value: &Arc<T>, joiners: u32, stamp: Stamp) -> u32 {
-        let key = key.into();
-        let value = value.clone();
-        let mut followers = 0;
-        self.settle(|count| {
-            followers = count;
-            Outcome::Answer { key, value, joiners: joiners + count, stamp }
-        });
-        followers
+    /// What the call came to, which is told. None where it ended without a value.
+    pub(crate) fn read(mut self) -> Option<Loaded<T>> {
+        self.shared.read(self.join.as_mut()?)
     }
+}
 
-    /// Settles it with nothing.
-    pub(crate) fn void(&self) {
-        self.settle(|_| Outcome::Void);
-    }
-
-    fn settle(&self, outcome: impl FnOnce(u32) -> Outcome<T>) {
-        let mut state = lock(&self.state);
-        let made = outcome(state.followers);
-        state.outcome = Some(made);
-        self.is_settled.store(true, Release);
-        let wakers = std::mem::take(&mut state.wakers);
-        let asleep = state.asleep > 0;
-        let record = state.record.take();
-        drop(state);
-        drop(record);
-        if asleep {
-            self.settled.notify_all();
-        }
-        for waker in wakers.into_values() {
-            // A waker that panics has said so; it harms neither the other tasks nor the leader.
-            if let Err(panic) = catch_unwind(AssertUnwindSafe(|| waker.wake())) {
-                std::mem::forget(panic);
+impl<T, P: Deref<Target = Shared<T>>> Drop for Ticket<T, P> {
+    fn drop(&mut self) {
+        let Some(mut join) = self.join.take() else { return };
+        let mut waker = None;
+        if join.noted.is_some() || self.waker != 0 {
+            let Id { generation, .. } = join.id;
+            waker = self.shared.post(&join.id).give_up(generation, self.waker, &mut join.noted);
+            if join.noted.is_some() {
+                // It is told, and has the value as the others do, though it does not want it.
+                drop(self.shared.read(&mut join));
             }
         }
+        stall_point();
+        self.shared.leave(join.call);
+        drop(waker);
     }
+}
 
-    /// What it was settled with, for one who asked for this key. None where one has to ask again.
-    pub(crate) fn read(&self, key: &[u8]) -> Option<Loaded<T>> {
-        let state = lock(&self.state);
-        match &state.outcome {
-            Some(Outcome::Answer { key: of, value, joiners, stamp }) if **of == *key => {
-                Some(Loaded {
-                    value: value.clone(),
-                    joiners: *joiners,
-                    led: false,
-                    call: self.call,
-                    stamp: *stamp,
-                })
-            }
-            _ => None,
+/// Waits for a call in a task. Where it is dropped before, the task has left the call.
+pub(crate) struct Waiting<T, P: Deref<Target = Shared<T>>>(pub(crate) Option<Ticket<T, P>>);
+
+impl<T, P: Deref<Target = Shared<T>>> Future for Waiting<T, P> {
+    type Output = Ticket<T, P>;
+
+    fn poll(mut self: Pin<&mut Self>, context: &mut Context<'_>) -> Poll<Self::Output> {
+        let Some(ticket) = &mut self.0 else { panic!("it was polled to its end") };
+        if ticket.poll(context.waker()).is_pending() {
+            return Poll::Pending;
         }
+        self.0.take().map_or(Poll::Pending, Poll::Ready)
     }
 }
 
-impl<T> State<T> {
-    // Which member of the recorded call it is that joins now, if it is recorded too.
-    fn joins(&self, noted: Option<&Noted>) -> Option<usize> {
-        self.record.as_ref()?.joins(noted?)
-    }
-}
-
-/// A caller that follows a call. If it is dropped before the call is settled, it has left the call.
-pub(crate) struct Follower<T> {
-    wait: Arc<Wait<T>>,
-    // Which member of the call it is, where both are recorded.
-    member: Option<usize>,
-}
-
-impl<T> Deref for Follower<T> {
-    type Target = Wait<T>;
-
-    fn deref(&self) -> &Wait<T> {
-        &self.wait
-    }
-}
-
-impl<T> Drop for Follower<T> {
-    fn drop(&mut self) {
-        if let (Some(member), Some(record)) = (self.member, self.wait.record()) {
-            record.left(member);
-        }
-    }
-}
-
-/// Waits for the call in a task. Where it is dropped before, the task has left the call.
-pub(crate) struct Waiting<'a, T> {
-    wait: &'a Wait<T>,
-    waker: Waker,
-    is_over: bool,
-}
-
-impl<'a, T> Waiting<'a, T> {
-    pub(crate) fn new(wait: &'a Wait<T>) -> Self {
-        Waiting { wait, waker: Waker::default(), is_over: false }
-    }
-}
-
-impl<T> Future for Waiting<'_, T> {
-    type Output = ();
-
-    fn poll(mut self: Pin<&mut Self>, context: &mut Context<'_>) -> Poll<()> {
-        let polled = self.wait.poll(&mut self.waker, context.waker());
-        self.is_over = polled.is_ready();
-        polled
-    }
-}
-
-impl<T> Drop for Waiting<'_, T> {
-    fn drop(&mut self) {
-        if !self.is_over {
-            self.wait.leave(&mut self.waker);
-        }
-    }
-}
+// Nothing of it is pinned.
+impl<T, P: Deref<Target = Shared<T>>> Unpin for Waiting<T, P> {}

@@ -47,6 +47,30 @@ fn a_value_is_loaded_once_and_found() {
     assert_eq!((stats.joins, stats.failures, stats.evictions, stats.weight), (0, 0, 0, 1));
 }
 
+/// Also where a get missed before the load had ended, and asked after.
+#[test]
+fn one_load_runs_between_two_invalidations() {
+    const THREADS: usize = 4;
+    const ROUNDS: u64 = 10_000;
+    let cache = Cache::<u64>::new(10);
+    let (loads, barrier) = (AtomicU64::new(0), Barrier::new(THREADS));
+    std::thread::scope(|scope| {
+        for _ in 0..THREADS {
+            scope.spawn(|| {
+                for round in 1..=ROUNDS {
+                    if barrier.wait().is_leader() {
+                        cache.invalidate("key");
+                    }
+                    barrier.wait();
+                    let got = cache.get_or_load("key", || loads.fetch_add(1, SeqCst) + 1);
+                    assert_eq!(*got, round, "the value of the round's one load");
+                }
+            });
+        }
+    });
+    assert!(loads.load(SeqCst) == ROUNDS && cache.stats().loads == ROUNDS);
+}
+
 #[test]
 fn keys_of_every_length_are_told_apart() {
     let cache = Cache::new(1000);
@@ -55,15 +79,10 @@ fn keys_of_every_length_are_told_apart() {
     for len in lengths {
         assert_eq!(*cache.get_or_load(&key[..len], || len), len);
     }
-    // Two of these keys share a hash slot in about one run of 180; the earlier value is then lost.
-    let mut found = 0;
+    // A load of one key makes no value of another stale.
     for len in lengths {
-        if let Some(value) = cache.get(&key[..len]) {
-            assert_eq!(*value, len);
-            found += 1;
-        }
+        assert_eq!(cache.get(&key[..len]).as_deref(), Some(&len));
     }
-    assert!(found >= lengths.len() - 2, "{found} values are kept");
     assert_eq!(cache.get([1]), None);
 }
 
@@ -90,7 +109,6 @@ fn the_weight_is_within_the_limit() {
 
 #[test]
 fn what_was_found_lately_stays() {
-    // With many hash slots, so that hardly any value is made stale by the load of another key.
     let cache: Cache<()> = Cache::builder(2000).entries(50_000).build().unwrap();
     for round in 0..10 {
         for key in 0..200u32 {
@@ -220,7 +238,8 @@ fn what_is_remembered_is_freed_when_it_has_left() {
 
 #[test]
 fn a_read_may_use_the_cache() {
-    let cache = Cache::<u32>::new(2);
+    // So many hash slots that the two keys share one by a rare chance only.
+    let cache = Cache::<u32>::builder(2).loads(1 << 14).build().unwrap();
     assert_eq!(cache.read("key", |_| unreachable!("it is empty")), None::<()>);
     cache.get_or_load("key", || 1);
     for round in 0..5 {
@@ -298,9 +317,9 @@ fn a_hot_key_stays() {
             cache.get_or_load(round.to_le_bytes(), || 2);
         }
     }
-    // It may be loaded again where a key of its hash slot was loaded.
+    // The first eviction may meet it twice, since all others were found too: then it is loaded again.
     let loads = loads.into_inner();
-    assert!(loads < 8, "a key that is always in use was loaded {loads} times");
+    assert!(loads <= 2, "a key that is always in use was loaded {loads} times");
 }
 
 // With a shard for each of few keys, the hot key would be the only one in its shard, and make room.
@@ -422,12 +441,11 @@ fn an_insert_tells_whether_its_value_is_kept() {
     let (cache, _) = counted(3);
     assert!(cache.insert("key", "abc".into()) && !cache.insert("key", "abcd".into()));
     assert_eq!(cache.get("key"), None, "an older value is kept");
-    // The only load that may run holds the caller that the insert would need.
+    // More loads run than it expects.
     let cache: Cache<u32> = Cache::builder(10).loads(1).build().unwrap();
     assert!(cache.insert("key", 1));
     cache.get_or_load("other", || {
-        assert!(!cache.insert("key", 2), "it is said to be kept");
-        assert_eq!(cache.get("key"), None);
+        assert!(cache.insert("key", 2) && cache.get("key").as_deref() == Some(&2));
         1
     });
     assert!(cache.insert("key", 3) && cache.get("key").as_deref() == Some(&3));
@@ -489,7 +507,7 @@ fn errors_are_shared_and_not_kept() {
     let stats = cache.stats();
     assert_eq!(stats.failures as usize, loads.load(SeqCst));
     assert_eq!(stats.joins as usize + loads.load(SeqCst), 4);
-    assert_eq!((stats.entries, stats.loads), (0, 0));
+    assert_eq!((stats.entries, stats.loads as usize), (0, loads.load(SeqCst)));
     assert_eq!(*cache.try_get_or_load("key", || Ok(7)).unwrap(), 7);
 }
 
@@ -521,10 +539,10 @@ fn a_time_to_live_ends() {
 
 #[test]
 fn numbers_out_of_range_are_refused() {
-    assert_eq!(Cache::<u32>::builder(10).loads(0).build().err(), Some(Error::Callers(0)));
+    assert_eq!(Cache::<u32>::builder(10).loads(0).build().err(), Some(Error::Loads(0)));
     assert!(matches!(
         Cache::<u32>::builder(10).loads(u32::MAX).build().err(),
-        Some(Error::Callers(u32::MAX))
+        Some(Error::Loads(u32::MAX))
     ));
     let none = Cache::new(0);
     assert_eq!((*none.get_or_load("key", || 7), none.get("key")), (7, None));
@@ -568,7 +586,7 @@ fn tasks_load_once_and_may_be_dropped() {
     assert!(matches!(leads.as_mut().poll(&mut context), Poll::Ready(value) if *value == 7));
     assert!(matches!(joins.as_mut().poll(&mut context), Poll::Ready(value) if *value == 7));
     let stats = cache.stats();
-    assert_eq!((stats.loads, stats.joins, stats.entries), (1, 1, 1));
+    assert_eq!((stats.loads, stats.joins, stats.entries, stats.in_use), (2, 1, 1, 0));
     assert_eq!(left.load(SeqCst), 0, "the leader alone keeps the value");
 }
 
@@ -672,46 +690,93 @@ fn an_insert_loses_to_an_invalidation_that_begins_meanwhile() {
     assert_eq!(cache.get("key"), None, "a write that was invalidated meanwhile is kept");
 }
 
-// The listener is called after the leader has asked whether its call is current, and before it puts
-// the value down: so what it invalidates lies in the cache, and must not be found.
+// The weigher is called before the leader asks whether its value was forgotten, and the listener once
+// the value was put down.
 #[test]
 fn what_was_invalidated_while_it_was_put_down_is_not_found() {
-    let own: Arc<Mutex<Weak<Cache<u32>>>> = Arc::default();
-    let told = own.clone();
-    let cache = Cache::builder(1).on_evict(move |key, _| {
-        if key == b"first" {
+    for by_weigher in [false, true] {
+        let own: Arc<Mutex<Weak<Cache<u32>>>> = Arc::default();
+        let told = own.clone();
+        let invalidate = move || {
             told.lock().unwrap().upgrade().expect("it lives").invalidate("key");
-        }
-    });
-    let cache = Arc::new(cache.build().unwrap());
-    *own.lock().unwrap() = Arc::downgrade(&cache);
-    cache.get_or_load("first", || 1);
-    assert_eq!(*cache.get_or_load("key", || 2), 2);
-    assert_eq!(cache.stats().entries, 1, "the value was put down");
-    assert_eq!(cache.get("key"), None);
-    assert_eq!(*cache.get_or_load("key", || 3), 3);
+        };
+        let weighs = invalidate.clone();
+        let cache = Cache::builder(1)
+            .weigher(move |key, value| {
+                if by_weigher && key == b"key" && *value == 2 {
+                    weighs();
+                }
+                1
+            })
+            .on_evict(move |key, _| {
+                if !by_weigher && key == b"first" {
+                    invalidate();
+                }
+            });
+        let cache = Arc::new(cache.build().unwrap());
+        *own.lock().unwrap() = Arc::downgrade(&cache);
+        cache.get_or_load("first", || 1);
+        assert_eq!(*cache.get_or_load("key", || 2), 2);
+        assert_eq!(cache.get("key"), None);
+        assert_eq!(*cache.get_or_load("key", || 3), 3);
+    }
 }
 
-// The leader is stopped before it keeps its value: its weigher gets another key, for which it holds
-// the only caller of the library, and so the first key is loaded beside the library.
+// The leader is stopped before it keeps its value. Whoever asks meanwhile joins its load, which has
+// not ended: no newer value is loaded beside it, and kept before it. Whoever has the value finds it in
+// the cache.
 #[test]
-fn no_value_is_kept_once_a_newer_one_was_returned() {
-    let own: Arc<Mutex<Weak<Cache<u32>>>> = Arc::default();
-    let weighs = own.clone();
-    let cache = Cache::builder(10).loads(1).weigher(move |_, value| {
-        if *value == 1 {
-            let cache = weighs.lock().unwrap().upgrade().expect("it lives");
-            cache.get_or_load("other", || {
-                assert_eq!(*cache.get_or_load("key", || 2), 2);
-                3
-            });
-        }
+fn a_value_is_kept_before_its_load_ends_for_others() {
+    let (weighs, goes_on) = (Arc::new(Barrier::new(2)), Arc::new(Barrier::new(2)));
+    let stops = (weighs.clone(), goes_on.clone());
+    let cache = Cache::<u32>::builder(10).weigher(move |_, _| {
+        stops.0.wait();
+        stops.1.wait();
         1
     });
-    let cache = Arc::new(cache.build().unwrap());
-    *own.lock().unwrap() = Arc::downgrade(&cache);
-    assert_eq!(*cache.get_or_load("key", || 1), 1);
-    assert_eq!(cache.get("key"), None, "a value is kept that was loaded before another");
+    let cache = cache.build().unwrap();
+    std::thread::scope(|scope| {
+        let leads = scope.spawn(|| *cache.get_or_load("key", || 1));
+        weighs.wait();
+        let joins: Vec<_> = (0..3)
+            .map(|_| {
+                scope.spawn(|| {
+                    let got = *cache.get_or_load("key", || 2);
+                    (got, cache.get("key").as_deref().copied())
+                })
+            })
+            .collect();
+        while cache.stats().joins < 3 {
+            std::thread::sleep(Duration::from_millis(1));
+        }
+        goes_on.wait();
+        assert_eq!(leads.join().unwrap(), 1);
+        for joins in joins {
+            assert_eq!(joins.join().unwrap(), (1, Some(1)));
+        }
+    });
+    assert_eq!((cache.stats().loads, cache.stats().joins), (1, 3));
+}
+
+// The listener is called once the load has ended, so it may get the key for which another left.
+#[test]
+fn a_listener_may_get_the_key_that_was_loaded() {
+    within_a_minute(|| {
+        let own: Arc<Mutex<Weak<Cache<u32>>>> = Arc::default();
+        let told = own.clone();
+        let cache = Cache::builder(1).on_evict(move |key, _| {
+            if key == b"first" {
+                let cache = told.lock().unwrap().upgrade().expect("it lives");
+                cache.invalidate("key");
+                assert_eq!(*cache.get_or_load("key", || 3), 3);
+            }
+        });
+        let cache = Arc::new(cache.build().unwrap());
+        *own.lock().unwrap() = Arc::downgrade(&cache);
+        cache.get_or_load("first", || 1);
+        assert_eq!(*cache.get_or_load("key", || 2), 2);
+        assert_eq!(cache.get("key").as_deref(), Some(&3));
+    });
 }
 
 #[test]

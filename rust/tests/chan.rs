@@ -36,7 +36,7 @@ fn subscribe<'a, T: Send + Sync>(
 
 #[test]
 fn a_receiver_of_a_new_call() {
-    let group = Group::<Arc<u32>>::open(1, 3).unwrap();
+    let group = Group::<Arc<u32>>::open(3).unwrap();
     for by_group in [false, true] {
         let mut first = group.caller();
         let (mut receiver, job) = subscribe(&group, (!by_group).then_some(&mut first));
@@ -62,7 +62,7 @@ fn a_receiver_of_a_new_call() {
 
 #[test]
 fn a_receiver_that_joins() {
-    let group = Group::<u32>::open(1, 4).unwrap();
+    let group = Group::<u32>::open(4).unwrap();
     for by_group in [false, true] {
         let (mut first, mut second) = (group.caller(), group.caller());
         let (before, mut joined) = (group.stats(), None);
@@ -75,17 +75,17 @@ fn a_receiver_that_joins() {
         });
         let seen = joined.unwrap().recv_timeout(Duration::MAX).unwrap();
         assert!(
-            *seen.value == 8 && !seen.led && seen.joiners == 2 && got.joiners == 2,
-            "one that was dropped had joined"
+            *seen.value == 8 && !seen.led && seen.joiners == 1 && got.joiners == 1 && got.shared(),
+            "one that was dropped waits no more"
         );
         let after = group.stats();
-        assert!(after.leads == before.leads + 1 && after.joins == before.joins + 2, "{after:?}");
+        assert!(after.loads == before.loads + 1 && after.joins == before.joins + 2, "{after:?}");
     }
 }
 
 #[test]
 fn a_receiver_in_a_task() {
-    let group = Group::<u32>::open(1, 4).unwrap();
+    let group = Group::<u32>::open(4).unwrap();
     let (mut receiver, job) = group.subscribe("k");
     let (mut second, _) = group.subscribe("k");
     let (mut third, _) = group.subscribe("k");
@@ -120,7 +120,7 @@ fn a_receiver_in_a_task() {
 
 #[test]
 fn a_receiver_whose_leader_panics() {
-    let group = Group::<Arc<u32>>::open(1, 2).unwrap();
+    let group = Group::<Arc<u32>>::open(2).unwrap();
     let mut first = group.caller();
     for by_group in [false, true] {
         let (mut receiver, job) = subscribe(&group, (!by_group).then_some(&mut first));
@@ -167,29 +167,28 @@ fn a_job_of_a_group_goes_to_another_thread() {
 
 #[test]
 fn receivers_that_are_dropped_leak_nothing() {
-    let group = Group::<Arc<u32>>::open(1, 3).unwrap();
+    let group = Group::<Arc<u32>>::open(3).unwrap();
     let mut first = group.caller();
     let value = Arc::new(5);
     let weak: Weak<u32> = Arc::downgrade(&value);
     let (receiver, job) = first.subscribe("k");
     drop(receiver);
-    assert!(group.stats().in_use == 1, "a receiver holds no caller of the library");
+    assert!(group.stats().in_use == 1, "the job leads, and its receiver has not joined");
     drop(job.unwrap().run(|| value));
     assert!(weak.upgrade().is_none(), "no value is kept for the receiver that was dropped");
     let (receiver, job) = first.subscribe("k");
     drop((receiver, job));
     drop(first);
     let (receiver, job) = group.subscribe("k");
-    assert!(group.stats().in_use == 1 && job.is_some(), "the job has one");
+    assert!(group.stats().in_use == 1 && job.is_some(), "the job leads");
     drop((receiver, job));
     assert!(group.stats().in_use == 0, "all are back");
 }
 
-// A job that is leaked ends its call when its caller is used again, also where it would have run
-// beside the library.
+// A job that is leaked ends its call when its caller is used again, also beside another key's call.
 #[test]
 fn a_job_that_is_leaked() {
-    let group = Group::<u32>::open(1, 2).unwrap();
+    let group = Group::<u32>::open(2).unwrap();
     let (mut first, mut second) = (group.caller(), group.caller());
     for beside in [false, true] {
         let mut leaks = || {

@@ -30,9 +30,8 @@ fn until(what: &str, holds: impl Fn() -> bool) {
     }
 }
 
-// Each slot is of one key.
-fn open<T: Send + Sync>(callers: u32) -> Group<T> {
-    Group::open(1 << 20, callers).unwrap()
+fn open<T: Send + Sync>(loads: u32) -> Group<T> {
+    Group::open(loads).unwrap()
 }
 
 #[test]
@@ -40,10 +39,7 @@ fn a_handle_is_all_that_a_program_needs() {
     let group = Group::<String>::new();
     let other = group.clone();
     let got = group.get_or_load("k", || "ada".to_string());
-    assert!(
-        other.is_current(got.stamp()) && other.current_call("k") == got.call(),
-        "a clone is the same group"
-    );
+    assert!(other.is_current(got.stamp()) && got.call().is_some(), "a clone is the same group");
     assert!(
         !other.forget("k") && !group.is_current(got.stamp()),
         "nothing was open, and the value is not current"
@@ -67,13 +63,13 @@ fn a_handle_is_all_that_a_program_needs() {
     let owned = group.get_or_load(String::from("a String"), || "b".into());
     assert!(owned.led && group.get_or_load(vec![7; 3], || "c".into()).led, "of any type");
     drop(group);
-    assert!(other.stats().leads == 7 && other.stats().in_use == 0, "{:?}", other.stats());
+    assert!(other.stats().loads == 7 && other.stats().in_use == 0, "{:?}", other.stats());
 }
 
 #[test]
 fn threads_that_ask_by_the_group_share_a_load() {
     const THREADS: usize = 100;
-    for group in [Group::<u32>::new(), open(200), Group::open(1, 1).unwrap()] {
+    for group in [Group::<u32>::new(), open(200), Group::open(1).unwrap()] {
         let (loads, asked) = (AtomicU64::new(0), AtomicU64::new(0));
         std::thread::scope(|scope| {
             for _ in 0..THREADS {
@@ -94,34 +90,23 @@ fn threads_that_ask_by_the_group_share_a_load() {
         let stats = group.stats();
         assert!(
             loads.load(SeqCst) == 1 && stats.in_use == 0,
-            "one load, and all callers are free: {stats:?}"
+            "one load, and all calls are idle: {stats:?}"
         );
     }
 }
 
-// Threads that come and go one after the other use one caller of the library, wherever the one
-// before has left it.
+// Threads that come and go one after the other, of which each finds a place.
 #[test]
-fn no_caller_is_made_while_one_is_free() {
-    for group in [Group::<u32>::open(16, 1).unwrap(), Group::new()] {
+fn threads_that_come_and_go() {
+    for group in [Group::<u32>::open(1).unwrap(), Group::new()] {
         for number in 0..50 {
             let got = std::thread::scope(|scope| {
                 scope.spawn(|| group.get_or_load("k", || number)).join().unwrap()
             });
-            assert!(*got.value == number && got.call().is_some(), "by the library");
+            assert!(*got.value == number && got.call().is_some(), "its own load");
         }
-        // Nor does a caller of one's own find none.
-        std::thread::scope(|scope| {
-            scope
-                .spawn(|| assert!(group.caller().get_or_load("k", || 1).call().is_some()))
-                .join()
-                .unwrap()
-        });
         let stats = group.stats();
-        assert!(
-            stats.made == 1 && stats.alone == 0 && stats.in_use == 0 && stats.leads == 51,
-            "{stats:?}"
-        );
+        assert!(stats.in_use == 0 && stats.loads == 50, "{stats:?}");
     }
 }
 
@@ -132,7 +117,7 @@ fn nested_calls_by_the_group() {
         let load = || if depth == 0 { 0 } else { deep(group, depth - 1) + 1 };
         *group.get_or_load(depth.to_le_bytes(), load).value
     }
-    for group in [Group::<u32>::new(), Group::open(1, 2).unwrap()] {
+    for group in [Group::<u32>::new(), Group::open(2).unwrap()] {
         assert_eq!(deep(&group, 100), 100);
         assert!(group.stats().in_use == 0, "{:?}", group.stats());
     }
@@ -170,11 +155,10 @@ fn whoever_joined_has_the_stamp_of_the_call() {
     );
 }
 
-// It is right for all, also where all callers of the library are taken, and where the group has
-// grown.
+// It is right for all callers, and after a newer load of the key.
 #[test]
 fn is_current_says_yes_and_no() {
-    let group = Group::<u32>::open(16, 1).unwrap();
+    let group = Group::<u32>::open(1).unwrap();
     let (mut first, mut none) = (group.caller(), group.caller());
     let stamp = first.get_or_load("k", || 1).stamp();
     assert!(first.is_current(stamp) && none.is_current(stamp) && group.is_current(stamp), "yes");
@@ -185,36 +169,29 @@ fn is_current_says_yes_and_no() {
         "of no call"
     );
     first.get_or_load("k", || {
-        assert!(!none.is_current(stamp) && !group.is_current(stamp), "a newer call is led");
+        assert!(none.is_current(stamp) && group.is_current(stamp), "a load ends no stamp");
         2
     });
+    assert!(first.is_current(stamp), "nor does its end");
     let stamp = first.get_or_load("k", || 3).stamp();
-    assert!(!none.forget("k"), "a Forget needs no caller");
+    assert!(!none.forget("k"), "nothing is open");
     assert!(!first.is_current(stamp) && !none.is_current(stamp) && !group.is_current(stamp), "no");
-    // The first call of the next epoch has the slot, the caller and the generation of this one.
-    let spent = Group::<u32>::open_spent_after(1, 1, 1).unwrap();
-    let got = spent.get_or_load("k", || 1);
-    let stamp = got.stamp();
-    assert!(spent.is_current(stamp), "yes");
-    let (old, new) = (got.call().unwrap(), spent.get_or_load("m", || 1).call().unwrap());
-    assert!(
-        new.epoch > old.epoch && (new.caller, new.generation) == (old.caller, old.generation),
-        "{old:?}, {new:?}"
-    );
-    assert!(
-        !spent.is_current(stamp) && !spent.caller().is_current(stamp),
-        "the epoch is another one"
-    );
-}
-
-// By seeds of its own: the first calls of two groups are the same but for their slots.
-#[test]
-fn each_group_has_its_own_slots_for_keys() {
-    let stamps = || {
-        let group = open::<u32>(1);
-        [1u8, 2, 3, 4].map(|key| group.get_or_load([key], || 1).stamp())
-    };
-    assert_ne!(stamps(), stamps());
+    // A call that is forgotten before its value is there has no stamp.
+    for one_call in [false, true] {
+        let (mut receiver, job) = group.subscribe("k");
+        let (mut other, _) = group.subscribe("k");
+        let job = job.unwrap();
+        if one_call {
+            let call = job.call().unwrap();
+            assert_eq!(group.forget_call("k", call), ForgetOutcome::Closed);
+        } else {
+            assert!(group.forget("k"));
+        }
+        let led = job.run(|| 4);
+        for got in [led, receiver.recv().unwrap(), other.recv().unwrap()] {
+            assert!(*got.value == 4 && !group.is_current(got.stamp()), "it was forgotten");
+        }
+    }
 }
 
 #[test]
@@ -282,6 +259,11 @@ fn a_wait_that_it_left_is_its_last() {
         assert!(second.get_or_load_timeout("k", Duration::ZERO, || 2).is_err());
         second.forget("z");
         assert_eq!(second.last_is_current(), None);
+        second.get_or_load("y", || 1);
+        let mut task = Box::pin(second.get_or_load_async("k", async { 2 }));
+        assert!(once(task.as_mut(), &Arc::default()).is_pending(), "it waits");
+        drop(task);
+        assert_eq!(second.last_is_current(), None, "nor after one in a task");
         1
     });
 }
@@ -306,47 +288,41 @@ fn a_timeout_without_end() {
 }
 
 #[test]
-fn forgets_are_counted_by_what_they_found() {
+fn forgets_are_counted_whatever_they_found() {
     let group = open::<u32>(4);
-    let numbers = || (group.stats().closed, group.stats().idle);
-    assert!(!group.forget("k") && numbers() == (0, 1), "nothing");
+    let forgets = || group.stats().forgets;
+    assert!(!group.forget("k") && forgets() == 1, "nothing");
     let call = group.get_or_load("k", || 1).call().unwrap();
     assert!(
-        group.forget_call("k", call) == ForgetOutcome::Cleared && numbers() == (0, 2),
+        group.forget_call("k", call) == ForgetOutcome::Cleared && forgets() == 2,
         "a settled call"
     );
+    assert!(group.forget_call("k", call) == ForgetOutcome::Missed && forgets() == 3, "nothing");
+    group.get_or_load("k", || {
+        assert!(group.forget("k") && forgets() == 4, "an open call");
+        1
+    });
+    let (_receiver, job) = group.subscribe("k");
+    let call = job.as_ref().and_then(|job| job.call()).unwrap();
     assert!(
-        group.forget_call("k", call) == ForgetOutcome::Missed && numbers() == (0, 3),
-        "nothing"
+        group.forget_call("k", call) == ForgetOutcome::Closed && forgets() == 5,
+        "an open call"
     );
-    group.get_or_load("k", || {
-        assert!(group.forget("k") && numbers() == (1, 3), "an open call");
-        1
-    });
-    group.get_or_load("k", || {
-        let call = group.current_call("k").unwrap();
-        assert!(
-            group.forget_call("k", call) == ForgetOutcome::Closed && numbers() == (2, 3),
-            "an open call"
-        );
-        1
-    });
 }
 
-// Each caller of the library has a place for those who wait for it, also the last.
+// More loads at one time than the group expects.
 #[test]
-fn as_many_callers_as_there_are() {
-    for callers in [1, 31, 32, 33, 254, 255, 256, 511] {
-        let group = open::<u32>(callers);
-        let mut all: Vec<_> = (0..callers).map(|_| group.caller()).collect();
-        for caller in &mut all {
-            assert!(caller.get_or_load("k", || 1).call().is_some(), "by the library");
-        }
+fn as_many_loads_as_there_are() {
+    for expected in [1, 2, 31, 64] {
+        let group = open::<u32>(expected);
+        let jobs: Vec<_> = (0..600u32).map(|key| group.subscribe(key.to_le_bytes())).collect();
         let stats = group.stats();
-        assert!(
-            stats.leads == u64::from(callers) && stats.made == callers && stats.in_use == callers,
-            "{stats:?}"
-        );
+        assert!(stats.loads == 600 && stats.in_use == 600, "{stats:?}");
+        for (mut receiver, job) in jobs {
+            let got = job.expect("each key has a load").run(|| 1);
+            assert!(got.call().is_some() && *receiver.recv().unwrap().value == 1, "by the library");
+        }
+        assert!(group.stats().in_use == 0, "{:?}", group.stats());
     }
 }
 
@@ -361,7 +337,7 @@ fn an_error_is_a_value_that_is_shared() {
     });
     let Poll::Ready(other) = once(task, &wakes) else { panic!("it was woken") };
     assert!(
-        Arc::ptr_eq(&got.value, &other.value) && got.value.is_err() && group.stats().leads == 1,
+        Arc::ptr_eq(&got.value, &other.value) && got.value.is_err() && group.stats().loads == 1,
         "one load, one error"
     );
     assert!(group.get_or_load("k", || Ok(2)).value.is_ok(), "whoever asks later loads anew");
@@ -373,7 +349,7 @@ fn an_error_is_a_value_that_is_shared() {
 fn loads_that_panic_are_made_anew_once_each() {
     const THREADS: usize = 24;
     const PANICS: u64 = 5;
-    for group in [Group::<u64>::new(), Group::open(1, 1).unwrap()] {
+    for group in [Group::<u64>::new(), Group::open(1).unwrap()] {
         let (loads, together) = (AtomicU64::new(0), Barrier::new(THREADS));
         let ends: Vec<Option<Loaded<u64>>> = std::thread::scope(|scope| {
             let threads: Vec<_> = (0..THREADS)
@@ -417,7 +393,7 @@ fn the_future_of_a_group_is_one_of_its_own() {
     let wakes = Arc::<Wakes>::default();
     let unused = can_be_spawned(group.get_or_load_async(String::from("k"), async { 1 }));
     assert!(
-        group.stats().leads == 0 && group.stats().in_use == 0,
+        group.stats().loads == 0 && group.stats().in_use == 0,
         "nothing is done before the first poll"
     );
     drop(unused);
@@ -427,14 +403,10 @@ fn the_future_of_a_group_is_one_of_its_own() {
         once(leads.as_mut(), &wakes).is_pending() && once(joins.as_mut(), &wakes).is_pending(),
         "one loads, one waits"
     );
-    assert!(
-        group.stats().in_use == 1,
-        "whoever waits has no caller of the library: {:?}",
-        group.stats()
-    );
+    assert!(group.stats().in_use == 2, "one leads, and one has joined: {:?}", group.stats());
     let stats = group.stats();
     drop(group);
-    assert!(stats.leads == 1 && stats.joins == 1, "{stats:?}");
+    assert!(stats.loads == 1 && stats.joins == 1, "{stats:?}");
     drop(leads);
     assert!(wakes.0.load(SeqCst) == 1, "whoever joined is woken");
     assert!(
@@ -443,10 +415,10 @@ fn the_future_of_a_group_is_one_of_its_own() {
     );
 }
 
-// A Forget of one key of a slot is not lost beside calls of another one.
+// A Forget of one key is not lost beside calls of another one.
 #[test]
 fn a_forget_is_not_lost() {
-    let group = Group::<u64>::open(1, 16).unwrap();
+    let group = Group::<u64>::open(16).unwrap();
     let lost = AtomicU64::new(0);
     std::thread::scope(|scope| {
         for _ in 0..3 {

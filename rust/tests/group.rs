@@ -31,7 +31,7 @@ fn random_gets_and_forgets() {
     let (live, clock, loads, shares) =
         (AtomicI64::new(0), AtomicU64::new(1), AtomicU64::new(0), AtomicU64::new(0));
     let forgotten: Vec<AtomicU64> = (0..KEYS).map(|_| AtomicU64::new(0)).collect();
-    let group = Group::<Counted>::open(1 << 20, 16).unwrap();
+    let group = Group::<Counted>::open(16).unwrap();
     std::thread::scope(|scope| {
         for thread in 0..8u64 {
             let mut caller = group.caller();
@@ -78,7 +78,7 @@ fn random_gets_and_forgets() {
                         kept.push(got.value.clone());
                     }
                 }
-                assert!(caller.last_is_current().is_some(), "there were letters");
+                assert!(caller.last_is_current().is_some(), "there were values");
             });
         }
     });
@@ -88,7 +88,7 @@ fn random_gets_and_forgets() {
 
 #[test]
 fn one_load_for_all_who_ask_at_once() {
-    let group = Group::<u32>::open(1, 4).unwrap();
+    let group = Group::<u32>::open(4).unwrap();
     let (started, loads) = (Barrier::new(4), AtomicU64::new(0));
     let all: Vec<(bool, u32)> = std::thread::scope(|scope| {
         let threads: Vec<_> = (0..4)
@@ -118,7 +118,7 @@ fn one_load_for_all_who_ask_at_once() {
 
 #[test]
 fn a_load_that_panics() {
-    let group = Group::<u32>::open(1, 2).unwrap();
+    let group = Group::<u32>::open(2).unwrap();
     let (mut one, mut two) = (group.caller(), group.caller());
     let inside = Arc::new(Barrier::new(2));
     let other = inside.clone();
@@ -141,26 +141,21 @@ fn a_load_that_panics() {
 
 #[test]
 fn sizes_that_are_refused() {
-    for slots in [0, 134_217_729, u32::MAX] {
-        assert_eq!(Group::<u32>::open(slots, 1).err(), Some(Error::Slots(slots)));
-    }
-    for callers in [0, 65_535, u32::MAX] {
-        assert_eq!(Group::<u32>::open(1, callers).err(), Some(Error::Callers(callers)));
+    for loads in [0, 1_048_577, u32::MAX] {
+        assert_eq!(Group::<u32>::open(loads).err(), Some(Error::Loads(loads)));
     }
     // Each error says what to do, and is one of the standard library's.
     for (error, says) in [
-        (Error::Slots(0), "from 1 to 134,217,728"),
-        (Error::Callers(70_000), "70000 callers: a group has from 1 to 65,534"),
+        (Error::Loads(0), "0 concurrent loads: a group is for 1 to 1,048,576"),
         (Error::OutOfMemory, "out of memory: free some"),
         (Error::TimedOut, "timed out: the key's load goes on; ask again"),
-        (Error::OtherGroup, "of another group"),
     ] {
         let error: Box<dyn std::error::Error + Send + Sync> = error.into();
         assert!(error.to_string().contains(says), "{error}");
     }
-    let group = Group::<u32>::open(1, 1).unwrap();
+    let group = Group::<u32>::open(1).unwrap();
     let mut caller = group.caller();
-    assert!(caller.last_is_current().is_none(), "no letter yet");
+    assert!(caller.last_is_current().is_none(), "no value yet");
     let got = caller.get_or_load(b"k", || 1);
     assert!(got.led && !got.shared() && *got.value == 1, "leads alone");
     assert!(caller.last_is_current() == Some(true), "current");

@@ -1,5 +1,5 @@
-//! Keys without end: 200,000 different ones over 65,536 places, or as many as SFLIGHT_KEYS says; it
-//! shows what each tenth of them costs.
+//! Keys without end: 200,000 different ones, or as many as SFLIGHT_KEYS says; it shows what each tenth
+//! of them costs.
 use singleflight::Group;
 use std::sync::{Barrier, Mutex};
 use std::time::Instant;
@@ -19,7 +19,7 @@ fn keys_come_and_go_in_bounded_memory() {
     let keys: u64 = std::env::var("SFLIGHT_KEYS")
         .map_or(200_000, |keys| keys.parse().expect("SFLIGHT_KEYS: a number of keys"));
     let tenth = keys / 10 / THREADS / BATCH * BATCH;
-    let group = Group::<u64>::open(65_536, THREADS as u32).unwrap();
+    let group = Group::<u64>::open(THREADS as u32).unwrap();
     let (all, kilobytes) = (Mutex::new(vec![Vec::new(); 10]), Mutex::new(vec![0; 10]));
     let together = Barrier::new(THREADS as usize);
     std::thread::scope(|scope| {
@@ -51,7 +51,7 @@ fn keys_come_and_go_in_bounded_memory() {
     });
     let stats = group.stats();
     assert!(
-        stats.leads + stats.alone == 10 * tenth * THREADS && stats.made == THREADS as u32,
+        stats.loads == 10 * tenth * THREADS && stats.in_use == 0,
         "no key is refused: {stats:?}"
     );
     let kilobytes = kilobytes.into_inner().unwrap();

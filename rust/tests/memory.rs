@@ -30,17 +30,14 @@ fn groups_by_their_number() {
                     caller.get_or_load(&[number], || 1);
                 }
                 drop(callers);
-                assert!(
-                    group.stats().made == 32 && group.stats().alone == 0,
-                    "{:?}",
-                    group.stats()
-                );
+                assert!(group.stats().loads == 32, "{:?}", group.stats());
                 group
             })
             .collect();
         let each = (memory() - before) as f64 / count as f64;
         println!("{count} groups: {} kB, {each:.1} kB each", memory() - before);
-        assert!(count == 1 || each <= 64.0, "{each} kB for each of {count} groups");
+        // The library's own part of this is at most 12 kB.
+        assert!(count == 1 || each <= 32.0, "{each} kB for each of {count} groups");
         drop(groups);
         // SAFETY: it gives the system what the allocator has free.
         unsafe { malloc_trim(0) };

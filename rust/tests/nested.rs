@@ -20,9 +20,8 @@ fn ends(what: &'static str, run: impl FnOnce() + Send + 'static) {
     thread.join().unwrap();
 }
 
-fn open(callers: u32) -> Group<String> {
-    // All keys share one place.
-    Group::open(1, callers).unwrap()
+fn open(loads: u32) -> Group<String> {
+    Group::open(loads).unwrap()
 }
 
 #[test]

@@ -1,11 +1,11 @@
-//! Forgets of one call, and which call a key names.
-use singleflight::{Call, ForgetOutcome, Group};
+//! Forgets of one call.
+use singleflight::{ForgetOutcome, Group};
 use std::sync::atomic::{AtomicU32, Ordering::SeqCst};
 use std::time::Duration;
 
 #[test]
 fn two_that_reload_one_stale_answer_load_once() {
-    let group = Group::<u32>::open(1, 2).unwrap();
+    let group = Group::<u32>::open(2).unwrap();
     let (mut first, mut second) = (group.caller(), group.caller());
     let loads = AtomicU32::new(0);
     let load = || loads.fetch_add(1, SeqCst);
@@ -42,49 +42,69 @@ fn two_that_reload_one_stale_answer_load_once() {
 
 #[test]
 fn a_call_that_is_open_is_closed() {
-    let group = Group::<u32>::open(1, 2).unwrap();
+    let group = Group::<u32>::open(1).unwrap();
     let (mut first, mut second) = (group.caller(), group.caller());
-    let got = first.get_or_load(b"k", || {
-        let open = second.current_call(b"k").expect("the call that is led");
+    let (_receiver, job) = first.subscribe(b"k");
+    let job = job.unwrap();
+    let open = job.call().expect("the call that is led");
+    let got = job.run(|| {
         assert_eq!(second.forget_call(b"k", open), ForgetOutcome::Closed);
-        assert_eq!(second.forget_call(b"k", open), ForgetOutcome::Missed);
-        assert_eq!(second.current_call(b"k"), None);
-        assert!(second.get_or_load(b"k", || 2).led, "a newer call");
+        let newer = second.get_or_load(b"k", || 2);
+        assert!(newer.led && newer.call() != Some(open), "a newer call");
         1
     });
     assert_eq!(*got.value, 1);
-    assert!(
-        first.last_is_current() == Some(false) && second.last_is_current() == Some(true),
-        "the newer call is current"
-    );
-    assert!(group.stats().closed == 1 && group.stats().idle == 1, "numbers");
+    assert!(!group.is_current(got.stamp()), "it was forgotten before its value was there");
+    assert_eq!(second.forget_call(b"k", got.call().unwrap()), ForgetOutcome::Missed);
+    assert!(first.last_is_current() == Some(false) && second.last_is_current() == Some(true));
+    assert!(group.stats().forgets == 2, "numbers");
 }
 
+// The call may be open still when it is forgotten a second time, and it is closed once.
+#[test]
+fn a_call_is_closed_once() {
+    let group = Group::<u32>::open(1).unwrap();
+    for by_key in [false, true] {
+        let (_receiver, job) = group.subscribe(b"k");
+        let job = job.unwrap();
+        let open = job.call().unwrap();
+        if by_key {
+            assert!(group.forget(b"k"));
+            assert_eq!(group.forget_call(b"k", open), ForgetOutcome::Missed);
+        } else {
+            assert_eq!(group.forget_call(b"k", open), ForgetOutcome::Closed);
+        }
+        assert!(!group.forget(b"k"), "nothing is open");
+        let newer = group.get_or_load(b"k", || {
+            assert_ne!(group.forget_call(b"k", open), ForgetOutcome::Closed);
+            let late = group.get_or_load_timeout(b"k", Duration::ZERO, || 3);
+            assert!(late.is_err(), "the newer call stays open");
+            2
+        });
+        assert!(newer.led, "a newer call");
+        assert_eq!(*job.run(|| 1).value, 1);
+    }
+}
+
+// Another key's name closes nothing.
 #[test]
 fn named_and_refused() {
-    let group = Group::<u32>::open(1, 3).unwrap();
-    let (mut caller, mut other) = (group.caller(), group.caller());
-    let nobody = Call { epoch: 1, caller: 3, generation: 7 };
-    assert_eq!(caller.current_call(b"k"), None);
-    assert_eq!(caller.forget_call(b"k", nobody), ForgetOutcome::Missed);
-    let got = caller.get_or_load(b"k", || 1);
-    assert_eq!(other.current_call(b"k"), got.call());
-    assert_eq!(other.forget_call(b"k", nobody), ForgetOutcome::Missed);
-    assert_eq!(
-        other.forget_call(b"k", Call { epoch: 1, caller: u32::MAX, generation: u32::MAX }),
-        ForgetOutcome::Missed
-    );
-    assert_eq!(caller.last_is_current(), Some(true));
-    assert!(!other.forget(b"k"));
-    assert_eq!(other.forget_call(b"k", got.call().unwrap()), ForgetOutcome::Missed);
+    let group = Group::<u32>::open(1).unwrap();
+    let (_receiver, job) = group.subscribe(b"k");
+    let job = job.unwrap();
+    assert_ne!(group.forget_call(b"other", job.call().unwrap()), ForgetOutcome::Closed);
+    let late = group.get_or_load_timeout(b"k", Duration::ZERO, || 2);
+    assert!(late.is_err(), "it is open");
+    let got = job.run(|| 1);
+    assert!(!group.forget(b"k"));
+    assert_eq!(group.forget_call(b"k", got.call().unwrap()), ForgetOutcome::Missed);
 }
 
 #[test]
 fn a_receiver_has_the_call() {
-    let group = Group::<u32>::open(1, 2).unwrap();
+    let group = Group::<u32>::open(2).unwrap();
     let mut first = group.caller();
     let (mut receiver, job) = first.subscribe(b"k");
     let led = job.unwrap().run(|| 1).call();
-    assert_eq!(receiver.recv().unwrap().call(), led);
-    assert!(led.is_some() && first.current_call(b"k") == led, "the call that the key names");
+    assert!(led.is_some() && receiver.recv().unwrap().call() == led, "one call");
 }

@@ -1,4 +1,5 @@
-//! Keys that share a place: each answer is of its own key, and none is from before a Forget.
+//! Calls of several keys beside each other: each answer is of its own key, and none is from before a
+//! Forget.
 use singleflight::{Error, Group, Stamp, Stats};
 use std::future::Future;
 use std::pin::{pin, Pin};
@@ -13,52 +14,46 @@ fn look<F: Future>(future: Pin<&mut F>) -> Poll<F::Output> {
 }
 
 #[test]
-fn a_caller_that_finds_another_keys_call_loads_alone() {
-    let group = Group::<Arc<&str>>::open(1, 2).unwrap();
+fn a_caller_beside_another_keys_call_loads() {
+    let group = Group::<Arc<&str>>::open(1).unwrap();
     let (mut first, mut second) = (group.caller(), group.caller());
     let (value, other) = (Arc::new("ada"), Arc::new("grace"));
     let weak = Arc::downgrade(&value);
     assert!(
         second.get_or_load(b"grace", || other.clone()).led
             && second.last_is_current() == Some(true),
-        "a letter before"
+        "a value before"
     );
     let got = first.get_or_load(b"ada", || {
         let got = second.get_or_load(b"grace", || other.clone());
         assert!(**got.value == "grace" && got.led && !got.shared(), "its own load");
-        assert!(got.call().is_none() && got.stamp() == Stamp::default(), "of no call");
-        assert!(second.last_is_current().is_none(), "there is no call to ask about");
+        assert!(second.is_current(got.stamp()) && second.last_is_current() == Some(true), "good");
         value
     });
     assert!(**got.value == "ada" && first.last_is_current() == Some(true), "the first has its own");
     drop(got);
-    assert!(weak.upgrade().is_none(), "the count of the caller that left is given back");
-    assert!(Arc::strong_count(&other) == 1, "the answer is gone with who had it");
+    assert!(weak.upgrade().is_none() && Arc::strong_count(&other) == 1, "no value is kept");
     let mut stats = Stats::default();
-    (stats.leads, stats.alone, stats.made, stats.in_use) = (2, 1, 2, 1);
+    stats.loads = 3;
     assert_eq!(group.stats(), stats);
-    assert!(
-        *second.get_or_load(b"ada", || Arc::new("hopper")).value == Arc::new("hopper"),
-        "its caller is back"
-    );
 }
 
 #[test]
-fn a_task_that_finds_another_keys_call_loads_alone() {
-    let group = Group::<u32>::open(1, 2).unwrap();
+fn a_task_beside_another_keys_call_loads() {
+    let group = Group::<u32>::open(1).unwrap();
     let (mut first, mut second) = (group.caller(), group.caller());
     first.get_or_load(b"key", || {
         let mut task = pin!(second.get_or_load_async(b"other", async { 1 }));
         let Poll::Ready(got) = look(task.as_mut()) else { panic!("it waits") };
-        assert!(*got.value == 1 && got.led && got.call().is_none(), "its own load");
+        assert!(*got.value == 1 && got.led, "its own load");
         7
     });
-    assert!(group.stats().alone == 1, "{:?}", group.stats());
+    assert!(group.stats().loads == 2, "{:?}", group.stats());
 }
 
 #[test]
 fn a_receiver_beside_another_keys_call_has_a_job() {
-    let group = Group::<u32>::open(1, 3).unwrap();
+    let group = Group::<u32>::open(3).unwrap();
     let (mut first, mut second) = (group.caller(), group.caller());
     let mut fourth = group.caller();
     let got = first.get_or_load(b"key", || {
@@ -70,8 +65,11 @@ fn a_receiver_beside_another_keys_call_has_a_job() {
             8
         });
         assert!(*got.value == 8 && got.led && got.joiners == 1, "its load");
-        let got = receiver.recv().unwrap();
-        assert!(*got.value == 8 && !got.led && got.call().is_none(), "the receiver has it");
+        let received = receiver.recv().unwrap();
+        assert!(
+            *received.value == 8 && !received.led && received.call() == got.call(),
+            "the receiver has it"
+        );
         let (mut receiver, job) = second.subscribe(b"other");
         drop(job);
         assert!(receiver.recv().is_err(), "a job that nobody runs");
@@ -82,7 +80,7 @@ fn a_receiver_beside_another_keys_call_has_a_job() {
 
 #[test]
 fn keys_of_any_length() {
-    let group = Group::<usize>::open(1, 2).unwrap();
+    let group = Group::<usize>::open(2).unwrap();
     let (mut first, mut second) = (group.caller(), group.caller());
     for len in [0, 1, 249, 250, 251, 252, 1000, 100_000] {
         let key = vec![b'k'; len];
@@ -95,8 +93,7 @@ fn keys_of_any_length() {
         });
         assert!(*got.value == len && first.last_is_current() == Some(true), "the answer");
         assert!(*second.get_or_load(&other, || len + 1).value == len + 1, "the other's");
-        let call = second.get_or_load(&key, || len).call();
-        assert!(call.is_some() && first.current_call(&key) == call, "the call that it names");
+        assert!(second.get_or_load(&key, || len).call().is_some(), "a call");
         assert!(!second.forget(&key), "nothing is open");
     }
 }
@@ -124,7 +121,7 @@ impl Drop for Page<'_> {
 // and when it was loaded: so each answer is of its own key, and none is from before a Forget of it
 // that the asker had seen. Where there is a cache, whose answers are asked for by their stamps, so
 // is each of those.
-fn stress(places: u32, answers: u64, cached: bool) -> Stats {
+fn stress(loads: u32, answers: u64, cached: bool) -> Stats {
     const KEYS: usize = 64;
     let (live, clock) = (AtomicI64::new(0), AtomicU64::new(1));
     let forgotten: Vec<AtomicU64> = (0..KEYS).map(|_| AtomicU64::new(0)).collect();
@@ -132,7 +129,7 @@ fn stress(places: u32, answers: u64, cached: bool) -> Stats {
     let names: Vec<String> =
         (0..KEYS).map(|number| format!("{}{number}", "key".repeat(number % 8 * 20))).collect();
     let hits = AtomicU64::new(0);
-    let group = Group::<Page>::open(places, 8).unwrap();
+    let group = Group::<Page>::open(loads).unwrap();
     let callers: Vec<_> = (0..8u64).map(|thread| (thread, group.caller())).collect();
     std::thread::scope(|scope| {
         for (thread, mut caller) in callers {
@@ -163,7 +160,8 @@ fn stress(places: u32, answers: u64, cached: bool) -> Stats {
                             }
                         }
                     }
-                    let turns = draw(&mut seed) % 4;
+                    // Others take turns in some loads: in each they would make the test long.
+                    let turns = (draw(&mut seed) % 64).saturating_sub(60);
                     let load = || {
                         let moment = clock.fetch_add(1, SeqCst);
                         (0..turns).for_each(|_| std::thread::yield_now());
@@ -184,30 +182,27 @@ fn stress(places: u32, answers: u64, cached: bool) -> Stats {
     let stats = group.stats();
     assert!(
         live.load(SeqCst) == 0 && stats.in_use == 0,
-        "each value is dropped once, and each caller is back: {stats:?}"
+        "each value is dropped once, and each call is idle: {stats:?}"
     );
     assert!(!cached || hits.load(SeqCst) > 0, "there were hits");
     stats
 }
 
 #[test]
-fn a_million_answers_over_sixteen_places() {
+fn a_million_answers() {
     let stats = stress(16, 1_000_000, false);
-    assert!(
-        stats.leads + stats.alone < 1_000_000 && stats.joins > 0 && stats.alone > 0,
-        "some joined, and some loaded alone: {stats:?}"
-    );
+    assert!(stats.loads < 1_000_000 && stats.joins > 0, "some joined: {stats:?}");
 }
 
 #[test]
-fn all_keys_on_one_place() {
-    let stats = stress(1, 100_000, false);
-    assert!(stats.joins > 0 && stats.alone > 0, "some joined, and some loaded alone: {stats:?}");
+fn answers_of_a_group_that_grows() {
+    let stats = stress(1, 200_000, false);
+    assert!(stats.loads < 200_000 && stats.joins > 0, "some joined: {stats:?}");
 }
 
 #[test]
 fn cached_answers_by_their_stamps() {
-    for places in [1, 16, 1 << 20] {
-        stress(places, 100_000, true);
+    for loads in [1, 16, 1 << 16] {
+        stress(loads, 100_000, true);
     }
 }

@@ -1,6 +1,4 @@
-//! Callers that come back, waits that take too long, and the numbers of a group.
-mod apart;
-
+//! Callers that come and go, waits that take too long, and the numbers of a group.
 use singleflight::{Error, Group, Stats};
 use std::sync::atomic::{AtomicU64, Ordering::SeqCst};
 use std::sync::mpsc::TryRecvError;
@@ -17,14 +15,11 @@ fn until(what: &str, holds: impl Fn() -> bool) {
 }
 
 #[test]
-fn callers_that_are_dropped_are_dealt_again() {
-    let group = Group::<u32>::open(1, 1).unwrap();
+fn callers_come_and_go() {
+    let group = Group::<u32>::open(1).unwrap();
     for round in 0..100 {
         let mut caller = group.caller();
-        assert!(
-            caller.last_is_current().is_none(),
-            "the letter of one who had it before is not this one's"
-        );
+        assert!(caller.last_is_current().is_none(), "it has no value yet");
         assert!(
             *caller.get_or_load(b"k", || round).value == round
                 && caller.last_is_current() == Some(true),
@@ -32,7 +27,7 @@ fn callers_that_are_dropped_are_dealt_again() {
         );
     }
     let mut stats = Stats::default();
-    (stats.leads, stats.made) = (100, 1);
+    stats.loads = 100;
     assert_eq!(group.stats(), stats);
     let mut caller = group.caller();
     drop(group);
@@ -41,7 +36,7 @@ fn callers_that_are_dropped_are_dealt_again() {
 
 #[test]
 fn a_call_whose_job_is_forgotten_ends_with_its_caller() {
-    let group = Group::<u32>::open(1 << 20, 3).unwrap();
+    let group = Group::<u32>::open(3).unwrap();
     let mut first = group.caller();
     let (mut receiver, job) = first.subscribe(b"k");
     std::mem::forget(job);
@@ -60,7 +55,7 @@ fn a_call_whose_job_is_forgotten_ends_with_its_caller() {
 
 #[test]
 fn a_wait_that_takes_too_long() {
-    let group = Group::<Arc<u32>>::open(1 << 20, 3).unwrap();
+    let group = Group::<Arc<u32>>::open(3).unwrap();
     let (mut leader, mut waiter) = (group.caller(), group.caller());
     let (started, release) = (Arc::new(Barrier::new(2)), Arc::new(Barrier::new(2)));
     let value = Arc::new(7);
@@ -83,10 +78,7 @@ fn a_wait_that_takes_too_long() {
         "it leaves"
     );
     assert!(**waiter.get_or_load(b"m", || Arc::new(8)).value == 8, "another key");
-    assert!(
-        group.stats().in_use == 2 && group.stats().made == 2,
-        "by the same caller of the library"
-    );
+    assert!(group.stats().in_use == 1, "one loads: {:?}", group.stats());
     release.wait();
     let (joiners, leader) = thread.join().unwrap();
     assert!(joiners == 1, "one joined");
@@ -102,8 +94,8 @@ fn a_wait_that_takes_too_long() {
 #[test]
 fn many_on_some_keys() {
     const THREADS: usize = 200;
-    let group = Group::<u32>::open(1 << 20, 65_534).unwrap();
-    let names = apart::keys(&group, THREADS);
+    let group = Group::<u32>::open(4).unwrap();
+    let names: Vec<_> = (0..THREADS).map(|number| format!("k{number}")).collect();
     for keys in [1, 40, THREADS] {
         let before = group.stats();
         let (loads, release) = (AtomicU64::new(0), AtomicU64::new(0));
@@ -120,12 +112,9 @@ fn many_on_some_keys() {
                     assert!(*got.value == 5, "the answer");
                 });
             }
-            let asked = || group.stats().leads + group.stats().joins - before.leads - before.joins;
+            let asked = || group.stats().loads + group.stats().joins - before.loads - before.joins;
             until("all ask", || asked() == THREADS as u64);
-            assert!(
-                group.stats().in_use == THREADS as u32 && group.stats().made == THREADS as u32,
-                "each has a caller"
-            );
+            assert!(group.stats().in_use == THREADS as u64, "each has a call");
             release.store(1, SeqCst);
         });
         assert!(loads.load(SeqCst) == keys as u64, "one load a key");
@@ -135,7 +124,7 @@ fn many_on_some_keys() {
 
 #[test]
 fn random_waits() {
-    let group = Group::<Arc<u32>>::open(1 << 20, 64).unwrap();
+    let group = Group::<Arc<u32>>::open(64).unwrap();
     let live = Arc::new(0);
     let timed_out = AtomicU64::new(0);
     std::thread::scope(|scope| {
@@ -168,17 +157,14 @@ fn random_waits() {
         }
     });
     let stats = group.stats();
-    assert!(stats.in_use == 0 && stats.leads + stats.joins == 4000, "all are back: {stats:?}");
-    assert!(
-        stats.closed + stats.idle == 8 * 72 && timed_out.load(SeqCst) > 0,
-        "forgets and waits: {stats:?}"
-    );
+    assert!(stats.in_use == 0 && stats.loads + stats.joins == 4000, "all are back: {stats:?}");
+    assert!(stats.forgets == 8 * 72 && timed_out.load(SeqCst) > 0, "forgets and waits: {stats:?}");
     assert!(Arc::strong_count(&live) == 1, "no answer is kept");
 }
 
 #[test]
 fn all_can_be_shown() {
-    let group = Group::<u32>::open(1, 2).unwrap();
+    let group = Group::<u32>::open(2).unwrap();
     let mut first = group.caller();
     let (receiver, job) = first.subscribe(b"k");
     let shown = format!("{job:?} {receiver:?} {group:?}");

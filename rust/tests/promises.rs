@@ -1,7 +1,6 @@
 //! The promises: no call waits for another key's load, one load of a key at a time, nothing wears
 //! out, a Forget always forgets, and a group is small at first.
-use singleflight::{Caller, Error, ForgetOutcome, Group, Stamp};
-use std::collections::HashSet;
+use singleflight::{Caller, Error, ForgetOutcome, Group};
 use std::future::Future;
 use std::panic::{catch_unwind, AssertUnwindSafe};
 use std::pin::pin;
@@ -66,7 +65,7 @@ fn loads_that_hang_hold_up_no_other_key() {
         let got = caller.get_or_load(format!("key {number}").as_bytes(), || number);
         assert!(*got.value == number && got.led, "its own load");
     }
-    // The keys that hang are asked for with a deadline, in their epoch or a later one.
+    // The keys that hang are asked for with a deadline, whichever table they are in.
     for key in 0..200 {
         let late = caller
             .get_or_load_timeout(format!("hung {key}").as_bytes(), NOW, || panic!("a second load"));
@@ -78,20 +77,8 @@ fn loads_that_hang_hold_up_no_other_key() {
 }
 
 #[test]
-fn a_load_beside_the_library_ends_the_stamp_before_it() {
-    let group = Group::<u64>::open(16, 1).unwrap();
-    let mut caller = group.caller();
-    let stamp = caller.get_or_load("key", || 1).stamp();
-    assert!(caller.is_current(stamp) && group.is_current(stamp), "it is the last value");
-    // The only caller of the library is taken.
-    let got = group.get_or_load("key", || 2);
-    assert!(*got.value == 2 && got.call().is_none(), "it is loaded beside the library");
-    assert!(!caller.is_current(stamp) && !group.is_current(stamp), "a newer value was returned");
-}
-
-#[test]
-fn one_load_for_more_than_there_are_callers() {
-    for group in [Group::<u64>::open(1, 1).unwrap(), Group::open(1024, 4).unwrap(), Group::new()] {
+fn one_load_for_many_callers() {
+    for group in [Group::<u64>::open(1).unwrap(), Group::open(4).unwrap(), Group::new()] {
         const THREADS: u64 = 300;
         let (loads, others) = (AtomicU64::new(0), AtomicU64::new(0));
         std::thread::scope(|scope| {
@@ -99,7 +86,7 @@ fn one_load_for_more_than_there_are_callers() {
                 let (group, loads, others) = (&group, &loads, &others);
                 scope.spawn(move || {
                     let mut caller = group.caller();
-                    // Some of them hold a caller of the library for another key.
+                    // Some of them load another key before.
                     if thread % 3 == 0 {
                         others.fetch_add(
                             *caller.get_or_load(format!("own {thread}").as_bytes(), || 1).value,
@@ -108,9 +95,7 @@ fn one_load_for_more_than_there_are_callers() {
                     }
                     let got = caller.get_or_load(b"one key", || {
                         let number = loads.fetch_add(1, SeqCst);
-                        until("all ask", || group.stats().joins >= THREADS - 1);
-                        // A call that followed an asking that led nothing has joined twice.
-                        std::thread::sleep(Duration::from_millis(50));
+                        until("all ask", || group.stats().joins == THREADS - 1);
                         number
                     });
                     assert!(*got.value == 0, "the only load's");
@@ -146,17 +131,14 @@ fn one_load_for_a_hundred_thousand_tasks() {
     for task in &mut tasks {
         assert!(matches!(look(task.as_mut()), Poll::Ready(got) if *got.value == 7), "the answer");
     }
-    assert!(
-        group.stats().made <= 32 + 256 && group.stats().leads + group.stats().alone == 1,
-        "{:?}",
-        group.stats()
-    );
+    drop(tasks);
+    assert!(group.stats().loads == 1 && group.stats().in_use == 0, "{:?}", group.stats());
 }
 
 // x/sync returns 1, then 2, however many callers there are.
 #[test]
 fn answers_do_not_go_backwards() {
-    let group = Group::<u64>::open(1, 1).unwrap();
+    let group = Group::<u64>::open(1).unwrap();
     let (version, together) = (AtomicU64::new(1), Barrier::new(2));
     let mut caller = group.caller();
     std::thread::scope(|scope| {
@@ -171,7 +153,7 @@ fn answers_do_not_go_backwards() {
         });
         together.wait();
         version.store(2, SeqCst);
-        // Without a caller of the library this one joins the load that runs.
+        // It joins the load that runs.
         let mut other = group.caller();
         let late = other.get_or_load_timeout(b"k", NOW, || version.load(SeqCst));
         assert!(late.err() == Some(Error::TimedOut), "one load at a time");
@@ -184,10 +166,10 @@ fn answers_do_not_go_backwards() {
     });
 }
 
-// What runs beside the library is forgotten too, without a free caller.
+// Beside a load that hangs.
 #[test]
-fn a_forget_without_a_caller() {
-    let group = Arc::new(Group::<u64>::open(1, 1).unwrap());
+fn a_forget_beside_a_load_that_hangs() {
+    let group = Arc::new(Group::<u64>::open(1).unwrap());
     let hung = Hung::new(&group, b"hung".to_vec());
     let (mut first, mut second) = (group.caller(), group.caller());
     let got = first.get_or_load(b"k", || {
@@ -198,7 +180,7 @@ fn a_forget_without_a_caller() {
         1
     });
     assert!(
-        *got.value == 1 && group.stats().closed == 1 && group.stats().alone == 2,
+        *got.value == 1 && group.stats().forgets == 2 && group.stats().loads == 3,
         "{:?}",
         group.stats()
     );
@@ -210,7 +192,7 @@ fn a_forget_without_a_caller() {
 
 #[test]
 fn a_forget_beside_many_who_wait_with_deadlines() {
-    let group = Arc::new(Group::<u64>::open(64, 4).unwrap());
+    let group = Arc::new(Group::<u64>::open(4).unwrap());
     let hung = Hung::new(&group, b"origin".to_vec());
     let mut callers: Vec<_> = (0..64).map(|_| group.caller()).collect();
     for _ in 0..20 {
@@ -228,157 +210,105 @@ fn a_forget_beside_many_who_wait_with_deadlines() {
     assert!(tasks.iter_mut().all(|task| look(task.as_mut()).is_pending()), "tasks wait");
     drop(tasks);
     drop(callers);
-    assert!(group.stats().in_use == 1, "one caller is in use: {:?}", group.stats());
+    assert!(group.stats().in_use == 1, "one load is under way: {:?}", group.stats());
     let mut caller = group.caller();
     for key in 0..64 {
         let key = format!("key {key}");
         let stamp = caller.get_or_load(key.as_bytes(), || 1).stamp();
-        assert!(
-            stamp == Stamp::default() || caller.is_current(stamp),
-            "a result that can be cached"
-        );
+        assert!(caller.is_current(stamp), "a result that can be cached");
         caller.forget(key.as_bytes());
         assert!(!caller.is_current(stamp), "and is forgotten");
     }
     drop(hung);
 }
 
-// A Forget of one key leaves the open call of another at the same slot: that would be loaded a
-// second time.
+// A Forget of one key leaves the open call of another: that would be loaded a second time.
 #[test]
 fn a_forget_ends_no_call_of_another_key() {
-    let group = Group::<u64>::open(1, 4).unwrap();
+    let group = Group::<u64>::open(4).unwrap();
     let (mut first, mut second) = (group.caller(), group.caller());
     let got = first.get_or_load(b"ada", || {
         assert!(!second.forget(b"grace"), "nothing of it is open");
         let late = second.get_or_load_timeout(b"ada", NOW, || 2);
         assert!(late.err() == Some(Error::TimedOut), "one load of ada");
-        let named = second.current_call(b"grace").unwrap();
-        assert!(second.forget_call(b"grace", named) == ForgetOutcome::Missed, "nor by its call");
         1
     });
-    let stamp = got.stamp();
-    assert!(first.is_current(stamp), "its answer is current");
+    // In a new group another key may have the same slot, and end the stamp. The call stays open.
+    let stamp = first.get_or_load(b"ada", || 2).stamp();
+    assert!(*got.value == 1 && first.is_current(stamp), "its answer is current");
     second.forget(b"ada");
     assert!(!first.is_current(stamp), "until it is forgotten itself");
 }
 
+// Calls that are open when the group grows are joined, forgotten, and forgotten by their names, in
+// each table.
 #[test]
-fn callers_that_are_spent_are_renewed() {
-    let group = Group::<u64>::open_spent_after(4, 3, 5).unwrap();
-    let mut caller = group.caller();
-    let (mut epochs, mut stamps) = (HashSet::new(), 0);
-    for round in 0..30_000u64 {
-        let key = [b'a' + (round % 3) as u8];
-        let got = caller.get_or_load(&key, || round);
-        assert!(*got.value == round && got.led, "its own load");
-        let call = got.call().expect("a call of the library");
-        epochs.insert(call.epoch);
-        stamps += u64::from(caller.is_current(got.stamp()));
-        if round % 5 == 0 {
-            caller.forget(key);
-            assert!(
-                !caller.is_current(got.stamp())
-                    && caller.forget_call(key, call) == ForgetOutcome::Missed,
-                "forgotten"
-            );
+fn calls_that_are_open_when_a_group_grows() {
+    let group = Group::<u64>::open(1).unwrap();
+    let mut others = Vec::new();
+    let mut grow = |to: u64| {
+        for key in others.len() as u64..to {
+            others.push(group.subscribe(key.to_le_bytes()));
         }
-    }
-    assert!(
-        epochs.len() >= 3000 && stamps > 25_000,
-        "{} epochs, {stamps} current stamps",
-        epochs.len()
-    );
-    let stats = group.stats();
-    assert!(stats.leads == 30_000 && stats.alone == 0 && stats.in_use == 1, "{stats:?}");
-}
-
-// The first 32 take all callers of the library. One of the others makes the group grow to 256.
-#[test]
-fn a_burst_of_callers_makes_a_group_grow_once() {
-    for _ in 0..20 {
-        const THREADS: u64 = 100;
-        let (group, all) = (Group::<u64>::new(), Barrier::new(THREADS as usize));
-        std::thread::scope(|scope| {
-            for thread in 0..THREADS {
-                let (group, all) = (&group, &all);
-                scope.spawn(move || {
-                    group.get_or_load(thread.to_le_bytes(), || {
-                        all.wait();
-                        thread
-                    })
-                });
-            }
-        });
-        let call = group.get_or_load("after", || 1).call().expect("a caller is free");
-        assert_eq!(call.epoch, 2, "it has grown more than once");
-    }
-}
-
-// A call that is open when its epoch is replaced is joined, forgotten and forgotten by its name.
-#[test]
-fn calls_that_are_open_when_their_callers_are_renewed() {
-    let group = Group::<u64>::open_spent_after(16, 8, 3).unwrap();
-    // Some keys have the slot of the open call, and are loaded beside the library.
-    let spend = |caller: &mut Caller<u64>| {
-        let mut epochs = (0..1000u64)
-            .filter_map(|key| Some(caller.get_or_load(&key.to_le_bytes(), || 0).call()?.epoch));
-        let from = epochs.next().unwrap();
-        assert!(epochs.any(|epoch| epoch >= from + 3), "its callers are spent");
     };
-    let (mut first, mut second) = (group.caller(), group.caller());
-    let got = first.get_or_load(b"k", || {
-        let call = second.current_call(b"k").unwrap();
-        spend(&mut second);
-        assert!(
-            second.get_or_load_timeout(b"k", NOW, || 2).err() == Some(Error::TimedOut),
-            "its load runs"
-        );
-        let mut task = pin!(second.get_or_load_async(b"k", async { 3 }));
-        assert!(look(task.as_mut()).is_pending(), "a task joins it");
-        let mut third = group.caller();
-        assert!(
-            third.forget_call(b"k", call) == ForgetOutcome::Closed
-                && third.forget_call(b"k", call) == ForgetOutcome::Missed,
-            "by its name"
-        );
-        assert!(*third.get_or_load(b"k", || 4).value == 4, "a newer load");
-        1
-    });
-    assert!(*got.value == 1 && !second.is_current(got.stamp()), "it is of an epoch that is gone");
-    let got = first.get_or_load(b"k", || {
-        spend(&mut second);
-        assert!(second.forget(b"k"), "a Forget finds it");
-        assert!(*second.get_or_load(b"k", || 5).value == 5, "and who asks later loads anew");
-        spend(&mut second);
-        assert!(*second.get_or_load(b"k", || 7).value == 7, "also in a later epoch");
-        6
-    });
-    assert!(*got.value == 6);
+    for (from, to) in [(0, 20), (20, 300), (300, 3000)] {
+        grow(from);
+        let [by_key, by_name] = [b"k", b"n"].map(|key| group.subscribe(key));
+        let (mut first, mut named) = (by_key.1.unwrap(), by_name.1.unwrap());
+        grow(to);
+        for _ in 0..2 {
+            let late = group.get_or_load_timeout(b"k", NOW, || 2);
+            assert!(late.err() == Some(Error::TimedOut), "its load runs");
+            let (mut joined, none) = group.subscribe(b"k");
+            assert!(none.is_none(), "it is joined");
+            assert!(group.forget(b"k") && !group.forget(b"k"), "it is forgotten, once");
+            let newer = group.subscribe(b"k").1.expect("a newer load");
+            assert!(*first.run(|| 1).value == 1 && *joined.recv().unwrap().value == 1);
+            first = newer;
+            let call = named.call().unwrap();
+            assert!(
+                group.forget_call(b"n", call) == ForgetOutcome::Closed
+                    && group.forget_call(b"n", call) != ForgetOutcome::Closed,
+                "by its name"
+            );
+            let newer = group.subscribe(b"n").1.expect("a newer load");
+            let got = named.run(|| 3);
+            assert!(*got.value == 3 && !group.is_current(got.stamp()), "it was forgotten");
+            named = newer;
+        }
+        let stamp = first.run(|| 4).stamp();
+        assert!(group.is_current(stamp) && !group.forget(b"k") && !group.is_current(stamp));
+    }
+    drop(others);
+    assert!(group.stats().in_use == 0, "{:?}", group.stats());
+}
+
+// The stamps of values stay good while a group grows.
+#[test]
+fn growth_ends_no_stamp() {
+    let group = Group::<u64>::open(1).unwrap();
+    let stamp = group.get_or_load("k", || 1).stamp();
+    let others: Vec<_> = (0..1000u64).map(|key| group.subscribe(key.to_le_bytes())).collect();
+    assert!(group.is_current(stamp), "nobody has forgotten it");
+    group.forget("k");
+    assert!(!group.is_current(stamp));
+    drop(others);
 }
 
 #[test]
 fn a_group_grows_with_its_use() {
-    let group = Arc::new(Group::<u64>::new());
+    let group = Arc::new(Group::<u64>::open(1).unwrap());
     let hung: Vec<_> =
         (0..300).map(|key| Hung::new(&group, format!("hung {key}").into_bytes())).collect();
-    let mut callers: Vec<_> = (0..40).map(|_| group.caller()).collect();
-    for caller in &mut callers {
-        caller.get_or_load(b"k", || 1);
-    }
-    let call = callers[0].get_or_load(b"k", || 1).call().expect("there are callers again");
-    assert!(call.epoch >= 3, "it has grown twice: {call:?}");
+    assert!(group.stats().in_use == 300, "{:?}", group.stats());
+    assert!(group.get_or_load(b"k", || 1).call().is_some(), "by the library");
     drop(hung);
-    let alone = group.stats().alone;
-    for caller in &mut callers {
-        assert!(caller.get_or_load(b"k", || 1).call().is_some(), "by the library");
-    }
-    assert!(group.stats().alone == alone && alone < 20, "{:?}", group.stats());
+    assert!(group.stats().in_use == 0 && group.stats().loads == 301, "{:?}", group.stats());
 }
 
 #[test]
 fn no_forgotten_answer_is_current_after_a_load_without_one() {
-    let group = Group::<u64>::open(1024, 4).unwrap();
+    let group = Group::<u64>::open(4).unwrap();
     let (mut caller, mut other) = (group.caller(), group.caller());
     for how in 0..4 {
         caller.get_or_load(b"k", || 1);
@@ -448,7 +378,7 @@ fn wakers_run_without_a_lock_and_one_that_panics_hurts_nobody() {
         Box::pin(async move { caller.get_or_load_async(b"k", async { 6 }).await })
     }
     static GOT: AtomicU64 = AtomicU64::new(0);
-    let group = Group::<u64>::open(1, 8).unwrap();
+    let group = Group::<u64>::open(8).unwrap();
     let mut leader = group.caller();
     let polls = waker(|_| {
         let Ok(mut other) = OTHER.try_lock() else { return };
@@ -483,4 +413,20 @@ fn wakers_run_without_a_lock_and_one_that_panics_hurts_nobody() {
     for task in &mut tasks {
         assert!(matches!(look(task.as_mut()), Poll::Ready(got) if *got.value == 7), "its answer");
     }
+}
+
+// A task that is dropped leaves its call, also if its waker panics where that is dropped.
+#[test]
+fn a_waker_that_panics_when_it_is_dropped() {
+    let group = Group::<u64>::open(1).unwrap();
+    let panics = waker(|part| assert!(part != "drop", "a waker that panics"));
+    let got = group.get_or_load(b"k", || {
+        let mut task = Box::pin(group.get_or_load_async(b"k", async { 2 }));
+        assert!(task.as_mut().poll(&mut Context::from_waker(&panics)).is_pending(), "it waits");
+        assert!(catch_unwind(AssertUnwindSafe(|| drop(task))).is_err(), "its panic goes on");
+        assert!(group.stats().in_use == 1, "it has left: {:?}", group.stats());
+        1
+    });
+    assert!(*got.value == 1 && group.stats().in_use == 0, "{:?}", group.stats());
+    std::mem::forget(panics);
 }

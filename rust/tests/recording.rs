@@ -6,7 +6,7 @@ mod random;
 
 use judge::{judge, legal, read, Log};
 use random::Random;
-use singleflight::{Caller, Error, ForgetOutcome, Group, RecordError, Recorded};
+use singleflight::{Caller, Error, ForgetOutcome, Group, RecordError, Recorded, Stamp};
 use std::future::Future;
 use std::io::{self, ErrorKind, Write};
 use std::panic::{catch_unwind, AssertUnwindSafe};
@@ -141,12 +141,15 @@ fn lines_of_calls_that_nobody_joins() {
             assert!(group.forget("forgotten"));
             2
         });
-        group.get_or_load("one", || {
-            let open = group.current_call("one").unwrap();
+        let (receiver, job) = group.subscribe("one");
+        let job = job.unwrap();
+        let open = job.call().unwrap();
+        job.run(|| {
             assert_eq!(group.forget_call("one", open), ForgetOutcome::Closed);
-            assert_eq!(group.forget_call("one", open), ForgetOutcome::Missed);
             3
         });
+        assert_ne!(group.forget_call("one", open), ForgetOutcome::Closed);
+        drop(receiver);
         let got = group.get_or_load("cleared", || 4).call().unwrap();
         assert_eq!(group.forget_call("cleared", got), ForgetOutcome::Cleared);
         assert_eq!(group.forget_call("cleared", got), ForgetOutcome::Missed);
@@ -167,7 +170,7 @@ fn lines_of_calls_that_nobody_joins() {
         drop(group.subscribe("no job"));
         // These change nothing.
         let stamp = group.get_or_load("asked", || 7).stamp();
-        assert!(group.is_current(stamp) && group.current_call("asked").is_some());
+        assert!(group.is_current(stamp));
     });
     let all = legal(&log);
     let closed = "{\"e\":\"forget\",\"k\":\"forgotten\",\"closed\":A}";
@@ -263,10 +266,8 @@ fn lines_of_those_who_join() {
         },
     ];
     for (number, way) in ways.iter().enumerate() {
-        for alone in [false, true] {
-            let group = Group::<u32>::open(1 << 20, if alone { 1 } else { 8 }).unwrap();
-            // Where a caller has the one that there is, calls run beside the library.
-            let caller = alone.then(|| group.caller());
+        for loads in [1, 64] {
+            let group = Group::<u32>::open(loads).unwrap();
             is_over.store(false, SeqCst);
             let log = recorded(&group, || {
                 std::thread::scope(|scope| {
@@ -286,10 +287,9 @@ fn lines_of_those_who_join() {
                     waits.join().unwrap();
                 });
             });
-            assert_eq!(group.stats().alone, u64::from(alone), "{:?}", group.stats());
             let all = legal(&log);
             let want = call("key", &[&enter("key", "B")], VALUE, 1);
-            assert_eq!(shape(&log), want, "way {number}, alone: {alone}");
+            assert_eq!(shape(&log), want, "way {number}");
             let [lead, enter, settle, _] = &all[..] else { unreachable!() };
             let pause = PAUSE.as_nanos() as u64;
             assert!(lead.to + pause <= enter.from, "it asked later: {log}");
@@ -299,7 +299,6 @@ fn lines_of_those_who_join() {
                 assert!(enter.to + pause <= settle.from, "it has left before: {log}");
             }
             assert!(lead.to + 2 * pause <= settle.from, "the load: {log}");
-            drop(caller);
         }
     }
 }
@@ -368,25 +367,19 @@ fn times_of_a_job_and_of_forgets() {
     assert!(settle.from <= settle.to && of("handed").to == settle.to, "{log}");
 }
 
-// A Forget that closes a call beside the library, and one of a call whose table was replaced, which
-// is joined and forgotten as before.
+// A Forget that closes a call which others have joined; also in a group that has grown since.
 #[test]
-fn lines_of_calls_beside_the_library_and_of_old_epochs() {
-    for is_old in [false, true] {
-        let group = if is_old {
-            Group::<u32>::open_spent_after(1 << 20, 4, 4).unwrap()
-        } else {
-            Group::open(1 << 20, 1).unwrap()
-        };
-        let caller = (!is_old).then(|| group.caller());
+fn lines_of_a_forgotten_call_that_is_joined() {
+    for grows in [false, true] {
+        let group = Group::<u32>::open(1).unwrap();
         let log = recorded(&group, || {
             std::thread::scope(|scope| {
                 let waits = held(&group, "key", 1, || {
-                    let epoch = |number: u32| {
-                        let got = group.get_or_load(format!("other {number}"), || 0);
-                        got.call().map_or(0, |call| call.epoch)
-                    };
-                    assert!(!is_old || (0..1000).any(|number| epoch(number) > 1), "it is old");
+                    if grows {
+                        let other = |number: u32| group.subscribe(format!("other {number}"));
+                        let jobs: Vec<_> = (0..100).map(other).collect();
+                        assert!(jobs.iter().all(|(_, job)| job.is_some()), "each has a load");
+                    }
                     let joins = group.stats().joins;
                     let waits = scope.spawn(|| {
                         assert_eq!(*group.get_or_load("key", || 2).value, 1);
@@ -420,42 +413,64 @@ fn lines_of_calls_beside_the_library_and_of_old_epochs() {
             call("key", &[], VALUE, 0),
             "{\"e\":\"forget\",\"k\":\"key\",\"closed\":null}\n".to_string(),
         ];
-        assert_eq!(shape(&of_key), together(want), "old: {is_old}");
-        drop(caller);
+        assert_eq!(shape(&of_key), together(want), "grows: {grows}");
     }
 }
 
-// A Forget of one call that closes a call of a table that was replaced.
-#[test]
-fn lines_of_a_forgotten_call_of_an_old_epoch() {
-    let group = Group::<u32>::open_spent_after(1 << 20, 4, 4).unwrap();
-    let log = recorded(&group, || {
-        held(&group, "key", 1, || {
-            let call = group.current_call("key").unwrap();
-            let epoch = |number: u32| {
-                let got = group.get_or_load(format!("other {number}"), || 0);
-                got.call().map_or(0, |call| call.epoch)
-            };
-            assert!((0..1000).any(|number| epoch(number) > 1), "it is old");
-            assert_eq!(group.forget_call("key", call), ForgetOutcome::Closed);
-        });
-    });
-    let all = legal(&log);
-    let hit = all.iter().filter(|it| it.kind == "forgetcall").collect::<Vec<_>>();
-    assert!(hit.len() == 1 && hit[0].line.contains("\"hit\":\"closed\""), "{log}");
-}
-
-// The library takes the call of before for current, though a load beside it has come since.
+// The older call's stamp is good still, and a Forget of it ends that of the newer one too. In the
+// history the older call is not the key's current one.
 #[test]
 fn a_call_that_is_not_the_last_is_not_cleared() {
-    let group = Group::<u32>::open(1 << 20, 1).unwrap();
-    let mut caller = group.caller();
+    let group = Group::<u32>::open(1).unwrap();
     let log = recorded(&group, || {
-        let before = caller.get_or_load("key", || 1).call().unwrap();
-        assert_eq!(group.get_or_load("key", || 2).call(), None, "beside the library");
-        caller.forget_call("key", before);
+        let before = group.get_or_load("key", || 1).call().unwrap();
+        let newer = group.get_or_load("key", || 2);
+        assert_eq!(group.forget_call("key", before), ForgetOutcome::Cleared);
+        assert!(!group.is_current(newer.stamp()));
     });
     assert_eq!(legal(&log).len(), 6, "two calls: {log}");
+}
+
+// Nor is it while the newer call is open.
+#[test]
+fn a_call_before_an_open_one_is_not_cleared() {
+    let group = Group::<u32>::open(1).unwrap();
+    let log = recorded(&group, || {
+        let before = group.get_or_load("key", || 1).call().unwrap();
+        group.get_or_load("key", || {
+            group.forget_call("key", before);
+            2
+        });
+    });
+    assert_eq!(legal(&log).len(), 6, "two calls: {log}");
+}
+
+// The Forget and the leader each know a part, and either may come first.
+#[test]
+fn a_forget_that_ends_after_its_call() {
+    let group = Group::<u32>::open(1).unwrap();
+    for _ in 0..200 {
+        let log = recorded(&group, || {
+            let (begun, closed) = (Barrier::new(2), Barrier::new(2));
+            std::thread::scope(|scope| {
+                scope.spawn(|| {
+                    group.get_or_load("key", || {
+                        begun.wait();
+                        closed.wait();
+                        1
+                    })
+                });
+                begun.wait();
+                scope.spawn(|| closed.wait());
+                group.forget("key");
+            });
+        });
+        let all = legal(&log);
+        let kinds: Vec<_> = all.iter().map(|it| it.kind).collect();
+        let closed = ["lead", "forget", "settle", "handed"];
+        let idle = kinds.len() == 4 && log.contains("\"closed\":null");
+        assert!(kinds == closed || idle, "{log}");
+    }
 }
 
 // What began before a recording, and what has not ended, is not in it.
@@ -758,7 +773,7 @@ fn stressed(group: &Group<u64>, seed: u64, calls: u64) {
                     }
                 }
                 // A job that was leaked ends with the next use of its caller.
-                caller.current_call(&key);
+                assert!(!caller.is_current(Stamp::default()));
             }
             16 => {
                 let inner = || *group.get_or_load(format!("{key}'"), load).value;
@@ -791,13 +806,10 @@ fn logs_of_a_stress_are_legal_in_time() {
     let calls =
         std::env::var("SFLIGHT_CALLS").map_or(300, |calls| calls.parse().expect("a number"));
     type Open = fn() -> Group<u64>;
-    let groups: [(&str, Open); 6] = [
+    let groups: [(&str, Open); 3] = [
         ("new", Group::new),
-        ("wide", || Group::open(1 << 20, 64).unwrap()),
-        ("four slots", || Group::open(4, 64).unwrap()),
-        ("one caller", || Group::open(64, 1).unwrap()),
-        ("one slot", || Group::open(1, 2).unwrap()),
-        ("worn out", || Group::open_spent_after(64, 8, 40).unwrap()),
+        ("wide", || Group::open(1 << 16).unwrap()),
+        ("one load", || Group::open(1).unwrap()),
     ];
     for (name, open) in groups {
         let group = open();
@@ -821,8 +833,8 @@ fn logs_of_a_stress_are_legal_in_time() {
         let count = |kind: &str| all.iter().filter(|it| it.kind == kind).count() as u64;
         let (leads, enters, stats) = (count("lead"), count("enter"), group.stats());
         println!("{name}: {} events, {enters} Enters; {stats:?}", all.len());
-        assert!(leads <= stats.leads + stats.alone && enters <= stats.joins, "told twice");
-        assert!(leads > (stats.leads + stats.alone) / 2, "{leads} calls of {stats:?}");
+        assert!(leads <= stats.loads && enters <= stats.joins, "told twice");
+        assert!(leads > stats.loads / 2, "{leads} calls of {stats:?}");
         for part in ["\"enter\"", "\"closed\":null", "\"closed\":[", "\"panic\"", "\"dropped\""] {
             assert!(log.contains(part), "{name} has no {part}");
         }

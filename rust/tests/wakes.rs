@@ -14,7 +14,7 @@ fn sleeps(path: &str) -> u64 {
 #[test]
 fn calls_of_other_keys_wake_nobody() {
     const WAITERS: usize = 64;
-    let group = Group::<u32>::open(1 << 20, 100).unwrap();
+    let group = Group::<u32>::open(100).unwrap();
     let (threads, woken) = (Mutex::new(Vec::new()), AtomicU32::new(0));
     std::thread::scope(|scope| {
         let mut slow = group.caller();

@@ -1,6 +1,6 @@
 # sflight_open on x86-64: it looks at the processor before the library's own code runs, which is made for x86-64-v2. An older processor
 # would end the program by a signal at the first instruction that it lacks.
-.set OLD_PROCESSOR, 17
+.set OLD_PROCESSOR, 16
 # Leaf 1 tells by these bits of ecx: SSE3, SSSE3, CMPXCHG16B, SSE4.1, SSE4.2, POPCNT. Leaf 0x80000001 tells by bit 0 of ecx: LAHF.
 .set WANTED, 1 << 0 | 1 << 9 | 1 << 13 | 1 << 19 | 1 << 20 | 1 << 23
 

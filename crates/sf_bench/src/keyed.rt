@@ -2,6 +2,7 @@
 ghost use Rattle.std.specs.Prelude.{◌≡◌, IfOk};
 
 use crate::benchmark::Benchmark;
+use crate::chains::measure_chains;
 use crate::fault::Fault;
 use crate::rounds::{Operation, Worker, measure, measure_one};
 use crate::table::{Case, Table};
@@ -372,5 +373,6 @@ where
     let times = measure_one(rt, rt.alloc(), Naming(key_of(0)))?;
     table.row(rt, case("name of a key, 16 bytes", 1), times)?;
     joined(rt, table)?;
-    idle(rt, table)
+    idle(rt, table)?;
+    measure_chains(rt, table)
 }

@@ -4,6 +4,7 @@
 
 mod asking;
 mod benchmark;
+mod chains;
 mod fault;
 mod filling;
 mod keyed;

@@ -1,6 +1,5 @@
 //! Fills by bodies of their own: drives, getters in threads, many keys, and what no script says.
 
-mod book;
 mod drives;
 mod leaders;
 mod many;

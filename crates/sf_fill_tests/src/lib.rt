@@ -9,6 +9,8 @@ mod bodies;
 #[cfg(test)]
 mod calls;
 #[cfg(test)]
+mod failing;
+#[cfg(test)]
 mod keeps;
 #[cfg(test)]
 mod loaders;

@@ -287,6 +287,48 @@ getters beside
     read_beside_changes(&rt, rt.alloc(), script)
 }
 
+const BEHIND: &str = "\
+places 2
+longest 3
+getters end
+1 behind refused
+=
+1 behind 0
+counted 400 382 2 2 0 0 2 0
+
+places 2
+longest 3
+near 2
+getters end
+1 behind
+=
+1 behind 63
+counted 400 398 2 2 0 0 2 0
+
+places 2
+longest 3
+near 2
+getters leave
+1 behind
+=
+1 behind 63
+counted 400 398 2 2 0 0 2 0
+
+places 2
+longest 3
+near 2
+1 behind
+=
+1 behind 63
+counted 400 398 2 2 0 0 2 0";
+
+// Each get is in the book when it ends, also one that is refused. Where letters are kept near, the last 63 that these answered are
+// missing at most; and none once the getter was spent, in either way, or told to enter them.
+#[test]
+fn book_has_each_get_as_it_ends(rt: HostRuntime) -> Result<(), Fail> {
+    trials(&rt, rt.alloc(), BEHIND)
+}
+
 // Two getters read while a third changes what loads give, and reloads.
 fn read_beside_changes<R: Wait + Threads + Abort + Sync>(
     rt: &R,

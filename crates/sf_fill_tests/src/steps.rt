@@ -45,6 +45,9 @@ pub enum Verb {
     /// Gets the keys `a` and `b` in turn, often, and says how many of its answers were old: of a version before one whose
     /// reload had returned when the get began.
     Read,
+    /// Gets the keys `a` and `b` in turn, often, and says how many gets the book lacks at most where one has ended; with `refused`
+    /// some keys are too long, or have no place.
+    Behind,
     /// Changes the sources of `a` and `b` in turn, often, and reloads the key each time.
     Change,
     /// There is no such step.
@@ -84,6 +87,7 @@ fn verb_of(word: &str) -> Verb {
         "await" => Verb::Await,
         "tell" => Verb::Tell,
         "read" => Verb::Read,
+        "behind" => Verb::Behind,
         "change" => Verb::Change,
         _ => Verb::Unknown,
     }
@@ -371,6 +375,22 @@ fn change<'d, D: Naming, N: Naming, O: Origin, L>(
     }
 }
 
+// A key of 251 bytes, which scripts name `LONG`.
+const LONG: &str = "kkkkkkkkkkkkkkkkkkkkkkkkkkkkkkkkkkkkkkkkkkkkkkkkkk\
+    kkkkkkkkkkkkkkkkkkkkkkkkkkkkkkkkkkkkkkkkkkkkkkkkkk\
+    kkkkkkkkkkkkkkkkkkkkkkkkkkkkkkkkkkkkkkkkkkkkkkkkkk\
+    kkkkkkkkkkkkkkkkkkkkkkkkkkkkkkkkkkkkkkkkkkkkkkkkkk\
+    kkkkkkkkkkkkkkkkkkkkkkkkkkkkkkkkkkkkkkkkkkkkkkkkkkk";
+
+// The bytes of a script's key.
+fn key_bytes(key: &str) -> &[u8] {
+    if key == "LONG" {
+        LONG.as_bytes()
+    } else {
+        key.as_bytes()
+    }
+}
+
 // Gets the key, and says what is answered.
 fn get<'d, D: Naming, N: Naming, O: Origin, L: LoadPath<Origin = O>>(
     rt: &impl Wait,
@@ -379,7 +399,7 @@ fn get<'d, D: Naming, N: Naming, O: Origin, L: LoadPath<Origin = O>>(
     key: &str,
     said: &mut String,
 ) {
-    let answer = fill.get(rt, getter, key.as_bytes());
+    let answer = fill.get(rt, getter, key_bytes(key));
     say_view(said, key, &answer);
 }
 
@@ -400,6 +420,33 @@ fn repeat<'d, D: Naming, N: Naming, O: Origin, L: LoadPath<Origin = O>>(
     for _ in 0..gets {
         let _answer = fill.get(rt, getter, key.as_bytes());
     }
+}
+
+// The key of a get, of those that the book is looked at after.
+fn key_of(turn: u32, refused: bool) -> &'static [u8] {
+    match turn % 50 {
+        7 if refused => b"long",
+        8 if refused => b"c",
+        _ if turn % 2 == 0 => b"a",
+        _ => b"b",
+    }
+}
+
+// Gets often, and says how many gets the book lacks at most when one has ended.
+fn behind<'d, D: Naming, N: Naming, O: Origin, L: LoadPath<Origin = O>>(
+    rt: &impl Wait,
+    fill: &Fill<'d, D, N, O>,
+    getter: &mut Getter<'d, D, N, O, L>,
+    refused: bool,
+    said: &mut String,
+) {
+    let mut most: u128 = 0;
+    for turn in 0..400u32 {
+        let _answer = fill.get(rt, getter, key_of(turn, refused));
+        let behind = (turn as u128 + 1).saturating_sub(fill.book(rt).gets);
+        most = most.max(behind);
+    }
+    let _ = write!(said, "behind {most}\n");
 }
 
 // Takes the key out of the caches, and says whether it has a place.
@@ -440,6 +487,7 @@ fn look<'d, D: Naming, N: Naming, O: Origin, L: LoadPath<Origin = O>>(
         Verb::GetBytes => get_present_bytes(rt, fill, getter, key, said),
         Verb::Remove => remove(rt, fill, getter, key, said),
         Verb::Stats => say_caches(rt, fill, said),
+        Verb::Behind => behind(rt, fill, getter, key == "refused", said),
         Verb::TakeLog => say_events(said, getter.take_log().as_slice()),
         Verb::Await => flags.wait_for(flags.named(key)),
         Verb::Tell => flags.named(key).store(true, Ordering::SeqCst),

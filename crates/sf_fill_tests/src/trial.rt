@@ -24,14 +24,17 @@
 //!     longest 4         the longest key of a directory, in bytes
 //!     seed0 0           the first half of the seed that keys have their places by
 //!     seed1 0           its second half
+//!     first 1           the generation of the getters' first askings
 //!     limit 100         how many bytes of keys and values main and hot keep
 //!     near 0            how many letters each getter keeps near
 //!     near-bytes 100    how many bytes of keys and values these have at most
 //!     log 64            how many events each getter can log
-//!     peer value        a peer gives the value `v`, a `large` one, or a `fault`; else there is no peer
-//!     local value       the local getter gives these, or the `version` of the key's source; a `large` value has 70,000 bytes
+//!     peer value        a peer gives the value `v`, a `large` one, or a `fault`; else there is no peer. Of `fault 2` and a value `p` in
+//!                       turn it gives the fault at its second fetch alone
+//!     local value       the local getter gives these, and `v` beside `fault 2`; or the `version` of the key's source; a `large` value has 70,000 bytes
 //!     getters beside    each getter makes its steps on a thread of its own, and not one getter after another
 //!     getters end       the getters end one by one, and are not gathered
+//!     getters leave     so do they, and leave their callers
 //!
 //! These numbers hold, and `local value`, where the script says nothing.
 ghost use Rattle.std.specs.Prelude.{◌≡◌, ◌<◌, ◌≤◌, IfOk, vec_len};
@@ -93,6 +96,16 @@ fn number(rt: &impl Abort, script: &str, name: &str, otherwise: u32) -> u32
     };
     assert!(rt; number <= 65_536, "no number of {name}");
     number
+}
+
+// The generation of the getters' first askings.
+fn first(rt: &impl Abort, script: &str) -> u32
+    ensures { 1 ≤ result }
+{
+    let first = setting(script, "first").unwrap_or("1");
+    let first = first.parse::<u32>().unwrap_or(0);
+    assert!(rt; first > 0, "no generation");
+    first
 }
 
 // How many bytes of keys and values main and hot keep.
@@ -186,8 +199,18 @@ impl<'a, R: Wait> Play<'a, R> {
         says(self.script, "getters", "beside")
     }
 
+    // Whether the getters end one by one.
+    fn is_ended(&self) -> bool {
+        says(self.script, "getters", "end") || says(self.script, "getters", "leave")
+    }
+
+    // Whether the last hits of near letters are entered by the ends of getters alone.
+    fn is_left_to_end(&self) -> bool {
+        self.is_ended() && setting(self.script, "near").is_some()
+    }
+
     // What the getter of this number does, and says. All that it counted is in the book then, but for the last hits of near letters,
-    // which it enters here.
+    // which it enters here, where its end does not.
     fn turns<'d, D: Naming, N: Naming, O: Origin, L: LoadPath<Origin = O> + Drop>(
         &self,
         fill: &Fill<'d, D, N, O>,
@@ -203,7 +226,7 @@ impl<'a, R: Wait> Play<'a, R> {
             flags: self.flags,
         };
         run(self.rt, fill, getter, steps, &mut part);
-        if setting(self.script, "near").is_some() {
+        if setting(self.script, "near").is_some() && !self.is_left_to_end() {
             getter.enter(self.rt, fill);
         }
         numbered(self.alloc, number, part)
@@ -257,12 +280,13 @@ impl<'a, R: Wait> Play<'a, R> {
         requires all { vec_len getters ≡ N.getters }
         requires some { 0 < vec_len getters }
     {
-        if !says(self.script, "getters", "end") {
+        if !self.is_ended() {
             return fill.gather(self.rt, getters);
         }
+        let leaves = says(self.script, "getters", "leave");
         let mut getters = getters;
         'rest: while let Some(getter) = getters.pop() {
-            getter.end(self.rt, fill);
+            spend(self.rt, fill, getter, leaves);
         }
         getters.destroy_empty();
         fill.book(self.rt)
@@ -314,11 +338,30 @@ impl<'a, R: Wait> Team for Play<'a, R> {
         let getters = self.all_turns(fill, getters, &mut said);
         let book = fill.book(self.rt);
         let gathered = self.spent(fill, getters);
+        let book = if self.is_left_to_end() {
+            gathered
+        } else {
+            book
+        };
         Tried {
             said,
             book,
             gathered,
         }
+    }
+}
+
+// Ends the getter, or makes a caller of it.
+fn spend<'d, D: Naming, N: Naming, O: Origin, L: Drop>(
+    rt: &impl Wait,
+    fill: &Fill<'d, D, N, O>,
+    getter: Getter<'d, D, N, O, L>,
+    leaves: bool,
+) {
+    if leaves {
+        let _caller = getter.into_caller(rt, fill);
+    } else {
+        getter.end(rt, fill);
     }
 }
 
@@ -331,8 +374,29 @@ fn number_of(index: u32) -> &'static str {
     }
 }
 
-// The answers of a loader that gives a value, and else a fault.
-fn answers(alloc: Global, gives: &str) -> Result<Script, Memory> {
+// What a loader answers: this value, or a fault.
+fn answer(fails: bool, value: &'static str) -> Answer {
+    if fails {
+        Answer::Failed(ByteStr::from("down"))
+    } else {
+        Answer::Value(Bytes::from(value))
+    }
+}
+
+// Four answers of a loader: this value, but for a fault in this turn.
+fn with_one_fault(alloc: Global, turn: &str, value: &'static str) -> Result<Script, Memory> {
+    let first = answer(turn == "1", value);
+    let second = answer(turn == "2", value);
+    let third = answer(turn == "3", value);
+    let fourth = answer(turn == "4", value);
+    Ok(Script::new(vec![in alloc; first, second, third, fourth]?))
+}
+
+// The answers of a loader that gives a value, and else a fault; or this value but for one fault.
+fn answers(alloc: Global, gives: &str, value: &'static str) -> Result<Script, Memory> {
+    if let Some(turn) = gives.strip_prefix("fault ") {
+        return with_one_fault(alloc, turn, value);
+    }
     let answer = match gives {
         "value" => Answer::Value(Bytes::from("v")),
         "large" => Answer::Value(large(alloc)?),
@@ -361,7 +425,7 @@ fn local<'f>(
     if gives == "version" {
         return Ok(TestLocal::Reads(alloc, flags));
     }
-    let answers = answers(alloc, gives)?;
+    let answers = answers(alloc, gives, "v")?;
     Ok(if waits {
         TestLocal::Waits(answers, flags)
     } else {
@@ -379,7 +443,7 @@ fn loaders<'f>(
     let picked = if peer == "absent" { None } else { Some(0) };
     Ok(Loaders::new(
         FixedPicker::new(picked),
-        answers(alloc, peer)?,
+        answers(alloc, peer, "p")?,
         local(alloc, script, flags, waits)?,
         RoundChance::default(),
     ))
@@ -413,7 +477,7 @@ fn sizes_of(rt: &impl Abort, script: &str) -> FillSizes
             near: number(rt, script, "near", 0),
             near_limit: near_bytes(rt, script),
         },
-        first_generation: 1,
+        first_generation: first(rt, script),
     }
 }
 
@@ -482,6 +546,7 @@ fn is_known(line: &str) -> bool {
             | "longest"
             | "seed0"
             | "seed1"
+            | "first"
             | "limit"
             | "near"
             | "near-bytes"

@@ -1,4 +1,4 @@
-//! Tests of refused memory, failing loaders, last generations and many askings at once.
+//! Tests of refused memory.
 //!
 //! Those of `making`, `copies` and `pair` pass wherever one allocation is refused: what a constructor took is asked for once
 //! more, and has to be there. `.ci/refused-memory` runs them so for each allocation.
@@ -9,8 +9,6 @@ mod askings;
 #[cfg(test)]
 mod copies;
 #[cfg(test)]
-mod fills;
-#[cfg(test)]
 mod kept;
 #[cfg(test)]
 mod making;
@@ -20,9 +18,5 @@ mod meeting;
 mod pair;
 #[cfg(test)]
 mod spare;
-#[cfg(test)]
-mod threads;
-#[cfg(test)]
-mod trial;
 #[cfg(test)]
 mod tried;

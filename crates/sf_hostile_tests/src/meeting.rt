@@ -31,9 +31,9 @@ impl Flags {
         }
     }
 
-    // Looks at the two flags until one is set, 10,000,000 times at most.
+    // Looks at the two flags until one is set, 1,000,000 times at most.
     fn wait(&self, flag: &AtomicBool, other: &AtomicBool) {
-        for _ in 0..10_000_000 {
+        for _ in 0..1_000_000 {
             if flag.load(Ordering::SeqCst) || other.load(Ordering::SeqCst) {
                 return;
             }

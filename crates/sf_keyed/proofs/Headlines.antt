@@ -1,19 +1,19 @@
 -- The headline follows from the legality of what the calls leave.
 use Rattle.std.proofs.Common.{◌≡◌, ◌≢◌, ℕ, Bool, true, false, cond, ◌||◌, eq-eqb, List, [], ◌∷◌, ◌++◌, Option, Some, None, refl, sym, ◌∙◌, ap, subst, append_assoc}
 use Rattle.std.proofs.lemmas.Bool.{true≢false}
-use Rattle.std.proofs.lemmas.List.Folds.{find-append, list_any-append}
+use Rattle.std.proofs.lemmas.List.Folds.{list_any-append}
 use Rattle.std.specs.Cmp.{nat_eq_equiv}
-use Rattle.std.specs.Prelude.{nat_eq, find, option_and_then}
-use Rattle.std.specs.Option.{option_or}
+use Rattle.std.specs.Prelude.{nat_eq}
 use Rattle.std.specs.List.{list_any}
 use Rattle.sf_history.specs.declared.call.CallId.{CallId}
 use Rattle.sf_history.specs.declared.event.Event.TheVariants.{Lead, Enter, Forget, Settle}
-use Rattle.sf_history.specs.History.{names, opens, open_call, keeps_current, current_call, settles, result_in, result_of}
+use Rattle.sf_history.specs.History.{names, opens, open_call, keeps_current, current_call, result_of}
 use Rattle.sf_history.specs.Legal.{MayFollow, IsLegal}
 use Rattle.sf_history.proofs.Currents.{past_calls_stay_past, open_call_is_current}
 use Rattle.sf_history.proofs.LegalHistories.{legal_front, legal_last, fold_push, open_named}
 use Rattle.sf_keyed_tells.specs.Tells.{KeyedEvent, call_of}
 use Rattle.sf_keyed_words.proofs.Results.{result_settled}
+use Rattle.sf_keyed_walks.proofs.Origins.{result_longer}
 use Rattle.sf_keyed.specs.Known.{FrontState}
 use Rattle.sf_keyed.specs.Calls.{AddsTo}
 use Rattle.sf_keyed.specs.Headline.{AnswersTheOneRun, EntersTheOpenCall, LeadsTheNewCall, NeverAForgottenCall, SettlesOnce, SharesWhatWasJoined, WasClosed}
@@ -95,14 +95,6 @@ shares_what_was_joined before after call told shared ended s =
     is_shared : (b : Bool) → (b ≡ false → ⊥) → b ≡ true
     is_shared true never = refl
     is_shared false never = absurd (never refl)
-
--- a result stays
-result_longer : (h more : List KeyedEvent) (c : CallId) (v : Option ℕ) → result_of h c ≡ Some v → result_of (h ++ more) c ≡ Some v
-result_longer h more c v is = ap (option_and_then result_in) (find-append (settles c) h more) ∙ at (find (settles c) h) (find (settles c) more) is
-  where
-    at : (o p : Option KeyedEvent) → option_and_then result_in o ≡ Some v → option_and_then result_in (option_or o p) ≡ Some v
-    at None p is = cc
-    at (Some x) p is = is
 
 abbrev value_in : Option (Option ℕ) → ℕ
 value_in (Some (Some n)) = n

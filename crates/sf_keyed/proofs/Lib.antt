@@ -1,3 +1,3 @@
 pub mod Joint
-mod Headlines
+pub mod Headlines
 pub mod Naming

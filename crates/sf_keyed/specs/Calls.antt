@@ -7,7 +7,8 @@ use Rattle.sf_history.specs.Legal.{IsLegal}
 use Rattle.sf_keyed_tells.specs.Tells.{KeyedEvent, call_of}
 use Rattle.sf_keyed.specs.Known.{FrontState, FlightState, IsGone}
 use Rattle.sf_keyed_words.specs.Plays.{WasForgotten}
-use Rattle.sf_keyed_words.specs.Rule.{IsPrefix}
+use Rattle.sf_keyed_words.specs.Rule.{slot_of, IsPrefix}
+use Rattle.sf_keyed_walks.specs.Walk.{IsLastOf}
 use Rattle.sf_keyed.specs.declared.group.Asked.{Asked}
 use Rattle.sf_keyed.specs.declared.group.Asked.TheVariants as asked
 use Rattle.sf_keyed.specs.declared.group.Claim.{Claim}
@@ -18,6 +19,8 @@ use Rattle.sf_keyed.specs.declared.group.Ended.{Ended}
 use Rattle.sf_keyed.specs.declared.group.Ended.TheVariants as ended
 use Rattle.sf_keyed.specs.declared.group.Passed.{Passed}
 use Rattle.sf_keyed.specs.declared.group.Passed.TheVariants as passed
+use Rattle.sf_keyed.specs.declared.group.Swept.{Swept}
+use Rattle.sf_keyed.specs.declared.group.Swept.TheVariants as swept
 use Rattle.sf_keyed.specs.declared.group.Settled.{Settled}
 use Rattle.sf_keyed.specs.declared.group.Settled.TheVariants as settled
 use Rattle.sf_keyed.specs.declared.group.Refusal.{Refusal}
@@ -76,6 +79,16 @@ pub record IsTaken (before after : FrontState) (ticket : FlightState) (value : �
   pub spare : after.spare ≡ before.spare
   pub result : result_of after.seen (call_of ticket.call) ≡ Some (Some value)
 
+-- how a look at a call ends that the caller holds: it has seen that the call was settled with the value, or that it was not settled
+abbrev pub IsLooked : FrontState → FrontState → FlightState → Option ℕ → Type 0
+IsLooked before after ticket (Some value) = IsTaken before after ticket value
+IsLooked before after ticket None = Sees before after × (after.spare ≡ before.spare) × (after.met.state / 2097152 % 2 ≡ 0)
+
+-- how a caller leaves a call: as the last holder of a settled one, which is told what that was settled with; or as another
+abbrev pub IsLeft : FrontState → FrontState → FlightState → Option ℕ → Type 0
+IsLeft before after ticket (Some value) = IsTaken before after ticket value × IsLastOf after.met.state
+IsLeft before after ticket None = Sees before after × (after.spare ≡ before.spare) × (IsLastOf after.met.state → ⊥)
+
 -- Why an asking was refused: in each try others changed a word between the load of it and the exchange; the top and all 16 side words of the slot named calls that were open; the
 -- top word said that the slot is sealed; the caller had no spare cell; or the name's open call had as many holders as its state word counts
 abbrev pub WhyRefused : FrontState → FrontState → ℕ → Refusal → Type 0
@@ -95,16 +108,27 @@ IsAsked before after name tries (asked.Refused why) = Stays before after × WhyR
 abbrev pub IsPassed : FrontState → FrontState → ℕ → ℕ → Passed → Type 0
 IsPassed before after name tries (passed.Joined ticket) = Joined before after name ticket.call × (ticket.group ≡ before.group) × (after.spare ≡ before.spare)
 IsPassed before after name tries passed.Gone = Sees before after × (open_call nat_eq after.seen name ≡ None) × IsGone after name × (after.spare ≡ before.spare)
-IsPassed before after name tries (passed.Refused why) = Stays before after × WhyRefused before after tries why
+IsPassed before after name tries passed.Busy = Stays before after × WhyRefused before after tries refusal.Busy
+IsPassed before after name tries passed.Crowded = Stays before after × WhyRefused before after tries refusal.Crowded
+
+-- each name of the slot is gone
+abbrev pub IsQuiet : FrontState → ℕ → Type 0
+IsQuiet f slot = (k : ℕ) → slot_of f.group.sizes k ≡ slot → IsGone f k
+
+-- how a sweep of a slot ends: what was seen goes on, and each name of the slot is gone; or nothing was done, since one of them may have an open call, or others changed a word first
+abbrev pub IsSwept : FrontState → FrontState → ℕ → Swept → Type 0
+IsSwept before after slot swept.Quiet = Sees before after × IsQuiet after slot × (after.spare ≡ before.spare)
+IsSwept before after slot swept.Open = Stays before after
+IsSwept before after slot swept.Busy = Stays before after × (before.met.lost < after.met.lost)
 
 -- a Forget of the name, by this caller, closes its open call
 abbrev pub Closes : FrontState → FrontState → ℕ → ℕ → Type 0
 Closes before after name call = AddsTo before after (event.Forget before.number name (Some (call_of call))) × (after.spare ≡ before.spare)
 
--- how a Forget of the name ends: its open call is closed; what was seen goes on, and has no open call of it at the end, or never again; or nothing was done, since in each try others changed a word first
+-- how a Forget of the name ends: its open call is closed; what was seen goes on, and has no open call of it at the end, where its slot's top word is not sealed, or never again; or nothing was done, since in each try others changed a word first
 abbrev pub IsForgotten : FrontState → FrontState → ℕ → ℕ → Forgotten → Type 0
 IsForgotten before after name tries (forgotten.Closed call) = Closes before after name call
-IsForgotten before after name tries forgotten.Nothing = Sees before after × (open_call nat_eq after.seen name ≡ None) × (after.spare ≡ before.spare)
+IsForgotten before after name tries forgotten.Nothing = Sees before after × (open_call nat_eq after.seen name ≡ None) × (after.met.top / 2 % 2 ≡ 0) × (after.spare ≡ before.spare)
 IsForgotten before after name tries forgotten.Gone = Sees before after × (open_call nat_eq after.seen name ≡ None) × IsGone after name × (after.spare ≡ before.spare)
 IsForgotten before after name tries forgotten.Busy = Stays before after × (before.met.lost + tries ≤ after.met.lost)
 

@@ -3,13 +3,14 @@ ghost use Rattle.std.specs.Prelude.{◌≡◌, ◌≢◌, ℕ, None, nat_eq, ◌
 ghost use Rattle.sf_history.specs.History.{open_call};
 ghost use Rattle.sf_history.specs.Legal.{IsLegal};
 ghost use Rattle.sf_keyed.specs.Known.{IsGone};
-ghost use Rattle.sf_keyed_words.specs.Rule.{number, word_total, joined_bit, is_forgotten, IsPrefix};
+ghost use Rattle.sf_keyed_words.specs.Rule.{number, slot_of, word_total, joined_bit, is_forgotten, IsPrefix};
 ghost use Rattle.sf_keyed_walks.specs.Walk.{IsLaid};
-ghost use Rattle.sf_keyed.specs.Calls.{IsAsked, IsClaimed, IsEnded, IsForgotten, IsPassed, IsSettled, IsTaken, Sees};
+ghost use Rattle.sf_keyed.specs.Calls.{IsAsked, IsClaimed, IsEnded, IsForgotten, IsLeft, IsLooked, IsPassed, IsSettled, IsSwept, IsTaken, Sees};
 
 use atomic_table::Table;
-use sf_keyed_walks::answer::{leave_call, settle_call, take};
+use sf_keyed_walks::answer::{leave_call, look, settle_call, take};
 use sf_keyed_walks::often;
+use sf_keyed_walks::walk::{slot_of as the_slot_of, sweep_once};
 use sf_keyed_words::moving::{join_flight, join_note, join_ticket, split_flight, split_ticket};
 use sf_keyed_words::opening::{enter, number_as, open, share};
 use sf_keyed_words::steps::{KeyedSeat, claim, look_cell};
@@ -158,8 +159,21 @@ pub enum Passed {
     Joined(Ticket),
     /// The name has no open call, and never has one again in this group.
     Gone,
-    /// Neither, and nothing was done.
-    Refused(Refusal),
+    /// In each try others changed a word between its load and the exchange, and nothing was done.
+    Busy,
+    /// The name's open call has 1,048,575 holders, which is as many as can be counted, and nothing was done.
+    Crowded,
+}
+
+/// How a sweep of a hash slot ended, in a group that has grown.
+#[derive(Clone, Copy, Debug, PartialEq, Eq)]
+pub enum Swept {
+    /// No name of the slot has an open call, and none ever has one again in this group.
+    Quiet,
+    /// A name of the slot may have an open call, and nothing was done.
+    Open,
+    /// Others changed a word between its load and the exchange, and nothing was done.
+    Busy,
 }
 
 /// How a claim of a cell ended.
@@ -176,6 +190,7 @@ pub enum Claim {
 }
 
 /// The callers that are told of a Settle.
+#[repr(C)]
 #[derive(Clone, Copy, Debug, PartialEq, Eq)]
 pub struct Audience {
     /// How many callers hold the call: its leader, and all that have joined and not left.
@@ -236,6 +251,21 @@ fn told_by(state: u64) -> Audience
 }
 
 impl KeyedGroup {
+    /// How many hash slots it has.
+    pub fn slots(&self) -> u64
+        ensures slots { result ≡ self.now.sizes.tops }
+        ensures within { (k : ℕ) → slot_of self.now.sizes k < result }
+    {
+        self.sizes.tops
+    }
+
+    /// The hash slot of a name, counted from 0.
+    pub fn slot(&self, name: Name) -> u64
+        ensures { (result ≡ slot_of self.now.sizes (number name)) × (result < self.now.sizes.tops) }
+    {
+        the_slot_of(self.sizes, name)
+    }
+
     /// A group of these sizes, and its first caller, whose number is 0. Refused where there is no memory.
     pub fn new(alloc: Global, sizes: KeyedSizes) -> Result<(KeyedGroup, Front), AllocError>
         requires tops { (0 < sizes.tops) × (sizes.tops ≤ 4294967296) × (sizes.tops ≤ sizes.sides * 4) }
@@ -288,8 +318,22 @@ impl KeyedGroup {
                 Passed::Joined(Ticket { seat, call })
             }
             sf_keyed_walks::walk::Passed::Gone => Passed::Gone,
-            sf_keyed_walks::walk::Passed::Busy => Passed::Refused(Refusal::Busy),
-            sf_keyed_walks::walk::Passed::Crowded => Passed::Refused(Refusal::Crowded),
+            sf_keyed_walks::walk::Passed::Busy => Passed::Busy,
+            sf_keyed_walks::walk::Passed::Crowded => Passed::Crowded,
+        }
+    }
+
+    /// Seals a hash slot of a group that has grown, where none of its names has an open call: none ever has one again in this group. Slots are
+    /// counted from 0.
+    pub fn sweep(&self, me: &mut Front, slot: u64) -> Swept
+        requires own { me.old.group ≡ self.now }
+        requires slot { slot < self.now.sizes.tops }
+        ensures { IsSwept me.old me.new slot result }
+    {
+        match sweep_once(&self.table.shared, &mut me.seat, self.sizes, slot) {
+            sf_keyed_walks::walk::Swept::Quiet => Swept::Quiet,
+            sf_keyed_walks::walk::Swept::Open => Swept::Open,
+            sf_keyed_walks::walk::Swept::Busy => Swept::Busy,
         }
     }
 
@@ -385,6 +429,27 @@ impl KeyedGroup {
         }
     }
 
+    /// What the ticket's call was settled with, and the ticket, by which the caller holds the call still; none where it is not settled yet.
+    pub fn look(&self, me: &mut Front, ticket: Ticket) -> (Option<u64>, Ticket)
+        requires own { (me.old.group ≡ self.now) × (ticket.group ≡ self.now) }
+        ensures held { result.1 ≡ ticket }
+        ensures looked { IsLooked me.old me.new ticket result.0 }
+    {
+        let words = &self.table.shared;
+        let Ticket { seat, call } = ticket;
+        join_ticket(words, &mut me.seat, seat);
+        match look(words, &mut me.seat, self.sizes, call) {
+            Some(value) => {
+                let seat = split_ticket(words, &mut me.seat);
+                (Some(value), Ticket { seat, call })
+            }
+            None => {
+                let seat = split_ticket(words, &mut me.seat);
+                (None, Ticket { seat, call })
+            }
+        }
+    }
+
     /// What the ticket's call was settled with. The ticket comes back where the call is not settled yet.
     pub fn take(&self, me: &mut Front, ticket: Ticket) -> Result<u64, Ticket>
         requires own { (me.old.group ≡ self.now) × (ticket.group ≡ self.now) }
@@ -403,15 +468,19 @@ impl KeyedGroup {
         }
     }
 
-    /// Gives up the ticket: its holder needs no value.
-    pub fn leave(&self, me: &mut Front, ticket: Ticket)
+    /// Gives up the ticket, whether the call is settled or not. The last holder of a settled call is told what that was settled with, and nobody else
+    /// is told so: what the value names can be given up with it.
+    pub fn leave(&self, me: &mut Front, ticket: Ticket) -> Option<u64>
         requires own { (me.old.group ≡ self.now) × (ticket.group ≡ self.now) }
-        ensures { Sees me.old me.new × (me.new.spare ≡ me.old.spare) }
+        ensures { IsLeft me.old me.new ticket result }
     {
         let words = &self.table.shared;
         let Ticket { seat, call } = ticket;
         join_ticket(words, &mut me.seat, seat);
-        leave_call(words, &mut me.seat, self.sizes, call);
+        match leave_call(words, &mut me.seat, self.sizes, call) {
+            Some(value) => Some(value),
+            None => None,
+        }
     }
 
     /// Another caller, which has seen what this one has, and has no cell to spare. Its Forgets are by this number, by which they are told

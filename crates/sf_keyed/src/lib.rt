@@ -11,7 +11,7 @@ pub mod names;
 
 pub use group::{
     Asked, Audience, Claim, Ended, Flight, Forgotten, Front, KeyedGroup, Note, Passed, Refusal,
-    Settled, Ticket,
+    Settled, Swept, Ticket,
 };
 pub use names::Names;
 pub use sf_keyed_words::{KeyedSizes, Name};

@@ -1,14 +1,37 @@
 -- Each step on the ages keeps their rule.
-use Rattle.std.proofs.Common.{◌≡◌, ◌≢◌, ℕ, zero, suc, ◌+◌, ◌==◌, ◌<◌, ◌≤◌, List, ◌∷◌, [], ◌++◌, get_or, set, length, sym, refl, ◌∙◌, subst, ap, arith, length-set, get_or-set_same, get_or-set_other, ⊎_elim}
+use Rattle.std.proofs.Common.{◌⊎◌, ◌≡◌, ◌≢◌, ℕ, zero, suc, ◌+◌, ◌==◌, ◌<◌, ◌≤◌, Bool, true, false, ◌&&◌, ◌||◌, eqb, List, ◌∷◌, [], get_or, set, length, sym, refl, ◌∙◌, subst, ap, arith, length-set, get_or-set_same, get_or-set_other, inl, inr, ⊎_elim}
+use Rattle.std.proofs.lemmas.Bool.{true≢false, and_from, eq-eqb, eqb-true, or_left, or_right}
+use Rattle.std.specs.List.{list_any}
 use mathlib.Core.Logic.{dite}
 use mathlib.Core.Option.{none, some, some-injective, some-ne-none}
 use native.Mathlib.Decide.{ℕ_discrete}
 use prog.Atomic.{either}
 use lib.ListN.{get_elem?}
-use Rattle.atomic_table.specs.Table.{State, Me, Act, step, keeps, Valid, stepped, Allows, Enters, Splits, opening, carried_after}
+use Rattle.atomic_table.specs.Table.{State, Me, Act, step, keeps, Valid, stepped, Allows, Enters, opening, carried_after}
 use Rattle.atomic_table.proofs.Lists.{at_set, at_snoc, exchanged}
 use Rattle.sf_keyed_ages.specs.declared.rule.Known.{Known}
-use Rattle.sf_keyed_ages.specs.Rule.{known, HoldsAges, sits, sees, ends}
+use Rattle.sf_keyed_ages.specs.Rule.{Has, HoldsAges, nothing, with_fact, sits, sees, ends}
+
+-- facts, one by one
+or_parts : (x y : Bool) → (x || y) ≡ true → (x ≡ true) ⊎ (y ≡ true)
+or_parts true y e = inl refl
+or_parts false y e = inr e
+
+and_parts : (x y : Bool) → (x && y) ≡ true → (x ≡ true) × (y ≡ true)
+and_parts true y e = (refl, e)
+and_parts false y e = absurd (true≢false (sym e))
+
+pub has_first : (v : Known) (slot age : ℕ) → Has (with_fact v slot age).facts slot age
+has_first v slot age = or_left (eqb slot slot && eqb age age) _ (and_from (eqb slot slot) (eqb age age) (eq-eqb slot slot refl) (eq-eqb age age refl))
+
+pub has_more : (v : Known) (slot age i n : ℕ) → Has v.facts i n → Has (with_fact v slot age).facts i n
+has_more v slot age i n has = or_right (eqb slot i && eqb age n) (list_any (λ f. eqb f.slot i && eqb f.age n) v.facts) has
+
+pub has_either : (v : Known) (slot age i n : ℕ) → Has (with_fact v slot age).facts i n → ((slot ≡ i) × (age ≡ n)) ⊎ Has v.facts i n
+has_either v slot age i n has = ⊎_elim
+    (λ (here : (eqb slot i && eqb age n) ≡ true). let p = and_parts (eqb slot i) (eqb age n) here in inl (eqb-true slot i p.0, eqb-true age n p.1))
+    inr
+    (or_parts (eqb slot i && eqb age n) (list_any (λ f. eqb f.slot i && eqb f.age n) v.facts) has)
 
 -- a word that becomes no less
 raised : (ws : List ℕ) (i n j : ℕ) → i < length ws → get_or ws i 0 ≤ n → get_or ws j 0 ≤ get_or (set ws i n) j 0
@@ -17,70 +40,79 @@ raised ws i n j within more = dite (ℕ_discrete j i)
     let was : get_or ws j 0 ≡ get_or ws i 0 = ap (λ k. get_or ws k 0) same in omega (arith, now, was, more))
     (λ apart. let now = get_or-set_other ws i j n 0 apart in omega (arith, now))
 
-at_opening : (ws : List ℕ) (id : ℕ) (v : Known) → get_elem? (known 0 0 ∷ []) id ≡ some v → v.age ≤ get_or ws v.slot 0
-at_opening ws zero v e = subst (λ (x : Known). x.age ≤ get_or ws x.slot 0) (some-injective (known 0 0) v e) (omega arith)
+-- what a seat knows is so
+abbrev pub IsSo : List ℕ → Known → Type 0
+IsSo ws v = (slot age : ℕ) → Has v.facts slot age → age ≤ get_or ws slot 0
+
+none_so : (ws : List ℕ) → IsSo ws nothing
+none_so ws slot age has = absurd (true≢false (sym has))
+
+at_opening : (ws : List ℕ) (id : ℕ) (v : Known) → get_elem? (nothing ∷ []) id ≡ some v → IsSo ws v
+at_opening ws zero v e = subst (IsSo ws) (some-injective nothing v e) (none_so ws)
 at_opening ws (suc id) v e = absurd (some-ne-none v (sym e))
 
-pub opens : (slots : ℕ) (ws : List ℕ) → length ws ≡ slots → HoldsAges slots (opening ws [] (known 0 0))
+pub opens : (slots : ℕ) (ws : List ℕ) → length ws ≡ slots → HoldsAges slots (opening ws [] nothing)
 opens slots ws size = record { size = size; grown = at_opening ws }
+
+-- a fact more
+so_more : (ws : List ℕ) (v : Known) (i n : ℕ) → IsSo ws v → n ≤ get_or ws i 0 → IsSo ws (with_fact v i n)
+so_more ws v i n so here slot age has = ⊎_elim
+    (λ (p : (i ≡ slot) × (n ≡ age)). subst (λ k. age ≤ get_or ws k 0) p.0 (subst (λ k. k ≤ get_or ws i 0) p.1 here))
+    (λ (more : Has v.facts slot age). so slot age more)
+    (has_either v i n slot age has)
 
 module _ (slots : ℕ) where
   -- one word becomes no less, and one seat knows something that is so
-  pub grows : (s : State (Unit {0}) Known) (i n id : ℕ) (w : Known) → HoldsAges slots s → i < slots → get_or s.words i 0 ≤ n → w.age ≤ get_or (set s.words i n) w.slot 0
+  pub grows : (s : State (Unit {0}) Known) (i n id : ℕ) (w : Known) → HoldsAges slots s → i < slots → get_or s.words i 0 ≤ n → IsSo (set s.words i n) w
       → HoldsAges slots (record { words = set s.words i n; homes = s.homes; views = set s.views id w })
   grows s i n id w b within more so = record {
     size = length-set s.words i n ∙ b.size;
     grown = λ k u e. ⊎_elim
-        (λ (t : (k ≡ id) × (w ≡ u)). subst (λ (x : Known). x.age ≤ get_or (set s.words i n) x.slot 0) t.1 so)
-        (λ (t : (k ≢ id) × (get_elem? s.views k ≡ some u)).
-        let was = b.grown k u t.1 in
-        let up = raised s.words i n u.slot (omega (arith, b.size)) more in omega (arith, was, up))
+        (λ (t : (k ≡ id) × (w ≡ u)). subst (IsSo (set s.words i n)) t.1 so)
+        (λ (t : (k ≢ id) × (get_elem? s.views k ≡ some u)) slot age has.
+        let was = b.grown k u t.1 slot age has in
+        let up = raised s.words i n slot (omega (arith, b.size)) more in omega (arith, was, up))
         (at_set s.views id k w u e);
   }
 
-  pub sits_at : (z i : ℕ) → Enters (HoldsAges slots) z i (λ n w. sits (step z i 0 0 none) (known 0 0, []) n (w, []))
+  pub sits_at : (z i : ℕ) → Enters (HoldsAges slots) z i (λ n w. sits (step z i 0 0 none) (nothing, []) n (w, []))
   sits_at z i s b wide small = (
-    known i (get_or s.words i 0),
+    nothing,
     record {
       size = b.size;
       grown = λ k u e. ⊎_elim
           (λ (t : get_elem? s.views k ≡ some u). b.grown k u t)
-          (λ (t : known i (get_or s.words i 0) ≡ u). subst (λ (x : Known). x.age ≤ get_or s.words x.slot 0) t (omega arith))
-          (at_snoc s.views (known i (get_or s.words i 0)) u k e);
+          (λ (t : nothing ≡ u). subst (IsSo s.words) t (none_so s.words))
+          (at_snoc s.views nothing u k e);
     },
     refl,
   )
 
-  pub sees_at : (z id i : ℕ) (me : Me (Unit {0}) Known) → me.0.slot ≡ i → i < slots
-      → Allows (HoldsAges slots) z id me i (λ n. n) (sees (step z i 0 0 none) me)
-  sees_at z id i me is within s b wide at small =
+  pub sees_at : (z id i : ℕ) (me : Me (Unit {0}) Known) → i < slots → Allows (HoldsAges slots) z id me i (λ n. n) (sees (step z i 0 0 none) me)
+  sees_at z id i me within s b wide at small =
       let word : ℕ = get_or s.words i 0 in
-      let w : Known = known me.0.slot word in
+      let w : Known = with_fact me.0 i word in
       let here : get_or (set s.words i word) i 0 ≡ word = get_or-set_same s.words i word 0 (omega (arith, b.size)) in
-      let known_is : get_or (set s.words i word) me.0.slot 0 ≡ word = ap (λ k. get_or (set s.words i word) k 0) is ∙ here in
-      let was : me.0.age ≤ word = subst (λ k. me.0.age ≤ get_or s.words k 0) is (b.grown id me.0 at) in
-      (w, keeps, tt, grows s i word id w b within (omega arith) (omega (arith, known_is)), (refl, was))
+      let so : IsSo (set s.words i word) me.0 = λ slot age has.
+      let was = b.grown id me.0 at slot age has in
+      let up = raised s.words i word slot (omega (arith, b.size)) (omega arith) in omega (arith, was, up) in
+      (w, keeps, tt, grows s i word id w b within (omega arith) (so_more (set s.words i word) me.0 i word so (omega (arith, here))), (refl, b.grown id me.0 at i))
 
-  pub ends_at : (z id i old new : ℕ) (me : Me (Unit {0}) Known) → me.0.slot ≡ i → i < slots → me.0.age ≡ old → new ≡ old + 1
+  pub ends_at : (z id i old new : ℕ) (me : Me (Unit {0}) Known) → i < slots → Has me.0.facts i old → new ≡ old + 1
       → Allows (HoldsAges slots) z id me i (λ n. either (n == old) new n) (ends (step z i old new none) me)
-  ends_at z id i old new me is within age next s b wide at small =
+  ends_at z id i old new me within has next s b wide at small =
       let word : ℕ = get_or s.words i 0 in
-      let w : Known = known me.0.slot (me.0.age + 1) in
-      let was : me.0.age ≤ word = subst (λ k. me.0.age ≤ get_or s.words k 0) is (b.grown id me.0 at) in
+      let w : Known = with_fact me.0 i new in
+      let was : old ≤ word = b.grown id me.0 at i old has in
       let F : ℕ → Type 0 = λ x. (u : Known) × (a : Act (Unit {0})) × Valid s.homes me.1 a × HoldsAges slots (stepped s i x id me.1 u a) × ends (step z i old new none) me word (u, carried_after me.1 a) in
-      let there : (n : ℕ) → get_or (set s.words i n) me.0.slot 0 ≡ n = λ n. ap (λ k. get_or (set s.words i n) k 0) is ∙ get_or-set_same s.words i n 0 (omega (arith, b.size)) in
+      let there : (n : ℕ) → get_or (set s.words i n) i 0 ≡ n = λ n. get_or-set_same s.words i n 0 (omega (arith, b.size)) in
+      let so : (n : ℕ) → word ≤ n → IsSo (set s.words i n) me.0 = λ n more slot age known.
+      let before = b.grown id me.0 at slot age known in
+      let up = raised s.words i n slot (omega (arith, b.size)) more in omega (arith, before, up) in
       exchanged word old new F
-      (λ hit. let t = there new in (w, keeps, tt, grows s i new id w b within (omega arith) (omega (arith, t)), (refl, refl)))
-      (λ miss. let t = there word in (w, keeps, tt, grows s i word id w b within (omega arith) (grind (arith, t, was, age, miss)), (refl, refl)))
-
-  pub tells : (id : ℕ) (v : Known) → Splits (HoldsAges slots) id v v v
-  tells id v s b at = record {
-    size = b.size;
-    grown = λ k u e. ⊎_elim
-        (λ (t : get_elem? (set s.views id v) k ≡ some u). ⊎_elim
-        (λ (q : (k ≡ id) × (v ≡ u)). subst (λ (x : Known). x.age ≤ get_or s.words x.slot 0) q.1 (b.grown id v at))
-        (λ (q : (k ≢ id) × (get_elem? s.views k ≡ some u)). b.grown k u q.1)
-        (at_set s.views id k v u t))
-        (λ (t : v ≡ u). subst (λ (x : Known). x.age ≤ get_or s.words x.slot 0) t (b.grown id v at))
-        (at_snoc (set s.views id v) v u k e);
-  }
+      (λ hit. let t = there new in
+      let up : word ≤ new = omega (arith, hit, next) in
+      (w, keeps, tt, grows s i new id w b within up (so_more (set s.words i new) me.0 i new (so new up) (omega (arith, t))), (refl, λ miss. absurd (miss hit))))
+      (λ miss. let t = there word in
+      let up : new ≤ word = grind (arith, was, next, miss) in
+      (w, keeps, tt, grows s i word id w b within (omega arith) (so_more (set s.words i word) me.0 i new (so word (omega arith)) (omega (arith, t, up))), (refl, λ _. up)))

@@ -1,23 +1,29 @@
 //! The rule of the table of ages. No value of these types is made.
-use atomic_table::{Play, Split, TableRule};
+use atomic_table::{Play, TableRule};
+use std::collections::LinkedList;
 
-/// What a seat knows: that the slot's age was this once, so that it is no less now.
-pub struct Known {
+/// That a slot's age was this once, so that it is no less now.
+pub struct Fact {
     pub slot: u64,
     pub age: u64,
+}
+
+/// What a seat knows.
+pub struct Known {
+    pub facts: LinkedList<Fact>,
 }
 
 pub struct Law;
 
 impl TableRule<(), Known, u64> for Law {
-    ghost use Rattle.sf_keyed_ages.specs.Rule.{HoldsAges, known};
+    ghost use Rattle.sf_keyed_ages.specs.Rule.{HoldsAges, nothing};
 
     ghost holds = { HoldsAges };
 
-    ghost first = { λ slots. known 0 0 };
+    ghost first = { λ slots. nothing };
 }
 
-/// A new seat sits down at a slot.
+/// A new seat sits down, which knows nothing.
 pub struct Sits;
 
 impl Play<(), Known> for Sits {
@@ -42,13 +48,4 @@ impl Play<(), Known> for Ends {
     ghost use Rattle.sf_keyed_ages.specs.Rule.{ends};
 
     ghost then = { ends };
-}
-
-/// A second seat that knows as much.
-pub struct Tells;
-
-impl Split<Known> for Tells {
-    ghost left = { λ v. v };
-
-    ghost right = { λ v. v };
 }

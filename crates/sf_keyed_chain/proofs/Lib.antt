@@ -1,2 +1,4 @@
 pub mod Later
 pub mod Sights
+pub mod Ends
+pub mod Headlines

@@ -5,8 +5,11 @@
 
 mod chain;
 mod front;
+pub mod laws;
+mod level;
 mod sizes;
 
-pub use chain::{Flight, Forgotten, KeyedChain, LEVELS, Reply, Ticket};
+pub use chain::{Flight, Forgotten, KeyedChain, LEVELS, Reply, Settled, Stamp, Ticket};
 pub use front::{ChainFront, Part};
+pub use level::Level;
 pub use sizes::{larger, sizes_of};

@@ -8,4 +8,6 @@ mod chains;
 #[cfg(test)]
 mod passes;
 #[cfg(test)]
+mod schedules;
+#[cfg(test)]
 mod tests;

@@ -31,7 +31,8 @@ fn is_gone(group: &KeyedGroup, me: &mut Front, name: Name) -> bool
             group.leave(me, ticket);
             false
         }
-        Passed::Refused(_) => false,
+        Passed::Busy => false,
+        Passed::Crowded => false,
     }
 }
 

@@ -2,11 +2,12 @@
 use Rattle.std.specs.Prelude.{◌≡◌, ◌≢◌, ℕ, ◌+◌, ◌*◌, ◌/◌, ◌%◌, ◌<◌, ◌≤◌, ◌^◌, ◌++◌, nat_eq, Bool, true, false, Option, None, Some}
 use Rattle.sf_history.specs.declared.call.CallId.{CallId}
 use Rattle.sf_history.specs.declared.event.Event.TheVariants as event
+use Rattle.sf_history.specs.Legal.{IsLegal}
 use Rattle.sf_history.specs.History.{open_call, result_of}
 use Rattle.sf_keyed_tells.specs.Tells.{call_of}
 use Rattle.sf_keyed_words.specs.declared.rule.KeyedSizes.{KeyedSizes}
 use Rattle.sf_keyed_words.specs.declared.rule.View.{View}
-use Rattle.sf_keyed_words.specs.Rule.{is_gone, is_open_call, number, slot_of, word_total, Unmet}
+use Rattle.sf_keyed_words.specs.Rule.{IsPrefix, is_gone, is_open_call, number, slot_of, word_total, Unmet}
 use Rattle.sf_keyed_words.specs.Plays.{Adds, Grows, WasForgotten, met_closed, met_open, read_low, read_high}
 use Rattle.sf_keyed_walks.specs.declared.walk.Walked.{Walked}
 use Rattle.sf_keyed_walks.specs.declared.walk.Look.{Look}
@@ -172,6 +173,20 @@ pub record HasTaken (v w : View) (call value : ℕ) : Type 0 where
   pub result : result_of w.seen (call_of call) ≡ Some (Some value)
   pub gone : w.gone ≡ v.gone
 
+-- the seat knows what the call was settled with, and is its holder still
+pub record HasRead (v w : View) (call value : ℕ) : Type 0 where
+  pub sizes : w.sizes ≡ v.sizes
+  pub number : w.number ≡ v.number
+  pub own_is : w.own ≡ v.own
+  pub leads : w.leads ≡ v.leads
+  pub grows : Grows v w
+  pub result : result_of w.seen (call_of call) ≡ Some (Some value)
+  pub gone : w.gone ≡ v.gone
+
+-- of a settled call, whose state this is, there is one holder
+abbrev pub IsLastOf : ℕ → Type 0
+IsLastOf state = (state % 1048576 ≡ 1) × (state / 2097152 % 2 ≡ 1)
+
 -- the seat is a holder no more
 pub record HasLeft (v w : View) : Type 0 where
   pub sizes : w.sizes ≡ v.sizes
@@ -179,7 +194,8 @@ pub record HasLeft (v w : View) : Type 0 where
   pub own_is : w.own ≡ v.own
   pub leads : w.leads ≡ v.leads
   pub ticket : w.ticket ≡ 0
-  pub seen : w.seen ≡ v.seen
+  pub seen : IsPrefix v.seen w.seen
+  pub legal : IsLegal nat_eq v.seen → IsLegal nat_eq w.seen
   pub gone : w.gone ≡ v.gone
 
 -- whatever a walk found, the calls of the seat are as before
@@ -190,3 +206,16 @@ pub record KeepsCalls (v w : View) : Type 0 where
   pub leads : w.leads ≡ v.leads
   pub ticket : w.ticket ≡ v.ticket
   pub gone : GoneLasts v w
+
+-- the seat has seen more, and each name of the slot that the walk did not meet is gone
+pub record HasSealed (v w : View) (slot : ℕ) : Type 0 where
+  pub keeps : KeepsCalls v w
+  pub grows : Grows v w
+  pub none : (k : ℕ) → slot_of w.sizes k ≡ slot → Unmet v.names k → open_call nat_eq w.seen k ≡ None
+  pub all : (k : ℕ) → slot_of w.sizes k ≡ slot → Unmet v.names k → IsGone w k
+
+-- the seat has seen more, and each name of the slot is gone
+pub record HasSwept (v w : View) (slot : ℕ) : Type 0 where
+  pub keeps : KeepsCalls v w
+  pub grows : Grows v w
+  pub all : (k : ℕ) → slot_of w.sizes k ≡ slot → IsGone w k

@@ -1,11 +1,14 @@
 //! What a leader and a holder do when the run is over.
 ghost use Rattle.std.specs.Prelude.{◌≡◌, ◌≢◌, ◌+◌, ◌/◌, ◌%◌, ◌<◌, ◌^◌, ℕ, true, false, Some, None};
+ghost use Rattle.sf_history.specs.History.{result_of};
+ghost use Rattle.sf_keyed_tells.specs.Tells.{call_of};
 ghost use Rattle.sf_keyed_words.specs.Rule.{joined_bit, is_forgotten};
-ghost use Rattle.sf_keyed_walks.specs.Walk.{IsLaid, Stays, HasSettled, HasTaken, HasLeft};
+ghost use Rattle.sf_keyed_walks.specs.Walk.{IsLaid, Stays, HasSettled, HasRead, HasTaken, HasLeft, IsLastOf};
 
 use sf_keyed_words::KeyedSizes;
 use sf_keyed_words::steps::{
-    KeyedSeat, Words, give_back, leave, settle, settle_alone, store_value, value_of, wait,
+    KeyedSeat, Words, give_back, last_value_of, leave, settle, settle_alone, store_value, value_of,
+    wait,
 };
 
 // The generation that a cell's last call but one has.
@@ -61,7 +64,24 @@ pub fn settle_shared(
     settle(words, seat, cell)
 }
 
-/// What the call was settled with; none where it is not settled yet. The cell is free again if the seat was the last holder.
+/// What the call was settled with; none where it is not settled yet. The seat is its holder still.
+pub fn look(words: &Words, seat: &mut KeyedSeat, sizes: KeyedSizes, call: u64) -> Option<u64>
+    requires own { seat.old.table_id ≡ words.now.table_id }
+    requires laid { IsLaid words.now.key words.now.table_id.words sizes }
+    requires ticket { (seat.old.me.0.ticket ≡ call) × (call ≢ 0) × (call < 2 ^ 61) × (call % 1048576 < sizes.cells) }
+    ensures own { seat.new.table_id ≡ seat.old.table_id }
+    ensures held { seat.new.me.0.ticket ≡ call }
+    ensures looked { (value : ℕ) → result ≡ Some value → HasRead seat.old.me.0 seat.new.me.0 call value }
+    ensures pending { result ≡ None → Stays seat.old.me.0 seat.new.me.0 × (seat.new.me.0.state / 2097152 % 2 ≡ 0) }
+{
+    let at = sizes.tops + sizes.sides + 8 * (call % 1_048_576);
+    if wait(words, seat, at) / 2_097_152 % 2 != 1 {
+        return None;
+    }
+    Some(value_of(words, seat, at + 3))
+}
+
+/// What the call was settled with; none where it is not settled yet. Where it is, the seat is its holder no more.
 pub fn take(words: &Words, seat: &mut KeyedSeat, sizes: KeyedSizes, call: u64) -> Option<u64>
     requires own { seat.old.table_id ≡ words.now.table_id }
     requires laid { IsLaid words.now.key words.now.table_id.words sizes }
@@ -70,30 +90,28 @@ pub fn take(words: &Words, seat: &mut KeyedSeat, sizes: KeyedSizes, call: u64) -
     ensures taken { (value : ℕ) → result ≡ Some value → HasTaken seat.old.me.0 seat.new.me.0 call value }
     ensures pending { result ≡ None → Stays seat.old.me.0 seat.new.me.0 × (seat.new.me.0.state / 2097152 % 2 ≡ 0) }
 {
-    let at = sizes.tops + sizes.sides + 8 * (call % 1_048_576);
-    if wait(words, seat, at) / 2_097_152 % 2 != 1 {
-        return None;
-    }
-    let value = value_of(
-        words,
-        seat,
-        sizes.tops + sizes.sides + 8 * (call % 1_048_576) + 3,
-    );
+    let value = look(words, seat, sizes, call)?;
     leave_call(words, seat, sizes, call);
     Some(value)
 }
 
-/// Is a holder of the call no more, settled or not. The cell is free again if the seat was the last holder of a settled call.
-pub fn leave_call(words: &Words, seat: &mut KeyedSeat, sizes: KeyedSizes, call: u64)
+/// Is a holder of the call no more, settled or not. Where the seat was the last holder of a settled call, it returns what that was settled with, and the
+/// cell is free again.
+pub fn leave_call(words: &Words, seat: &mut KeyedSeat, sizes: KeyedSizes, call: u64) -> Option<u64>
     requires own { seat.old.table_id ≡ words.now.table_id }
     requires laid { IsLaid words.now.key words.now.table_id.words sizes }
     requires ticket { (seat.old.me.0.ticket ≡ call) × (call ≢ 0) × (call < 2 ^ 61) × (call % 1048576 < sizes.cells) }
     ensures own { seat.new.table_id ≡ seat.old.table_id }
     ensures left { HasLeft seat.old.me.0 seat.new.me.0 }
+    ensures last { (value : ℕ) → result ≡ Some value → IsLastOf seat.new.me.0.state × (result_of seat.new.me.0.seen (call_of call) ≡ Some (Some value)) }
+    ensures others { result ≡ None → IsLastOf seat.new.me.0.state → ⊥ }
 {
     let at = sizes.tops + sizes.sides + 8 * (call % 1_048_576);
     let state = leave(words, seat, at);
-    if state % 1_048_576 == 1 && state / 2_097_152 % 2 == 1 {
-        give_back(words, seat, at, call / 1_048_576 * 8_388_608);
+    if state % 1_048_576 != 1 || state / 2_097_152 % 2 != 1 {
+        return None;
     }
+    let value = last_value_of(words, seat, at + 3);
+    give_back(words, seat, at, call / 1_048_576 * 8_388_608);
+    Some(value)
 }

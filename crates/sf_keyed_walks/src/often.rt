@@ -25,7 +25,7 @@ pub fn forget_often(
     requires sizes { seat.old.me.0.sizes ≡ sizes }
     ensures own { seat.new.table_id ≡ seat.old.table_id }
     ensures closed { (call : ℕ) → result ≡ closing.Closed call → HasClosed seat.old.me.0 seat.new.me.0 call (number name) × ((wanted : ℕ) → only ≡ Some wanted → call ≡ wanted) }
-    ensures nothing { result ≡ closing.Nothing → HasNone seat.old.me.0 seat.new.me.0 (number name) }
+    ensures nothing { result ≡ closing.Nothing → HasNone seat.old.me.0 seat.new.me.0 (number name) × (seat.new.me.0.found / 2 % 2 ≡ 0) }
     ensures gone { result ≡ closing.Gone → HasNone seat.old.me.0 seat.new.me.0 (number name) × IsGone seat.new.me.0 (number name) }
     ensures other { (call : ℕ) → result ≡ closing.Other call → HasOther seat.old.me.0 seat.new.me.0 call (number name) only × (only ≢ None) }
     ensures busy { result ≡ closing.Busy → Stays seat.old.me.0 seat.new.me.0 × (seat.old.me.0.lost + tries ≤ seat.new.me.0.lost) }

@@ -2,12 +2,13 @@
 ghost use Rattle.std.specs.Prelude.{◌≡◌, ◌≢◌, ◌+◌, ◌/◌, ◌%◌, ◌<◌, ◌≤◌, ◌^◌, ℕ, true, false, Some, None};
 ghost use Rattle.sf_keyed_words.specs.Rule.{is_open_call, number};
 ghost use Rattle.sf_keyed_words.specs.Rule.{slot_of as the_slot_of};
-ghost use Rattle.sf_keyed_walks.specs.Walk.{IsLaid, Examined, Stays, HasLooked, MetNone, Shown, Began, WentThrough, HasMet, HasLed, HasJoined, HasClosed, HasNone, HasOther, IsGone, KeepsCalls};
+ghost use Rattle.sf_keyed_walks.specs.Walk.{IsLaid, Examined, Stays, HasLooked, MetNone, Shown, Began, WentThrough, HasMet, HasLed, HasJoined, HasClosed, HasNone, HasOther, HasSealed, HasSwept, IsGone, KeepsCalls};
 ghost use Rattle.sf_keyed_walks.specs.declared.walk.Walked.{Walked as WalkedFields};
 ghost use Rattle.sf_keyed_walks.specs.declared.walk.Way.TheVariants as way;
 ghost use Rattle.sf_keyed_walks.specs.declared.walk.Asked.TheVariants as asked;
 ghost use Rattle.sf_keyed_walks.specs.declared.walk.Closing.TheVariants as closing;
 ghost use Rattle.sf_keyed_walks.specs.declared.walk.Passed.TheVariants as passed;
+ghost use Rattle.sf_keyed_walks.specs.declared.walk.Swept.TheVariants as swept;
 
 use sf_keyed_words::steps::{
     KeyedSeat, Words, close, confirm, find_none, join, lead, look_side, look_top, read, read_low,
@@ -77,6 +78,15 @@ pub enum Passed {
     Crowded,
 }
 
+/// How a sweep of a slot ended: none of its names has an open call, and none ever has one again; one of them may have one; or another came
+/// first.
+#[derive(Clone, Copy)]
+pub enum Swept {
+    Quiet,
+    Open,
+    Busy,
+}
+
 // Whether a state word says that the call is some call, and open.
 fn is_open(state: u64, call: u64) -> bool
     ensures { result ≡ is_open_call state call }
@@ -84,8 +94,8 @@ fn is_open(state: u64, call: u64) -> bool
     call != 0 && state / 8_388_608 == call / 1_048_576 && state / 2_097_152 % 4 == 2
 }
 
-// The slot of a name.
-fn slot_of(sizes: KeyedSizes, name: Name) -> u64
+/// The slot of a name.
+pub fn slot_of(sizes: KeyedSizes, name: Name) -> u64
     requires { (0 < sizes.tops) × (sizes.tops ≤ 4294967296) }
     ensures is { result ≡ the_slot_of sizes (number name) }
     ensures within { result < sizes.tops }
@@ -379,7 +389,7 @@ pub fn forget_once(
     requires sizes { seat.old.me.0.sizes ≡ sizes }
     ensures own { seat.new.table_id ≡ seat.old.table_id }
     ensures closed { (call : ℕ) → result ≡ closing.Closed call → HasClosed seat.old.me.0 seat.new.me.0 call (number name) × ((wanted : ℕ) → only ≡ Some wanted → call ≡ wanted) }
-    ensures nothing { result ≡ closing.Nothing → HasNone seat.old.me.0 seat.new.me.0 (number name) }
+    ensures nothing { result ≡ closing.Nothing → HasNone seat.old.me.0 seat.new.me.0 (number name) × (seat.new.me.0.found / 2 % 2 ≡ 0) }
     ensures gone { result ≡ closing.Gone → HasNone seat.old.me.0 seat.new.me.0 (number name) × IsGone seat.new.me.0 (number name) }
     ensures other { (call : ℕ) → result ≡ closing.Other call → HasOther seat.old.me.0 seat.new.me.0 call (number name) only × (only ≢ None) }
     ensures busy { result ≡ closing.Busy → Stays seat.old.me.0 seat.new.me.0 × (seat.old.me.0.lost < seat.new.me.0.lost) }
@@ -409,7 +419,7 @@ fn none_after(
     requires through { WentThrough sizes slot found (number name) seat.old.me.0 false on }
     ensures own { seat.new.table_id ≡ seat.old.table_id }
     ensures others { ((call : ℕ) → result ≢ closing.Closed call) × ((call : ℕ) → result ≢ closing.Other call) }
-    ensures nothing { result ≡ closing.Nothing → HasNone seat.old.me.0 seat.new.me.0 (number name) }
+    ensures nothing { result ≡ closing.Nothing → HasNone seat.old.me.0 seat.new.me.0 (number name) × (seat.new.me.0.found / 2 % 2 ≡ 0) }
     ensures gone { result ≡ closing.Gone → HasNone seat.old.me.0 seat.new.me.0 (number name) × IsGone seat.new.me.0 (number name) }
     ensures busy { result ≡ closing.Busy → Stays seat.old.me.0 seat.new.me.0 × (seat.old.me.0.lost < seat.new.me.0.lost) }
     ensures calls { KeepsCalls seat.old.me.0 seat.new.me.0 }
@@ -482,12 +492,18 @@ pub fn pass_once(words: &Words, seat: &mut KeyedSeat, sizes: KeyedSizes, name: N
             Asked::Crowded => Passed::Crowded,
             _ => Passed::Busy,
         },
-        Way::Through(found, on) => gone_after(words, seat, sizes, slot, found, name, on),
+        Way::Through(found, on) => {
+            if seal_walk(words, seat, sizes, slot, found, name, on) {
+                Passed::Gone
+            } else {
+                Passed::Busy
+            }
+        }
     }
 }
 
-// Seals the slot at the end of a walk from this top word, or finds it sealed.
-fn gone_after(
+// Seals the slot at the end of a walk from this top word, or finds it sealed. Whether its top word was that still.
+fn seal_walk(
     words: &Words,
     seat: &mut KeyedSeat,
     sizes: KeyedSizes,
@@ -495,26 +511,45 @@ fn gone_after(
     found: u64,
     name: Name,
     on: Walked,
-) -> Passed
+) -> bool
     requires own { seat.old.table_id ≡ words.now.table_id }
     requires laid { IsLaid words.now.key words.now.table_id.words sizes }
     requires sizes { seat.old.me.0.sizes ≡ sizes }
-    requires slot { (slot < sizes.tops) × (the_slot_of sizes (number name) ≡ slot) }
+    requires slot { slot < sizes.tops }
     requires through { WentThrough sizes slot found (number name) seat.old.me.0 false on }
     ensures own { seat.new.table_id ≡ seat.old.table_id }
-    ensures others { ((call : ℕ) → result ≢ passed.Joined call) × (result ≢ passed.Crowded) }
-    ensures gone { result ≡ passed.Gone → HasNone seat.old.me.0 seat.new.me.0 (number name) × IsGone seat.new.me.0 (number name) }
-    ensures busy { result ≡ passed.Busy → Stays seat.old.me.0 seat.new.me.0 × (seat.old.me.0.lost < seat.new.me.0.lost) }
+    ensures sealed { result ≡ true → HasSealed seat.old.me.0 seat.new.me.0 slot }
+    ensures lost { result ≡ false → Stays seat.old.me.0 seat.new.me.0 × (seat.old.me.0.lost < seat.new.me.0.lost) }
 {
-    let sealed = found / 2 % 2 == 1;
-    let top = if sealed {
-        find_none(words, seat, slot)
-    } else {
-        seal(words, seat, slot, found)
-    };
-    if top == found {
-        Passed::Gone
-    } else {
-        Passed::Busy
+    if found / 2 % 2 == 1 {
+        return find_none(words, seat, slot) == found;
+    }
+    seal(words, seat, slot, found) == found
+}
+
+/// Sweeps a slot of a group that has grown, once: seals it where none of its names has an open call, so that none ever has one again.
+pub fn sweep_once(words: &Words, seat: &mut KeyedSeat, sizes: KeyedSizes, slot: u64) -> Swept
+    requires own { seat.old.table_id ≡ words.now.table_id }
+    requires laid { IsLaid words.now.key words.now.table_id.words sizes }
+    requires sizes { seat.old.me.0.sizes ≡ sizes }
+    requires slot { slot < sizes.tops }
+    ensures own { seat.new.table_id ≡ seat.old.table_id }
+    ensures quiet { result ≡ swept.Quiet → HasSwept seat.old.me.0 seat.new.me.0 slot }
+    ensures open { result ≡ swept.Open → Stays seat.old.me.0 seat.new.me.0 }
+    ensures busy { result ≡ swept.Busy → Stays seat.old.me.0 seat.new.me.0 × (seat.old.me.0.lost < seat.new.me.0.lost) }
+{
+    // A call of the empty key's name is met by name, and one of any other name of the slot by its mark.
+    let empty = Name { low: 0, high: 0 };
+    match walk_slot(words, seat, sizes, slot, empty, false) {
+        Way::Met(_, _) => Swept::Open,
+        Way::Through(found, on) => {
+            if on.marks {
+                Swept::Open
+            } else if seal_walk(words, seat, sizes, slot, found, empty, on) {
+                Swept::Quiet
+            } else {
+                Swept::Busy
+            }
+        }
     }
 }

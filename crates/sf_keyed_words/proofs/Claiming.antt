@@ -56,7 +56,7 @@ claim_won z id c old new me may t p is found =
     (λ any here o. never k u.own u at (omega arith) any here)
     (λ any here o. absurd (never k u.leads u at (omega arith) any here))
     (λ any here o. absurd (never k u.ticket u at (omega arith) any here))
-    (λ any here o. last_never z t.words p.holder k u.last old c found (λ odd none. omega (arith, tag, odd)) here o)
+    (λ any here o. last_never z p.words t.words p.holder k u.last old c found (λ odd none. omega (arith, tag, odd)) here o)
     (p.seats k u at) in
     let mine = all id v is in
     let later : gen_of (slice_index t.words (state_at z e)) < e / 1048576 = (let was : slice_index t.words (state_at z e) / 8388608 ≡ old / 8388608 = ap (λ d. slice_index t.words (z.tops + z.sides + 8 * d) / 8388608) e_cell ∙ ap gen_of found in omega (arith, was, e_gen)) in

@@ -86,7 +86,7 @@ close_won z id old new me may t p is found =
       generation = ap (λ n. n / 8388608) (st.at u.ticket here) ∙ (new_gen ∙ (sym (ap (λ n. n / 8388608) (was u.ticket here)) ∙ o.generation));
       settled = λ yes. let odd : old / 2097152 % 4 % 2 ≡ 1 = sym (ap (λ n. n / 2097152 % 4 % 2) (was u.ticket here)) ∙ o.settled yes in absurd (omega (arith, two, odd));
     })
-    (λ any here o. last_never z t.words p.holder k u.last old c found (λ odd none. omega (arith, two, odd)) here o)
+    (λ any here o. last_never z p.words t.words p.holder k u.last old c found (λ odd none. omega (arith, two, odd)) here o)
     (p.seats k u at) in
     let mine = all id v is in
     let one : (d : ℕ) → d % 1048576 ≡ c → old / 8388608 ≡ d / 1048576 → d ≡ e = λ d here g. one_call d e c (old / 8388608) here refl g gen in

@@ -104,7 +104,7 @@ join_won z id old new me may t p is found =
       generation = ap (λ n. n / 8388608) (st.at u.ticket here) ∙ (new_gen ∙ (sym (ap (λ n. n / 8388608) (was u.ticket here)) ∙ o.generation));
       settled = λ yes. ap (λ n. n / 2097152 % 4 % 2) (st.at u.ticket here) ∙ (ap (λ n. n % 2) new_tag ∙ (sym (ap (λ n. n / 2097152 % 4 % 2) (was u.ticket here)) ∙ o.settled yes));
     })
-    (λ any here o. last_never z t.words p.holder k u.last old c found (λ odd none. omega (arith, two, odd)) here o)
+    (λ any here o. last_never z p.words t.words p.holder k u.last old c found (λ odd none. omega (arith, two, odd)) here o)
     (p.seats k u at) in
     let mine = all id v is in
     let none : (d : ℕ) → held_at d v.ticket ≡ 0 = λ d. ap (held_at d) may.idle in

@@ -74,10 +74,10 @@ lets z slots id me some_call t p len is fits =
       generation = ap (λ n. n / 8388608) (st.at u.ticket here) ∙ (new_gen ∙ (sym (ap (λ n. n / 8388608) (was u.ticket here)) ∙ o.generation));
       settled = λ yes. ap (λ n. n / 2097152 % 4 % 2) (st.at u.ticket here) ∙ (ap (λ n. n % 2) new_tag ∙ (sym (ap (λ n. n / 2097152 % 4 % 2) (was u.ticket here)) ∙ o.settled yes));
     })
-    (λ any here o. last_never z t.words p.holder k u.last old c refl (λ odd none. omega (arith, pos, none)) here o)
+    (λ any here o. last_never z p.words t.words p.holder k u.last old c refl (λ odd none. omega (arith, pos, none)) here o)
     view in
     let less : (d : ℕ) → held_at d 0 ≡ 0 = λ d. refl in
-    let build : (holder2 : ℕ → ℕ) (all : (k : ℕ) (u : View) → IsView z s h t.words p.holder k u → IsView z s h ws holder2 k u) → (w.last ≢ 0 → IsLast z ws holder2 id w.last) → Holds z (stepped t i new id me.1 w keeps)
+    let build : (holder2 : ℕ → ℕ) (all : (k : ℕ) (u : View) → IsView z s h t.words p.holder k u → IsView z s h ws holder2 k u) → (w.last ≢ 0 → IsLast z s ws holder2 id w.last) → Holds z (stepped t i new id me.1 w keeps)
     = λ holder2 all last. let mine = all id (unheld v) (unheld_view z s h t.words p.holder id v m) in
     made z t p id i new me w s h holder2 p.keeps p.tells p.members
     (shows_state z s h h t.words ws c old new s.closed cell st p.shows refl
@@ -116,7 +116,7 @@ lets z slots id me some_call t p len is fits =
       value_is = λ yes. st.value u.leads ∙ o.value_is yes;
       joins = says_on h h u.leads _ _ (ap (λ n. n / 1048576 % 2) (st.at u.leads here) ∙ (new_bit ∙ sym (ap (λ n. n / 1048576 % 2) (was u.leads here)))) refl o.joins;
     }) in
-    build p.holder all (subst (λ l. l ≢ 0 → IsLast z ws p.holder id l) (sym (ap (λ q. cond q v.ticket v.last) isnt)) (all id (unheld v) (unheld_view z s h t.words p.holder id v m)).last) in
+    build p.holder all (subst (λ l. l ≢ 0 → IsLast z s ws p.holder id l) (sym (ap (λ q. cond q v.ticket v.last) isnt)) (all id (unheld v) (unheld_view z s h t.words p.holder id v m)).last) in
     let last : b ≡ true → Holds z (stepped t i new id me.1 w keeps) = λ yes.
     let parts = and_parts (eqb (old % 1048576) 1) (eqb (old / 2097152 % 2) 1) yes in
     let single : old % 1048576 ≡ 1 = eqb-true _ _ parts.0 in
@@ -125,7 +125,8 @@ lets z slots id me some_call t p len is fits =
     let all = far (put p.holder c id) (λ j apart. put_else p.holder c id j apart) (λ k u here o.
     let even : old / 2097152 % 4 % 2 ≡ 0 = sym (ap (λ n. n / 2097152 % 4 % 2) (was u.leads here)) ∙ o.runs in
     absurd (omega (arith, odd, even))) in
-    build (put p.holder c id) all (subst (λ l. l ≢ 0 → IsLast z ws (put p.holder c id) id l) (sym (ap (λ q. cond q v.ticket v.last) yes)) (λ any. record {
+    build (put p.holder c id) all (subst (λ l. l ≢ 0 → IsLast z s ws (put p.holder c id) id l) (sym (ap (λ q. cond q v.ticket v.last) yes)) (λ any. record {
+      led = hold.led;
       holder_is = put_here p.holder c id;
       within = cell;
       generation = ap (λ n. n / 8388608) (st.at e refl) ∙ (new_gen ∙ gen);
@@ -161,7 +162,7 @@ gives z slots id new me may t p len is fits =
     let st = state_set z t.words c new cell p.shows.size in
     let was : (d : ℕ) → d % 1048576 ≡ c → slice_index t.words (state_at z d) ≡ old = λ d here. ap (λ q. slice_index t.words (z.tops + z.sides + 8 * q)) here in
     let away = away_state z s s h h t.words ws p.holder p.holder c new st (λ j apart. refl) (λ d. refl) (λ d _ before. before) (λ d _. refl) in
-    let far : (k : ℕ) (u : View) → (held_at c u.own + held_at c u.leads + held_at c u.ticket ≡ 0) → (u.last ≢ 0 → u.last % 1048576 ≡ c → IsLast z t.words p.holder k u.last → ⊥) → IsView z s h t.words p.holder k u → IsView z s h ws p.holder k u
+    let far : (k : ℕ) (u : View) → (held_at c u.own + held_at c u.leads + held_at c u.ticket ≡ 0) → (u.last ≢ 0 → u.last % 1048576 ≡ c → IsLast z s t.words p.holder k u.last → ⊥) → IsView z s h t.words p.holder k u → IsView z s h ws p.holder k u
     = λ k u nothing other view. view_away z s s h h t.words ws p.holder p.holder c k u away (whole h) (λ l. l) (λ _ l. l)
     (λ any here o. let a = held_here c u.own any here in omega (arith, a, nothing))
     (λ any here o. absurd (let a = held_here c u.leads any here in omega (arith, a, nothing)))

@@ -126,7 +126,7 @@ unflown z t p k u e n lead k2 none m =
     (λ any here o. own_never z s t.words p.holder k u.own u.named u.key (slice_index t.words (state_at z e)) e c refl lead.generation refl lead.led here o)
     (λ any here o. absurd (none any here))
     (λ any here o. o)
-    (λ any here o. last_never z t.words p.holder k u.last (slice_index t.words (state_at z e)) c refl (λ odd none. omega (arith, even, odd)) here o)
+    (λ any here o. last_never z p.words t.words p.holder k u.last (slice_index t.words (state_at z e)) c refl (λ odd none. omega (arith, even, odd)) here o)
     m
 
 -- the same fact with nothing said of a value

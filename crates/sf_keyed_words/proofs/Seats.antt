@@ -135,7 +135,7 @@ pub view_away : (z : KeyedSizes) (s s2 : Words) (h h2 : List KeyedEvent) (ws ws2
     → (u.own ≢ 0 → u.own % 1048576 ≡ c → IsOwn z s ws holder k u.own u.named u.key → ⊥)
     → (u.leads ≢ 0 → u.leads % 1048576 ≡ c → IsLeads z s h ws holder k u.leads u.stored u.value → IsLeads z s2 h2 ws2 holder2 k u.leads u.stored u.value)
     → (u.ticket ≢ 0 → u.ticket % 1048576 ≡ c → IsTicket z s ws u.ticket u.done → IsTicket z s2 ws2 u.ticket u.done)
-    → (u.last ≢ 0 → u.last % 1048576 ≡ c → IsLast z ws holder k u.last → ⊥)
+    → (u.last ≢ 0 → u.last % 1048576 ≡ c → IsLast z s ws holder k u.last → ⊥)
     → IsView z s h ws holder k u → IsView z s2 h2 ws2 holder2 k u
 view_away z s s2 h h2 ws ws2 holder holder2 c k u away more look walk own leads ticket last m = record {
   seen = longer u.seen h h2 m.seen more;
@@ -177,6 +177,7 @@ view_away z s s2 h h2 ws ws2 holder holder2 c k u away more look walk own leads 
   last = λ any. let o = m.last any in dite (ℕ_discrete (u.last % 1048576) c)
       (λ here. absurd (last any here o))
       (λ apart. record {
+        led = away.led u.last apart ∙ o.led;
         holder_is = away.holder_is (u.last % 1048576) apart ∙ o.holder_is;
         within = o.within;
         generation = ap (λ n. n / 8388608) (away.state u.last o.within apart) ∙ o.generation;

@@ -102,7 +102,7 @@ settles_allowed z slots id me may t p len is fits =
       generation = ap (λ n. n / 8388608) (st.at u.ticket here) ∙ (new_gen ∙ (sym (ap (λ n. n / 8388608) (was u.ticket here)) ∙ o.generation));
       settled = λ yes. ap (λ n. n / 2097152 % 4 % 2) (st.at u.ticket here) ∙ new_odd;
     })
-    (λ any here o. last_never z t.words p.holder k u.last old c refl (λ odd none. omega (arith, even, odd)) here o)
+    (λ any here o. last_never z p.words t.words p.holder k u.last old c refl (λ odd none. omega (arith, even, odd)) here o)
     view in
     let mine = far id (unled v) (λ any here o. any refl) (unled_view z s h t.words p.holder id v m) in
     let same : (d : ℕ) → held_at d v.own + held_at d v.leads + held_at d v.ticket ≡ held_at d v.own + held_at d 0 + held_at d v.leads = λ d. let a : held_at d v.ticket ≡ 0 = ap (held_at d) may.idle in let b : held_at d 0 ≡ 0 = refl in omega (arith, a, b) in
@@ -209,7 +209,7 @@ alone_won z id old new me may t p is found =
     (λ any here o. own_never z s t.words p.holder k u.own u.named u.key old e c found gen refl lead.led here o)
     (λ any here o. absurd (no any here o))
     (λ any here o. absurd (none any here))
-    (λ any here o. last_never z t.words p.holder k u.last old c found (λ odd none. omega (arith, two, odd)) here o)
+    (λ any here o. last_never z p.words t.words p.holder k u.last old c found (λ odd none. omega (arith, two, odd)) here o)
     view in
     let mine = far id (unled v) (λ any here o. any refl)
     (λ any here. let a = held_here c v.ticket any here in let b = sum_one (stake c) t.views id v is in omega (arith, a, b, sum, total, leads_here)) (unled_view z s h t.words p.holder id v m) in

@@ -136,8 +136,8 @@ own_never z s ws holder k o named key old e c found gen cell led here own =
     true≢false (sym led ∙ (ap s.led (one_call e o c (gen_of old) cell here gen next) ∙ own.new))
 
 -- a state word that is not settled is no last holder's
-pub last_never : (z : KeyedSizes) (ws : List ℕ) (holder : ℕ → ℕ) (k o old c : ℕ) → slice_index ws (z.tops + z.sides + 8 * c) ≡ old → (old / 2097152 % 4 % 2 ≡ 1 → old % 1048576 ≡ 0 → ⊥) → o % 1048576 ≡ c → IsLast z ws holder k o → ⊥
-last_never z ws holder k o old c found never here last =
+pub last_never : (z : KeyedSizes) (s : Words) (ws : List ℕ) (holder : ℕ → ℕ) (k o old c : ℕ) → slice_index ws (z.tops + z.sides + 8 * c) ≡ old → (old / 2097152 % 4 % 2 ≡ 1 → old % 1048576 ≡ 0 → ⊥) → o % 1048576 ≡ c → IsLast z s ws holder k o → ⊥
+last_never z s ws holder k o old c found never here last =
     let state : slice_index ws (state_at z o) ≡ old = ap (λ d. slice_index ws (z.tops + z.sides + 8 * d)) here ∙ found in
     never (sym (ap (λ n. n / 2097152 % 4 % 2) state) ∙ last.settled) (sym (ap (λ n. n % 1048576) state) ∙ last.empty)
 

@@ -90,7 +90,7 @@ stores_name z slots id at key me first start named name any_own least most says 
       generation = ap gen_of (states u.ticket o.within) ∙ o.generation;
       settled = λ yes. ap (λ n. n / 2097152 % 4 % 2) (states u.ticket o.within) ∙ o.settled yes;
     })
-    (λ any here o. last_never z t.words p.holder k u.last _ c refl (λ odd none. omega (arith, tag, odd)) here o)
+    (λ any here o. last_never z p.words t.words p.holder k u.last _ c refl (λ odd none. omega (arith, tag, odd)) here o)
     view in
     let mine = far id (unowned v) (λ any here o. any refl) (unowned_view z s h t.words p.holder id v m) in
     let w : View = record v { first = first; start = start; named = named; key = name } in (
@@ -196,7 +196,7 @@ stores z slots id value me any_lead t p len is fits =
       generation = ap gen_of (states u.ticket o.within) ∙ o.generation;
       settled = λ yes. ap (λ n. n / 2097152 % 4 % 2) (states u.ticket o.within) ∙ o.settled yes;
     })
-    (λ any here o. last_never z t.words p.holder k u.last _ c refl (λ odd none. omega (arith, even, odd)) here o)
+    (λ any here o. last_never z p.words t.words p.holder k u.last _ c refl (λ odd none. omega (arith, even, odd)) here o)
     view in
     let mine = far id (unled v) (λ any here o. any refl) (unled_view z s h t.words p.holder id v m) in
     let w : View = stored_as v value in (

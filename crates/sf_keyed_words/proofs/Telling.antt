@@ -18,7 +18,7 @@ use Rattle.sf_keyed_laws.specs.Walks.{HasWalked}
 use Rattle.sf_keyed_laws.proofs.Walking.{walks_end, walks_clear, unmarked_is_walked}
 use Rattle.sf_keyed_laws.specs.Steps.{HasNoOpen}
 use Rattle.sf_keyed_words.specs.Rule.{covers, is_gone, IsShut, Unmet}
-use Rattle.sf_keyed_words.specs.Plays.{loses, confirms, finds_none, with_walk, look_settled, takes}
+use Rattle.sf_keyed_words.specs.Plays.{loses, confirms, finds_none, with_walk, look_settled, takes, takes_last}
 use Rattle.sf_keyed_words.proofs.Joining.{open_found}
 use Rattle.sf_keyed_tells.specs.Tells.{call_of}
 use Rattle.sf_keyed_words.proofs.Loads.{loads}
@@ -190,4 +190,18 @@ takes_allowed z slots id me any done t p len is fits =
       tt,
       still z t p id (value_at z v.ticket) me w is (λ d. refl) (seen_all z p.words p.history t.words p.holder id v m),
       record { view = refl; grows = record { seen = m.seen; legal = p.tells.legal }; result = p.shows.values v.ticket o.led o.generation (o.settled done) },
+    )
+
+pub takes_last_allowed : (z : KeyedSizes) (slots id : ℕ) (me : Me ℕ View) → me.0.last ≢ 0
+    → Allows (Holds z) slots id me (value_at z me.0.last) (λ n. n) (λ n after. takes_last me.0 n after.0)
+takes_last_allowed z slots id me any t p len is fits =
+    let v = me.0 in
+    let m = p.seats id v is in
+    let o = m.last any in
+    let w : View = record v { seen = p.history } in (
+      w,
+      keeps,
+      tt,
+      still z t p id (value_at z v.last) me w is (λ d. refl) (seen_all z p.words p.history t.words p.holder id v m),
+      record { view = refl; grows = record { seen = m.seen; legal = p.tells.legal }; result = p.shows.values v.last o.led o.generation o.settled },
     )

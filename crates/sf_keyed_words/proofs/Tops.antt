@@ -167,7 +167,7 @@ lead_won z id q old new me may t p is found =
       generation = ap (λ n. n / 8388608) (fr.state u.ticket) ∙ o.generation;
       settled = λ yes. ap (λ n. n / 2097152 % 4 % 2) (fr.state u.ticket) ∙ o.settled yes;
     })
-    (λ any here o. last_never z t.words p.holder k u.last _ c refl (λ odd none. omega (arith, two, odd)) here o)
+    (λ any here o. last_never z p.words t.words p.holder k u.last _ c refl (λ odd none. omega (arith, two, odd)) here o)
     view in
     let mine = far id (unowned v) (λ any here o. any refl) (λ any here o. any may.idle) (unowned_view z s h t.words p.holder id v m) in
     let w : View = led_view v h2 in

@@ -173,9 +173,15 @@ pub record takes (v : View) (n : ℕ) (w : View) : Type 0 where
   pub grows : Grows v w
   pub result : result_of w.seen (call_of v.ticket) ≡ Some (Some n)
 
--- the seat that was the last holder of a settled call has the cell
+-- the same by the seat that was the call's last holder
+pub record takes_last (v : View) (n : ℕ) (w : View) : Type 0 where
+  pub view : w ≡ record v { seen = w.seen }
+  pub grows : Grows v w
+  pub result : result_of w.seen (call_of v.last) ≡ Some (Some n)
+
+-- the seat that was the last holder of a settled call has the cell; what the state was is known
 abbrev pub lets_go : View → ℕ → View
-lets_go v n = record v { ticket = 0; done = false; last = cond ((n % 1048576 == 1) && (n / 2097152 % 2 == 1)) v.ticket v.last }
+lets_go v n = record v { ticket = 0; done = false; state = n; last = cond ((n % 1048576 == 1) && (n / 2097152 % 2 == 1)) v.ticket v.last }
 
 abbrev pub given_back : View → ℕ → View
 given_back v n = record v { last = 0 }

@@ -135,7 +135,8 @@ pub record IsTicket (z : KeyedSizes) (s : Words) (ws : List ℕ) (e : ℕ) (done
   pub settled : done ≡ true → tag_of (slice_index ws (state_at z e)) % 2 ≡ 1
 
 -- the seat was this settled call's last holder, and has its cell
-pub record IsLast (z : KeyedSizes) (ws : List ℕ) (holder : ℕ → ℕ) (seat e : ℕ) : Type 0 where
+pub record IsLast (z : KeyedSizes) (s : Words) (ws : List ℕ) (holder : ℕ → ℕ) (seat e : ℕ) : Type 0 where
+  pub led : s.led e ≡ true
   pub holder_is : holder (e % 1048576) ≡ seat
   pub within : e % 1048576 < z.cells
   pub generation : gen_of (slice_index ws (state_at z e)) ≡ e / 1048576
@@ -196,7 +197,7 @@ pub record IsView (z : KeyedSizes) (s : Words) (h : List KeyedEvent) (ws : List 
   pub begun : v.own ≢ 0 → v.first ≡ true → (slice_index ws (name_at z v.own) ≡ v.start) × (v.start < 18446744073709551616)
   pub leads : v.leads ≢ 0 → IsLeads z s h ws holder seat v.leads v.stored v.value
   pub ticket : v.ticket ≢ 0 → IsTicket z s ws v.ticket v.done
-  pub last : v.last ≢ 0 → IsLast z ws holder seat v.last
+  pub last : v.last ≢ 0 → IsLast z s ws holder seat v.last
 
 -- how many of the cell's holders a view stands for
 abbrev pub held_at : ℕ → ℕ → ℕ

@@ -377,6 +377,15 @@ impl Play<u8, View> for Takes {
     ghost then = { λ step before word after. takes before.0 word after.0 };
 }
 
+/// A load of the value by the seat that was the call's last holder.
+pub struct TakesLast;
+
+impl Play<u8, View> for TakesLast {
+    ghost use Rattle.sf_keyed_words.specs.Plays.{takes_last};
+
+    ghost then = { λ step before word after. takes_last before.0 word after.0 };
+}
+
 /// One holder less.
 pub struct Lets;
 

@@ -2,12 +2,12 @@
 ghost use Rattle.std.specs.Prelude.{◌≡◌, ◌≢◌, ℕ, ◌+◌, ◌*◌, ◌/◌, ◌%◌, ◌<◌, ◌≤◌, true};
 ghost use Rattle.sf_keyed_words.specs.Rule.{word_total, is_open_word, joined_bit, ready_word, sides_from, slot_of, Unmet};
 ghost use Rattle.sf_keyed_words.specs.Plays.{look_cell as the_look_cell};
-ghost use Rattle.sf_keyed_words.specs.Plays.{walks_from, walks_on, see_state, confirms, read_low, read_high, begun_as, named_as, stored_as, try_claim, tries_lead, try_aside, tries_seal, tries_join, settles, tries_alone, tries_close, finds_none, look_settled, takes, lets_go, given_back};
+ghost use Rattle.sf_keyed_words.specs.Plays.{walks_from, walks_on, see_state, confirms, read_low, read_high, begun_as, named_as, stored_as, try_claim, tries_lead, try_aside, tries_seal, tries_join, settles, tries_alone, tries_close, finds_none, look_settled, takes, takes_last, lets_go, given_back};
 
 use crate::rule::{
     Begins, Claims, Closes, Confirms, FindsNone, GivesBack, Joins, KeyedSizes, Law, Leads, Lets,
     LooksAside, LooksAtCell, LooksAtTop, Names, Reads, ReadsLow, Seals, Sees, SetsAside, Settles,
-    SettlesAlone, Stores, Takes, View, Waits,
+    SettlesAlone, Stores, Takes, TakesLast, View, Waits,
 };
 use atomic_table::{Seat, Shared};
 
@@ -214,6 +214,18 @@ pub fn value_of(words: &Words, seat: &mut KeyedSeat, at: u64) -> u64
     ensures view { takes seat.old.me.0 result seat.new.me.0 }
 {
     words.load::<Takes>(seat, at as usize)
+}
+
+/// Loads the value of the settled call that the seat was the last holder of.
+pub fn last_value_of(words: &Words, seat: &mut KeyedSeat, at: u64) -> u64
+    requires own { seat.old.table_id ≡ words.now.table_id }
+    requires size { words.now.table_id.words ≡ word_total words.now.key }
+    requires at { (at ≡ words.now.key.tops + words.now.key.sides + 8 * (seat.old.me.0.last % 1048576) + 3) × (seat.old.me.0.last % 1048576 < words.now.key.cells) }
+    requires last { seat.old.me.0.last ≢ 0 }
+    ensures own { seat.new.table_id ≡ seat.old.table_id }
+    ensures view { takes_last seat.old.me.0 result seat.new.me.0 }
+{
+    words.load::<TakesLast>(seat, at as usize)
 }
 
 /// Claims the free cell, whose state word lies at `at`: the call that it may lead next is the seat's.

@@ -1,8 +1,5 @@
 //! Asking in tasks of tokio: one load for all who ask at one time, deadlines, and tasks that are
 //! aborted.
-#[path = "../../tests/apart/mod.rs"]
-mod apart;
-
 use singleflight::Group;
 use std::sync::atomic::{AtomicU64, Ordering::SeqCst};
 use std::sync::Arc;
@@ -29,8 +26,8 @@ async fn until(what: &str, holds: impl Fn() -> bool) {
 fn one_load_for_all_who_ask_at_once() {
     runtime().block_on(async {
         for keys in [1, 40, 4000] {
-            let group = Group::<String>::open(1 << 16, 4000).unwrap();
-            let names = apart::keys(&group, keys);
+            let group = Group::<String>::open(4000).unwrap();
+            let names: Vec<_> = (0..keys).map(|number| format!("k{number}")).collect();
             let before = group.stats();
             let (loads, release) = (Arc::new(AtomicU64::new(0)), Arc::new(Semaphore::new(0)));
             let tasks: Vec<_> = (0..4000)
@@ -51,20 +48,16 @@ fn one_load_for_all_who_ask_at_once() {
                     })
                 })
                 .collect();
-            let asked = || group.stats().leads + group.stats().joins - before.leads - before.joins;
+            let asked = || group.stats().loads + group.stats().joins - before.loads - before.joins;
             until("all ask", || asked() == 4000).await;
-            assert!(
-                group.stats().in_use == keys as u32,
-                "only who loads has a caller of the library: {:?}",
-                group.stats()
-            );
+            assert!(group.stats().in_use == 4000, "all load or wait: {:?}", group.stats());
             release.add_permits(4000);
             for task in tasks {
                 task.await.unwrap();
             }
             assert!(
                 loads.load(SeqCst) == keys as u64 && group.stats().in_use == 0,
-                "one load a key, and all callers are back"
+                "one load a key, and all calls are idle"
             );
         }
     });
@@ -73,7 +66,7 @@ fn one_load_for_all_who_ask_at_once() {
 #[test]
 fn deadlines_and_aborted_tasks() {
     runtime().block_on(async {
-        let group = Group::<Arc<u32>>::open(1, 4).unwrap();
+        let group = Group::<Arc<u32>>::open(4).unwrap();
         let (value, release) = (Arc::new(7), Arc::new(Semaphore::new(0)));
         let weak = Arc::downgrade(&value);
         let leader = tokio::spawn({
@@ -86,7 +79,7 @@ fn deadlines_and_aborted_tasks() {
                 group.get_or_load_async("k", load).await.joiners
             }
         });
-        until("the leader asks", || group.stats().leads == 1).await;
+        until("the leader asks", || group.stats().loads == 1).await;
         let mut caller = group.caller();
         let late = timeout(
             Duration::from_millis(20),
@@ -102,19 +95,19 @@ fn deadlines_and_aborted_tasks() {
         assert!(aborted.await.unwrap_err().is_cancelled(), "it is aborted");
         assert!(
             group.stats().in_use == 1,
-            "whoever waits in a task holds no caller of the library"
+            "whoever was dropped or aborted has left"
         );
         drop(caller);
         release.add_permits(1);
-        assert!(leader.await.unwrap() == 2, "two had joined");
+        assert!(leader.await.unwrap() == 1, "others had joined, and have left");
         assert!(
             group.stats().in_use == 0 && weak.upgrade().is_none(),
-            "all callers are back, and no value is kept"
+            "all calls are idle, and no value is kept"
         );
 
         // A leader that is aborted ends its call, and who joined loads.
         let leader = tokio::spawn(group.get_or_load_async("k", std::future::pending()));
-        until("the leader asks", || group.stats().leads == 2).await;
+        until("the leader asks", || group.stats().loads == 2).await;
         let joined = tokio::spawn(group.get_or_load_async("k", async { Arc::new(8) }));
         until("another joins", || group.stats().joins == 3).await;
         leader.abort();

@@ -36,22 +36,19 @@ struct reader {
     int count;
 };
 
-static void get(sflight_reader *reader, sflight_cache *cache, const key of) {
+static void get(sflight_cache *cache, const key of) {
     sflight_value value;
-    if (sflight_cache_get(reader, (const uint8_t *)of, strlen(of), &value) > SFLIGHT_CACHE_JOINED || value.at != page) abort();
+    if (sflight_cache_get(cache, (const uint8_t *)of, strlen(of), &value) > SFLIGHT_CACHE_JOINED || value.at != page) abort();
     sflight_cache_release(cache, &value);
 }
 
 static void *run(void *arg) {
     struct reader *r = arg;
-    sflight_reader *reader = sflight_cache_enter(r->cache);
-    if (!reader) abort();
     pthread_barrier_wait(r->begin);
     for (int n = 0, at = 0; n < GETS; n++) {
-        get(reader, r->cache, r->keys[at]);
+        get(r->cache, r->keys[at]);
         if (++at == r->count) at = 0;
     }
-    sflight_cache_leave(reader);
     return NULL;
 }
 
@@ -61,7 +58,7 @@ static int by_size(const void *a, const void *b) {
 }
 
 static sflight_cache *cache_of(uint64_t values, void *loads) {
-    sflight_cache *cache = sflight_cache_open(&(sflight_cache_options){.limit = values, .entries = values, .readers = 8, .load = load, .context = loads});
+    sflight_cache *cache = sflight_cache_open(&(sflight_cache_options){.limit = values, .entries = values, .load = load, .context = loads});
     if (!cache) abort();
     return cache;
 }
@@ -130,11 +127,8 @@ int main(void) {
     for (int values = 1000; values <= 20000; values *= values == 1000 ? 5 : 4) {
         int loads = 0;
         sflight_cache *cache = cache_of((uint64_t)values, &loads);
-        sflight_reader *reader = sflight_cache_enter(cache);
-        if (!reader) abort();
-        for (int i = 0; i < TRACE; i++) get(reader, cache, keys[i]);
-        sflight_cache_leave(reader);
-        sflight_cache_close(cache);
+        for (int i = 0; i < TRACE; i++) get(cache, keys[i]);
+            sflight_cache_close(cache);
         printf("%-22s %6d values: %.2f\n", "sflight_cache.h", values, 100 - loads / 1e4);
     }
     return 0;

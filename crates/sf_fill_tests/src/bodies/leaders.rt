@@ -134,6 +134,20 @@ pub(crate) fn both<'d, D: Naming, N: Naming, O: Origin, L: Drop>(
     (one, two)
 }
 
+// The only getter of a fill.
+pub(crate) fn only<'d, D: Naming, N: Naming, O: Origin, L: Drop>(
+    getters: Vec<Getter<'d, D, N, O, L>>,
+) -> Getter<'d, D, N, O, L>
+    requires { vec_len getters ≡ 1 }
+{
+    let mut getters = getters;
+    let Some(getter) = getters.pop() else {
+        unreachable!()
+    };
+    getters.destroy_empty();
+    getter
+}
+
 // Loaders that answer `v`, with no peer.
 pub(crate) fn loaders(
     alloc: Global,

@@ -2,6 +2,7 @@
 ghost use Rattle.std.specs.Prelude.{◌≡◌, All, vec_len};
 ghost use Rattle.sf_fill_open.specs.Opened.{IsNewGetter};
 
+use crate::bodies::leaders::only;
 use bytes::Bytes;
 use sf_fill::{Fill, Getter, Naming};
 use sf_fill_open::{Body, FillSizes, Keys, Places, with_fill};
@@ -41,11 +42,7 @@ impl<'a, R: Wait> Body for Own<'a, R> {
         requires new { All (IsNewGetter N.group 0) getters.items }
     {
         let rt = self.rt;
-        let mut getters = getters;
-        let Some(mut getter) = getters.pop() else {
-            unreachable!()
-        };
-        getters.destroy_empty();
+        let mut getter = only(getters);
         // The first get loads, the second one is answered by main, and the third one near.
         let _loaded = fill.get(rt, &mut getter, b"a");
         let _kept = fill.get(rt, &mut getter, b"a");

@@ -3,11 +3,12 @@ ghost use Rattle.std.specs.Prelude.{◌≡◌, ◌≤◌, All, vec_len};
 ghost use Rattle.sf_words.specs.declared.limits.TheConstants.{LARGEST_PLACE};
 ghost use Rattle.sf_fill_open.specs.Opened.{IsNewGetter, places_for};
 
-use crate::bodies::leaders::loaders;
+use crate::bodies::leaders::{loaders, only};
 use sf_fill::{Fill, Getter, Naming};
 use sf_fill_open::{Body, DirectoryKeys, FillSizes, Keys, Places, with_fill};
 use sf_history::Event;
 use sf_loaders::{LoadPath, Origin};
+use sf_words::PlaceNo;
 use std::alloc::Global;
 use std::process::Abort;
 use std::sync::Wait;
@@ -42,21 +43,22 @@ impl<'a, R: Wait> Body for FirstPlace<'a, R> {
         requires new { All (IsNewGetter N.group 3) getters.items }
     {
         let rt = self.rt;
-        let mut getters = getters;
-        let Some(mut getter) = getters.pop() else {
-            unreachable!()
-        };
-        getters.destroy_empty();
+        let mut getter = only(getters);
         let _view = fill.get(rt, &mut getter, b"a");
         let log = getter.take_log();
         getter.end(rt, fill);
-        for event in log {
-            if let Event::Lead { key, .. } = event {
-                return Some(key.number());
-            }
-        }
-        None
+        first_led(log)
     }
+}
+
+// The place of the first call that was led.
+fn first_led<V: Drop>(log: Vec<Event<PlaceNo, V>>) -> Option<u32> {
+    for event in log {
+        if let Event::Lead { key, .. } = event {
+            return Some(key.number());
+        }
+    }
+    None
 }
 
 // The key has this place.

@@ -1,11 +1,13 @@
 //! Where keys have their places, by a directory and by a hash.
-ghost use Rattle.std.specs.Prelude.{◌≤◌};
+ghost use Rattle.std.specs.Prelude.{◌≤◌, IfOk};
+ghost use Rattle.std.proofs.Common.{inr};
 ghost use Rattle.sf_words.specs.declared.limits.TheConstants.{LARGEST_PLACE};
 ghost use Rattle.sf_fill_keys.specs.Spaces.{IsDeskOf, places_in, space_of};
 
 use sf_dir::Refusal;
 use sf_fill_keys::{KeyDesk, KeySpace, Spot, hash_desks, open_directory};
 use sf_keys_places::Places;
+use std::alloc::Global;
 use std::process::Abort;
 use std::test::Fail;
 
@@ -53,6 +55,17 @@ fn spots_of_a_directory(rt: HostRuntime) -> Result<(), Fail> {
     Ok(())
 }
 
+// One of two desks of hashed places.
+fn hashed_desk(rt: &impl Abort, alloc: Global, places: Places) -> Result<KeyDesk, Fail>
+    ensures { IfOk result (IsDeskOf (inr places)) }
+{
+    let mut desks = hash_desks(alloc, places, 2)?;
+    assert!(rt; desks.len() == 2, "the desks");
+    let desk = desks.pop().ok_or("no desk")?;
+    assert!(rt; matches!(desk, KeyDesk::Hashed), "a desk of a directory");
+    Ok(desk)
+}
+
 // Keys share hashed places, none is refused, and a spot is told by its key's bytes.
 #[test]
 fn spots_by_a_hash(rt: HostRuntime) -> Result<(), Fail> {
@@ -62,10 +75,7 @@ fn spots_by_a_hash(rt: HostRuntime) -> Result<(), Fail> {
         seed0: 7,
         seed1: 11,
     };
-    let mut desks = hash_desks(alloc, places, 2)?;
-    assert!(rt; desks.len() == 2, "the desks");
-    let mut desk = desks.pop().ok_or("no desk")?;
-    assert!(rt; matches!(desk, KeyDesk::Hashed), "a desk of a directory");
+    let mut desk = hashed_desk(&rt, alloc, places)?;
     let space = KeySpace::Hashed(places);
     assert!(rt; space.place_count() == 1_000, "the places");
     let key = b"a key of more bytes than a directory's keys may have, if that has four";

@@ -45,14 +45,32 @@ impl<'a, R: Wait> Body for Stale<'a, R> {
     {
         let rt = self.rt;
         let (mut one, two) = both(getters);
-        let _view = fill.get(rt, &mut one, b"a");
-        let kept = fill.cache_stats(rt, Which::Main).items;
-        if let Some(caller) = two.into_caller(rt, fill) {
-            forget_place(rt, fill, caller);
-        }
-        let _fault = fill.get(rt, &mut one, b"a");
+        let kept = kept_after_get(rt, fill, &mut one);
+        leave_and_forget(rt, fill, two);
+        let left = kept_after_get(rt, fill, &mut one);
         one.end(rt, fill);
-        [kept, fill.cache_stats(rt, Which::Main).items]
+        [kept, left]
+    }
+}
+
+// How many entries main has after a get.
+fn kept_after_get<'d, D: Naming, N: Naming, O: Origin, L: LoadPath<Origin = O>>(
+    rt: &impl Wait,
+    fill: &Fill<'d, D, N, O>,
+    getter: &mut Getter<'d, D, N, O, L>,
+) -> usize {
+    let _answer = fill.get(rt, getter, b"a");
+    fill.cache_stats(rt, Which::Main).items
+}
+
+// The getter's caller forgets place 1.
+fn leave_and_forget<'d, D: Naming, N: Naming, O: Origin, L: Drop>(
+    rt: &impl Wait,
+    fill: &Fill<'d, D, N, O>,
+    getter: Getter<'d, D, N, O, L>,
+) {
+    if let Some(caller) = getter.into_caller(rt, fill) {
+        forget_place(rt, fill, caller);
     }
 }
 

@@ -17,15 +17,6 @@ const CALL: CallId = CallId {
     generation: 1,
 };
 
-// What is due of a run: its value and who gave it, or why there is none, and the peer's fault; what it counts; and how often
-// picker, peer and local getter are asked.
-#[derive(Clone, Copy)]
-struct Due {
-    answer: &'static str,
-    counts: Counts,
-    asked: [u64; 3],
-}
-
 type ScriptLoaders = Loaders<FixedPicker, Script, Script, RoundChance>;
 
 fn script(alloc: Global, answer: Answer) -> Result<Script, AllocError> {
@@ -56,47 +47,36 @@ fn write_peer_fault(text: &mut String, fault: &Option<PeerFault>) -> Result<(), 
     }
 }
 
-fn assert_answer(
-    rt: &impl Abort,
-    alloc: Global,
-    given: &Result<(Bytes, Source), LocalFault>,
-    fault: &Option<PeerFault>,
-    due: &str,
-) -> Result<(), AllocError> {
-    let mut text = String::new(alloc);
-    write_result(&mut text, given)?;
-    write_peer_fault(&mut text, fault)?;
-    assert!(rt; text.as_str() == due, "{text}");
+// How often the loaders were asked; nothing is drawn.
+fn write_asked(text: &mut String, loaders: &ScriptLoaders) -> Result<(), AllocError> {
+    let (peer, local) = (loaders.peer.asked(), loaders.local.asked());
+    write!(text, "; asked {} {peer} {local}", loaders.picker.asked)
+}
+
+// What is counted: loads deduped, peer loads, peer errors, local loads, local load errors.
+fn write_counts(text: &mut String, counts: Counts) -> Result<(), AllocError> {
+    let _ = text.push_str("; counts");
+    for count in [
+        counts.loads_deduped,
+        counts.peer_loads,
+        counts.peer_errors,
+        counts.local_loads,
+        counts.local_load_errors,
+    ] {
+        write!(text, " {count}")?;
+    }
     Ok(())
 }
 
-// So often are the loaders asked, and nothing is drawn.
-fn assert_asked(rt: &impl Abort, loaders: &mut ScriptLoaders, due: [u64; 3]) {
-    let (picker, peer, local) = (
-        loaders.picker.asked,
-        loaders.peer.asked(),
-        loaders.local.asked(),
-    );
-    assert!(rt; [picker, peer, local] == due, "asked otherwise");
-    assert!(rt; loaders.chance.draw() == 0, "a load draws");
-}
-
-// One run of the load path over a picker, a peer and a local getter of one answer each.
-fn assert_run(
-    rt: &impl Abort,
-    alloc: Global,
-    picked: Option<u32>,
-    fetched: Answer,
-    loaded: Answer,
-    due: Due,
-) -> Result<(), AllocError> {
-    let (peer, local) = (script(alloc, fetched)?, script(alloc, loaded)?);
-    let picker = FixedPicker::new(picked);
-    let mut loaders = Loaders::new(picker, peer, local, RoundChance::default());
-    let (result, counts) = load_once(&mut loaders, b"k", CALL);
-    assert!(rt; counts == due.counts, "other counts");
-    assert_asked(rt, &mut loaders, due.asked);
-    assert_answer(rt, alloc, &result, &loaders.peer_fault, due.answer)
+// The only answer of a loader: `memory`, a value, or a fault.
+fn answer(word: &str) -> Answer {
+    match word {
+        "p" => value("p"),
+        "v" => value("v"),
+        "away" => failed("away"),
+        "down" => failed("down"),
+        _ => Answer::Memory,
+    }
 }
 
 fn value(text: &'static str) -> Answer {
@@ -107,88 +87,66 @@ fn failed(text: &'static str) -> Answer {
     Answer::Failed(ByteStr::from(text))
 }
 
-#[test]
-fn local_value_without_a_peer(rt: HostRuntime) -> Result<(), AllocError> {
-    let counts = Counts {
-        loads_deduped: 1,
-        local_loads: 1,
-        ..Counts::default()
-    };
-    let due = Due {
-        answer: "v of the local getter",
-        counts,
-        asked: [1, 0, 1],
-    };
-    assert_run(&rt, rt.alloc(), None, value("p"), value("v"), due)
+// A picker, a peer and a local getter of one answer each: the words are a peer that is picked or `none`, what it answers, and what
+// the local getter answers.
+fn loaders_of(alloc: Global, words: &str) -> Result<ScriptLoaders, AllocError> {
+    let (picked, answers) = words.split_once(' ').unwrap_or((words, ""));
+    let (fetched, loaded) = answers.split_once(' ').unwrap_or((answers, ""));
+    let peer = script(alloc, answer(fetched))?;
+    let local = script(alloc, answer(loaded))?;
+    let picked = if picked == "none" { None } else { Some(0) };
+    Ok(Loaders::new(
+        FixedPicker::new(picked),
+        peer,
+        local,
+        RoundChance::default(),
+    ))
 }
 
-#[test]
-fn peer_value(rt: HostRuntime) -> Result<(), AllocError> {
-    let counts = Counts {
-        loads_deduped: 1,
-        peer_loads: 1,
-        ..Counts::default()
-    };
-    let due = Due {
-        answer: "p of the peer",
-        counts,
-        asked: [1, 1, 0],
-    };
-    assert_run(&rt, rt.alloc(), Some(0), value("p"), value("v"), due)
+// Which loader answered, and how often each was asked.
+fn write_run(
+    text: &mut String,
+    given: &Result<(Bytes, Source), LocalFault>,
+    loaders: &ScriptLoaders,
+) -> Result<(), AllocError> {
+    write_result(text, given)?;
+    write_peer_fault(text, &loaders.peer_fault)?;
+    write_asked(text, loaders)
 }
 
-#[test]
-fn peer_and_local_fail(rt: HostRuntime) -> Result<(), AllocError> {
-    let counts = Counts {
-        loads_deduped: 1,
-        peer_errors: 1,
-        local_load_errors: 1,
-        ..Counts::default()
-    };
-    let due = Due {
-        answer: "down; peer: away",
-        counts,
-        asked: [1, 1, 1],
-    };
-    assert_run(
-        &rt,
-        rt.alloc(),
-        Some(0),
-        failed("away"),
-        failed("down"),
-        due,
-    )
+// One run of the load path over these loaders.
+fn run(alloc: Global, words: &str) -> Result<String, AllocError> {
+    let mut loaders = loaders_of(alloc, words)?;
+    let (result, counts) = load_once(&mut loaders, b"k", CALL);
+    let draw = loaders.chance.draw();
+    let mut text = String::new(alloc);
+    write_run(&mut text, &result, &loaders)?;
+    write_counts(&mut text, counts)?;
+    write!(text, "; draw {draw}")?;
+    Ok(text)
 }
 
-#[test]
-fn want_of_memory_at_the_peer_falls_through(rt: HostRuntime) -> Result<(), AllocError> {
-    let counts = Counts {
-        loads_deduped: 1,
-        peer_errors: 1,
-        local_loads: 1,
-        ..Counts::default()
-    };
-    let due = Due {
-        answer: "v of the local getter; peer: out of memory",
-        counts,
-        asked: [1, 1, 1],
-    };
-    assert_run(&rt, rt.alloc(), Some(0), Answer::Memory, value("v"), due)
-}
+// What is due of each run: its value and the loader that gave it, or why there is none, and the peer's fault; how often picker, peer and local
+// getter are asked; what is counted; and that the next draw is the first one.
+const RUNS: &str = "\
+none p v: v of the local getter; asked 1 0 1; counts 1 0 0 1 0; draw 0
+peer p v: p of the peer; asked 1 1 0; counts 1 1 0 0 0; draw 0
+peer away down: down; peer: away; asked 1 1 1; counts 1 0 1 0 1; draw 0
+peer memory v: v of the local getter; peer: out of memory; asked 1 1 1; counts 1 0 1 1 0; draw 0
+none p memory: out of memory; asked 1 0 1; counts 1 0 0 0 1; draw 0
+";
 
+// Want of memory at the peer falls through to the local getter; at that one it is the result.
 #[test]
-fn want_of_memory_at_the_local_getter_is_the_result(rt: HostRuntime) -> Result<(), AllocError> {
-    let counts = Counts {
-        loads_deduped: 1,
-        local_load_errors: 1,
-        ..Counts::default()
-    };
-    let due = Due {
-        answer: "out of memory",
-        counts,
-        asked: [1, 0, 1],
-    };
-    assert_run(&rt, rt.alloc(), None, value("p"), Answer::Memory, due)
+fn rows_of_the_load_path(rt: HostRuntime) -> Result<(), AllocError> {
+    for row in RUNS.lines() {
+        let (words, due) = row.split_once(": ").unwrap_or((row, ""));
+        assert!(rt;
+            run(rt.alloc(), words)?.as_str() == due,
+            "{words} comes out otherwise"
+        );
+    }
+    Ok(())
 }
 
 // The origin at which each key is its own value.

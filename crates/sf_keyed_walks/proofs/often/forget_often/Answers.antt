@@ -13,7 +13,7 @@ returns-in-Other-clause-other c call is =
 
 pub returns-in-Nothing-clause-nothing : goal.returns-in-Nothing-clause-nothing
 returns-in-Nothing-clause-nothing c is =
-    none_from c.args.seat.now.me.0 c.loop-at.seat.me.0 c.forget_once.new.seat.me.0 (number c.args.name) c.loop-at.invariant.1 (c.forget_once.ensures.nothing (c.in-Nothing.is ∙ is))
+    let f = c.forget_once.ensures.nothing (c.in-Nothing.is ∙ is) in (none_from c.args.seat.now.me.0 c.loop-at.seat.me.0 c.forget_once.new.seat.me.0 (number c.args.name) c.loop-at.invariant.1 f.0, f.1)
 
 pub returns-in-Gone-clause-gone : goal.returns-in-Gone-clause-gone
 returns-in-Gone-clause-gone c is =

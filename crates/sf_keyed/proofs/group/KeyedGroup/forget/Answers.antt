@@ -33,7 +33,8 @@ returns c =
             spare,
           )
       | in-Nothing w ↦
-          let f = c.forget_often.ensures.nothing w.in-Nothing.is in
+          let g = c.forget_often.ensures.nothing w.in-Nothing.is in
+          let f = g.0 in
           subst (IsForgotten c.args.me.now after (number c.args.name) c.args.tries) (sym w.result-is) (
             record {
               group = (λ i. record { table = table i; sizes = f.sizes i }) ∙ own;
@@ -43,6 +44,7 @@ returns c =
               gone = λ k is. f.gone k (gone_on _ _ _ _ (ap (λ (g : GroupId). g.sizes) own) gone k is);
             },
             f.none,
+            g.1,
             spare,
           )
       | in-Gone w ↦

@@ -37,7 +37,7 @@ returns c =
             spare,
           )
       | in-Nothing w ↦
-          let f = c.forget_often.ensures.nothing w.in-Nothing.is in
+          let f = (c.forget_often.ensures.nothing w.in-Nothing.is).0 in
           subst ends (sym w.result-is) (
             record {
               group = (λ i. record { table = table i; sizes = f.sizes i }) ∙ own;

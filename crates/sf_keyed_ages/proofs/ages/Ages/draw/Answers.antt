@@ -1,6 +1,9 @@
 use Rattle.std.proofs.Common.{rules}
-use Rattle.sf_keyed_ages.proofs.Aging.{sits_at}
+use Rattle.sf_keyed_ages.proofs.Aging.{sees_at}
 use Rattle.sf_keyed_ages.proofs.ages.Ages.draw.Goals as goal
 
-pub load_new_seat-age-requires : goal.load_new_seat-age-requires
-load_new_seat-age-requires c = (search rules, sits_at c.self.inside.table.shared.key c.self.inside.table.shared.table_id.slots c.args.slot)
+pub load-requires : goal.load-requires
+load-requires c =
+    let shared = c.self.inside.table.shared in
+    let seat = c.me.inside.seat in
+    (search rules, search rules, sees_at shared.key shared.table_id.slots seat.id c.args.slot seat.me (search rules))

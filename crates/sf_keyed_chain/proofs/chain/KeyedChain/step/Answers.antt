@@ -1,56 +1,40 @@
-use Rattle.std.proofs.Common.{rules, ◌<◌, length, arith}
+use Rattle.std.proofs.Common.{rules, ◌≡◌, ◌+◌, ℕ, length, sym, subst}
 use Rattle.sf_keyed_words.specs.Rule.{number}
-use Rattle.sf_keyed_chain.proofs.Sights.{all_on, gone_on, joined_at, led_at, refused_at, still_gone, stepped_from, within_on}
+use Rattle.sf_keyed.specs.declared.group.Refusal.TheVariants as refusal
+use Rattle.sf_keyed.specs.declared.group.Asked.TheVariants as asked
+use Rattle.sf_keyed_chain.specs.Went.{IsRefusedAt}
+use Rattle.sf_keyed_chain.proofs.Ends.{AskedAt, again_at, joined_at, last_for, led_at, refused_at}
 use Rattle.sf_keyed_chain.proofs.chain.KeyedChain.step.Goals as goal
-
-pub step_on-requires-clause-gone : goal.step_on-requires-clause-gone
-step_on-requires-clause-gone c = gone_on (number c.args.name) c.args.at c.args.me.now c.learn.new.me c.learn.ensures.seen c.requires.gone
-
-pub returns-then-at-len-clause-seen : goal.returns-then-at-len-clause-seen
-returns-then-at-len-clause-seen c = all_on c.args.me.now c.learn.new.me c.step_on.new.me c.learn.ensures.seen c.step_on.ensures.seen
-
-pub returns-then-at-len-clause-stepped : goal.returns-then-at-len-clause-stepped
-returns-then-at-len-clause-stepped c = stepped_from (number c.args.name) c.args.at c.args.tries c.args.me.now c.learn.new.me c.step_on.new.me c.step_on.result c.learn.ensures.seen c.step_on.ensures.stepped
-
-pub learn-requires-in-Refused-Sealed-clause-at : goal.learn-requires-in-Refused-Sealed-clause-at
-learn-requires-in-Refused-Sealed-clause-at c =
-    let there : c.args.at < length c.learn.new.me = search rules in
-    let within = within_on c.args.at c.learn.new.me c.ask_at.new.me c.ask_at.ensures.seen there in
-    omega (arith, within)
-
-pub returns-in-Led-clause-seen : goal.returns-in-Led-clause-seen
-returns-in-Led-clause-seen c = all_on c.args.me.now c.learn.new.me c.ask_at.new.me c.learn.ensures.seen c.ask_at.ensures.seen
 
 pub returns-in-Led-clause-stepped : goal.returns-in-Led-clause-stepped
 returns-in-Led-clause-stepped c =
-    led_at (number c.args.name) c.args.at c.args.tries c.args.me.now c.learn.new.me c.ask_at.new.me c.ask_at.result c.in-Led.flight c.in-Led.is c.learn.ensures.seen c.ask_at.ensures.seen c.requires.gone c.ask_at.ensures.asked
-
-pub returns-in-Joined-clause-seen : goal.returns-in-Joined-clause-seen
-returns-in-Joined-clause-seen c = all_on c.args.me.now c.learn.new.me c.ask_at.new.me c.learn.ensures.seen c.ask_at.ensures.seen
+    let last : c.args.at + 1 ≡ length c.ask_at-asked.new.me = search rules in
+    led_at c.args.self.now (number c.args.name) c.args.at c.args.tries c.args.me.now c.ask_at-asked.new.me c.flight_at.new.me c.ask_at-asked.result.0 c.in-Led.flight c.flight_at.result c.ask_at-asked.result.1 c.in-Led.is last (sym c.flight_at.ensures.same) c.flight_at.ensures.flight c.ask_at-asked.ensures.table c.ask_at-asked.ensures.stamped c.requires.gone c.ask_at-asked.ensures.asked
 
 pub returns-in-Joined-clause-stepped : goal.returns-in-Joined-clause-stepped
 returns-in-Joined-clause-stepped c =
-    joined_at (number c.args.name) c.args.at c.args.tries c.args.me.now c.learn.new.me c.ask_at.new.me c.ask_at.result c.in-Joined.ticket c.in-Joined.is c.learn.ensures.seen c.ask_at.ensures.seen c.requires.gone c.ask_at.ensures.asked
+    let k = number c.args.name in
+    joined_at c.args.self.now k c.args.at c.args.me.now c.ask_at-asked.new.me c.ticket_at.new.me c.in-Joined.ticket c.ticket_at.result (sym c.ticket_at.ensures.same) c.ticket_at.ensures.ticket c.requires.gone
+    (subst (AskedAt k c.args.at c.args.tries c.args.me.now c.ask_at-asked.new.me) c.in-Joined.is c.ask_at-asked.ensures.asked)
 
-pub returns-in-Ok-true-learn-clause-seen : goal.returns-in-Ok-true-learn-clause-seen
-returns-in-Ok-true-learn-clause-seen c = all_on c.args.me.now c.ask_at.new.me c.learn-in-Refused-Sealed.new.me (all_on c.args.me.now c.learn.new.me c.ask_at.new.me c.learn.ensures.seen c.ask_at.ensures.seen) c.learn-in-Refused-Sealed.ensures.seen
+pub returns-then-learn-clause-stepped : goal.returns-then-learn-clause-stepped
+returns-then-learn-clause-stepped c =
+    let is : c.ask_at-asked.result.0 ≡ asked.Refused refusal.Sealed = search rules in
+    again_at (number c.args.name) c.args.at c.args.tries c.args.me.now c.ask_at-asked.new.me c.learn.new.me c.ask_at-asked.result.0 refusal.Sealed is c.requires.at c.ask_at-asked.ensures.known (search rules) c.requires.gone c.ask_at-asked.ensures.asked c.learn.ensures.heard
 
-pub returns-in-Ok-true-learn-clause-stepped : goal.returns-in-Ok-true-learn-clause-stepped
-returns-in-Ok-true-learn-clause-stepped c =
-    let there : c.args.at < length c.learn.new.me = search rules in
-    let within = within_on c.args.at c.learn.new.me c.ask_at.new.me c.ask_at.ensures.seen there in
-    still_gone (number c.args.name) c.args.at c.args.me.now c.learn-in-Refused-Sealed.new.me (within_on c.args.at c.ask_at.new.me c.learn-in-Refused-Sealed.new.me c.learn-in-Refused-Sealed.ensures.seen within)
-    (all_on c.args.me.now c.ask_at.new.me c.learn-in-Refused-Sealed.new.me (all_on c.args.me.now c.learn.new.me c.ask_at.new.me c.learn.ensures.seen c.ask_at.ensures.seen) c.learn-in-Refused-Sealed.ensures.seen) c.requires.gone
-
-pub returns-in-Ok-false-learn-clause-seen : goal.returns-in-Ok-false-learn-clause-seen
-returns-in-Ok-false-learn-clause-seen c = all_on c.args.me.now c.ask_at.new.me c.learn-in-Refused-Sealed.new.me (all_on c.args.me.now c.learn.new.me c.ask_at.new.me c.learn.ensures.seen c.ask_at.ensures.seen) c.learn-in-Refused-Sealed.ensures.seen
-
-pub returns-in-Err-learn-clause-seen : goal.returns-in-Err-learn-clause-seen
-returns-in-Err-learn-clause-seen c = all_on c.args.me.now c.ask_at.new.me c.learn-in-Refused-Sealed.new.me (all_on c.args.me.now c.learn.new.me c.ask_at.new.me c.learn.ensures.seen c.ask_at.ensures.seen) c.learn-in-Refused-Sealed.ensures.seen
+pub returns-else-learn-clause-stepped : goal.returns-else-learn-clause-stepped
+returns-else-learn-clause-stepped c =
+    let k = number c.args.name in
+    let last : c.args.at + 1 ≡ length c.ask_at-asked.new.me = search rules in
+    let same : c.learn.new.me ≡ c.ask_at-asked.new.me = search rules in
+    let is : c.ask_at-asked.result.0 ≡ asked.Refused refusal.Sealed = search rules in
+    subst (λ l. (at : ℕ) × IsRefusedAt k c.args.tries refusal.Sealed at c.args.me.now l) (sym same)
+    (c.args.at, refused_at k c.args.at c.args.tries c.args.me.now c.ask_at-asked.new.me refusal.Sealed last c.requires.gone (subst (AskedAt k c.args.at c.args.tries c.args.me.now c.ask_at-asked.new.me) is c.ask_at-asked.ensures.asked))
 
 pub returns-in-Refused : goal.returns-in-Refused
-returns-in-Refused c = record {
-  of = c.ask_at.ensures.of;
-  seen = all_on c.args.me.now c.learn.new.me c.ask_at.new.me c.learn.ensures.seen c.ask_at.ensures.seen;
-  stepped = refused_at (number c.args.name) c.args.at c.args.tries c.args.me.now c.learn.new.me c.ask_at.new.me c.ask_at.result c.in-Refused.why c.in-Refused.is c.learn.ensures.seen c.ask_at.ensures.asked;
-}
+returns-in-Refused c =
+    let k = number c.args.name in
+    let last : c.args.at + 1 ≡ length c.ask_at-asked.new.me = search rules in record {
+      of = c.ask_at-asked.ensures.of;
+      stepped = (c.args.at, refused_at k c.args.at c.args.tries c.args.me.now c.ask_at-asked.new.me c.in-Refused.why (last_for c.in-Refused.why c.args.at (length c.ask_at-asked.new.me) last) c.requires.gone (subst (AskedAt k c.args.at c.args.tries c.args.me.now c.ask_at-asked.new.me) c.in-Refused.is c.ask_at-asked.ensures.asked));
+    }

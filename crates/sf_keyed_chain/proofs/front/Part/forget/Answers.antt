@@ -1,11 +1,19 @@
-use Rattle.std.proofs.Common.{subst}
+use Rattle.std.proofs.Common.{rules, ◌≡◌, subst}
+use Rattle.std.specs.Prelude.{IsSomeAnd}
 use Rattle.sf_keyed_words.specs.Rule.{number}
-use Rattle.sf_keyed_chain.specs.Chains.{Sight, IsLater}
-use Rattle.sf_keyed_chain.proofs.Later.{later_cell, later_forgotten}
+use Rattle.sf_keyed_chain.specs.Chains.{IsLater, Sight}
+use Rattle.sf_keyed_chain.proofs.Later.{on_forgotten, part_kept}
 use Rattle.sf_keyed_chain.proofs.front.Part.forget.Goals as goal
 
-pub returns-clause-later : goal.returns-clause-later
-returns-clause-later c =
-    let cell = c.self.inside.note.cell in
-    subst (λ (s : Sight). IsLater s (record { cell = c.get_as.new.note.cell; front = c.forget.new.me })) c.self.view_is
-    (later_cell cell c.get_as.new.note.cell c.self.inside.front c.forget.new.me c.get_as.ensures.cell (later_forgotten cell c.self.inside.front c.forget.new.me (number c.args.name) c.args.tries c.forget.result c.forget.ensures))
+pub invariant_of-self : goal.invariant_of-self
+invariant_of-self c =
+    let p = c.self.inside in
+    let of : IsSomeAnd c.get_as.new.note.known (λ l. (l.group ≡ p.front.group) × (l.ages.table ≡ p.known.of)) = search rules in
+    part_kept c.get_as.new.note.known p.front c.forget-forgotten.new.me p.known c.end.new.known p.swept p.done
+    (on_forgotten p.front c.forget-forgotten.new.me (number c.args.name) c.args.tries c.forget-forgotten.result c.forget-forgotten.ensures) c.end.ensures.on of c.self.invariant.1 c.self.invariant.2
+
+pub returns-then-ne-clause-later : goal.returns-then-ne-clause-later
+returns-then-ne-clause-later c =
+    let p = c.self.inside in
+    subst (λ (s : Sight). IsLater s (record { cell = c.get_as.new.note.cell; front = c.forget-forgotten.new.me; known = c.end.new.known; swept = p.swept; done = p.done })) c.self.view_is
+    (record { cell = c.get_as.ensures.cell; on = on_forgotten p.front c.forget-forgotten.new.me (number c.args.name) c.args.tries c.forget-forgotten.result c.forget-forgotten.ensures; ages = c.end.ensures.on })

@@ -1,0 +1,5 @@
+use Rattle.sf_keyed_chain.specs.Chains.{AllGoOn, IsOf}
+use Rattle.sf_c_calls.proofs.session.claim.Given as goal
+
+abbrev pub invariant-loop : goal.invariant-loop
+invariant-loop l = IsOf l.chain l.me × AllGoOn l.fn.me l.me

@@ -1,0 +1,24 @@
+-- A handle and its loose box own what a box at the same types owns.
+use mir.Syntax.{impl, tnil, dnil}
+use mathlib.Core.List.{[]}
+use denote.Signature.{Slot, plain}
+use Rattle.std_alloc.proofs.BoxSteps.Form.{Bx}
+use Rattle.std_heap.specs.contracts.Global as Heap
+use Rattle.std_heap.specs.contracts.GlobalAllocator.TheImpl.{ghosts, dict}
+use Rattle.std_heap.proofs.Global.TheLaws as heap
+use Rattle.sf_c_calls.specs.contracts.session.Session as State
+use Rattle.sf_c_calls.proofs.session.Session.TheLaws as state
+use Rattle.sf_c_exports.specs.contracts.loose.Loose as Loose
+use Rattle.sf_c_exports.specs.contracts.handle.Handle as Handle
+
+abbrev pub E : Bx
+E = record { row = State.the_row; laws = state.the_row_laws; al = record { row = Heap.the_row; laws = heap.the_row_laws; g = ghosts; d = dict; drops = impl [] tnil dnil } }
+
+abbrev pub FromLoose : Slot 0
+FromLoose = plain (λ _. Loose.the_row State.the_row Heap.the_row ghosts)
+
+abbrev pub FromHandle : Slot 0
+FromHandle = plain (λ _. Handle.the_row)
+
+abbrev pub FromHeap : Slot 0
+FromHeap = plain (λ _. Heap.the_row)

@@ -1,0 +1,3 @@
+pub mod AsBox
+pub mod AsCallBox
+pub mod Values

@@ -1,4 +1,0 @@
-pub mod OneCall
-pub mod Rows
-pub mod Stamps
-pub mod Written

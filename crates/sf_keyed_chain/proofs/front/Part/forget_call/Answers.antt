@@ -1,0 +1,11 @@
+use Rattle.std.proofs.Common.{subst}
+use Rattle.sf_keyed_words.specs.Rule.{number}
+use Rattle.sf_keyed_chain.specs.Chains.{IsLater, Sight}
+use Rattle.sf_keyed_chain.proofs.Later.{later_at, on_ended}
+use Rattle.sf_keyed_chain.proofs.front.Part.forget_call.Goals as goal
+
+pub returns-then-ne-clause-later : goal.returns-then-ne-clause-later
+returns-then-ne-clause-later c =
+    let p = c.self.inside in
+    subst (λ (s : Sight). IsLater s (record { cell = c.get_as.new.note.cell; front = c.forget_call-ended.new.me; known = p.known; swept = p.swept; done = p.done })) c.self.view_is
+    (later_at p.note.cell c.get_as.new.note.cell p.swept p.done p.known p.front c.forget_call-ended.new.me c.get_as.ensures.cell (on_ended p.front c.forget_call-ended.new.me (number c.args.name) c.args.call c.args.tries c.forget_call-ended.result c.forget_call-ended.ensures))

@@ -1,0 +1,48 @@
+//go:build linux && (amd64 || arm64) && gc && !purego
+
+package singleflight
+
+// The library's code, at which no Go code may point: calls_GOARCH.s knows where in it the calls below stand.
+func library()
+
+// The memory of the library's allocator, which begins anywhere in it: see memory.c.
+var libraryMemory [4224]byte
+
+//go:noescape
+func cOpen(h *handle, cells, seed0, seed1 uint64) uint32
+
+//go:noescape
+func cSplit(h, other *handle) uint32
+
+//go:noescape
+func cClose(h *handle)
+
+//go:noescape
+func cMake(h *handle, c *cCall) uint32
+
+//go:noescape
+func cFree(h *handle, c *cCall) uint32
+
+//go:noescape
+func cAsk(h *handle, c *cCall, key pointer, n uintptr, tries uint32, out *cAsked) uint32
+
+//go:noescape
+func cSettle(h *handle, c *cCall, value uint64, told *cAudience) uint32
+
+//go:noescape
+func cLeave(h *handle, c *cCall, value *uint64) uint32
+
+//go:noescape
+func cForget(h *handle, key pointer, n uintptr, tries uint32, id *callID) uint32
+
+//go:noescape
+func cForgetCall(h *handle, key pointer, n uintptr, id *callID, stamp *cStamp, tries uint32) uint32
+
+//go:noescape
+func cIsStill(h *handle, stamp *cStamp) bool
+
+//go:noescape
+func cGrow(h *handle) uint32
+
+//go:noescape
+func cMeasure(h *handle, size *cSize) uint32

@@ -1,0 +1,229 @@
+//! The library, by its header `sflight.h`.
+
+use super::{Asked, Audience, Forgot, ForgotCall, Id, Size, Stamp};
+use crate::Error;
+use std::ptr::null_mut;
+
+const DONE: u32 = 0;
+const LED: u32 = 1;
+const JOINED: u32 = 2;
+const ALONE: u32 = 3;
+const TOLD: u32 = 4;
+const LAST: u32 = 5;
+const PENDING: u32 = 6;
+const NOTHING: u32 = 7;
+const CLEARED: u32 = 8;
+const FULL: u32 = 9;
+const CROWDED: u32 = 10;
+const BUSY: u32 = 11;
+const OLD_PROCESSOR: u32 = 16;
+
+/// After so many tries it says that it is busy.
+const TRIES: u32 = 64;
+
+/// What a thread needs to call, or nothing.
+#[repr(C)]
+pub(crate) struct Handle {
+    at: *mut u8,
+    live: bool,
+}
+
+/// One asking at a time: idle, leading, or holding.
+#[repr(C)]
+pub(crate) struct Call {
+    at: *mut u8,
+    live: bool,
+}
+
+// SAFETY: the header says that any thread may use a handle or a call, one at a time.
+unsafe impl Send for Handle {}
+// SAFETY: as above.
+unsafe impl Send for Call {}
+// SAFETY: by a shared reference nothing can be done with it.
+unsafe impl Sync for Call {}
+
+// SAFETY: the signatures are those of `sflight.h`. Those that are safe have all duties of that
+// header met by their types: a handle or a call begins as nothing, and nobody can copy one; two
+// that are given to one call are two, since both are borrowed; what is written is borrowed too.
+// That a call is of another group, or in another state, is a code.
+unsafe extern "C" {
+    safe fn sflight_open(handle: &mut Handle, cells: u64, seed0: u64, seed1: u64) -> u32;
+    safe fn sflight_split(handle: &mut Handle, other: &mut Handle) -> u32;
+    safe fn sflight_close(handle: &mut Handle);
+    safe fn sflight_make(handle: &mut Handle, call: &mut Call) -> u32;
+    safe fn sflight_free(call: &mut Call) -> u32;
+    unsafe fn sflight_ask(
+        handle: &mut Handle,
+        call: &mut Call,
+        key: *const u8,
+        len: usize,
+        tries: u32,
+        id: &mut Id,
+        stamp: &mut Stamp,
+    ) -> u32;
+    safe fn sflight_settle(
+        handle: &mut Handle,
+        call: &mut Call,
+        value: u64,
+        audience: &mut Audience,
+    ) -> u32;
+    safe fn sflight_look(handle: &mut Handle, call: &mut Call, value: &mut u64) -> u32;
+    safe fn sflight_leave(handle: &mut Handle, call: &mut Call, value: &mut u64) -> u32;
+    unsafe fn sflight_forget(
+        handle: &mut Handle,
+        key: *const u8,
+        len: usize,
+        tries: u32,
+        id: &mut Id,
+    ) -> u32;
+    unsafe fn sflight_forget_call(
+        handle: &mut Handle,
+        key: *const u8,
+        len: usize,
+        id: &Id,
+        stamp: &Stamp,
+        tries: u32,
+    ) -> u32;
+    safe fn sflight_is_still(handle: &mut Handle, stamp: &Stamp) -> bool;
+    safe fn sflight_grow(handle: &mut Handle) -> u32;
+    safe fn sflight_measure(handle: &mut Handle, size: &mut Size) -> u32;
+}
+
+#[cold]
+#[inline(never)]
+fn unexpected(code: u32) -> ! {
+    unreachable!("the library returned {code}")
+}
+
+impl Handle {
+    pub(crate) const NONE: Handle = Handle { at: null_mut(), live: false };
+
+    pub(crate) fn open(cells: u32, seeds: [u64; 2]) -> Result<Self, Error> {
+        let mut handle = Handle::NONE;
+        match sflight_open(&mut handle, cells.into(), seeds[0], seeds[1]) {
+            DONE => Ok(handle),
+            OLD_PROCESSOR => Err(Error::OldProcessor),
+            _ => Err(Error::OutOfMemory),
+        }
+    }
+
+    #[inline]
+    pub(crate) fn is_open(&self) -> bool {
+        self.live
+    }
+
+    /// Opens another one of the group, unless there is no memory.
+    pub(crate) fn split(&mut self, other: &mut Handle) -> bool {
+        sflight_split(self, other) == DONE
+    }
+
+    /// An idle call. None where there is no memory.
+    pub(crate) fn make(&mut self) -> Option<Call> {
+        let mut call = Call { at: null_mut(), live: false };
+        (sflight_make(self, &mut call) == DONE).then_some(call)
+    }
+
+    /// Asks for the key with an idle call.
+    #[inline]
+    pub(crate) fn ask(
+        &mut self,
+        call: &mut Call,
+        key: &[u8],
+        id: &mut Id,
+        stamp: &mut Stamp,
+    ) -> Asked {
+        // SAFETY: the key has so many bytes.
+        let code = unsafe { sflight_ask(self, call, key.as_ptr(), key.len(), TRIES, id, stamp) };
+        match code {
+            LED => Asked::Led,
+            JOINED => Asked::Joined,
+            FULL => Asked::Full,
+            CROWDED => Asked::Crowded,
+            BUSY => Asked::Busy,
+            _ => unexpected(code),
+        }
+    }
+
+    /// Settles the call that is led. None where it is idle, and the value was told to nobody.
+    /// Otherwise it is held, until it is left.
+    #[inline]
+    pub(crate) fn settle(&mut self, call: &mut Call, value: u64) -> Option<Audience> {
+        let mut audience = Audience::default();
+        match sflight_settle(self, call, value, &mut audience) {
+            ALONE => None,
+            TOLD => Some(audience),
+            code => unexpected(code),
+        }
+    }
+
+    /// What the call that is held was settled with, if it is settled.
+    #[inline]
+    pub(crate) fn look(&mut self, call: &mut Call) -> Option<u64> {
+        let mut value = 0;
+        match sflight_look(self, call, &mut value) {
+            DONE => Some(value),
+            PENDING => None,
+            code => unexpected(code),
+        }
+    }
+
+    /// Leaves the call that is held. The last that leaves a settled call has its value.
+    #[inline]
+    pub(crate) fn leave(&mut self, call: &mut Call) -> Option<u64> {
+        let mut value = 0;
+        match sflight_leave(self, call, &mut value) {
+            LAST => Some(value),
+            DONE => None,
+            code => unexpected(code),
+        }
+    }
+
+    pub(crate) fn forget(&mut self, key: &[u8]) -> Forgot {
+        let mut id = Id::default();
+        // SAFETY: the key has so many bytes.
+        match unsafe { sflight_forget(self, key.as_ptr(), key.len(), TRIES, &mut id) } {
+            DONE => Forgot::Closed(id),
+            NOTHING => Forgot::Nothing,
+            BUSY => Forgot::Busy,
+            code => unexpected(code),
+        }
+    }
+
+    pub(crate) fn forget_call(&mut self, key: &[u8], id: &Id, stamp: &Stamp) -> ForgotCall {
+        // SAFETY: the key has so many bytes.
+        match unsafe { sflight_forget_call(self, key.as_ptr(), key.len(), id, stamp, TRIES) } {
+            DONE => ForgotCall::Closed,
+            CLEARED => ForgotCall::Cleared,
+            BUSY => ForgotCall::Busy,
+            code => unexpected(code),
+        }
+    }
+
+    #[inline]
+    pub(crate) fn is_still(&mut self, stamp: &Stamp) -> bool {
+        sflight_is_still(self, stamp)
+    }
+
+    /// Makes room for more open calls. Whether there is more now.
+    pub(crate) fn grow(&mut self) -> bool {
+        sflight_grow(self) == DONE
+    }
+
+    pub(crate) fn measure(&mut self) -> Size {
+        let mut size = Size::default();
+        sflight_measure(self, &mut size);
+        size
+    }
+}
+
+impl Drop for Handle {
+    fn drop(&mut self) {
+        sflight_close(self);
+    }
+}
+
+impl Drop for Call {
+    fn drop(&mut self) {
+        sflight_free(self);
+    }
+}

@@ -1,0 +1,181 @@
+//! Handles of the keyed group near each thread, with what its calls need beside them: so that
+//! threads share no lock.
+
+use crate::keyed::{self, Handle};
+use crate::post::Told;
+use crate::sync::{Near, NearGuard};
+use crate::{Error, Stats};
+use std::cell::Cell;
+use std::collections::hash_map::RandomState;
+use std::hash::BuildHasher;
+use std::num::NonZero;
+use std::sync::atomic::{AtomicUsize, Ordering::Relaxed};
+use std::sync::OnceLock;
+
+/// As many processors as this process may use.
+pub(crate) fn processors() -> usize {
+    static PROCESSORS: OnceLock<usize> = OnceLock::new();
+    *PROCESSORS.get_or_init(|| std::thread::available_parallelism().map_or(1, NonZero::get))
+}
+
+/// So many idle calls are kept in a place.
+const IDLE: usize = 64;
+
+/// A handle, which one thread at a time uses for one step. While it has it, it runs nothing of the
+/// user's, and does not sleep.
+pub(crate) struct Seat<T> {
+    pub(crate) handle: Handle,
+    idle: Vec<keyed::Call>,
+    /// For the value of the next call.
+    pub(crate) spare: Option<Box<Told<T>>>,
+    /// What was done by this handle. `taken` and `given` are of calls.
+    pub(crate) loads: u64,
+    pub(crate) joins: u64,
+    pub(crate) forgets: u64,
+    pub(crate) settles: u64,
+    taken: u64,
+    given: u64,
+}
+
+impl<T> Seat<T> {
+    fn new(handle: Handle) -> Self {
+        Seat {
+            handle,
+            idle: Vec::new(),
+            spare: None,
+            loads: 0,
+            joins: 0,
+            forgets: 0,
+            settles: 0,
+            taken: 0,
+            given: 0,
+        }
+    }
+
+    /// An idle call. None where there is no memory for one.
+    #[inline]
+    pub(crate) fn take(&mut self) -> Option<keyed::Call> {
+        self.idle.pop().or_else(|| self.handle.make())
+    }
+
+    /// The call leads or holds now.
+    #[inline]
+    pub(crate) fn begins(&mut self) {
+        self.taken += 1;
+    }
+
+    /// The call is idle again.
+    #[inline]
+    pub(crate) fn ends(&mut self, call: keyed::Call) {
+        self.given += 1;
+        self.put(call);
+    }
+
+    #[inline]
+    pub(crate) fn put(&mut self, call: keyed::Call) {
+        if self.idle.len() < IDLE {
+            self.idle.push(call);
+        }
+    }
+}
+
+/// No two lie in one line of memory.
+#[repr(align(128))]
+struct Place<T>(Near<Seat<T>>);
+
+/// Places for handles, among which each thread has one that it tries first. That of the first place
+/// is always open, and the others are split off from it.
+pub(crate) struct Places<T>(Box<[Place<T>]>);
+
+impl<T> Places<T> {
+    pub(crate) fn open(cells: u32) -> Result<Self, Error> {
+        let random = RandomState::new();
+        let first = Handle::open(cells, [0, 1].map(|number: u64| random.hash_one(number)))?;
+        let more = (1..processors().next_power_of_two().clamp(4, 64)).map(|_| Handle::NONE);
+        let place = |handle| Place(Near::new(Seat::new(handle)));
+        Ok(Places(std::iter::once(first).chain(more).map(place).collect()))
+    }
+
+    /// Runs with a handle.
+    #[inline]
+    pub(crate) fn with<R>(&self, run: impl FnOnce(&mut Seat<T>) -> R) -> R {
+        let own = thread_number() & (self.0.len() - 1);
+        let mut seat = match self.0[own].0.try_lock() {
+            Some(seat) => seat,
+            None => self.elsewhere(own),
+        };
+        if !seat.handle.is_open() {
+            seat = self.opened(seat);
+        }
+        run(&mut seat)
+    }
+
+    #[cold]
+    #[inline(never)]
+    fn elsewhere(&self, own: usize) -> NearGuard<'_, Seat<T>> {
+        let (before, after) = self.0.split_at(own);
+        let mut places = after.iter().chain(before);
+        places.find_map(|place| place.0.try_lock()).unwrap_or_else(|| self.0[own].0.lock())
+    }
+
+    #[cold]
+    #[inline(never)]
+    fn opened<'a>(&'a self, mut seat: NearGuard<'a, Seat<T>>) -> NearGuard<'a, Seat<T>> {
+        if self.open_one().handle.split(&mut seat.handle) {
+            return seat;
+        }
+        // There is no memory.
+        drop(seat);
+        self.open_one()
+    }
+
+    /// A handle of the group that belongs to no place. None where there is no memory.
+    pub(crate) fn split(&self) -> Option<Handle> {
+        let mut handle = Handle::NONE;
+        self.open_one().handle.split(&mut handle).then_some(handle)
+    }
+
+    /// A place whose handle is open. The thread may have another place, whose handle is not: whoever
+    /// has one that is open waits for no other.
+    fn open_one(&self) -> NearGuard<'_, Seat<T>> {
+        let mut open = self.0.iter().filter_map(|place| place.0.try_lock());
+        open.find(|seat| seat.handle.is_open()).unwrap_or_else(|| self.0[0].0.lock())
+    }
+
+    /// How many calls are open, about.
+    pub(crate) fn open_calls(&self) -> u64 {
+        let (mut loads, mut settles) = (0, 0);
+        for place in &self.0 {
+            let seat = place.0.lock();
+            (loads, settles) = (loads + seat.loads, settles + seat.settles);
+        }
+        u64::saturating_sub(loads, settles)
+    }
+
+    pub(crate) fn stats(&self) -> Stats {
+        let (mut stats, mut taken, mut given) = (Stats::default(), 0, 0);
+        for place in &self.0 {
+            let seat = place.0.lock();
+            stats.loads += seat.loads;
+            stats.joins += seat.joins;
+            stats.forgets += seat.forgets;
+            (taken, given) = (taken + seat.taken, given + seat.given);
+        }
+        // One that ended meanwhile may be counted as given alone.
+        stats.in_use = u64::saturating_sub(taken, given);
+        stats
+    }
+}
+
+/// A number of this thread, from 0 on.
+#[inline]
+pub(crate) fn thread_number() -> usize {
+    static NEXT: AtomicUsize = AtomicUsize::new(0);
+    thread_local!(static NUMBER: Cell<usize> = const { Cell::new(usize::MAX) });
+    NUMBER.with(|number| {
+        if number.get() == usize::MAX {
+            number.set(NEXT.fetch_add(1, Relaxed));
+        }
+        number.get()
+    })
+}
