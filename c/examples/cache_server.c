@@ -55,8 +55,8 @@ static void answer(int client, const char *status, const char *body) {
 static void serve(int client) {
     char text[REQUEST];
     size_t len = 0;
-    /* A client that sends nothing for a second is let go. */
-    setsockopt(client, SOL_SOCKET, SO_RCVTIMEO, &(struct timeval){1, 0}, sizeof(struct timeval));
+    /* A client that sends nothing for ten seconds is let go. */
+    setsockopt(client, SOL_SOCKET, SO_RCVTIMEO, &(struct timeval){10, 0}, sizeof(struct timeval));
     while (len < sizeof text - 1 && !memchr(text, '\n', len)) {
         ssize_t n = read(client, text + len, sizeof text - 1 - len);
         if (n <= 0) return;
