@@ -1,16 +1,18 @@
 -- Each step on the ages keeps their rule.
 use Rattle.std.proofs.Common.{◌⊎◌, ◌≡◌, ◌≢◌, ℕ, zero, suc, ◌+◌, ◌==◌, ◌<◌, ◌≤◌, Bool, true, false, ◌&&◌, ◌||◌, eqb, List, ◌∷◌, [], get_or, set, length, sym, refl, ◌∙◌, subst, ap, arith, length-set, get_or-set_same, get_or-set_other, inl, inr, ⊎_elim}
 use Rattle.std.proofs.lemmas.Bool.{true≢false, and_from, eq-eqb, eqb-true, or_left, or_right}
+use Rattle.std.proofs.lemmas.List.Folds.{list_any-append}
 use Rattle.std.specs.List.{list_any}
 use mathlib.Core.Logic.{dite}
 use mathlib.Core.Option.{none, some, some-injective, some-ne-none}
 use native.Mathlib.Decide.{ℕ_discrete}
 use prog.Atomic.{either}
 use lib.ListN.{get_elem?}
-use Rattle.atomic_table.specs.Table.{State, Me, Act, step, keeps, Valid, stepped, Allows, Enters, opening, carried_after}
+use Rattle.atomic_table.specs.Table.{State, Me, Act, step, keeps, Valid, stepped, Allows, Enters, Joins, Splits, opening, carried_after}
 use Rattle.atomic_table.proofs.Lists.{at_set, at_snoc, exchanged}
+use Rattle.sf_keyed_ages.specs.declared.rule.Fact.{Fact}
 use Rattle.sf_keyed_ages.specs.declared.rule.Known.{Known}
-use Rattle.sf_keyed_ages.specs.Rule.{Has, HoldsAges, nothing, with_fact, sits, sees, ends}
+use Rattle.sf_keyed_ages.specs.Rule.{Has, HoldsAges, nothing, with_fact, with_facts, sits, sees, ends}
 
 -- facts, one by one
 or_parts : (x y : Bool) → (x || y) ≡ true → (x ≡ true) ⊎ (y ≡ true)
@@ -32,6 +34,21 @@ has_either v slot age i n has = ⊎_elim
     (λ (here : (eqb slot i && eqb age n) ≡ true). let p = and_parts (eqb slot i) (eqb age n) here in inl (eqb-true slot i p.0, eqb-true age n p.1))
     inr
     (or_parts (eqb slot i && eqb age n) (list_any (λ f. eqb f.slot i && eqb f.age n) v.facts) has)
+
+pub has_old : (v w : Known) (i n : ℕ) → Has v.facts i n → Has (with_facts v w).facts i n
+has_old v w i n has =
+    let f : Fact → Bool = λ f. eqb f.slot i && eqb f.age n in
+    list_any-append f w.facts v.facts ∙ or_right (list_any f w.facts) (list_any f v.facts) has
+
+pub has_new : (v w : Known) (i n : ℕ) → Has w.facts i n → Has (with_facts v w).facts i n
+has_new v w i n has =
+    let f : Fact → Bool = λ f. eqb f.slot i && eqb f.age n in
+    list_any-append f w.facts v.facts ∙ or_left (list_any f w.facts) (list_any f v.facts) has
+
+has_one : (v w : Known) (i n : ℕ) → Has (with_facts v w).facts i n → Has w.facts i n ⊎ Has v.facts i n
+has_one v w i n has =
+    let f : Fact → Bool = λ f. eqb f.slot i && eqb f.age n in
+    or_parts (list_any f w.facts) (list_any f v.facts) (sym (list_any-append f w.facts v.facts) ∙ has)
 
 -- a word that becomes no less
 raised : (ws : List ℕ) (i n j : ℕ) → i < length ws → get_or ws i 0 ≤ n → get_or ws j 0 ≤ get_or (set ws i n) j 0
@@ -116,3 +133,34 @@ module _ (slots : ℕ) where
       (λ miss. let t = there word in
       let up : new ≤ word = grind (arith, was, next, miss) in
       (w, keeps, tt, grows s i word id w b within (omega arith) (so_more (set s.words i word) me.0 i new (so word (omega arith)) (omega (arith, t, up))), (refl, λ _. up)))
+
+  pub shares_at : (id : ℕ) (v : Known) → Splits (HoldsAges slots) id v v v
+  shares_at id v s b at = record {
+    size = b.size;
+    grown = λ k u e. ⊎_elim
+        (λ (t : get_elem? (set s.views id v) k ≡ some u). ⊎_elim
+        (λ (h : (k ≡ id) × (v ≡ u)). subst (IsSo s.words) h.1 (b.grown id v at))
+        (λ (h : (k ≢ id) × (get_elem? s.views k ≡ some u)). b.grown k u h.1)
+        (at_set s.views id k v u t))
+        (λ (t : v ≡ u). subst (IsSo s.words) t (b.grown id v at))
+        (at_snoc (set s.views id v) v u k e);
+  }
+
+  pub learns_at : (id : ℕ) (v : Known) (other : ℕ) (w : Known) → Joins (HoldsAges slots) id v other w (with_facts v w) nothing
+  learns_at id v other w s b at apart there =
+      let both : Known = with_facts v w in
+      let theirs : IsSo s.words w = ⊎_elim
+      (λ (h : (other ≡ id) × (both ≡ w)). absurd (apart h.0))
+      (λ (h : (other ≢ id) × (get_elem? s.views other ≡ some w)). b.grown other w h.1)
+      (at_set s.views id other both w there) in
+      let so : IsSo s.words both = λ slot age has. ⊎_elim (theirs slot age) (b.grown id v at slot age) (has_one v w slot age has) in
+      record {
+        size = b.size;
+        grown = λ k u e. ⊎_elim
+            (λ (h : (k ≡ other) × (nothing ≡ u)). subst (IsSo s.words) h.1 (none_so s.words))
+            (λ (h : (k ≢ other) × (get_elem? (set s.views id both) k ≡ some u)). ⊎_elim
+            (λ (g : (k ≡ id) × (both ≡ u)). subst (IsSo s.words) g.1 so)
+            (λ (g : (k ≢ id) × (get_elem? s.views k ≡ some u)). b.grown k u g.1)
+            (at_set s.views id k both u h.1))
+            (at_set (set s.views id both) other k nothing u e);
+      }

@@ -1,5 +1,5 @@
 -- The rule of the table of ages, and what its steps tell.
-use Rattle.std.specs.Prelude.{◌≡◌, ◌≢◌, ℕ, ◌≤◌, ◌==◌, ◌&&◌, true, List, [], ◌∷◌, length, slice_index}
+use Rattle.std.specs.Prelude.{◌≡◌, ◌≢◌, ℕ, ◌≤◌, ◌==◌, ◌&&◌, true, List, [], ◌∷◌, ◌++◌, length, slice_index}
 use Rattle.std.specs.List.{list_any}
 use mathlib.Core.Option.{some}
 use lib.ListN.{get_elem?}
@@ -16,6 +16,10 @@ nothing = record { facts = [] }
 
 abbrev pub with_fact : Known → ℕ → ℕ → Known
 with_fact v slot age = record { facts = record { slot = slot; age = age } ∷ v.facts }
+
+-- what two seats know
+abbrev pub with_facts : Known → Known → Known
+with_facts v w = record { facts = w.facts ++ v.facts }
 
 -- no slot is younger than some seat knows
 pub record HoldsAges (slots : ℕ) (s : State (Unit {0}) Known) : Type 0 where

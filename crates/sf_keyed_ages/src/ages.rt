@@ -4,7 +4,7 @@ ghost use Rattle.std.specs.Bool.{OnTrue, OnFalse};
 ghost use Rattle.sf_keyed_ages.specs.Rule.{Has};
 ghost use Rattle.sf_keyed_ages.specs.Stamps.{KnowsOn, IsDrawn, IsEnded, IsEndedAt, IsNotStill, IsStill};
 
-use crate::rule::{Ends, Known, Law, Sees, Sits};
+use crate::rule::{Ends, Known, Law, Learns, Sees, Shares, Sits};
 use atomic_table::{Seat, Table};
 use std::alloc::{AllocError, Global};
 use std::marker::Model;
@@ -69,6 +69,27 @@ impl Ages {
         let _slots = self.slots;
         let (_, seat) = self.table.shared.load_new_seat::<Sits>(0);
         AgesFront { seat }
+    }
+
+    /// What this caller knows, for another caller: a caller that knows the same.
+    pub fn tell(&self, me: &mut AgesFront) -> AgesFront
+        requires { me.old.of ≡ self.now.table }
+        ensures { (me.new ≡ me.old) × (result ≡ me.old) }
+    {
+        let _slots = self.slots;
+        let seat = self.table.shared.split_seat::<Shares>(&mut me.seat);
+        AgesFront { seat }
+    }
+
+    /// Learns what another caller knew.
+    pub fn learn(&self, me: &mut AgesFront, note: AgesFront)
+        requires { (me.old.of ≡ self.now.table) × (note.of ≡ self.now.table) }
+        ensures { KnowsOn me.old me.new × KnowsOn note me.new }
+    {
+        let _slots = self.slots;
+        self.table
+            .shared
+            .join_seat::<Learns>(&mut me.seat, note.seat);
     }
 
     /// The slot's age now: a leader draws its call's stamp so, before it leads.

@@ -1,5 +1,5 @@
 //! The rule of the table of ages. No value of these types is made.
-use atomic_table::{Play, TableRule};
+use atomic_table::{Join, Play, Split, TableRule};
 use std::collections::LinkedList;
 
 /// That a slot's age was this once, so that it is no less now.
@@ -48,4 +48,24 @@ impl Play<(), Known> for Ends {
     ghost use Rattle.sf_keyed_ages.specs.Rule.{ends};
 
     ghost then = { ends };
+}
+
+/// A new seat, which knows what this one does.
+pub struct Shares;
+
+impl Split<Known> for Shares {
+    ghost left = { λ v. v };
+
+    ghost right = { λ v. v };
+}
+
+/// A seat learns what another knows.
+pub struct Learns;
+
+impl Join<Known> for Learns {
+    ghost use Rattle.sf_keyed_ages.specs.Rule.{with_facts, nothing};
+
+    ghost both = { with_facts };
+
+    ghost spent = { nothing };
 }

@@ -1,5 +1,5 @@
 -- Sights that go on.
-use Rattle.std.proofs.Common.{◌⊎◌, ◌≡◌, ◌≢◌, ℕ, zero, suc, ◌+◌, ◌<◌, ◌≤◌, Bool, true, false, List, [], ◌∷◌, ◌++◌, set, get_or, length, Option, Some, None, refl, sym, ◌∙◌, ap, subst, inl, inr, ⊎_elim, arith, length-set, length-append}
+use Rattle.std.proofs.Common.{◌⊎◌, ◌≡◌, ◌≢◌, ℕ, zero, suc, ◌+◌, ◌<◌, ◌≤◌, Bool, true, false, List, [], ◌∷◌, ◌++◌, set, get_or, length, Option, Some, None, refl, sym, ◌∙◌, ap, subst, inl, inr, ⊎_elim, arith, append_assoc, length-set, length-append}
 use Rattle.std.specs.Bool.{OnTrue}
 use Rattle.std.specs.List.{slice_get}
 use Rattle.std.specs.Prelude.{if◌then◌else◌}
@@ -10,6 +10,7 @@ use mathlib.Core.Logic.{dite}
 use native.Mathlib.Decide.{ℕ_discrete}
 use Rattle.sf_keyed.specs.Known.{FrontState, GroupId, IsGone}
 use Rattle.sf_keyed_chain.specs.Chains.{Sight, GoesOn, IsOf, IsLater, IsHeard, AllGoOn, AllHeard, Called, CalledBy, IsGoneBefore, IsGoneHere, IsTokenOf, TokenState}
+use Rattle.sf_keyed_chain.specs.Notes.{HasHeard, HasLearned, IsNoteOf, IsToldOf, ToldState, told_of}
 use Rattle.sf_keyed_chain.proofs.Later.{knows_both, knows_same, on_same, on_both}
 
 unwrapped : {X : Type 0} → X → Option X → X
@@ -59,16 +60,20 @@ all_on xs ys zs one two i s e =
 pub heard_on : (xs ys : List Sight) → AllHeard xs ys → AllGoOn xs ys
 heard_on xs ys heard i s e = let a = heard i s e in (a.0, a.1, a.2.later)
 
-get_push : (xs ys : List Sight) (i : ℕ) (s : Sight) → slice_get xs i ≡ Some s → slice_get (xs ++ ys) i ≡ Some s
+get_push : {X : Type 0} (xs ys : List X) (i : ℕ) (s : X) → slice_get xs i ≡ Some s → slice_get (xs ++ ys) i ≡ Some s
 get_push [] ys i s e = absurd (none_some s e)
 get_push (x ∷ xs) ys zero s e = e
 get_push (x ∷ xs) ys (suc i) s e = get_push xs ys i s e
 
-got_push : (xs : List Sight) (t : Sight) (i : ℕ) (s : Sight) → slice_get (xs ++ t ∷ []) i ≡ Some s → (slice_get xs i ≡ Some s) ⊎ ((i ≡ length xs) × (t ≡ s))
+got_push : {X : Type 0} (xs : List X) (t : X) (i : ℕ) (s : X) → slice_get (xs ++ t ∷ []) i ≡ Some s → (slice_get xs i ≡ Some s) ⊎ ((i ≡ length xs) × (t ≡ s))
 got_push [] t zero s e = inr (refl, some_is t s e)
 got_push [] t (suc i) s e = absurd (none_some s e)
 got_push (x ∷ xs) t zero s e = inl e
 got_push (x ∷ xs) t (suc i) s e = ⊎_elim inl (λ (p : (i ≡ length xs) × (t ≡ s)). inr (ap suc p.0, p.1)) (got_push xs t i s e)
+
+got_here : {X : Type 0} (xs : List X) (t : X) (rest : List X) → slice_get (xs ++ t ∷ rest) (length xs) ≡ Some t
+got_here [] t rest = refl
+got_here (x ∷ xs) t rest = got_here xs t rest
 
 -- one table more is known
 pub of_push : (cells : List ℕ) (xs : List Sight) (t : Sight) → IsOf cells xs → length xs < length cells → t.cell ≡ get_or cells (length xs) 0 → IsOf cells (xs ++ t ∷ [])
@@ -257,3 +262,64 @@ by_as so so2 at group xs ys f c = record { between = c.between; heard = c.heard;
 pub heard_in : (at : ℕ) (old items : List Sight) (s t : Sight) → items ≡ old → at < length old → s ≡ get_or items at s → IsHeard s t → AllHeard old (set items at t)
 heard_in at old items s t view within value heard =
     subst (λ l. AllHeard l (set items at t)) view (heard_set items at s t (slice_get-get_or items at s (subst (λ l. at < length l) (sym view) within) ∙ ap Some (sym value)) heard)
+
+-- a sight that is there
+sight_at : (xs : List Sight) (i : ℕ) → i < length xs → (s : Sight) × (slice_get xs i ≡ Some s)
+sight_at [] i within = absurd (omega arith)
+sight_at (x ∷ xs) zero within = (x, refl)
+sight_at (x ∷ xs) (suc i) within = sight_at xs i (omega arith)
+
+-- what was told of the next table
+pub told_next : (xs : List Sight) (items : List ToldState) (at : ℕ) (t : ToldState) → length items ≡ at → ((s : Sight) → slice_get xs at ≡ Some s → t ≡ told_of s)
+    → ((i : ℕ) (s : Sight) → i < at → slice_get xs i ≡ Some s → slice_get items i ≡ Some (told_of s)) → (i : ℕ) (s : Sight) → i < at + 1 → slice_get xs i ≡ Some s → slice_get (items ++ t ∷ []) i ≡ Some (told_of s)
+told_next xs items at t count is before i s below e = dite (ℕ_discrete i at)
+    (λ same. ap (slice_get (items ++ t ∷ [])) (same ∙ sym count) ∙ (got_here items t [] ∙ ap Some (is s (ap (slice_get xs) (sym same) ∙ e))))
+    (λ apart. get_push items (t ∷ []) i (told_of s) (before i s (omega (arith, apart)) e))
+
+-- a note that tells of all
+pub note_of_all : (xs : List Sight) (items : List ToldState) → length items ≡ length xs → ((i : ℕ) (s : Sight) → i < length xs → slice_get xs i ≡ Some s → slice_get items i ≡ Some (told_of s)) → IsNoteOf xs items
+note_of_all xs items count tells = record { count = count; tells = λ i s e. tells i s (slice_get_within xs i s e) e }
+
+-- it is of the chain whose tables the sights are of
+pub note_is_of : (cells : List ℕ) (xs : List Sight) (note : List ToldState) → IsOf cells xs → IsNoteOf xs note → IsToldOf cells note
+note_is_of cells xs note of is i t e =
+    let within = slice_get_within note i t e in
+    let count = is.count in
+    let few = of.few in
+    let s = sight_at xs i (omega (arith, within, count)) in
+    let same : told_of s.0 ≡ t = some_is (told_of s.0) t (sym (is.tells i s.0 s.1) ∙ e) in
+    slice_get-get_or cells i 0 (omega (arith, within, count, few)) ∙ ap Some (sym (of.cells_are i s.0 s.1) ∙ ap (λ (u : ToldState). u.cell) same)
+
+-- what is heard of one table more
+heard_longer : (t : ToldState) (s u : Sight) → HasHeard t s → IsHeard s u → HasHeard t u
+heard_longer t s u h on =
+    let one = h.seen in
+    let two = on.later.on.seen in record {
+      seen = (one.0 ++ two.0, two.1 ∙ (ap (λ l. l ++ two.0) one.1 ∙ append_assoc t.seen.seen one.0 two.0));
+      known = knows_both t.known s.known u.known h.known on.later.ages;
+    }
+
+pub learned_next : (note : List ToldState) (t : ToldState) (ys zs : List Sight) → HasLearned note ys → AllHeard ys zs → length note < length zs → ((s : Sight) → slice_get zs (length note) ≡ Some s → HasHeard t s) → HasLearned (note ++ t ∷ []) zs
+learned_next note t ys zs learned heard within told i u e = ⊎_elim
+    (λ (was : slice_get note i ≡ Some u).
+    let a = learned i u was in
+    let b = heard i a.0 a.1 in
+    (b.0, b.1, heard_longer u a.0 b.0 a.2 b.2))
+    (λ (last : (i ≡ length note) × (t ≡ u)).
+    let s = sight_at zs (length note) within in
+    (s.0, ap (slice_get zs) last.0 ∙ s.1, subst (λ (v : ToldState). HasHeard v s.0) last.1 (told s.0 s.1)))
+    (got_push note t i u e)
+
+-- what was told of this table
+pub cell_told : (cells : List ℕ) (note before rest : List ToldState) (t : ToldState) → IsToldOf cells note → before ++ t ∷ rest ≡ note → slice_get cells (length before) ≡ Some t.cell
+cell_told cells note before rest t of split = of (length before) t (ap (λ l. slice_get l (length before)) (sym split) ∙ got_here before t rest)
+
+pub told_at : (t : ToldState) (at : ℕ) (old items : List Sight) (u : Sight) → items ≡ old → at < length old → HasHeard t u → (s : Sight) → slice_get (set items at u) at ≡ Some s → HasHeard t s
+told_at t at old items u view within told s e =
+    subst (HasHeard t) (some_is u s (sym (set_here items at u (subst (λ l. at < length l) (sym view) within)) ∙ e)) told
+
+-- more is seen of one of the chain's tables
+pub of_in : (cells : List ℕ) (at : ℕ) (old items : List Sight) (s t : Sight) → items ≡ old → at < length old → s ≡ get_or items at s → IsOf cells old → IsLater s t → IsOf cells (set items at t)
+of_in cells at old items s t view within value of later =
+    let here = slice_get-get_or items at s (subst (λ l. at < length l) (sym view) within) ∙ ap Some (sym value) in
+    of_set cells items at s t (subst (IsOf cells) (sym view) of) here later

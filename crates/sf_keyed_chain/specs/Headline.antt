@@ -8,6 +8,7 @@ use Rattle.sf_keyed_ages.specs.Rule.{Has}
 use Rattle.sf_keyed.specs.Headline.{WasClosed}
 use Rattle.sf_keyed_chain.specs.declared.chain.Stamp.{Stamp}
 use Rattle.sf_keyed_chain.specs.Chains.{Sight, AllGoOn, IsEndedIn, IsGoneBefore, TokenState}
+use Rattle.sf_keyed_chain.specs.Notes.{HasLearned, IsNoteOf, ToldState}
 use Rattle.sf_keyed_chain.specs.Went.{IsCurrent, IsJoinedAt, IsLedAt}
 
 -- an asking that leads does so where the name has no open call: none in the table where it leads, and in each before that it is gone; its call is new, and the name's open call then
@@ -28,3 +29,13 @@ NeverAForgottenCall = (cells : List ℕ) (k at : ℕ) (c : CallId) (old new : Li
 abbrev pub NoStampFromBefore : Type 0
 NoStampFromBefore = (k : ℕ) (stamp : Stamp) (old new later : List Sight) (s : Sight) → slice_get old stamp.table ≡ Some s → stamp.slot ≡ slot_of s.front.group.sizes k → Has s.known.facts stamp.slot stamp.age
     → AllGoOn old new → IsEndedIn k stamp.table old new → AllGoOn new later → IsCurrent stamp later → ⊥
+
+-- nor one that a Forget had closed which another caller had seen, whose note was heard before
+abbrev pub NeverAForgottenCallOfAnother : Type 0
+NeverAForgottenCallOfAnother = (cells : List ℕ) (k at : ℕ) (c : CallId) (note : List ToldState) (told : ToldState) (heard old new : List Sight) → slice_get note at ≡ Some told → WasClosed told.seen.seen k c → HasLearned note heard → AllGoOn heard old
+    → ((f : TokenState) (p : Stamp) → f.table ≡ at → IsLedAt cells k f p old new → call_of f.call.call ≢ c) × ((t : TokenState) → t.table ≡ at → IsJoinedAt cells k t old new → call_of t.call.call ≢ c)
+
+-- after a Forget of the name, no stamp of it that its caller knew before is current for another that has heard that caller's note
+abbrev pub NoStampFromBeforeAnother : Type 0
+NoStampFromBeforeAnother = (k : ℕ) (stamp : Stamp) (old new later : List Sight) (note : List ToldState) (heard now : List Sight) (s : Sight) → slice_get old stamp.table ≡ Some s → stamp.slot ≡ slot_of s.front.group.sizes k → Has s.known.facts stamp.slot stamp.age
+    → AllGoOn old new → IsEndedIn k stamp.table old new → AllGoOn new later → IsNoteOf later note → HasLearned note heard → AllGoOn heard now → IsCurrent stamp now → ⊥

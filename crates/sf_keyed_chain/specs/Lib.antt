@@ -1,3 +1,4 @@
 pub mod Chains
+pub mod Notes
 pub mod Went
 pub mod Headline

@@ -12,9 +12,10 @@ ghost use Rattle.sf_keyed_words.specs.Rule.{number};
 ghost use Rattle.sf_keyed.specs.declared.group.Forgotten.TheVariants.{Busy};
 ghost use Rattle.sf_keyed.specs.Calls.{IsAsked, IsClaimed, IsForgotten, IsLooked, IsPassed, IsSettled};
 ghost use Rattle.sf_keyed_chain.specs.Chains.{Sight, IsOf, AllHeard, Called, CalledBy, IsEndedIn, IsGoneBefore, IsStampOf, IsTokenOf};
+ghost use Rattle.sf_keyed_chain.specs.Notes.{HasHeard, HasLearned, IsNoteOf, IsToldOf, told_of};
 ghost use Rattle.sf_keyed_chain.specs.Went.{HasClaimed, HasEnded, HasForgotten, HasForgottenCall, HasLeft, HasLooked, HasReplied, HasSettled, HasShut, HasStepped, IsCurrent, IsNotCurrent};
 
-use crate::front::{ChainFront, Part};
+use crate::front::{ChainFront, ChainNote, Part, Told};
 use crate::level::Level;
 use crate::sizes::{larger, sizes_of};
 use once_cell::race::{Note, OnceBox};
@@ -223,6 +224,77 @@ impl KeyedChain {
         self.know(me, self.links[at].note())
     }
 
+    // What the caller has seen of the table of this number, for another caller.
+    fn tell_at(&self, me: &mut ChainFront, at: usize) -> Told
+        requires of { IsOf self.now me.old }
+        requires at { at < length me.old }
+        ensures same { me.new ≡ me.old }
+        ensures told { (s : Sight) → slice_get me.old at ≡ Some s → result ≡ told_of s }
+    {
+        me.parts[at].tell(&self.links[at])
+    }
+
+    /// What the caller has seen of the chain, for another caller: whatever happened before it was told, the other has seen once it has heard
+    /// it. Refused where there is no memory.
+    pub fn tell(&self, alloc: Global, me: &mut ChainFront) -> Result<ChainNote, AllocError>
+        requires of { IsOf self.now me.old }
+        ensures same { me.new ≡ me.old }
+        ensures note { IfOk result (λ note. IsNoteOf me.old note) }
+        ensures of { IfOk result (λ note. IsToldOf self.now note) }
+    {
+        let mut parts: Vec<Told> = Vec::with_capacity(alloc, LEVELS)?;
+        for at in 0..me.parts.len() {
+            parts.push(self.tell_at(me, at))?;
+        }
+        Ok(ChainNote { parts })
+    }
+
+    // Gets to know the table of this number, of which this is a note that knows it. The caller knows those before it.
+    fn meet(&self, me: &mut ChainFront, at: usize, note: Note<Level>)
+        requires of { IsOf self.now me.old }
+        requires at { at ≤ length me.old }
+        requires cell { slice_get self.now at ≡ Some note.cell }
+        requires known { IsSome note.known }
+        ensures of { IsOf self.now me.new }
+        ensures heard { AllHeard me.old me.new }
+        ensures known { at < length me.new }
+    {
+        if at >= me.parts.len() {
+            self.know(me, note);
+        }
+    }
+
+    // Hears what another caller had seen of the table of this number. The caller knows those before it.
+    fn hear_at(&self, me: &mut ChainFront, at: usize, told: Told)
+        requires of { IsOf self.now me.old }
+        requires at { at ≤ length me.old }
+        requires cell { slice_get self.now at ≡ Some told.cell }
+        ensures of { IsOf self.now me.new }
+        ensures heard { AllHeard me.old me.new }
+        ensures known { at < length me.new }
+        ensures told { (s : Sight) → slice_get me.new at ≡ Some s → HasHeard told s }
+    {
+        let mut told = told;
+        let note = told.table_note();
+        self.meet(me, at, note);
+        me.parts[at].hear(&self.links[at], told);
+    }
+
+    /// Hears what another caller had seen, and has seen that too then: both are beginnings of one history of each table.
+    pub fn hear(&self, me: &mut ChainFront, note: ChainNote)
+        requires of { IsOf self.now me.old }
+        requires note { IsToldOf self.now note }
+        ensures of { IsOf self.now me.new }
+        ensures heard { AllHeard me.old me.new }
+        ensures learned { HasLearned note me.new }
+    {
+        let mut at: usize = 0;
+        for told in note.parts {
+            self.hear_at(me, at, told);
+            at += 1;
+        }
+    }
+
     // Gets to know the table of this number, and those before it. It cannot fail for the table of a call, since tables are made one behind the
     // other.
     fn reach(&self, me: &mut ChainFront, table: usize)
@@ -264,7 +336,7 @@ impl KeyedChain {
     }
 
     /// A caller that has seen nothing of the chain and knows its first table, whose Forgets are by this number. Refused where there is no
-    /// memory: no other call of a caller takes any, but `grow`.
+    /// memory: no other call of a caller takes any, but `grow` and `tell`.
     pub fn caller(&self, alloc: Global, number: u64) -> Result<ChainFront, AllocError>
         ensures { IfOk result (λ me. IsOf self.now me × (length me ≡ 1)) }
     {

@@ -1,5 +1,5 @@
 //! What a caller has seen of a chain.
-ghost use Rattle.std.specs.Prelude.{length, ◌≡◌, ◌≢◌, ◌≤◌, ◌⊎◌, ◌/◌, ◌%◌, ℕ, IsSomeAnd, IfOk, IfErr};
+ghost use Rattle.std.specs.Prelude.{length, ◌≡◌, ◌≢◌, ◌≤◌, ◌⊎◌, ◌/◌, ◌%◌, ℕ, IsSome, IsSomeAnd, IfOk, IfErr};
 ghost use Rattle.std.specs.Bool.{OnTrue, OnFalse};
 ghost use Rattle.once_cell.specs.Once.{cell_name};
 ghost use Rattle.sf_keyed_ages.specs.Stamps.{IsDrawn, IsNotStill, IsStill};
@@ -9,6 +9,7 @@ ghost use Rattle.sf_keyed.specs.declared.group.Forgotten.TheVariants.{Busy};
 ghost use Rattle.sf_keyed.specs.Known.{IsGone};
 ghost use Rattle.sf_keyed.specs.Calls.{IsAsked, IsClaimed, IsEnded, IsForgotten, IsLeft, IsLooked, IsPassed, IsSettled};
 ghost use Rattle.sf_keyed_chain.specs.Chains.{EndsAt, EndsStamp, IsGoneBefore, IsHeard, IsLater};
+ghost use Rattle.sf_keyed_chain.specs.Notes.{HasHeard, told_of};
 
 use crate::level::Level;
 use once_cell::race::{Note, OnceBox};
@@ -41,6 +42,35 @@ impl Model for Part {
     ghost invariant = { λ p. IsSomeAnd p.note.known (λ l. (l.group ≡ p.front.group) × (l.ages.table ≡ p.known.of)) × ((k : ℕ) → slot_of p.front.group.sizes k < p.swept → IsGone p.front k) × (p.done ≡ true → (k : ℕ) → IsGone p.front k) };
 }
 
+/// What a caller had seen of one table, for another caller.
+#[derive(Drop)]
+pub struct Told {
+    pub(crate) note: Note<Level>,
+    seen: sf_keyed::Note,
+    known: AgesFront,
+}
+
+impl Model for Told {
+    ghost use Rattle.std.specs.Prelude.{◌≡◌, IsSomeAnd};
+    ghost use Rattle.sf_keyed_chain.specs.Notes.{ToldState};
+
+    ghost Value = { ToldState };
+
+    ghost view = { λ t. record { cell = t.note.cell; seen = t.seen; known = t.known } };
+
+    ghost invariant = { λ t. IsSomeAnd t.note.known (λ l. (l.group ≡ t.seen.group) × (l.ages.table ≡ t.known.of)) };
+}
+
+impl Told {
+    // A note of the table, for a caller that does not know it yet.
+    pub(crate) fn table_note(&mut self) -> Note<Level>
+        ensures same { self.new ≡ self.old }
+        ensures note { (result.cell ≡ self.old.cell) × IsSome result.known }
+    {
+        self.note.again()
+    }
+}
+
 impl Part {
     // A table that was not looked at yet.
     pub(crate) fn new(note: Note<Level>, front: Front, known: AgesFront) -> Part
@@ -69,6 +99,39 @@ impl Part {
         ensures note { (result.cell ≡ self.old.cell) × IsSomeAnd result.known (λ l. l.group ≡ self.old.front.group) }
     {
         self.note.again()
+    }
+
+    // What the caller has seen of the table, for another caller.
+    pub(crate) fn tell(&mut self, link: &OnceBox<Level>) -> Told
+        requires { self.old.cell ≡ cell_name link.now }
+        ensures same { self.new ≡ self.old }
+        ensures told { result ≡ told_of self.old }
+    {
+        match link.get_as(&mut self.note) {
+            Some(level) => Told {
+                note: self.note.again(),
+                seen: level.group.tell(&mut self.front),
+                known: level.tell(&mut self.known),
+            },
+            None => unreachable!(),
+        }
+    }
+
+    // Learns what another caller had seen of the table.
+    pub(crate) fn hear(&mut self, link: &OnceBox<Level>, told: Told)
+        requires cell { (self.old.cell ≡ cell_name link.now) × (told.cell ≡ cell_name link.now) }
+        ensures heard { IsHeard self.old self.new }
+        ensures told { HasHeard told self.new }
+    {
+        let Told { note, seen, known } = told;
+        self.note.compare(note);
+        match link.get_as(&mut self.note) {
+            Some(level) => {
+                level.group.learn(&mut self.front, seen);
+                level.learn(&mut self.known, known);
+            }
+            None => unreachable!(),
+        }
     }
 
     // Sweeps the next hash slots of a table that is not the last, so many at most, up to one that has an open call.
@@ -301,4 +364,19 @@ impl ChainFront {
         }
         self.parts.len()
     }
+}
+
+/// What a caller had seen of a chain, for another caller. Contracts see it as what was told of each table, in their order.
+#[derive(Drop)]
+pub struct ChainNote {
+    pub(crate) parts: Vec<Told>,
+}
+
+impl Model for ChainNote {
+    ghost use Rattle.std.specs.Prelude.{List};
+    ghost use Rattle.sf_keyed_chain.specs.Notes.{ToldState};
+
+    ghost Value = { List ToldState };
+
+    ghost view = { λ n. n.parts.items };
 }

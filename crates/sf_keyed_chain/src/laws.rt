@@ -2,7 +2,7 @@
 //! laws of its table, `sf_keyed::laws`.
 //!
 //! These functions have no code: their contracts are the laws.
-ghost use Rattle.sf_keyed_chain.specs.Headline.{EntersTheOpenCall, LeadsTheNewCall, NeverAForgottenCall, NoStampFromBefore};
+ghost use Rattle.sf_keyed_chain.specs.Headline.{EntersTheOpenCall, LeadsTheNewCall, NeverAForgottenCall, NeverAForgottenCallOfAnother, NoStampFromBefore, NoStampFromBeforeAnother};
 
 /// An asking that leads does so where the name has no open call in any table that its caller knows. Its call is new, and the name's open call then.
 pub fn leads_the_new_call()
@@ -22,4 +22,14 @@ pub fn never_a_forgotten_call()
 /// After a Forget of the name by a caller, no stamp of it that this caller had known before is current.
 pub fn no_stamp_from_before_a_forget()
     ensures { NoStampFromBefore }
+{}
+
+/// An asking never leads or enters a call that a Forget of the name had closed which another caller had seen, whose note this caller had heard.
+pub fn never_a_forgotten_call_of_another()
+    ensures { NeverAForgottenCallOfAnother }
+{}
+
+/// After a Forget of the name by a caller, no stamp of it that this caller had known before is current for another that has heard its note.
+pub fn no_stamp_from_before_a_forget_of_another()
+    ensures { NoStampFromBeforeAnother }
 {}

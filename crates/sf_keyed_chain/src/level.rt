@@ -49,6 +49,22 @@ impl Level {
         self.ages.enter()
     }
 
+    // What the caller knows of the ages, for another caller.
+    pub(crate) fn tell(&self, known: &mut AgesFront) -> AgesFront
+        requires { known.old.of ≡ self.now.ages.table }
+        ensures { (known.new ≡ known.old) × (result ≡ known.old) }
+    {
+        self.ages.tell(known)
+    }
+
+    // Learns what another caller knew of the ages.
+    pub(crate) fn learn(&self, known: &mut AgesFront, note: AgesFront)
+        requires { (known.old.of ≡ self.now.ages.table) × (note.of ≡ self.now.ages.table) }
+        ensures { KnowsOn known.old known.new × KnowsOn note known.new }
+    {
+        self.ages.learn(known, note);
+    }
+
     // The slot's age now.
     pub(crate) fn draw(&self, known: &mut AgesFront, slot: u64) -> u64
         requires { (known.old.of ≡ self.now.ages.table) × (slot < self.now.group.sizes.tops) }

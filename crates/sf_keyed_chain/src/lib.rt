@@ -10,6 +10,6 @@ mod level;
 mod sizes;
 
 pub use chain::{Flight, Forgotten, KeyedChain, LEVELS, Reply, Settled, Stamp, Ticket};
-pub use front::{ChainFront, Part};
+pub use front::{ChainFront, ChainNote, Part, Told};
 pub use level::Level;
 pub use sizes::{larger, sizes_of};

@@ -302,6 +302,27 @@ fn a_late_caller_makes_no_table_that_is_there(rt: HostRuntime) -> Result<(), Fai
 }
 
 #[test]
+fn a_note_makes_its_tables_and_forgets_known(rt: HostRuntime) -> Result<(), Fail> {
+    let chain = KeyedChain::new(rt.alloc(), 4, LOW, HIGH)?;
+    let mut me = chain.caller(rt.alloc(), 1)?;
+    let mut other = chain.caller(rt.alloc(), 2)?;
+    assert!(rt; grows(&chain, rt.alloc(), &mut me, 3)?);
+    let (_, stamp) = loads(&chain, &mut me, name(1), 0).expect(&rt, "nothing is led");
+    assert!(rt;
+        matches!(
+            chain.forget(&mut me, name(1), TRIES),
+            Forgotten::Nothing(3)
+        )
+    );
+    let note = chain.tell(rt.alloc(), &mut me)?;
+    assert!(rt; other.tables() == 1);
+    chain.hear(&mut other, note);
+    assert!(rt; other.tables() == 4);
+    assert!(rt; !chain.is_still(&mut other, stamp));
+    Ok(())
+}
+
+#[test]
 fn tables_that_are_swept_are_passed_over(rt: HostRuntime) -> Result<(), Fail> {
     let chain = KeyedChain::new(rt.alloc(), 16, LOW, HIGH)?;
     let mut me = chain.caller(rt.alloc(), 1)?;
