@@ -3,6 +3,7 @@
 #include "sflight_cache.h"
 #include "sflight_do.h"
 #include <pthread.h>
+#include <stdatomic.h>
 #include <stdio.h>
 #include <stdlib.h>
 #include <string.h>
@@ -162,6 +163,48 @@ static void recorded(int threads) {
            without[ROUNDS / 2], 100 * (double)lost / (double)(events + lost));
 }
 
+static atomic_bool is_grown;
+
+/* Makes the next table, and returns how many milliseconds that took. */
+static void *grows(void *handle) {
+    static double took;
+    double from = now();
+    check(sflight_grow(handle) == SFLIGHT_DONE);
+    took = (now() - from) / 1e6;
+    atomic_store(&is_grown, true);
+    return &took;
+}
+
+/* The longest sflight_ask with its sflight_settle while another thread makes a table of so many cells as there may be. */
+static void growing(void) {
+    struct caller caller = {SFLIGHT_HANDLE_NONE, SFLIGHT_CALL_NONE};
+    sflight_handle other = SFLIGHT_HANDLE_NONE;
+    sflight_id id;
+    sflight_stamp stamp;
+    sflight_audience audience;
+    pthread_t thread;
+    void *took;
+    double longest = 0;
+    uint64_t pairs = 0;
+    check(sflight_open(&caller.handle, SFLIGHT_MOST_CELLS / 8, 1, 2) == SFLIGHT_DONE && sflight_make(&caller.handle, &caller.call) == SFLIGHT_DONE);
+    check(sflight_split(&caller.handle, &other) == SFLIGHT_DONE && pthread_create(&thread, NULL, grows, &other) == 0);
+    for (bool is_last = false; !is_last; pairs++) {
+        /* One more when the table is there. */
+        is_last = atomic_load(&is_grown);
+        double from = now();
+        check(sflight_ask(&caller.handle, &caller.call, (const uint8_t *)"key", 3, 64, &id, &stamp) == SFLIGHT_LED);
+        check(sflight_settle(&caller.handle, &caller.call, pairs, &audience) == SFLIGHT_ALONE);
+        from = now() - from;
+        if (from > longest) longest = from;
+    }
+    check(pthread_join(thread, &took) == 0);
+    printf("a table of %u cells: made in %.1f ms; of %llu pairs of an sflight_ask and sflight_settle meanwhile the longest took %.3f ms\n", SFLIGHT_MOST_CELLS,
+           *(double *)took, (unsigned long long)pairs, longest / 1e6);
+    check(sflight_free(&caller.call) == SFLIGHT_DONE);
+    sflight_close(&caller.handle);
+    sflight_close(&other);
+}
+
 int main(void) {
     static const size_t lengths[] = {8, 16, 32, 64, 128, 250, 1000};
     enum { KEYS = sizeof lengths / sizeof *lengths };
@@ -187,6 +230,7 @@ int main(void) {
     printf("sflight_cache_get, a hit, and sflight_cache_release: %.1f ns\n", hit);
     check(sflight_free(&caller.call) == SFLIGHT_DONE);
     sflight_close(&caller.handle);
+    growing();
     recorded(1);
     recorded(4);
     return 0;
