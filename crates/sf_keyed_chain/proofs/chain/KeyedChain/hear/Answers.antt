@@ -11,8 +11,7 @@ loop-told-preserved c =
     let after = c.hear_at.new.me in
     let within : length before.yielded < length after = subst (λ n. n < length after) is.2 c.hear_at.ensures.known in
     let count = length-append before.yielded (c.in-Some.told ∷ []) in
-    let number = is.2 in
-    (
+    let number = is.2 in (
       append_assoc before.yielded (c.in-Some.told ∷ []) (into_iter_items c.next.new.self) ∙ (ap (λ l. before.yielded ++ l) (sym c.in-Some.ensures.steps.0) ∙ is.0),
       search rules,
       omega (arith, count, number),

@@ -10,12 +10,11 @@ loop-at-preserved c =
     let before = c.loop-at in
     let is = before.invariant in
     let me = c.args.me.now in
-    let count : length before.parts.items ≡ before.at = search rules in
-    (
+    let count : length before.parts.items ≡ before.at = search rules in (
       c.tell_at.ensures.same ∙ is.0,
       search rules,
       subst (λ (items : List ToldState). (i : ℕ) (s : Sight) → i < before.at + 1 → slice_get me i ≡ Some s → slice_get items i ≡ Some (told_of s)) (sym c.in_ok-push.ensures.items)
-      (told_next me before.parts.items before.at c.tell_at.result count (λ s e. c.tell_at.ensures.told s (ap (λ l. slice_get l before.at) is.0 ∙ e)) is.2),
+          (told_next me before.parts.items before.at c.tell_at.result count (λ s e. c.tell_at.ensures.told s (ap (λ l. slice_get l before.at) is.0 ∙ e)) is.2),
     )
 
 tells_all : (c : goal.After-loop-at) → IsNoteOf c.args.me.now c.loop-at.parts.items
