@@ -3,6 +3,7 @@
 //! `SFLIGHT_CALLS` says how many calls each of the 12 threads of the stress makes in each group.
 mod judge;
 mod random;
+mod waits;
 
 use judge::{judge, legal, read, Log};
 use random::Random;
@@ -16,16 +17,9 @@ use std::sync::mpsc::channel;
 use std::sync::{Arc, Barrier, Mutex};
 use std::task::{Context, Poll, Waker};
 use std::time::{Duration, Instant};
+use waits::{until, LIMIT};
 
 const PAUSE: Duration = Duration::from_millis(20);
-
-fn until(what: &str, mut holds: impl FnMut() -> bool) {
-    let from = Instant::now();
-    while !holds() {
-        assert!(from.elapsed() < Duration::from_secs(30), "{what}");
-        std::thread::sleep(Duration::from_millis(1));
-    }
-}
 
 // The log of what `run` makes the group do.
 #[track_caller]
@@ -241,7 +235,7 @@ fn lines_of_those_who_join() {
         &|group| assert_eq!(*group.get_or_load("key", || 2).value, 1),
         &|group| assert_eq!(*group.caller().get_or_load("key", || 2).value, 1),
         &|group| {
-            let got = group.get_or_load_timeout("key", Duration::from_secs(30), || 2);
+            let got = group.get_or_load_timeout("key", LIMIT, || 2);
             assert_eq!(*got.unwrap().value, 1);
         },
         &|group| {
@@ -643,18 +637,21 @@ fn writers_that_fail_at_the_end() {
 fn a_slow_writer() {
     let group = Group::<u32>::new();
     let log = Log::default();
-    let (release, waits) = channel::<()>();
+    let ((release, waits), (writes, begun)) = (channel::<()>(), channel());
     let mut out = log.clone();
     let recording = group.record(Writer(move |text: &[u8]| {
+        let _ = writes.send(());
         let _ = waits.recv();
         out.write(text)
     }));
     let recording = recording.unwrap();
+    // It stands in the first line, so it takes nothing of what follows before it is released.
+    begun.recv().unwrap();
     const CALLS: u64 = 3 << 14;
     let from = Instant::now();
     for _ in 0..CALLS {
         group.get_or_load("key", || 1);
-        assert!(from.elapsed() < Duration::from_secs(30), "no call waits for it");
+        assert!(from.elapsed() < LIMIT, "no call waits for it");
     }
     drop(release);
     let recorded = recording.stop().unwrap();
@@ -662,7 +659,7 @@ fn a_slow_writer() {
     let (all, lost) = read(&text).unwrap();
     assert!(lost > 0 && lost == recorded.lost, "{recorded:?} {lost}");
     assert_eq!(recorded.events + recorded.lost, 3 * CALLS);
-    assert!(recorded.events < 3 << 14, "a lane has so many: {recorded:?}");
+    assert!(recorded.events <= 1 << 14, "a lane has so many: {recorded:?}");
     assert_eq!(all.len() as u64, recorded.events, "each is written");
     judge(&all).expect("whole calls are lost");
     assert_eq!(text.lines().filter(|line| line.contains("\"lost\"")).count(), 2);
@@ -707,7 +704,7 @@ fn a_writer_that_stops_its_recording() {
     }));
     *own.lock().unwrap() = Some(recording.unwrap());
     group.get_or_load("key", || 1);
-    assert_eq!(says.recv_timeout(Duration::from_secs(30)), Ok(ErrorKind::Deadlock));
+    assert_eq!(says.recv_timeout(LIMIT), Ok(ErrorKind::Deadlock));
     assert!(group.record(io::sink()).is_ok(), "it has ended");
 }
 
