@@ -95,6 +95,7 @@ mod caller;
 mod chan;
 mod hash;
 mod keyed;
+mod lease;
 mod places;
 mod post;
 mod recording;
@@ -117,6 +118,7 @@ pub use cache::{Cache, CacheBuilder, CacheStats, WriteToken};
 pub use caller::Caller;
 use chan::Handle;
 pub use chan::{Job, Receiver};
+use lease::{Lease, Leases};
 pub use recording::{RecordError, Recorded, Recording};
 use shared::Shared;
 use std::fmt;
@@ -199,6 +201,7 @@ impl std::error::Error for Error {}
 /// ```
 pub struct Group<T> {
     shared: Arc<Shared<T>>,
+    leases: Arc<Leases<T>>,
 }
 
 /// The numbers of a group. [`Group::stats`] returns them. Each has the meaning that it has in
@@ -384,13 +387,18 @@ impl<T: Send + Sync> Group<T> {
         if !(1..=MOST_LOADS).contains(&loads) {
             return Err(Error::Loads(loads));
         }
-        Ok(Group { shared: Arc::new(Shared::open(loads)?) })
+        Ok(Group { shared: Arc::new(Shared::open(loads)?), leases: Arc::new(Leases::new()) })
     }
 
     // One who asks once.
     #[inline]
     fn asker(&self) -> Asker<T, &Shared<T>> {
         Asker::new(&*self.shared)
+    }
+
+    #[inline]
+    fn lease(&self) -> Lease<T> {
+        self.leases.of(&self.shared)
     }
 
     /// Returns the value of the key. If a call of the key is open, it joins that call, and blocks
@@ -461,8 +469,8 @@ impl<T: Send + Sync> Group<T> {
         K: AsRef<[u8]>,
         F: Future<Output = T>,
     {
-        let shared = self.shared.clone();
-        async move { Asker::new(shared).get_async(key.as_ref(), load, |value, _| value).await }
+        let lease = self.lease();
+        async move { Asker::new(lease).get_async(key.as_ref(), load, |value, _| value).await }
     }
 
     /// Joins the key's open call, or leads a new one. Returns a receiver of its value and, if it
@@ -541,7 +549,7 @@ impl<T: Send + Sync> Group<T> {
     /// assert_eq!(*got.value, 7);
     /// ```
     pub fn caller(&self) -> Caller<T> {
-        Caller::of(self.shared.clone())
+        Caller::of(self.lease())
     }
 
     /// Begins to write to the writer what the group's calls do, until [`Recording::stop`]: records
@@ -604,7 +612,7 @@ impl<T: Send + Sync> Group<T> {
 
 impl<T> Clone for Group<T> {
     fn clone(&self) -> Self {
-        Group { shared: self.shared.clone() }
+        Group { shared: self.shared.clone(), leases: self.leases.clone() }
     }
 }
 

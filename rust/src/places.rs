@@ -18,6 +18,11 @@ pub(crate) fn processors() -> usize {
     *PROCESSORS.get_or_init(|| std::thread::available_parallelism().map_or(1, NonZero::get))
 }
 
+/// How many places there are, a power of two: enough for the threads that run at one time.
+pub(crate) fn place_count() -> usize {
+    processors().next_power_of_two().clamp(4, 64)
+}
+
 /// So many idle calls are kept in a place.
 const IDLE: usize = 64;
 
@@ -91,7 +96,7 @@ impl<T> Places<T> {
     pub(crate) fn open(cells: u32) -> Result<Self, Error> {
         let random = RandomState::new();
         let first = Handle::open(cells, [0, 1].map(|number: u64| random.hash_one(number)))?;
-        let more = (1..processors().next_power_of_two().clamp(4, 64)).map(|_| Handle::NONE);
+        let more = (1..place_count()).map(|_| Handle::NONE);
         let place = |handle| Place(Near::new(Seat::new(handle)));
         Ok(Places(std::iter::once(first).chain(more).map(place).collect()))
     }
