@@ -223,7 +223,8 @@ pub struct Stats {
     pub joins: u64,
     /// Forgets of a key, and of one call, whatever they found.
     pub forgets: u64,
-    /// Calls that load or wait now.
+    /// Calls that were led and are not settled: loads that run now. Those that wait are not
+    /// counted.
     pub in_use: u64,
 }
 

@@ -115,7 +115,6 @@ impl<T> Shared<T> {
                         return asked;
                     }
                 }
-                seat.begins();
                 lead.call = Some(call);
                 asked
             });
@@ -165,7 +164,7 @@ impl<T> Shared<T> {
     /// Grows if half of the room is taken. It may know it late: then a caller finds no room.
     #[cold]
     fn grow_early(&self) {
-        if self.places.open_calls() > self.room.load(Relaxed) / 2 {
+        if self.stats().in_use > self.room.load(Relaxed) / 2 {
             self.grow();
         }
     }
@@ -189,7 +188,7 @@ impl<T> Shared<T> {
             let spare = seat.spare.get_or_insert_with(Told::new);
             match seat.handle.settle(&mut call, spare.number()) {
                 None => {
-                    seat.ends(call);
+                    seat.put(call);
                     None
                 }
                 Some(audience) => seat.spare.take().map(|told| (told, audience, call)),
@@ -243,7 +242,7 @@ impl<T> Shared<T> {
             seat.settles += 1;
             match seat.handle.settle(&mut call, 0) {
                 None => {
-                    seat.ends(call);
+                    seat.put(call);
                     None
                 }
                 Some(audience) => Some((audience, call)),
@@ -287,7 +286,7 @@ impl<T> Shared<T> {
         point();
         let last = self.places.with(|seat| {
             let last = seat.handle.leave(&mut call);
-            seat.ends(call);
+            seat.put(call);
             last
         });
         // SAFETY: all calls of this group are settled with numbers of this type, or 0, and this was

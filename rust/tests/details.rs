@@ -394,7 +394,7 @@ fn the_future_of_a_group_is_one_of_its_own() {
         once(leads.as_mut(), &wakes).is_pending() && once(joins.as_mut(), &wakes).is_pending(),
         "one loads, one waits"
     );
-    assert!(group.stats().in_use == 2, "one leads, and one has joined: {:?}", group.stats());
+    assert!(group.stats().in_use == 1, "one leads, and one waits: {:?}", group.stats());
     let stats = group.stats();
     drop(group);
     assert!(stats.loads == 1 && stats.joins == 1, "{stats:?}");

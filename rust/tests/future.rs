@@ -162,7 +162,7 @@ fn a_task_that_is_dropped_leaves() {
         }
         assert!(
             second.last_is_current().is_none() && group.stats().in_use == 1,
-            "it has left, and holds nothing"
+            "it has no value, and one load runs"
         );
         let got = block_on(second.get_or_load_async(b"m", async { Arc::new(6) }));
         assert!(**got.value == 6 && group.stats().in_use == 1, "another key");

@@ -108,7 +108,7 @@ fn many_on_some_keys() {
             }
             let asked = || group.stats().loads + group.stats().joins - before.loads - before.joins;
             until("all ask", || asked() == THREADS as u64);
-            assert!(group.stats().in_use == THREADS as u64, "each has a call");
+            assert!(group.stats().in_use == keys as u64, "one loads each key, and the others wait");
             release.store(1, SeqCst);
         });
         assert!(loads.load(SeqCst) == keys as u64, "one load a key");

@@ -418,9 +418,9 @@ fn a_waker_that_panics_when_it_is_dropped() {
         let mut task = Box::pin(group.get_or_load_async(b"k", async { 2 }));
         assert!(task.as_mut().poll(&mut Context::from_waker(&panics)).is_pending(), "it waits");
         assert!(catch_unwind(AssertUnwindSafe(|| drop(task))).is_err(), "its panic goes on");
-        assert!(group.stats().in_use == 1, "it has left: {:?}", group.stats());
         1
     });
-    assert!(*got.value == 1 && group.stats().in_use == 0, "{:?}", group.stats());
+    assert!(*got.value == 1 && got.joiners == 1, "it had joined");
+    assert!(Arc::strong_count(&got.value) == 1, "it has left, so nothing is kept for it");
     std::mem::forget(panics);
 }
