@@ -439,6 +439,26 @@ fn a_call_before_an_open_one_is_not_cleared() {
     assert_eq!(legal(&log).len(), 6, "two calls: {log}");
 }
 
+// A leader stalls before its load: until it begins, the older call is the key's last one, and can
+// be cleared. Somebody has joined the newer call and left it before that. The history has the Enter
+// behind the Lead, and the Lead behind the Forget, so the Enter ends no sooner than the Lead.
+#[test]
+fn one_who_leaves_before_the_load_begins_and_clears_the_call_before() {
+    let group = Group::<u32>::open(1).unwrap();
+    let log = recorded(&group, || {
+        let before = group.get_or_load("key", || 1).call().unwrap();
+        let (_receiver, job) = group.subscribe("key");
+        let late = group.get_or_load_timeout("key", Duration::ZERO, || 3);
+        assert_eq!(late.err(), Some(Error::TimedOut), "it has joined, and leaves");
+        assert_eq!(group.forget_call("key", before), ForgetOutcome::Cleared);
+        assert_eq!(job.unwrap().run(|| 2).joiners, 1);
+    });
+    let all = legal(&log);
+    let of = |what: &str| all.iter().find(|it| it.line.contains(what)).unwrap();
+    let (enter, cleared) = (of("\"enter\""), of("\"cleared\""));
+    assert!(all.len() == 8 && enter.from < cleared.from && cleared.to <= enter.to, "{log}");
+}
+
 // The Forget and the leader each know a part, and either may come first.
 #[test]
 fn a_forget_that_ends_after_its_call() {
