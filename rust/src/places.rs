@@ -37,7 +37,7 @@ pub(crate) struct Seat<T> {
     pub(crate) loads: u64,
     pub(crate) joins: u64,
     pub(crate) forgets: u64,
-    pub(crate) settles: u64,
+    settles: u64,
 }
 
 impl<T> Seat<T> {
@@ -49,6 +49,23 @@ impl<T> Seat<T> {
     #[inline]
     pub(crate) fn take(&mut self) -> Option<keyed::Call> {
         self.idle.pop().or_else(|| self.handle.make())
+    }
+
+    /// Settles the call that is led. None where nobody is told, and it is idle again.
+    #[inline]
+    pub(crate) fn settle(
+        &mut self,
+        mut call: keyed::Call,
+        number: u64,
+    ) -> Option<(keyed::Audience, keyed::Call)> {
+        self.settles += 1;
+        match self.handle.settle(&mut call, number) {
+            None => {
+                self.put(call);
+                None
+            }
+            Some(audience) => Some((audience, call)),
+        }
     }
 
     /// The call is idle again.

@@ -182,17 +182,11 @@ impl<T> Shared<T> {
         if let Some(record) = &lead.record {
             record.settles();
         }
-        let mut call = lead.call.take().expect("a call that is led");
+        let call = lead.call.take().expect("a call that is led");
         let told = self.places.with(|seat| {
-            seat.settles += 1;
-            let spare = seat.spare.get_or_insert_with(Told::new);
-            match seat.handle.settle(&mut call, spare.number()) {
-                None => {
-                    seat.put(call);
-                    None
-                }
-                Some(audience) => seat.spare.take().map(|told| (told, audience, call)),
-            }
+            let number = seat.spare.get_or_insert_with(Told::new).number();
+            let (audience, call) = seat.settle(call, number)?;
+            seat.spare.take().map(|told| (told, audience, call))
         });
         match told {
             None => {
@@ -232,23 +226,13 @@ impl<T> Shared<T> {
     #[cold]
     pub(crate) fn settle_with_nothing(&self, lead: &mut Lead) {
         let (id, record) = (lead.name.id, lead.record.take());
-        let Some(mut call) = lead.call.take() else { return };
+        let Some(call) = lead.call.take() else { return };
         if let Some(record) = &record {
             record.fails();
             record.settles();
         }
         point();
-        let settled = self.places.with(|seat| {
-            seat.settles += 1;
-            match seat.handle.settle(&mut call, 0) {
-                None => {
-                    seat.put(call);
-                    None
-                }
-                Some(audience) => Some((audience, call)),
-            }
-        });
-        match settled {
+        match self.places.with(|seat| seat.settle(call, 0)) {
             None => record.iter().for_each(|record| record.settled()),
             Some((audience, call)) => self.tell_post(&audience, call, &id, record),
         }
