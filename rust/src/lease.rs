@@ -29,18 +29,32 @@ impl<T> Deref for Lease<T> {
     }
 }
 
-/// The leases of a group, one for each place. A lease is made when a thread first asks for it.
-pub(crate) struct Leases<T>(Box<[OnceLock<Lease<T>>]>);
+/// What the handles of a group share: the group, and its leases, one for each place. A lease is made
+/// when a thread first asks for it.
+pub(crate) struct Owner<T> {
+    shared: Arc<Shared<T>>,
+    leases: Box<[OnceLock<Lease<T>>]>,
+}
 
-impl<T> Leases<T> {
-    pub(crate) fn new() -> Self {
-        Leases((0..place_count()).map(|_| OnceLock::new()).collect())
+impl<T> Owner<T> {
+    pub(crate) fn new(shared: Shared<T>) -> Self {
+        let leases = (0..place_count()).map(|_| OnceLock::new()).collect();
+        Owner { shared: Arc::new(shared), leases }
     }
 
-    /// That of this thread.
+    /// The lease of this thread.
     #[inline]
-    pub(crate) fn of(&self, shared: &Arc<Shared<T>>) -> Lease<T> {
-        let own = &self.0[thread_number() & (self.0.len() - 1)];
-        own.get_or_init(|| Lease(Arc::new(Counted(shared.clone())))).clone()
+    pub(crate) fn lease(&self) -> Lease<T> {
+        let own = &self.leases[thread_number() & (self.leases.len() - 1)];
+        own.get_or_init(|| Lease(Arc::new(Counted(self.shared.clone())))).clone()
+    }
+}
+
+impl<T> Deref for Owner<T> {
+    type Target = Shared<T>;
+
+    #[inline]
+    fn deref(&self) -> &Shared<T> {
+        &self.shared
     }
 }

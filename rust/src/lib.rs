@@ -118,7 +118,7 @@ pub use cache::{Cache, CacheBuilder, CacheStats, WriteToken};
 pub use caller::Caller;
 use chan::Handle;
 pub use chan::{Job, Receiver};
-use lease::{Lease, Leases};
+use lease::Owner;
 pub use recording::{RecordError, Recorded, Recording};
 use shared::Shared;
 use std::fmt;
@@ -200,8 +200,7 @@ impl std::error::Error for Error {}
 /// let group = singleflight::Group::<std::cell::Cell<u32>>::new();
 /// ```
 pub struct Group<T> {
-    shared: Arc<Shared<T>>,
-    leases: Arc<Leases<T>>,
+    shared: Arc<Owner<T>>,
 }
 
 /// The numbers of a group. [`Group::stats`] returns them. Each has the meaning that it has in
@@ -388,18 +387,13 @@ impl<T: Send + Sync> Group<T> {
         if !(1..=MOST_LOADS).contains(&loads) {
             return Err(Error::Loads(loads));
         }
-        Ok(Group { shared: Arc::new(Shared::open(loads)?), leases: Arc::new(Leases::new()) })
+        Ok(Group { shared: Arc::new(Owner::new(Shared::open(loads)?)) })
     }
 
     // One who asks once.
     #[inline]
     fn asker(&self) -> Asker<T, &Shared<T>> {
-        Asker::new(&*self.shared)
-    }
-
-    #[inline]
-    fn lease(&self) -> Lease<T> {
-        self.leases.of(&self.shared)
+        Asker::new(&**self.shared)
     }
 
     /// Returns the value of the key. If a call of the key is open, it joins that call, and blocks
@@ -470,7 +464,7 @@ impl<T: Send + Sync> Group<T> {
         K: AsRef<[u8]>,
         F: Future<Output = T>,
     {
-        let lease = self.lease();
+        let lease = self.shared.lease();
         async move { Asker::new(lease).get_async(key.as_ref(), load, |value, _| value).await }
     }
 
@@ -550,7 +544,7 @@ impl<T: Send + Sync> Group<T> {
     /// assert_eq!(*got.value, 7);
     /// ```
     pub fn caller(&self) -> Caller<T> {
-        Caller::of(self.lease())
+        Caller::of(self.shared.lease())
     }
 
     /// Begins to write to the writer what the group's calls do, until [`Recording::stop`]: records
@@ -613,7 +607,7 @@ impl<T: Send + Sync> Group<T> {
 
 impl<T> Clone for Group<T> {
     fn clone(&self) -> Self {
-        Group { shared: self.shared.clone(), leases: self.leases.clone() }
+        Group { shared: self.shared.clone() }
     }
 }
 
