@@ -5,8 +5,9 @@
 use std::sync::mpsc::channel;
 use std::time::{Duration, Instant};
 
-/// After so long a test says that it hangs.
-pub const LIMIT: Duration = Duration::from_secs(120);
+/// After so long a test says that it hangs. It is long, since valgrind and an emulator may run the
+/// test, with proofs beside them.
+pub const LIMIT: Duration = Duration::from_secs(300);
 
 /// Blocks until it holds.
 #[track_caller]

@@ -13,7 +13,7 @@ fn runtime() -> Runtime {
 }
 
 async fn until(what: &str, holds: impl Fn() -> bool) {
-    for _ in 0..120_000 {
+    for _ in 0..300_000 {
         if holds() {
             return;
         }
