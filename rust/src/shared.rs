@@ -312,10 +312,9 @@ impl<T> Shared<T> {
             }
         };
         stall_point();
-        match (forgetting, closed) {
-            (Some(forgetting), Some(id)) => forgetting.closed(id),
-            (Some(forgetting), None) => forgetting.found_nothing(key),
-            (None, Some(id)) => self.recordings.closed(id),
+        match (closed, forgetting) {
+            (Some(id), forgetting) => self.recordings.closed(forgetting, id),
+            (None, Some(forgetting)) => forgetting.found_nothing(key),
             (None, None) => {}
         }
         closed.is_some()
@@ -346,10 +345,7 @@ impl<T> Shared<T> {
         stall_point();
         match (forgot, was_still) {
             (ForgotCall::Closed, _) => {
-                match forgetting {
-                    Some(forgetting) => forgetting.closed(call.id),
-                    None => self.recordings.closed(call.id),
-                }
+                self.recordings.closed(forgetting, call.id);
                 ForgetOutcome::Closed
             }
             (_, true) => {
