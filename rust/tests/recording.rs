@@ -297,18 +297,21 @@ fn lines_of_those_who_join() {
     }
 }
 
-// Those who joined a call whose load panics ask again: they joined the next one.
+// Those who joined a call whose load panics ask again: they joined the next one. Nor is one a member
+// that had left before.
 #[test]
 fn lines_of_a_panic_that_others_wait_for() {
     let group = Group::<u32>::new();
     let log = recorded(&group, || {
-        let (begun, asked) = (Barrier::new(2), AtomicBool::new(false));
+        let begun = Barrier::new(2);
         std::thread::scope(|scope| {
             scope.spawn(|| {
                 let panics = || {
                     group.get_or_load("key", || {
                         begun.wait();
-                        until("one joins", || group.stats().joins == 1);
+                        let late = group.get_or_load_timeout("key", Duration::ZERO, || 3);
+                        assert_eq!(late.err(), Some(Error::TimedOut), "it has joined, and leaves");
+                        until("another joins", || group.stats().joins == 2);
                         std::thread::sleep(PAUSE);
                         panic!("it panics")
                     })
@@ -316,7 +319,6 @@ fn lines_of_a_panic_that_others_wait_for() {
                 assert!(catch_unwind(AssertUnwindSafe(panics)).is_err());
             });
             begun.wait();
-            asked.store(true, SeqCst);
             assert!(group.get_or_load("key", || 2).led, "it loads itself");
         });
     });
