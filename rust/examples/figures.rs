@@ -2,8 +2,11 @@
 //! hand: `cargo run --release --example figures`, once `tools/library` has been run.
 use singleflight::Group;
 use std::collections::HashMap;
+use std::future::Future;
+use std::pin::pin;
 use std::sync::atomic::{AtomicBool, AtomicU64, Ordering::Relaxed};
 use std::sync::{Arc, Barrier, Condvar, Mutex};
+use std::task::{Context, Poll, Waker};
 use std::time::{Duration, Instant};
 
 const GETS: u64 = 300_000;
@@ -23,6 +26,19 @@ impl Asker for singleflight::Caller<u64> {
 impl Asker for &Group<u64> {
     fn get(&mut self, key: &[u8], load: impl FnOnce() -> u64) -> u64 {
         *self.get_or_load(key, load).value
+    }
+}
+
+// By futures of the group, which are ready at their first poll where nobody else loads the key.
+struct Futures<'a>(&'a Group<u64>);
+
+impl Asker for Futures<'_> {
+    fn get(&mut self, key: &[u8], load: impl FnOnce() -> u64) -> u64 {
+        let mut future = pin!(self.0.get_or_load_async(key, async { load() }));
+        match future.as_mut().poll(&mut Context::from_waker(Waker::noop())) {
+            Poll::Ready(got) => *got.value,
+            Poll::Pending => unreachable!("another thread has its key"),
+        }
     }
 }
 
@@ -269,6 +285,11 @@ fn main() {
             let plains = best(|| gets(threads, hot, || &plain));
             println!("{what}, {threads} threads: {ours:.0} ns a get, {groups:.0} by the group; mutex, map and condition variable {plains:.0} ns");
         }
+    }
+    for threads in [1, 4] {
+        let group = open(4);
+        let futures = best(|| gets(threads, false, || Futures(&group)));
+        println!("own keys, {threads} threads, by futures of the group: {futures:.0} ns a get");
     }
     for threads in [1, 4] {
         let (with, without, lost) = recorded(threads);

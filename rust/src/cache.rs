@@ -432,7 +432,8 @@ pub struct CacheStats {
     pub joins: u64,
     /// Invalidations of a key. [`Cache::insert`] makes one too.
     pub forgets: u64,
-    /// Calls that load or wait now.
+    /// Calls that were led and are not settled: loads that run now. Those that wait are not
+    /// counted.
     pub in_use: u64,
     /// Values that left to make room.
     pub evictions: u64,

@@ -1,11 +1,10 @@
 //! A caller: what a thread or task keeps that asks many times.
 
 use crate::asker::Asker;
-use crate::shared::Shared;
+use crate::lease::Lease;
 use crate::{Call, Error, ForgetOutcome, Job, Loaded, Receiver, Stamp};
 use std::fmt;
 use std::future::Future;
-use std::sync::Arc;
 use std::time::Duration;
 
 /// A caller of a group, for one thread or task at a time. [`Group::caller`](crate::Group::caller)
@@ -28,7 +27,7 @@ use std::time::Duration;
 ///     }
 /// });
 /// ```
-pub struct Caller<T>(pub(crate) Asker<T, Arc<Shared<T>>>);
+pub struct Caller<T>(pub(crate) Asker<T, Lease<T>>);
 
 impl<T> fmt::Debug for Caller<T> {
     fn fmt(&self, f: &mut fmt::Formatter<'_>) -> fmt::Result {
@@ -37,8 +36,8 @@ impl<T> fmt::Debug for Caller<T> {
 }
 
 impl<T> Caller<T> {
-    pub(crate) fn of(shared: Arc<Shared<T>>) -> Self {
-        Caller(Asker::new(shared))
+    pub(crate) fn of(lease: Lease<T>) -> Self {
+        Caller(Asker::new(lease))
     }
 }
 

@@ -1,8 +1,8 @@
 //! Calls whose value comes to a receiver, and whose load is a job.
 
 use crate::asker::Asked;
+use crate::lease::Lease;
 use crate::post::Post;
-use crate::shared::Shared;
 use crate::sync::{lock, pause};
 use crate::wait::Ticket;
 use crate::{Call, Caller, Loaded, Stamp};
@@ -148,7 +148,7 @@ impl<T> Own<T> {
 }
 
 enum Source<T> {
-    Call(Ticket<T, Arc<Shared<T>>>),
+    Call(Ticket<T, Lease<T>>),
     /// Of its own job, with the number of its task's waker.
     Own(Arc<Own<T>>, u64),
     // The value was taken, or there was none.

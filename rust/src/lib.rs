@@ -95,6 +95,7 @@ mod caller;
 mod chan;
 mod hash;
 mod keyed;
+mod lease;
 mod places;
 mod post;
 mod recording;
@@ -117,6 +118,7 @@ pub use cache::{Cache, CacheBuilder, CacheStats, WriteToken};
 pub use caller::Caller;
 use chan::Handle;
 pub use chan::{Job, Receiver};
+use lease::Owner;
 pub use recording::{RecordError, Recorded, Recording};
 use shared::Shared;
 use std::fmt;
@@ -198,7 +200,7 @@ impl std::error::Error for Error {}
 /// let group = singleflight::Group::<std::cell::Cell<u32>>::new();
 /// ```
 pub struct Group<T> {
-    shared: Arc<Shared<T>>,
+    shared: Arc<Owner<T>>,
 }
 
 /// The numbers of a group. [`Group::stats`] returns them. Each has the meaning that it has in
@@ -220,7 +222,8 @@ pub struct Stats {
     pub joins: u64,
     /// Forgets of a key, and of one call, whatever they found.
     pub forgets: u64,
-    /// Calls that load or wait now.
+    /// Calls that were led and are not settled: loads that run now. Those that wait are not
+    /// counted.
     pub in_use: u64,
 }
 
@@ -384,13 +387,13 @@ impl<T: Send + Sync> Group<T> {
         if !(1..=MOST_LOADS).contains(&loads) {
             return Err(Error::Loads(loads));
         }
-        Ok(Group { shared: Arc::new(Shared::open(loads)?) })
+        Ok(Group { shared: Arc::new(Owner::new(Shared::open(loads)?)) })
     }
 
     // One who asks once.
     #[inline]
     fn asker(&self) -> Asker<T, &Shared<T>> {
-        Asker::new(&*self.shared)
+        Asker::new(&**self.shared)
     }
 
     /// Returns the value of the key. If a call of the key is open, it joins that call, and blocks
@@ -461,8 +464,8 @@ impl<T: Send + Sync> Group<T> {
         K: AsRef<[u8]>,
         F: Future<Output = T>,
     {
-        let shared = self.shared.clone();
-        async move { Asker::new(shared).get_async(key.as_ref(), load, |value, _| value).await }
+        let lease = self.shared.lease();
+        async move { Asker::new(lease).get_async(key.as_ref(), load, |value, _| value).await }
     }
 
     /// Joins the key's open call, or leads a new one. Returns a receiver of its value and, if it
@@ -541,7 +544,7 @@ impl<T: Send + Sync> Group<T> {
     /// assert_eq!(*got.value, 7);
     /// ```
     pub fn caller(&self) -> Caller<T> {
-        Caller::of(self.shared.clone())
+        Caller::of(self.shared.lease())
     }
 
     /// Begins to write to the writer what the group's calls do, until [`Recording::stop`]: records

@@ -18,6 +18,11 @@ pub(crate) fn processors() -> usize {
     *PROCESSORS.get_or_init(|| std::thread::available_parallelism().map_or(1, NonZero::get))
 }
 
+/// How many places there are, a power of two: enough for the threads that run at one time.
+pub(crate) fn place_count() -> usize {
+    processors().next_power_of_two().clamp(4, 64)
+}
+
 /// So many idle calls are kept in a place.
 const IDLE: usize = 64;
 
@@ -28,28 +33,16 @@ pub(crate) struct Seat<T> {
     idle: Vec<keyed::Call>,
     /// For the value of the next call.
     pub(crate) spare: Option<Box<Told<T>>>,
-    /// What was done by this handle. `taken` and `given` are of calls.
+    /// What was done by this handle.
     pub(crate) loads: u64,
     pub(crate) joins: u64,
     pub(crate) forgets: u64,
-    pub(crate) settles: u64,
-    taken: u64,
-    given: u64,
+    settles: u64,
 }
 
 impl<T> Seat<T> {
     fn new(handle: Handle) -> Self {
-        Seat {
-            handle,
-            idle: Vec::new(),
-            spare: None,
-            loads: 0,
-            joins: 0,
-            forgets: 0,
-            settles: 0,
-            taken: 0,
-            given: 0,
-        }
+        Seat { handle, idle: Vec::new(), spare: None, loads: 0, joins: 0, forgets: 0, settles: 0 }
     }
 
     /// An idle call. None where there is no memory for one.
@@ -58,19 +51,24 @@ impl<T> Seat<T> {
         self.idle.pop().or_else(|| self.handle.make())
     }
 
-    /// The call leads or holds now.
+    /// Settles the call that is led. None where nobody is told, and it is idle again.
     #[inline]
-    pub(crate) fn begins(&mut self) {
-        self.taken += 1;
+    pub(crate) fn settle(
+        &mut self,
+        mut call: keyed::Call,
+        number: u64,
+    ) -> Option<(keyed::Audience, keyed::Call)> {
+        self.settles += 1;
+        match self.handle.settle(&mut call, number) {
+            None => {
+                self.put(call);
+                None
+            }
+            Some(audience) => Some((audience, call)),
+        }
     }
 
     /// The call is idle again.
-    #[inline]
-    pub(crate) fn ends(&mut self, call: keyed::Call) {
-        self.given += 1;
-        self.put(call);
-    }
-
     #[inline]
     pub(crate) fn put(&mut self, call: keyed::Call) {
         if self.idle.len() < IDLE {
@@ -91,7 +89,7 @@ impl<T> Places<T> {
     pub(crate) fn open(cells: u32) -> Result<Self, Error> {
         let random = RandomState::new();
         let first = Handle::open(cells, [0, 1].map(|number: u64| random.hash_one(number)))?;
-        let more = (1..processors().next_power_of_two().clamp(4, 64)).map(|_| Handle::NONE);
+        let more = (1..place_count()).map(|_| Handle::NONE);
         let place = |handle| Place(Near::new(Seat::new(handle)));
         Ok(Places(std::iter::once(first).chain(more).map(place).collect()))
     }
@@ -142,27 +140,17 @@ impl<T> Places<T> {
         open.find(|seat| seat.handle.is_open()).unwrap_or_else(|| self.0[0].0.lock())
     }
 
-    /// How many calls are open, about.
-    pub(crate) fn open_calls(&self) -> u64 {
-        let (mut loads, mut settles) = (0, 0);
-        for place in &self.0 {
-            let seat = place.0.lock();
-            (loads, settles) = (loads + seat.loads, settles + seat.settles);
-        }
-        u64::saturating_sub(loads, settles)
-    }
-
     pub(crate) fn stats(&self) -> Stats {
-        let (mut stats, mut taken, mut given) = (Stats::default(), 0, 0);
+        let (mut stats, mut settles) = (Stats::default(), 0);
         for place in &self.0 {
             let seat = place.0.lock();
             stats.loads += seat.loads;
             stats.joins += seat.joins;
             stats.forgets += seat.forgets;
-            (taken, given) = (taken + seat.taken, given + seat.given);
+            settles += seat.settles;
         }
-        // One that ended meanwhile may be counted as given alone.
-        stats.in_use = u64::saturating_sub(taken, given);
+        // A call that is led by a place which was counted before may be settled by a later one.
+        stats.in_use = stats.loads.saturating_sub(settles);
         stats
     }
 }

@@ -255,10 +255,12 @@ impl Recordings {
         Some(Forgetting { by: noted.by, from: noted.from, is_of_one })
     }
 
-    /// A Forget that is not recorded has closed this call, which may be recorded: it began before
-    /// the recording, and took effect after the call had begun.
-    pub(crate) fn closed(&self, id: Id) {
-        if self.is_on() {
+    /// A Forget has ended, and has closed this call. If the Forget is not recorded, the call may be:
+    /// the Forget began before the recording, and took effect after the call had begun.
+    pub(crate) fn closed(&self, forgetting: Option<Forgetting>, id: Id) {
+        if let Some(forgetting) = forgetting {
+            forgetting.closed(id);
+        } else if self.is_on() {
             let recorder = lock(&self.current).clone();
             recorder.iter().for_each(|recorder| recorder.closed(id, None));
         }
@@ -518,9 +520,8 @@ pub(crate) struct Forgetting {
 }
 
 impl Forgetting {
-    /// It has ended, and has closed this call.
     #[cold]
-    pub(crate) fn closed(self, id: Id) {
+    fn closed(self, id: Id) {
         let (caller, from, to) = (self.by.caller(), self.from, now());
         let closing = Closing { caller, from, to, is_of_one: self.is_of_one };
         self.by.recorder.closed(id, Some(closing));

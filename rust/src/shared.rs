@@ -115,7 +115,6 @@ impl<T> Shared<T> {
                         return asked;
                     }
                 }
-                seat.begins();
                 lead.call = Some(call);
                 asked
             });
@@ -165,7 +164,7 @@ impl<T> Shared<T> {
     /// Grows if half of the room is taken. It may know it late: then a caller finds no room.
     #[cold]
     fn grow_early(&self) {
-        if self.places.open_calls() > self.room.load(Relaxed) / 2 {
+        if self.stats().in_use > self.room.load(Relaxed) / 2 {
             self.grow();
         }
     }
@@ -183,17 +182,11 @@ impl<T> Shared<T> {
         if let Some(record) = &lead.record {
             record.settles();
         }
-        let mut call = lead.call.take().expect("a call that is led");
+        let call = lead.call.take().expect("a call that is led");
         let told = self.places.with(|seat| {
-            seat.settles += 1;
-            let spare = seat.spare.get_or_insert_with(Told::new);
-            match seat.handle.settle(&mut call, spare.number()) {
-                None => {
-                    seat.ends(call);
-                    None
-                }
-                Some(audience) => seat.spare.take().map(|told| (told, audience, call)),
-            }
+            let number = seat.spare.get_or_insert_with(Told::new).number();
+            let (audience, call) = seat.settle(call, number)?;
+            seat.spare.take().map(|told| (told, audience, call))
         });
         match told {
             None => {
@@ -233,23 +226,13 @@ impl<T> Shared<T> {
     #[cold]
     pub(crate) fn settle_with_nothing(&self, lead: &mut Lead) {
         let (id, record) = (lead.name.id, lead.record.take());
-        let Some(mut call) = lead.call.take() else { return };
+        let Some(call) = lead.call.take() else { return };
         if let Some(record) = &record {
             record.fails();
             record.settles();
         }
         point();
-        let settled = self.places.with(|seat| {
-            seat.settles += 1;
-            match seat.handle.settle(&mut call, 0) {
-                None => {
-                    seat.ends(call);
-                    None
-                }
-                Some(audience) => Some((audience, call)),
-            }
-        });
-        match settled {
+        match self.places.with(|seat| seat.settle(call, 0)) {
             None => record.iter().for_each(|record| record.settled()),
             Some((audience, call)) => self.tell_post(&audience, call, &id, record),
         }
@@ -287,7 +270,7 @@ impl<T> Shared<T> {
         point();
         let last = self.places.with(|seat| {
             let last = seat.handle.leave(&mut call);
-            seat.ends(call);
+            seat.put(call);
             last
         });
         // SAFETY: all calls of this group are settled with numbers of this type, or 0, and this was
@@ -329,10 +312,9 @@ impl<T> Shared<T> {
             }
         };
         stall_point();
-        match (forgetting, closed) {
-            (Some(forgetting), Some(id)) => forgetting.closed(id),
-            (Some(forgetting), None) => forgetting.found_nothing(key),
-            (None, Some(id)) => self.recordings.closed(id),
+        match (closed, forgetting) {
+            (Some(id), forgetting) => self.recordings.closed(forgetting, id),
+            (None, Some(forgetting)) => forgetting.found_nothing(key),
             (None, None) => {}
         }
         closed.is_some()
@@ -363,10 +345,7 @@ impl<T> Shared<T> {
         stall_point();
         match (forgot, was_still) {
             (ForgotCall::Closed, _) => {
-                match forgetting {
-                    Some(forgetting) => forgetting.closed(call.id),
-                    None => self.recordings.closed(call.id),
-                }
+                self.recordings.closed(forgetting, call.id);
                 ForgetOutcome::Closed
             }
             (_, true) => {

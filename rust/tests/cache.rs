@@ -1,4 +1,6 @@
 //! The cache: what it promises, each with a test.
+mod waits;
+
 use singleflight::{Cache, Error};
 use std::future::Future;
 use std::panic::{catch_unwind, AssertUnwindSafe};
@@ -7,19 +9,7 @@ use std::sync::atomic::{AtomicBool, AtomicU64, AtomicUsize, Ordering::SeqCst};
 use std::sync::{Arc, Barrier, Mutex, Weak};
 use std::task::{Context, Poll, Waker};
 use std::time::Duration;
-
-/// Runs the test in a thread, and fails where it takes too long.
-fn within_a_minute(test: impl FnOnce() + Send + 'static) {
-    let (done, ended) = std::sync::mpsc::channel();
-    let runs = std::thread::spawn(move || {
-        test();
-        done.send(()).ok();
-    });
-    if ended.recv_timeout(Duration::from_secs(60)).is_err() && !runs.is_finished() {
-        panic!("it hangs");
-    }
-    runs.join().unwrap();
-}
+use waits::{ends, until};
 
 fn counted(limit: u64) -> (Cache<String>, Arc<Mutex<Vec<String>>>) {
     let left = Arc::new(Mutex::new(Vec::new()));
@@ -155,7 +145,7 @@ fn an_entry_that_is_loaded_again_is_told() {
 
 #[test]
 fn a_listener_may_use_the_cache() {
-    within_a_minute(|| {
+    ends("a listener that uses the cache", || {
         let own: Arc<Mutex<Weak<Cache<u32>>>> = Arc::default();
         let told = own.clone();
         let depth = AtomicUsize::new(0);
@@ -293,8 +283,8 @@ fn what_is_remembered_is_as_new_as_the_rest() {
 fn what_is_remembered_gets_too_old() {
     let time = Duration::from_millis(100);
     let cache: Cache<u32> = Cache::builder(2).time_to_live(time).build().unwrap();
-    let held = cache.get_or_load("key", || 1);
     let begun = std::time::Instant::now();
+    let held = cache.get_or_load("key", || 1);
     // On a busy machine it may be too old before it is remembered.
     for _ in 0..10 {
         assert!(cache.get("key").is_some() || begun.elapsed() >= time);
@@ -394,7 +384,7 @@ fn older_entries_make_room() {
 
 #[test]
 fn an_invalidation_ends_a_load_that_is_under_way() {
-    within_a_minute(|| {
+    ends("an invalidation", || {
         let cache = Cache::new(10);
         let old = cache.get_or_load("key", || {
             cache.invalidate("key");
@@ -419,7 +409,7 @@ fn an_invalidation_ends_a_load_that_is_under_way() {
 
 #[test]
 fn an_insert_wins_over_what_is_under_way_and_loses_to_what_comes_later() {
-    within_a_minute(|| {
+    ends("an insert", || {
         let cache = Cache::new(10);
         let old = cache.get_or_load("key", || {
             cache.insert("key", 2);
@@ -490,14 +480,11 @@ fn a_token_may_go_to_another_thread_and_may_be_dropped() {
 #[test]
 fn errors_are_shared_and_not_kept() {
     let cache = Cache::<u32, String>::builder(10).build().unwrap();
-    let (loads, begin) = (AtomicUsize::new(0), Barrier::new(4));
     std::thread::scope(|scope| {
         for _ in 0..4 {
             scope.spawn(|| {
-                begin.wait();
                 let got = cache.try_get_or_load("key", || {
-                    loads.fetch_add(1, SeqCst);
-                    std::thread::sleep(Duration::from_millis(20));
+                    until("the others join", || cache.stats().joins == 3);
                     Err("no".to_string())
                 });
                 assert_eq!(*got.unwrap_err(), "no");
@@ -505,9 +492,7 @@ fn errors_are_shared_and_not_kept() {
         }
     });
     let stats = cache.stats();
-    assert_eq!(stats.failures as usize, loads.load(SeqCst));
-    assert_eq!(stats.joins as usize + loads.load(SeqCst), 4);
-    assert_eq!((stats.entries, stats.loads as usize), (0, loads.load(SeqCst)));
+    assert_eq!((stats.loads, stats.joins, stats.failures, stats.entries), (1, 3, 1, 0));
     assert_eq!(*cache.try_get_or_load("key", || Ok(7)).unwrap(), 7);
 }
 
@@ -746,9 +731,7 @@ fn a_value_is_kept_before_its_load_ends_for_others() {
                 })
             })
             .collect();
-        while cache.stats().joins < 3 {
-            std::thread::sleep(Duration::from_millis(1));
-        }
+        until("they join", || cache.stats().joins == 3);
         goes_on.wait();
         assert_eq!(leads.join().unwrap(), 1);
         for joins in joins {
@@ -761,7 +744,7 @@ fn a_value_is_kept_before_its_load_ends_for_others() {
 // The listener is called once the load has ended, so it may get the key for which another left.
 #[test]
 fn a_listener_may_get_the_key_that_was_loaded() {
-    within_a_minute(|| {
+    ends("a listener that gets the key", || {
         let own: Arc<Mutex<Weak<Cache<u32>>>> = Arc::default();
         let told = own.clone();
         let cache = Cache::builder(1).on_evict(move |key, _| {

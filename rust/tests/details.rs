@@ -1,4 +1,6 @@
 //! What the documents of the crate say, item by item.
+mod waits;
+
 use singleflight::{Error, ForgetOutcome, Group, Loaded, Stamp};
 use std::future::Future;
 use std::panic::{catch_unwind, AssertUnwindSafe};
@@ -6,7 +8,8 @@ use std::pin::{pin, Pin};
 use std::sync::atomic::{AtomicU64, Ordering::SeqCst};
 use std::sync::{Arc, Barrier};
 use std::task::{Context, Poll, Wake, Waker};
-use std::time::{Duration, Instant};
+use std::time::Duration;
+use waits::until;
 
 // Counts how often it wakes.
 #[derive(Default)]
@@ -20,14 +23,6 @@ impl Wake for Wakes {
 
 fn once<F: Future>(future: Pin<&mut F>, wakes: &Arc<Wakes>) -> Poll<F::Output> {
     future.poll(&mut Context::from_waker(&Waker::from(wakes.clone())))
-}
-
-fn until(what: &str, holds: impl Fn() -> bool) {
-    let from = Instant::now();
-    while !holds() {
-        assert!(from.elapsed() < Duration::from_secs(30), "{what}");
-        std::thread::sleep(Duration::from_millis(1));
-    }
 }
 
 fn open<T: Send + Sync>(loads: u32) -> Group<T> {
@@ -344,7 +339,7 @@ fn an_error_is_a_value_that_is_shared() {
 }
 
 // Of those who joined a load that panics one loads, and the others join that: as many loads as
-// panics, and one more.
+// panics, and one more. Each load waits until all others that have no value have joined it.
 #[test]
 fn loads_that_panic_are_made_anew_once_each() {
     const THREADS: usize = 24;
@@ -359,14 +354,10 @@ fn loads_that_panic_are_made_anew_once_each() {
                         catch_unwind(AssertUnwindSafe(|| {
                             group.get_or_load("k", || {
                                 let number = loads.fetch_add(1, SeqCst);
-                                let waits = THREADS as u64 - 1 - number.min(PANICS);
-                                let before = group.stats().joins;
-                                until("the others join", || {
-                                    number > 0 || group.stats().joins >= before.max(waits)
-                                });
+                                let joins =
+                                    (0..=number).map(|past| THREADS as u64 - 1 - past).sum();
+                                until("the others join", || group.stats().joins == joins);
                                 assert!(number >= PANICS, "the load");
-                                // The others join this one, whether they had joined before or not.
-                                std::thread::sleep(Duration::from_millis(100));
                                 number
                             })
                         }))
@@ -378,7 +369,7 @@ fn loads_that_panic_are_made_anew_once_each() {
         });
         let got = ends.iter().flatten().count();
         assert!(got == THREADS - PANICS as usize, "{got} have a value");
-        assert!(ends.iter().flatten().all(|got| *got.value >= PANICS), "of a load that ended");
+        assert!(ends.iter().flatten().all(|got| *got.value == PANICS), "of the load that ended");
         assert!(group.stats().in_use == 0, "{:?}", group.stats());
     }
 }
@@ -403,7 +394,7 @@ fn the_future_of_a_group_is_one_of_its_own() {
         once(leads.as_mut(), &wakes).is_pending() && once(joins.as_mut(), &wakes).is_pending(),
         "one loads, one waits"
     );
-    assert!(group.stats().in_use == 2, "one leads, and one has joined: {:?}", group.stats());
+    assert!(group.stats().in_use == 1, "one leads, and one waits: {:?}", group.stats());
     let stats = group.stats();
     drop(group);
     assert!(stats.loads == 1 && stats.joins == 1, "{stats:?}");

@@ -1,5 +1,7 @@
 //! Asking in tasks, by executors made by hand: a task that waits is woken by its leader alone, and
 //! a future that is dropped leaves nothing behind.
+mod waits;
+
 use singleflight::{Caller, Error, Group};
 use std::cell::Cell;
 use std::collections::VecDeque;
@@ -9,6 +11,7 @@ use std::sync::atomic::{AtomicU64, Ordering::SeqCst};
 use std::sync::{Arc, Mutex};
 use std::task::{Context, Poll, Wake, Waker};
 use std::thread::Thread;
+use waits::until;
 
 // Counts how often it wakes.
 #[derive(Default)]
@@ -72,9 +75,7 @@ fn a_task_joins_a_thread_and_a_thread_joins_a_task() {
             task = Some(scope.spawn(|| {
                 block_on(second.get_or_load_async(b"k", async { panic!("a second load") }))
             }));
-            while group.stats().joins == 0 {
-                std::thread::yield_now();
-            }
+            until("the task joins", || group.stats().joins == 1);
             Arc::new(7)
         });
         let (got, seen) = (got, task.unwrap().join().unwrap());
@@ -161,7 +162,7 @@ fn a_task_that_is_dropped_leaves() {
         }
         assert!(
             second.last_is_current().is_none() && group.stats().in_use == 1,
-            "it has left, and holds nothing"
+            "it has no value, and one load runs"
         );
         let got = block_on(second.get_or_load_async(b"m", async { Arc::new(6) }));
         assert!(**got.value == 6 && group.stats().in_use == 1, "another key");
@@ -352,4 +353,5 @@ fn random_tasks() {
         "all callers are back: {stats:?}"
     );
     assert!(Arc::strong_count(&live) == 1, "no answer is kept");
+    println!("{stats:?}");
 }

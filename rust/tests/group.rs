@@ -1,10 +1,12 @@
 //! Threads over one group: loads are counted, answers are of their key and none is lost or dropped
 //! twice.
+mod waits;
+
 use singleflight::{Error, Group};
 use std::panic::{catch_unwind, AssertUnwindSafe};
 use std::sync::atomic::{AtomicI64, AtomicU64, Ordering::SeqCst};
-use std::sync::{Arc, Barrier};
-use std::time::Duration;
+use std::sync::Barrier;
+use waits::until;
 
 struct Counted<'a> {
     key: usize,
@@ -83,23 +85,25 @@ fn random_gets_and_forgets() {
         }
     });
     assert!(live.load(SeqCst) == 0, "each value is dropped once");
-    assert!(loads.load(SeqCst) > 0 && shares.load(SeqCst) > 0, "there were loads and joins");
+    let stats = group.stats();
+    let counted = (loads.load(SeqCst), shares.load(SeqCst));
+    assert_eq!((stats.loads, stats.joins), counted, "each get has led a call or joined one");
+    println!("{stats:?}");
 }
 
 #[test]
 fn one_load_for_all_who_ask_at_once() {
     let group = Group::<u32>::open(4).unwrap();
-    let (started, loads) = (Barrier::new(4), AtomicU64::new(0));
+    let loads = AtomicU64::new(0);
     let all: Vec<(bool, u32)> = std::thread::scope(|scope| {
         let threads: Vec<_> = (0..4)
             .map(|_| {
                 let mut caller = group.caller();
-                let (started, loads) = (&started, &loads);
+                let (group, loads) = (&group, &loads);
                 scope.spawn(move || {
-                    started.wait();
                     let got = caller.get_or_load(b"k", || {
                         loads.fetch_add(1, SeqCst);
-                        std::thread::sleep(Duration::from_millis(300));
+                        until("the others join", || group.stats().joins == 3);
                         7
                     });
                     assert!(*got.value == 7, "the answer");
@@ -120,23 +124,23 @@ fn one_load_for_all_who_ask_at_once() {
 fn a_load_that_panics() {
     let group = Group::<u32>::open(2).unwrap();
     let (mut one, mut two) = (group.caller(), group.caller());
-    let inside = Arc::new(Barrier::new(2));
-    let other = inside.clone();
-    let thread = std::thread::spawn(move || {
-        let failed = catch_unwind(AssertUnwindSafe(|| {
-            let _ = one.get_or_load(b"k", || {
-                other.wait();
-                std::thread::sleep(Duration::from_millis(200));
-                panic!("the load")
-            });
-        }));
-        assert!(failed.is_err(), "the panic goes on");
-        assert!(*one.get_or_load(b"k", || 3).value > 0, "the caller is free");
+    let inside = Barrier::new(2);
+    std::thread::scope(|scope| {
+        scope.spawn(|| {
+            let failed = catch_unwind(AssertUnwindSafe(|| {
+                let _ = one.get_or_load(b"k", || {
+                    inside.wait();
+                    until("the other joins", || group.stats().joins == 1);
+                    panic!("the load")
+                });
+            }));
+            assert!(failed.is_err(), "the panic goes on");
+            assert!(*one.get_or_load(b"k", || 3).value > 0, "the caller is free");
+        });
+        inside.wait();
+        let got = two.get_or_load(b"k", || 2);
+        assert!(*got.value == 2 || *got.value == 3, "who joined asks again");
     });
-    inside.wait();
-    let got = two.get_or_load(b"k", || 2);
-    assert!(*got.value == 2 || *got.value == 3, "who joined asks again");
-    thread.join().unwrap();
 }
 
 #[test]

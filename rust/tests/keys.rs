@@ -1,18 +1,14 @@
 //! Keys without end: 200,000 different ones, or as many as SFLIGHT_KEYS says; it shows what each tenth
 //! of them costs.
+#![cfg(all(target_os = "linux", target_env = "gnu"))]
+mod bytes;
+
 use singleflight::Group;
 use std::sync::{Barrier, Mutex};
 use std::time::Instant;
 
 const THREADS: u64 = 4;
 const BATCH: u64 = 500;
-
-// Kilobytes of memory that the process has.
-fn memory() -> u64 {
-    let status = std::fs::read_to_string("/proc/self/status").unwrap();
-    let line = status.lines().find(|line| line.starts_with("VmRSS")).unwrap();
-    line.split_whitespace().nth(1).unwrap().parse().unwrap()
-}
 
 #[test]
 fn keys_come_and_go_in_bounded_memory() {
@@ -42,7 +38,7 @@ fn keys_come_and_go_in_bounded_memory() {
                     }
                     all.lock().unwrap()[part as usize].extend(own);
                     if together.wait().is_leader() {
-                        kilobytes.lock().unwrap()[part as usize] = memory();
+                        kilobytes.lock().unwrap()[part as usize] = bytes::allocated();
                     }
                     together.wait();
                 }

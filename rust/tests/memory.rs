@@ -1,16 +1,9 @@
 //! The memory of groups: a new one is small, and grows with its use alone.
+#![cfg(all(target_os = "linux", target_env = "gnu"))]
+mod bytes;
+
+use bytes::allocated;
 use singleflight::Group;
-
-extern "C" {
-    fn malloc_trim(pad: usize) -> i32;
-}
-
-// Kilobytes of memory that the process has.
-fn memory() -> u64 {
-    let status = std::fs::read_to_string("/proc/self/status").unwrap();
-    let line = status.lines().find(|line| line.starts_with("VmRSS")).unwrap();
-    line.split_whitespace().nth(1).unwrap().parse().unwrap()
-}
 
 // What one test frees, another would miss.
 static ONE_AT_A_TIME: std::sync::Mutex<()> = std::sync::Mutex::new(());
@@ -20,7 +13,7 @@ fn groups_by_their_number() {
     let _one = ONE_AT_A_TIME.lock().unwrap();
     drop(Group::<u64>::new());
     for count in [1, 1000, 10_000] {
-        let before = memory();
+        let before = allocated();
         // Each is used by 32 callers at a time.
         let groups: Vec<_> = (0..count)
             .map(|_| {
@@ -34,15 +27,14 @@ fn groups_by_their_number() {
                 group
             })
             .collect();
-        let each = (memory() - before) as f64 / count as f64;
-        println!("{count} groups: {} kB, {each:.1} kB each", memory() - before);
+        let took = allocated().saturating_sub(before);
+        let each = took as f64 / count as f64;
+        println!("{count} groups: {took} kB, {each:.1} kB each");
         // The library's own part of this is at most 12 kB.
-        assert!(count == 1 || each <= 32.0, "{each} kB for each of {count} groups");
+        assert!(each <= 32.0, "{each} kB for each of {count} groups");
         drop(groups);
-        // SAFETY: it gives the system what the allocator has free.
-        unsafe { malloc_trim(0) };
-        let left = memory().saturating_sub(before);
-        assert!(left < 1024, "{left} kB are left of {count} groups");
+        let left = allocated().saturating_sub(before);
+        assert!(left < 64, "{left} kB are left of {count} groups");
     }
 }
 
@@ -51,12 +43,12 @@ fn groups_by_their_number() {
 fn long_keys_are_not_kept() {
     let _one = ONE_AT_A_TIME.lock().unwrap();
     let group = Group::<u64>::new();
-    let before = memory();
+    let before = allocated();
     let mut callers: Vec<_> = (0..1000).map(|_| group.caller()).collect();
     for (number, caller) in (0..).zip(&mut callers) {
         let key = vec![number as u8; 65_536];
         assert_eq!(*caller.get_or_load(&key, || number).value, number);
     }
-    let took = memory().saturating_sub(before);
-    assert!(took < 20_000, "{took} kB for 1,000 callers");
+    let took = allocated().saturating_sub(before);
+    assert!(took < 1_000, "{took} kB for 1,000 callers");
 }

@@ -1,24 +1,14 @@
 //! No call waits for the load of another key, whatever the two share: nested and crossed calls of
 //! different keys end.
+mod waits;
+
 use singleflight::Group;
 use std::future::Future;
 use std::pin::pin;
-use std::sync::mpsc::channel;
 use std::sync::Barrier;
 use std::task::{Context, Poll, Waker};
 use std::time::Duration;
-
-// Runs it in a thread of its own, and fails where that takes too long.
-fn ends(what: &'static str, run: impl FnOnce() + Send + 'static) {
-    let (done, ended) = channel();
-    let thread = std::thread::spawn(move || {
-        run();
-        done.send(()).unwrap();
-    });
-    let waited = ended.recv_timeout(Duration::from_secs(20));
-    assert!(waited.is_ok() || thread.is_finished(), "{what}: it hangs");
-    thread.join().unwrap();
-}
+use waits::ends;
 
 fn open(loads: u32) -> Group<String> {
     Group::open(loads).unwrap()

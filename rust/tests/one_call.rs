@@ -1,7 +1,10 @@
 //! Forgets of one call.
+mod waits;
+
 use singleflight::{ForgetOutcome, Group};
 use std::sync::atomic::{AtomicU32, Ordering::SeqCst};
 use std::time::Duration;
+use waits::until;
 
 #[test]
 fn two_that_reload_one_stale_answer_load_once() {
@@ -20,9 +23,7 @@ fn two_that_reload_one_stale_answer_load_once() {
                 assert_eq!(second.forget_call(b"k", stale), ForgetOutcome::Missed);
                 second.get_or_load(b"k", || panic!("a third load"))
             }));
-            while group.stats().joins == 0 {
-                std::thread::sleep(Duration::from_millis(1));
-            }
+            until("it joins", || group.stats().joins == 1);
             load()
         });
         (late.unwrap().join().unwrap(), got)

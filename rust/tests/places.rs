@@ -121,7 +121,7 @@ impl Drop for Page<'_> {
 // and when it was loaded: so each answer is of its own key, and none is from before a Forget of it
 // that the asker had seen. Where there is a cache, whose answers are asked for by their stamps, so
 // is each of those.
-fn stress(loads: u32, answers: u64, cached: bool) -> Stats {
+fn stress(loads: u32, answers: u64, cached: bool) {
     const KEYS: usize = 64;
     let (live, clock) = (AtomicI64::new(0), AtomicU64::new(1));
     let forgotten: Vec<AtomicU64> = (0..KEYS).map(|_| AtomicU64::new(0)).collect();
@@ -184,20 +184,24 @@ fn stress(loads: u32, answers: u64, cached: bool) -> Stats {
         live.load(SeqCst) == 0 && stats.in_use == 0,
         "each value is dropped once, and each call is idle: {stats:?}"
     );
-    assert!(!cached || hits.load(SeqCst) > 0, "there were hits");
-    stats
+    let hits = hits.into_inner();
+    assert_eq!(
+        stats.loads + stats.joins + hits,
+        answers,
+        "each get leads, joins or hits: {stats:?}"
+    );
+    assert!(!cached || hits > 0, "there were hits");
+    println!("{stats:?}, {hits} hits");
 }
 
 #[test]
 fn a_million_answers() {
-    let stats = stress(16, 1_000_000, false);
-    assert!(stats.loads < 1_000_000 && stats.joins > 0, "some joined: {stats:?}");
+    stress(16, 1_000_000, false);
 }
 
 #[test]
 fn answers_of_a_group_that_grows() {
-    let stats = stress(1, 200_000, false);
-    assert!(stats.loads < 200_000 && stats.joins > 0, "some joined: {stats:?}");
+    stress(1, 200_000, false);
 }
 
 #[test]

@@ -1,56 +1,50 @@
 //! The promises: no call waits for another key's load, one load of a key at a time, nothing wears
 //! out, a Forget always forgets, and a group is small at first.
+mod waits;
+
 use singleflight::{Caller, Error, ForgetOutcome, Group};
 use std::future::Future;
 use std::panic::{catch_unwind, AssertUnwindSafe};
 use std::pin::pin;
 use std::sync::atomic::{AtomicBool, AtomicU64, Ordering::SeqCst};
+use std::sync::mpsc::{channel, Sender};
 use std::sync::{Arc, Barrier, Mutex};
 use std::task::{Context, Poll, RawWaker, RawWakerVTable, Wake, Waker};
-use std::time::{Duration, Instant};
+use std::thread::JoinHandle;
+use std::time::Duration;
+use waits::until;
 
 const NOW: Duration = Duration::ZERO;
-
-fn until(what: &str, holds: impl Fn() -> bool) {
-    let from = Instant::now();
-    while !holds() {
-        assert!(from.elapsed() < Duration::from_secs(30), "{what}");
-        std::thread::sleep(Duration::from_millis(1));
-    }
-}
 
 fn look<F: Future + ?Sized>(future: std::pin::Pin<&mut F>) -> Poll<F::Output> {
     future.poll(&mut Context::from_waker(Waker::noop()))
 }
 
-// A load that hangs until it is told to end.
+// A load that hangs until this is dropped.
 struct Hung {
-    thread: Option<std::thread::JoinHandle<()>>,
-    over: Arc<AtomicBool>,
+    thread: Option<JoinHandle<()>>,
+    over: Option<Sender<()>>,
 }
 
 impl Hung {
     fn new(group: &Arc<Group<u64>>, key: Vec<u8>) -> Self {
-        let (over, loads) = (Arc::new(AtomicBool::new(false)), Arc::new(AtomicBool::new(false)));
-        let thread = std::thread::spawn({
-            let (group, over, loads) = (group.clone(), over.clone(), loads.clone());
-            move || {
-                let load = || {
-                    loads.store(true, SeqCst);
-                    until("told to end", || over.load(SeqCst));
-                    1
-                };
-                group.caller().get_or_load(&key, load);
-            }
+        let ((over, is_over), (begins, begun)) = (channel::<()>(), channel());
+        let group = group.clone();
+        let thread = std::thread::spawn(move || {
+            group.caller().get_or_load(&key, || {
+                begins.send(()).unwrap();
+                let _ = is_over.recv();
+                1
+            });
         });
-        until("it loads", || loads.load(SeqCst) || thread.is_finished());
-        Hung { thread: Some(thread), over }
+        begun.recv().expect("it loads");
+        Hung { thread: Some(thread), over: Some(over) }
     }
 }
 
 impl Drop for Hung {
     fn drop(&mut self) {
-        self.over.store(true, SeqCst);
+        self.over = None;
         self.thread.take().unwrap().join().unwrap();
     }
 }
@@ -424,9 +418,9 @@ fn a_waker_that_panics_when_it_is_dropped() {
         let mut task = Box::pin(group.get_or_load_async(b"k", async { 2 }));
         assert!(task.as_mut().poll(&mut Context::from_waker(&panics)).is_pending(), "it waits");
         assert!(catch_unwind(AssertUnwindSafe(|| drop(task))).is_err(), "its panic goes on");
-        assert!(group.stats().in_use == 1, "it has left: {:?}", group.stats());
         1
     });
-    assert!(*got.value == 1 && group.stats().in_use == 0, "{:?}", group.stats());
+    assert!(*got.value == 1 && got.joiners == 1, "it had joined");
+    assert!(Arc::strong_count(&got.value) == 1, "it has left, so nothing is kept for it");
     std::mem::forget(panics);
 }

@@ -3,6 +3,7 @@
 //! `SFLIGHT_CALLS` says how many calls each of the 12 threads of the stress makes in each group.
 mod judge;
 mod random;
+mod waits;
 
 use judge::{judge, legal, read, Log};
 use random::Random;
@@ -16,16 +17,9 @@ use std::sync::mpsc::channel;
 use std::sync::{Arc, Barrier, Mutex};
 use std::task::{Context, Poll, Waker};
 use std::time::{Duration, Instant};
+use waits::{until, LIMIT};
 
 const PAUSE: Duration = Duration::from_millis(20);
-
-fn until(what: &str, mut holds: impl FnMut() -> bool) {
-    let from = Instant::now();
-    while !holds() {
-        assert!(from.elapsed() < Duration::from_secs(30), "{what}");
-        std::thread::sleep(Duration::from_millis(1));
-    }
-}
 
 // The log of what `run` makes the group do.
 #[track_caller]
@@ -241,7 +235,7 @@ fn lines_of_those_who_join() {
         &|group| assert_eq!(*group.get_or_load("key", || 2).value, 1),
         &|group| assert_eq!(*group.caller().get_or_load("key", || 2).value, 1),
         &|group| {
-            let got = group.get_or_load_timeout("key", Duration::from_secs(30), || 2);
+            let got = group.get_or_load_timeout("key", LIMIT, || 2);
             assert_eq!(*got.unwrap().value, 1);
         },
         &|group| {
@@ -303,18 +297,21 @@ fn lines_of_those_who_join() {
     }
 }
 
-// Those who joined a call whose load panics ask again: they joined the next one.
+// Those who joined a call whose load panics ask again: they joined the next one. Nor is one a member
+// that had left before.
 #[test]
 fn lines_of_a_panic_that_others_wait_for() {
     let group = Group::<u32>::new();
     let log = recorded(&group, || {
-        let (begun, asked) = (Barrier::new(2), AtomicBool::new(false));
+        let begun = Barrier::new(2);
         std::thread::scope(|scope| {
             scope.spawn(|| {
                 let panics = || {
                     group.get_or_load("key", || {
                         begun.wait();
-                        until("one joins", || group.stats().joins == 1);
+                        let late = group.get_or_load_timeout("key", Duration::ZERO, || 3);
+                        assert_eq!(late.err(), Some(Error::TimedOut), "it has joined, and leaves");
+                        until("another joins", || group.stats().joins == 2);
                         std::thread::sleep(PAUSE);
                         panic!("it panics")
                     })
@@ -322,7 +319,6 @@ fn lines_of_a_panic_that_others_wait_for() {
                 assert!(catch_unwind(AssertUnwindSafe(panics)).is_err());
             });
             begun.wait();
-            asked.store(true, SeqCst);
             assert!(group.get_or_load("key", || 2).led, "it loads itself");
         });
     });
@@ -443,6 +439,26 @@ fn a_call_before_an_open_one_is_not_cleared() {
         });
     });
     assert_eq!(legal(&log).len(), 6, "two calls: {log}");
+}
+
+// A leader stalls before its load: until it begins, the older call is the key's last one, and can
+// be cleared. Somebody has joined the newer call and left it before that. The history has the Enter
+// behind the Lead, and the Lead behind the Forget, so the Enter ends no sooner than the Lead.
+#[test]
+fn one_who_leaves_before_the_load_begins_and_clears_the_call_before() {
+    let group = Group::<u32>::open(1).unwrap();
+    let log = recorded(&group, || {
+        let before = group.get_or_load("key", || 1).call().unwrap();
+        let (_receiver, job) = group.subscribe("key");
+        let late = group.get_or_load_timeout("key", Duration::ZERO, || 3);
+        assert_eq!(late.err(), Some(Error::TimedOut), "it has joined, and leaves");
+        assert_eq!(group.forget_call("key", before), ForgetOutcome::Cleared);
+        assert_eq!(job.unwrap().run(|| 2).joiners, 1);
+    });
+    let all = legal(&log);
+    let of = |what: &str| all.iter().find(|it| it.line.contains(what)).unwrap();
+    let (enter, cleared) = (of("\"enter\""), of("\"cleared\""));
+    assert!(all.len() == 8 && enter.from < cleared.from && cleared.to <= enter.to, "{log}");
 }
 
 // The Forget and the leader each know a part, and either may come first.
@@ -643,18 +659,21 @@ fn writers_that_fail_at_the_end() {
 fn a_slow_writer() {
     let group = Group::<u32>::new();
     let log = Log::default();
-    let (release, waits) = channel::<()>();
+    let ((release, waits), (writes, begun)) = (channel::<()>(), channel());
     let mut out = log.clone();
     let recording = group.record(Writer(move |text: &[u8]| {
+        let _ = writes.send(());
         let _ = waits.recv();
         out.write(text)
     }));
     let recording = recording.unwrap();
+    // It stands in the first line, so it takes nothing of what follows before it is released.
+    begun.recv().unwrap();
     const CALLS: u64 = 3 << 14;
     let from = Instant::now();
     for _ in 0..CALLS {
         group.get_or_load("key", || 1);
-        assert!(from.elapsed() < Duration::from_secs(30), "no call waits for it");
+        assert!(from.elapsed() < LIMIT, "no call waits for it");
     }
     drop(release);
     let recorded = recording.stop().unwrap();
@@ -662,7 +681,7 @@ fn a_slow_writer() {
     let (all, lost) = read(&text).unwrap();
     assert!(lost > 0 && lost == recorded.lost, "{recorded:?} {lost}");
     assert_eq!(recorded.events + recorded.lost, 3 * CALLS);
-    assert!(recorded.events < 3 << 14, "a lane has so many: {recorded:?}");
+    assert!(recorded.events <= 1 << 14, "a lane has so many: {recorded:?}");
     assert_eq!(all.len() as u64, recorded.events, "each is written");
     judge(&all).expect("whole calls are lost");
     assert_eq!(text.lines().filter(|line| line.contains("\"lost\"")).count(), 2);
@@ -707,7 +726,7 @@ fn a_writer_that_stops_its_recording() {
     }));
     *own.lock().unwrap() = Some(recording.unwrap());
     group.get_or_load("key", || 1);
-    assert_eq!(says.recv_timeout(Duration::from_secs(30)), Ok(ErrorKind::Deadlock));
+    assert_eq!(says.recv_timeout(LIMIT), Ok(ErrorKind::Deadlock));
     assert!(group.record(io::sink()).is_ok(), "it has ended");
 }
 

@@ -2,6 +2,7 @@
 //! a key runs at a time, nothing is older than a Forget, and answers of one thread do not go
 //! backwards. `SFLIGHT_CALLS` says how many calls are made in each of the groups, 60,000 by default.
 mod random;
+mod waits;
 
 use random::Random;
 use singleflight::{Caller, Group, Stamp};
@@ -240,7 +241,7 @@ fn stress(what: &str, open: impl FnOnce() -> Group<Value<'static>>) {
                 let now = done.load(SeqCst);
                 if now != before {
                     (before, since) = (now, Instant::now());
-                } else if since.elapsed() > Duration::from_secs(60) {
+                } else if since.elapsed() > waits::LIMIT {
                     eprintln!("{what}: it hangs after {now} calls: {:?}", group.stats());
                     std::process::abort();
                 }

@@ -1,14 +1,20 @@
 //! Threads that wait are woken by their leader alone.
+#![cfg(target_os = "linux")]
+mod waits;
+
 use singleflight::Group;
 use std::sync::atomic::{AtomicU32, Ordering::SeqCst};
 use std::sync::Mutex;
-use std::time::{Duration, Instant};
+use waits::until;
 
-// How often the thread of this path below /proc has gone to sleep.
-fn sleeps(path: &str) -> u64 {
+// Whether the thread of this path below /proc sleeps, and how often it has gone to sleep.
+fn sleeps(path: &str) -> (bool, u64) {
     let status = std::fs::read_to_string(format!("/proc/{path}/status")).unwrap();
-    let line = status.lines().find(|line| line.starts_with("voluntary_ctxt_switches")).unwrap();
-    line.split_whitespace().last().unwrap().parse().unwrap()
+    let word = |name: &str| {
+        let line = status.lines().find(|line| line.starts_with(name)).unwrap();
+        line.split_whitespace().nth(1).unwrap()
+    };
+    (word("State:") == "S", word("voluntary_ctxt_switches:").parse().unwrap())
 }
 
 #[test]
@@ -30,18 +36,19 @@ fn calls_of_other_keys_wake_nobody() {
                     woken.fetch_add(1, SeqCst);
                 });
             }
-            // They sleep where none has gone to sleep for a while.
-            let all = || threads.lock().unwrap().iter().map(|path| sleeps(path)).sum::<u64>();
-            let (mut before, mut since) = (all(), Instant::now());
-            while group.stats().joins < WAITERS as u64
-                || since.elapsed() < Duration::from_millis(100)
-            {
-                std::thread::sleep(Duration::from_millis(5));
-                let now = all();
-                if now != before {
-                    (before, since) = (now, Instant::now());
-                }
-            }
+            // One that sleeps may wait for a lock that another of them has. If all are asleep at a
+            // second look, and none has gone to sleep since the first one, none is awake to wake
+            // another: they sleep until their leader wakes them.
+            let all = || {
+                let all: Vec<_> = threads.lock().unwrap().iter().map(|path| sleeps(path)).collect();
+                (all.iter().all(|it| it.0), all.iter().map(|it| it.1).sum::<u64>())
+            };
+            until("all join", || group.stats().joins == WAITERS as u64);
+            let mut before = all();
+            until("all sleep", || {
+                let first = std::mem::replace(&mut before, all());
+                before == (true, first.1)
+            });
             // Calls of 1,000 other keys, each with one who waits and is woken.
             for round in 0..1000u32 {
                 let key = format!("{round}-key");
@@ -57,15 +64,14 @@ fn calls_of_other_keys_wake_nobody() {
                     };
                     let load = || {
                         scope.spawn(asks);
-                        while group.stats().joins == joins {
-                            std::thread::yield_now();
-                        }
+                        until("it joins", || group.stats().joins > joins);
                         round
                     };
                     first.get_or_load(key.as_bytes(), load);
                 });
             }
-            assert!(all() == before, "{} times a waiter of the slow key was woken", all() - before);
+            let woken = all().1 - before.1;
+            assert!(woken == 0, "{woken} times a waiter of the slow key was woken");
             7
         });
         assert!(got.joiners == WAITERS as u32, "all joined");

@@ -13,13 +13,13 @@ fn runtime() -> Runtime {
 }
 
 async fn until(what: &str, holds: impl Fn() -> bool) {
-    for _ in 0..20_000 {
+    for _ in 0..300_000 {
         if holds() {
             return;
         }
         sleep(Duration::from_millis(1)).await;
     }
-    panic!("{what}");
+    panic!("it hangs: {what}");
 }
 
 #[test]
@@ -50,7 +50,8 @@ fn one_load_for_all_who_ask_at_once() {
                 .collect();
             let asked = || group.stats().loads + group.stats().joins - before.loads - before.joins;
             until("all ask", || asked() == 4000).await;
-            assert!(group.stats().in_use == 4000, "all load or wait: {:?}", group.stats());
+            let running = group.stats().in_use;
+            assert!(running == keys as u64, "one loads each key, and the others wait: {running}");
             release.add_permits(4000);
             for task in tasks {
                 task.await.unwrap();
@@ -93,10 +94,7 @@ fn deadlines_and_aborted_tasks() {
         until("another joins", || group.stats().joins == 2).await;
         aborted.abort();
         assert!(aborted.await.unwrap_err().is_cancelled(), "it is aborted");
-        assert!(
-            group.stats().in_use == 1,
-            "whoever was dropped or aborted has left"
-        );
+        assert!(group.stats().in_use == 1, "one load runs");
         drop(caller);
         release.add_permits(1);
         assert!(leader.await.unwrap() == 1, "others had joined, and have left");
@@ -141,7 +139,7 @@ fn a_timeout_of_the_leader() {
                         sleep(Duration::from_secs(if number < 99 { 3600 } else { 0 })).await;
                         number
                     };
-                    let time = Duration::from_millis(if number < 99 { 10 } else { 60_000 });
+                    let time = Duration::from_millis(if number < 99 { 10 } else { 3_600_000 });
                     timeout(time, group.get_or_load_async("k", load))
                         .await
                         .ok()
