@@ -2,7 +2,42 @@
 
 package singleflight
 
-import "sync/atomic"
+import (
+	"runtime"
+	"strconv"
+	"sync/atomic"
+	"testing"
+)
+
+// A group grows while half of its cells are free, also where every other call joins.
+func TestGrowsEarly(t *testing.T) {
+	if isOld {
+		t.Skip("it has no library")
+	}
+	// One handle makes all calls then.
+	defer runtime.GOMAXPROCS(runtime.GOMAXPROCS(1))
+	const cells = 64
+	for _, joins := range []int{0, 1, 7} {
+		g, err := NewGroup(WithLoads(cells))
+		if err != nil {
+			t.Fatal(err)
+		}
+		defer g.Close()
+		first := g.core().table.size.Load()
+		release := make(chan struct{})
+		var all []<-chan Result
+		for i := 0; i < cells*3/4; i++ {
+			for n := 0; n <= joins; n++ {
+				all = append(all, g.DoChan(strconv.Itoa(i), func() (any, error) { <-release; return nil, nil }))
+			}
+		}
+		until(t, "it grows early", func() bool { return g.core().table.size.Load() > first })
+		close(release)
+		for _, ch := range all {
+			receive(t, ch)
+		}
+	}
+}
 
 // eachOpen calls do with each call that its leader and those who joined share, and that has not ended.
 func (t *nativeTable) eachOpen(do func(*call)) {
