@@ -19,8 +19,13 @@ func value(v any) func() (any, error) {
 // Waits until it holds, which it does soon.
 func until(t *testing.T, what string, holds func() bool) {
 	t.Helper()
+	untilWithin(t, patience, what, holds)
+}
+
+func untilWithin(t *testing.T, limit time.Duration, what string, holds func() bool) {
+	t.Helper()
 	for from := time.Now(); !holds(); time.Sleep(time.Millisecond) {
-		if time.Since(from) > time.Minute {
+		if time.Since(from) > limit {
 			t.Fatal(what)
 		}
 	}
@@ -205,7 +210,8 @@ func manyOn(t *testing.T, goroutines, keys int) {
 			}
 		}(fmt.Sprint("key-", i%keys))
 	}
-	until(t, "all ask", func() bool {
+	// A million goroutines take seconds where the machine does nothing else.
+	untilWithin(t, patience+time.Duration(goroutines)*200*time.Microsecond, "all ask", func() bool {
 		st := g.Stats()
 		return st.Loads+st.Joins >= uint64(goroutines)
 	})
@@ -287,9 +293,14 @@ func TestDeadlines(t *testing.T) {
 	started, release := make(chan struct{}), make(chan struct{})
 	slow := g.DoChan("key", func() (any, error) { close(started); <-release; return 1, nil })
 	<-started
-	short, stop := context.WithTimeout(ctx, 20*time.Millisecond)
-	defer stop()
-	if _, err, _ := doContext(short, g, "key", func(context.Context) (any, error) { return 2, nil }); err != context.DeadlineExceeded {
+	late, left := newDeadline(ctx), make(chan error)
+	go func() {
+		_, err, _ := doContext(late, g, "key", func(context.Context) (any, error) { return 2, nil })
+		left <- err
+	}()
+	until(t, "it joins", func() bool { return g.Stats().Joins == 1 })
+	late.pass()
+	if err := came(t, left); err != context.DeadlineExceeded {
 		t.Error("a waiter's deadline", err)
 	}
 	close(release)
@@ -336,7 +347,7 @@ func TestDoContextOfALeader(t *testing.T) {
 	}
 	select {
 	case <-own.Done():
-	case <-time.After(10 * time.Second):
+	case <-time.After(patience):
 		t.Fatal("nobody waits, and the load is not told")
 	}
 	if v, err, _ := g.Do("key", value(7)); v != 7 || err != nil {
@@ -521,12 +532,14 @@ func TestOriginThatHangs(t *testing.T) {
 	g := open(t, 16)
 	release := make(chan struct{})
 	load := func(context.Context) (any, error) { <-release; return 1, nil }
-	for i := 0; i < 100; i++ {
-		ctx, cancel := context.WithTimeout(context.Background(), 100*time.Microsecond)
-		if _, err, _ := doContext(ctx, g, "hangs", load); err != context.DeadlineExceeded {
+	for i := uint64(1); i <= 100; i++ {
+		ctx, left := newDeadline(always), make(chan error)
+		go func() { _, err, _ := doContext(ctx, g, "hangs", load); left <- err }()
+		until(t, "it waits", func() bool { st := g.Stats(); return st.Loads+st.Joins == i })
+		ctx.pass()
+		if err := came(t, left); err != context.DeadlineExceeded {
 			t.Error("who waits for it leaves", err)
 		}
-		cancel()
 	}
 	if st := g.Stats(); st.InUse != 1 || st.Loads != 1 {
 		t.Error("it runs once", st)

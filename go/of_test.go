@@ -22,7 +22,7 @@ func receiveGot[V any](t *testing.T, ch <-chan ResultOf[V]) (got ResultOf[V]) {
 	t.Helper()
 	select {
 	case got = <-ch:
-	case <-time.After(10 * time.Second):
+	case <-time.After(patience):
 		t.Fatal("it hangs")
 	}
 	return got
@@ -164,33 +164,34 @@ func TestOfDeadlines(t *testing.T) {
 		t.Error("a context that has ended", got)
 	}
 	for _, chans := range []bool{false, true} {
-		ctx, cancel := context.WithTimeout(always, time.Millisecond)
-		load := func(own context.Context) (int, error) { <-own.Done(); return 0, own.Err() }
+		ctx := newDeadline(always)
+		load := func(own context.Context) (int, error) { ctx.pass(); <-own.Done(); return 0, own.Err() }
 		var got ResultOf[int]
 		var err error
 		if chans {
 			got = receiveGot(t, o.DoChan(ctx, "key", load))
 			err = got.Err
 		} else {
-			within(t, 20*time.Second, "a deadline", func() { got, err = o.Do(ctx, "key", load) })
+			within(t, patience, "a deadline", func() { got, err = o.Do(ctx, "key", load) })
 		}
 		late := ResultOf[int]{Err: context.DeadlineExceeded}
 		if got != late || err != context.DeadlineExceeded {
 			t.Error("a deadline", chans, got, err)
 		}
-		cancel()
+		// The next leads.
+		until(t, "its load ends", func() bool { return o.InFlight() == 0 })
 	}
 	// One that joins, and has a deadline.
 	started, release := chans()
 	leader := o.DoChan(always, "other", held(2, started, release))
 	begun(t, started)
-	ctx, cancel := context.WithTimeout(always, time.Millisecond)
-	defer cancel()
-	within(t, 20*time.Second, "one who joins", func() {
-		if got, err := o.Do(ctx, "other", none); err != context.DeadlineExceeded || got.Val != 0 {
-			t.Error("who joins leaves", got, err)
-		}
-	})
+	ctx, left := newDeadline(always), make(chan ResultOf[int])
+	go func() { got, _ := o.Do(ctx, "other", none); left <- got }()
+	until(t, "it joins", func() bool { return o.Stats().Joins == 1 })
+	ctx.pass()
+	if got := came(t, left); got.Err != context.DeadlineExceeded || got.Val != 0 {
+		t.Error("who joins leaves", got)
+	}
 	close(release)
 	if got := receiveGot(t, leader); got.Val != 2 || !got.Shared || got.Joiners != 0 {
 		t.Error("who has left is not counted, and it was shared", got)
@@ -356,7 +357,7 @@ func TestJoinersOfManyCalls(t *testing.T) {
 			}
 		}()
 	}
-	within(t, time.Minute, "Do", all.Wait)
+	within(t, 5*patience, "Do", all.Wait)
 	joined := 0
 	for _, it := range runs {
 		if it.got.Load() != it.told.Load()+1 {

@@ -54,9 +54,8 @@ func TestRecordingOfAStress(t *testing.T) {
 			}
 			log := recordedBy(t, g, func() {
 				stressed(g, 12, rounds)
-				// Loads that their callers have left end too.
-				until(t, "all have ended", func() bool { return g.Stats().InUse == 0 })
-				time.Sleep(200 * time.Millisecond)
+				// Loads that their callers have left end too. Their goroutines record them at the very end.
+				until(t, "all have ended", func() bool { return g.Stats().InUse == 0 && !isLeading() })
 			})
 			all := isLegal(t, log)
 			kinds := map[string]int{}
@@ -83,6 +82,13 @@ func TestRecordingOfAStress(t *testing.T) {
 			t.Log(len(all), kinds, st)
 		})
 	}
+}
+
+// Whether a goroutine leads a call, or has not yet returned from there.
+func isLeading() bool {
+	all := make([]byte, 1<<20)
+	all = all[:runtime.Stack(all, true)]
+	return regexp.MustCompile(`singleflight\.\(\*core\)\.(lead|goOn|doChan|leadContext)[(.]`).Match(all)
 }
 
 func stressed(g *Group, goroutines, rounds int) {
@@ -453,7 +459,7 @@ func TestRecordingOfASlowWriter(t *testing.T) {
 		t.Fatal(err)
 	}
 	const calls = 3 * eventsOfLane
-	within(t, 60*time.Second, "a call waits for the writer", func() {
+	within(t, 5*patience, "a call waits for the writer", func() {
 		for i := 0; i < calls; i++ {
 			g.Do("key", value(i))
 		}
@@ -487,7 +493,7 @@ func TestRecordingOfAWriterThatCalls(t *testing.T) {
 	if err != nil {
 		t.Fatal(err)
 	}
-	within(t, 20*time.Second, "a writer that calls the group", func() {
+	within(t, patience, "a writer that calls the group", func() {
 		for i := 0; i < 10; i++ {
 			g.Do("key", value(i))
 			time.Sleep(recordEvery / 2)
