@@ -333,6 +333,25 @@ func TestRecordingOfAForgottenCall(t *testing.T) {
 	}
 }
 
+// A Forget has closed a call, and is stopped before it tells the recorder so. The call ends meanwhile. Its record waits.
+func TestRecordingOfASlowForget(t *testing.T) {
+	g := open(t, 4)
+	log := recordedBy(t, g, func() {
+		started, release := chans()
+		led := g.DoChan("key", heldAny(1, started, release))
+		begun(t, started)
+		p := g.core()
+		f := p.forgetting(false)
+		id, closed := p.table.forget("key")
+		close(release)
+		came(t, led)
+		f.end(p, "key", id, closed)
+	})
+	if all := isLegal(t, log); len(all) != 4 || all[1].E != "forget" || all[1].Closed == nil {
+		t.Errorf("a Lead, the Forget that closed it, a Settle and a Handed: %s", log)
+	}
+}
+
 // What began before a recording, and what has not ended, is not in it.
 func TestRecordingOfAPart(t *testing.T) {
 	g := open(t, 8)
