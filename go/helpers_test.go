@@ -29,6 +29,17 @@ func (d *deadline) Err() error {
 	}
 }
 
+// How often a call allocates. What earlier tests have left to finalizers allocates beside it, so this is the least of some counts.
+func allocations(do func()) float64 {
+	least := testing.AllocsPerRun(1000, do)
+	for i := 0; i < 9 && least > 0; i++ {
+		if n := testing.AllocsPerRun(1000, do); n < least {
+			least = n
+		}
+	}
+	return least
+}
+
 // What Of's Do returns, for a Group whose function takes no context.
 func doCall(
 	g *Group, key string, fn func() (any, error),

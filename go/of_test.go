@@ -210,23 +210,23 @@ func TestOfBoxes(t *testing.T) {
 	value := new(int)
 	boxed := any(value)
 	load := func() (any, error) { return boxed, nil }
-	plain := testing.AllocsPerRun(1000, func() { g.Do("key", load) })
+	plain := allocations(func() { g.Do("key", load) })
 	var pointers Of[string, *int]
 	defer pointers.Close()
 	pointer := typed(value)
-	if n := testing.AllocsPerRun(1000, func() { pointers.Do(always, "key", pointer) }); n > plain {
+	if n := allocations(func() { pointers.Do(always, "key", pointer) }); n > plain {
 		t.Error("a pointer is boxed", n, plain)
 	}
 	var anys Of[string, any]
 	defer anys.Close()
 	ready := typed(boxed)
-	if n := testing.AllocsPerRun(1000, func() { anys.Do(always, "key", ready) }); n > plain {
+	if n := allocations(func() { anys.Do(always, "key", ready) }); n > plain {
 		t.Error("a value of an interface is boxed", n, plain)
 	}
 	var numbers Of[string, int]
 	defer numbers.Close()
 	number := typed(1000)
-	if n := testing.AllocsPerRun(1000, func() { numbers.Do(always, "key", number) }); n > plain+1 {
+	if n := allocations(func() { numbers.Do(always, "key", number) }); n > plain+1 {
 		t.Error("a number is boxed once", n, plain)
 	}
 }
