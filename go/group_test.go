@@ -4,7 +4,9 @@ import (
 	"context"
 	"errors"
 	"fmt"
+	"os"
 	"runtime"
+	"strconv"
 	"strings"
 	"sync"
 	"sync/atomic"
@@ -227,18 +229,27 @@ func TestManyOnOneKey(t *testing.T)   { manyOn(t, 4000, 1) }
 func TestManyOnSomeKeys(t *testing.T) { manyOn(t, 4000, 40) }
 func TestManyOnOwnKeys(t *testing.T)  { manyOn(t, 4000, 4000) }
 
-func TestVeryManyOnOneKey(t *testing.T) {
-	if testing.Short() || isRaceDetected {
-		t.Skip("a million goroutines")
-	}
-	manyOn(t, 1000000, 1)
-}
-
-func TestVeryManyOnOwnKeys(t *testing.T) {
+// SFLIGHT_GOROUTINES says how many they are. A million take 5 GB of memory, which a machine that does other work may not have.
+func veryMany(t *testing.T) int {
 	if testing.Short() || isRaceDetected {
 		t.Skip("100,000 goroutines")
 	}
-	manyOn(t, 100000, 100000)
+	text := os.Getenv("SFLIGHT_GOROUTINES")
+	if text == "" {
+		return 100000
+	}
+	count, err := strconv.Atoi(text)
+	if err != nil {
+		t.Fatal("SFLIGHT_GOROUTINES", err)
+	}
+	return count
+}
+
+func TestVeryManyOnOneKey(t *testing.T) { manyOn(t, veryMany(t), 1) }
+
+func TestVeryManyOnOwnKeys(t *testing.T) {
+	count := veryMany(t)
+	manyOn(t, count, count)
 }
 
 // A caller that waits for a slow key is not woken by another's calls.
