@@ -39,6 +39,42 @@ func TestGrowsEarly(t *testing.T) {
 	}
 }
 
+// A post keeps no call that has ended, since that has the result.
+func TestPostsKeepNothing(t *testing.T) {
+	if isOld {
+		t.Skip("it has no library")
+	}
+	g := open(t, 4)
+	started, release := chans()
+	led := g.DoChan("key", heldAny(1, started, release))
+	begun(t, started)
+	joined := g.DoChan("key", value(2))
+	if n := g.core().table.posted(); n != 1 {
+		t.Error("one call is shared", n)
+	}
+	close(release)
+	receive(t, led)
+	receive(t, joined)
+	until(t, "its post is empty", func() bool { return g.core().table.posted() == 0 })
+}
+
+// posted returns how many posts have a call.
+func (t *nativeTable) posted() (n int) {
+	for i := range t.posts {
+		table := (*chunks)(atomic.LoadPointer(&t.posts[i]))
+		for number := 0; table != nil && number < len(table); number++ {
+			if chunk := (*[]pointer)(atomic.LoadPointer(&table[number])); chunk != nil {
+				for at := range *chunk {
+					if atomic.LoadPointer(&(*chunk)[at]) != nil {
+						n++
+					}
+				}
+			}
+		}
+	}
+	return n
+}
+
 // eachOpen calls do with each call that its leader and those who joined share, and that has not ended.
 func (t *nativeTable) eachOpen(do func(*call)) {
 	if p := t.plain.Load(); p != nil {
