@@ -367,6 +367,31 @@ func TestDoContextOfALeader(t *testing.T) {
 	until(t, "all seats are back", func() bool { return g.Stats().InUse == 0 })
 }
 
+// A caller that has joined leaves. The load goes on for its leader, which waits.
+func TestJoinerThatLeaves(t *testing.T) {
+	g := open(t, 4)
+	ctx, cancel := context.WithCancel(always)
+	defer cancel()
+	started, release := chans()
+	led := g.Of.DoChan(ctx, "key", func(own context.Context) (any, error) {
+		close(started)
+		<-release
+		return 1, own.Err()
+	})
+	begun(t, started)
+	joiner, left := newDeadline(always), make(chan error)
+	go func() { _, err, _ := doContext(joiner, g, "key", loadOf(2)); left <- err }()
+	until(t, "it joins", func() bool { return g.Stats().Joins == 1 })
+	joiner.pass()
+	if err := came(t, left); err != context.DeadlineExceeded {
+		t.Error("it leaves", err)
+	}
+	close(release)
+	if r := receive(t, led); r.Val != 1 || r.Err != nil {
+		t.Error("its leader waits, and the load was ended", r)
+	}
+}
+
 // How many wait for open calls.
 func waiting(g interface{ core() *core }) (count int) {
 	g.core().eachOpen(func(c *call) { count += int(c.holders.Load()) - 1 })

@@ -58,6 +58,18 @@ func TestPostsKeepNothing(t *testing.T) {
 	until(t, "its post is empty", func() bool { return g.core().table.posted() == 0 })
 }
 
+// The call of a cell's next generation is another one, also where the one before it has not been dropped yet.
+func TestPostsOfGenerations(t *testing.T) {
+	var table nativeTable
+	first := table.shared(callID{0, 5, 7})
+	if again := table.shared(callID{0, 5, 7}); again != first {
+		t.Error("one generation has one call")
+	}
+	if next := table.shared(callID{0, 5, 8}); next == first || next.generation.Load() != 8 {
+		t.Error("the next generation has the call of the one before it")
+	}
+}
+
 // posted returns how many posts have a call.
 func (t *nativeTable) posted() (n int) {
 	for i := range t.posts {
