@@ -393,11 +393,11 @@ func testForgetsOpenLoad(t *testing.T, name string, end func(*Cache[string, page
 	begun(t, started)
 	go get()
 	until(t, "it joins", func() bool { return c.Stats().Calls.Joins == 1 })
-	within(t, 20*time.Second, name+": it waits for nobody", func() { end(c) })
+	within(t, patience, name+": it waits for nobody", func() { end(c) })
 	if v, ok := c.GetIfPresent("key-1"); ok && v.version == 0 {
 		t.Error(name, "is there")
 	}
-	within(t, 20*time.Second, name+": a later Get does not wait for the older load", func() {
+	within(t, patience, name+": a later Get does not wait for the older load", func() {
 		v, err := c.Get(context.Background(), "key-1")
 		if v.version == 0 || v.key != "key-1" || err != nil {
 			t.Error(name, "an older value", v, err)
@@ -467,7 +467,7 @@ func TestCachePutBesideALoad(t *testing.T) {
 	begun(t, started)
 	// As Put does after its Forget.
 	n := &node[int]{item: item{key: "ada", cost: 1}, value: 2}
-	within(t, 20*time.Second, "it waits for nobody", func() {
+	within(t, patience, "it waits for nobody", func() {
 		f := c.now.Load()
 		k := f.values.keyed("ada")
 		n.print = k.print
@@ -1014,7 +1014,7 @@ func TestCacheOnEvict(t *testing.T) {
 			depth.Add(-1)
 			c.Stats()
 		}))
-	within(t, 60*time.Second, "a callback that calls the cache", func() {
+	within(t, 5*patience, "a callback that calls the cache", func() {
 		var workers sync.WaitGroup
 		for g := 0; g < 4; g++ {
 			workers.Add(1)
@@ -1097,7 +1097,7 @@ func TestCacheOnEvictComesLast(t *testing.T) {
 			for ; wait > 0; wait-- {
 				select {
 				case <-joined:
-				case <-time.After(20 * time.Second):
+				case <-time.After(patience):
 					told <- false
 					return
 				}

@@ -4,7 +4,9 @@ import (
 	"context"
 	"errors"
 	"fmt"
+	"os"
 	"runtime"
+	"strconv"
 	"strings"
 	"sync"
 	"sync/atomic"
@@ -19,8 +21,13 @@ func value(v any) func() (any, error) {
 // Waits until it holds, which it does soon.
 func until(t *testing.T, what string, holds func() bool) {
 	t.Helper()
+	untilWithin(t, patience, what, holds)
+}
+
+func untilWithin(t *testing.T, limit time.Duration, what string, holds func() bool) {
+	t.Helper()
 	for from := time.Now(); !holds(); time.Sleep(time.Millisecond) {
-		if time.Since(from) > time.Minute {
+		if time.Since(from) > limit {
 			t.Fatal(what)
 		}
 	}
@@ -205,7 +212,8 @@ func manyOn(t *testing.T, goroutines, keys int) {
 			}
 		}(fmt.Sprint("key-", i%keys))
 	}
-	until(t, "all ask", func() bool {
+	// A million goroutines take seconds where the machine does nothing else.
+	untilWithin(t, patience+time.Duration(goroutines)*200*time.Microsecond, "all ask", func() bool {
 		st := g.Stats()
 		return st.Loads+st.Joins >= uint64(goroutines)
 	})
@@ -221,18 +229,27 @@ func TestManyOnOneKey(t *testing.T)   { manyOn(t, 4000, 1) }
 func TestManyOnSomeKeys(t *testing.T) { manyOn(t, 4000, 40) }
 func TestManyOnOwnKeys(t *testing.T)  { manyOn(t, 4000, 4000) }
 
-func TestVeryManyOnOneKey(t *testing.T) {
-	if testing.Short() || isRaceDetected {
-		t.Skip("a million goroutines")
-	}
-	manyOn(t, 1000000, 1)
-}
-
-func TestVeryManyOnOwnKeys(t *testing.T) {
+// SFLIGHT_GOROUTINES says how many they are. A million take 5 GB of memory, which a machine that does other work may not have.
+func veryMany(t *testing.T) int {
 	if testing.Short() || isRaceDetected {
 		t.Skip("100,000 goroutines")
 	}
-	manyOn(t, 100000, 100000)
+	text := os.Getenv("SFLIGHT_GOROUTINES")
+	if text == "" {
+		return 100000
+	}
+	count, err := strconv.Atoi(text)
+	if err != nil {
+		t.Fatal("SFLIGHT_GOROUTINES", err)
+	}
+	return count
+}
+
+func TestVeryManyOnOneKey(t *testing.T) { manyOn(t, veryMany(t), 1) }
+
+func TestVeryManyOnOwnKeys(t *testing.T) {
+	count := veryMany(t)
+	manyOn(t, count, count)
 }
 
 // A caller that waits for a slow key is not woken by another's calls.
@@ -287,9 +304,14 @@ func TestDeadlines(t *testing.T) {
 	started, release := make(chan struct{}), make(chan struct{})
 	slow := g.DoChan("key", func() (any, error) { close(started); <-release; return 1, nil })
 	<-started
-	short, stop := context.WithTimeout(ctx, 20*time.Millisecond)
-	defer stop()
-	if _, err, _ := doContext(short, g, "key", func(context.Context) (any, error) { return 2, nil }); err != context.DeadlineExceeded {
+	late, left := newDeadline(ctx), make(chan error)
+	go func() {
+		_, err, _ := doContext(late, g, "key", func(context.Context) (any, error) { return 2, nil })
+		left <- err
+	}()
+	until(t, "it joins", func() bool { return g.Stats().Joins == 1 })
+	late.pass()
+	if err := came(t, left); err != context.DeadlineExceeded {
 		t.Error("a waiter's deadline", err)
 	}
 	close(release)
@@ -336,13 +358,38 @@ func TestDoContextOfALeader(t *testing.T) {
 	}
 	select {
 	case <-own.Done():
-	case <-time.After(10 * time.Second):
+	case <-time.After(patience):
 		t.Fatal("nobody waits, and the load is not told")
 	}
 	if v, err, _ := g.Do("key", value(7)); v != 7 || err != nil {
 		t.Error("who asks then does not get the end of a load that nobody wanted", v, err)
 	}
 	until(t, "all seats are back", func() bool { return g.Stats().InUse == 0 })
+}
+
+// A caller that has joined leaves. The load goes on for its leader, which waits.
+func TestJoinerThatLeaves(t *testing.T) {
+	g := open(t, 4)
+	ctx, cancel := context.WithCancel(always)
+	defer cancel()
+	started, release := chans()
+	led := g.Of.DoChan(ctx, "key", func(own context.Context) (any, error) {
+		close(started)
+		<-release
+		return 1, own.Err()
+	})
+	begun(t, started)
+	joiner, left := newDeadline(always), make(chan error)
+	go func() { _, err, _ := doContext(joiner, g, "key", loadOf(2)); left <- err }()
+	until(t, "it joins", func() bool { return g.Stats().Joins == 1 })
+	joiner.pass()
+	if err := came(t, left); err != context.DeadlineExceeded {
+		t.Error("it leaves", err)
+	}
+	close(release)
+	if r := receive(t, led); r.Val != 1 || r.Err != nil {
+		t.Error("its leader waits, and the load was ended", r)
+	}
 }
 
 // How many wait for open calls.
@@ -521,12 +568,14 @@ func TestOriginThatHangs(t *testing.T) {
 	g := open(t, 16)
 	release := make(chan struct{})
 	load := func(context.Context) (any, error) { <-release; return 1, nil }
-	for i := 0; i < 100; i++ {
-		ctx, cancel := context.WithTimeout(context.Background(), 100*time.Microsecond)
-		if _, err, _ := doContext(ctx, g, "hangs", load); err != context.DeadlineExceeded {
+	for i := uint64(1); i <= 100; i++ {
+		ctx, left := newDeadline(always), make(chan error)
+		go func() { _, err, _ := doContext(ctx, g, "hangs", load); left <- err }()
+		until(t, "it waits", func() bool { st := g.Stats(); return st.Loads+st.Joins == i })
+		ctx.pass()
+		if err := came(t, left); err != context.DeadlineExceeded {
 			t.Error("who waits for it leaves", err)
 		}
-		cancel()
 	}
 	if st := g.Stats(); st.InUse != 1 || st.Loads != 1 {
 		t.Error("it runs once", st)

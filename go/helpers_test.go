@@ -6,6 +6,40 @@ import (
 	"time"
 )
 
+// So long a test waits for what comes soon on a machine that does nothing else. Other work may hold it up.
+const patience = time.Minute
+
+// A deadline is a context that ends with DeadlineExceeded when pass is called: so a test decides when, however slow the machine is.
+type deadline struct {
+	context.Context
+	passed chan struct{}
+}
+
+func newDeadline(of context.Context) *deadline { return &deadline{of, make(chan struct{})} }
+
+func (d *deadline) pass()                 { close(d.passed) }
+func (d *deadline) Done() <-chan struct{} { return d.passed }
+
+func (d *deadline) Err() error {
+	select {
+	case <-d.passed:
+		return context.DeadlineExceeded
+	default:
+		return nil
+	}
+}
+
+// How often a call allocates. What earlier tests have left to finalizers allocates beside it, so this is the least of some counts.
+func allocations(do func()) float64 {
+	least := testing.AllocsPerRun(1000, do)
+	for i := 0; i < 9 && least > 0; i++ {
+		if n := testing.AllocsPerRun(1000, do); n < least {
+			least = n
+		}
+	}
+	return least
+}
+
 // What Of's Do returns, for a Group whose function takes no context.
 func doCall(
 	g *Group, key string, fn func() (any, error),
@@ -42,7 +76,7 @@ func begun(t *testing.T, started <-chan struct{}) {
 	t.Helper()
 	select {
 	case <-started:
-	case <-time.After(20 * time.Second):
+	case <-time.After(patience):
 		t.Fatal("its function does not begin")
 	}
 }
@@ -52,7 +86,7 @@ func came[V any](t *testing.T, ch <-chan V) (v V) {
 	t.Helper()
 	select {
 	case v = <-ch:
-	case <-time.After(20 * time.Second):
+	case <-time.After(patience):
 		t.Fatal("it does not come")
 	}
 	return v

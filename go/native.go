@@ -99,10 +99,11 @@ type nativeTable struct {
 	hot     []pointer    // handles, by processor
 	posts   [24]pointer  // each leads to chunks
 	size    atomic.Uint64
+	isEnded atomic.Bool
+	_       [64]byte // each call reads what is above, and Stats and ForgetCall write what is below
+
 	growing sync.Mutex
 	calling sync.Mutex // of ForgetCalls
-	isEnded atomic.Bool
-
 	mu      sync.Mutex // protects the rest
 	root    *handle
 	grower  *handle   // which whoever grows has
@@ -110,6 +111,7 @@ type nativeTable struct {
 	isQuiet bool      // whether it is ended, and no goroutine has a handle that it found before
 	past    Stats     // of handles that are closed
 	why     error     // there is no library
+	_       [64]byte
 }
 
 type plainPointer struct{ at pointer }
@@ -269,22 +271,24 @@ func (t *nativeTable) ask(a *asking, key string) {
 			return
 		}
 		var out cAsked
-		seen := t.size.Load()
+		seen, made := t.size.Load(), h.made
 		code := uint32(codeFull)
 		if a.own.call = t.pop(h); a.own.call.live {
 			code = cAsk(h, &a.own.call, bytesOf(key), uintptr(len(key)), tries, &out)
 		}
+		// Looking takes the lock of all handles. So each eighth call that is new to its handle looks: a group whose calls
+		// are used again never does.
+		isDue := h.made > made && h.made%8 == 0
 		switch code {
 		case codeLed:
 			increment(&h.loads)
-			isDue := h.loads%16 == 0
 			t.put(h)
 			a.leads, a.id, a.stamp = true, out.id, out.stamp.packed()
 			if t.isEnded.Load() {
 				a.stamp = Stamp{}
 			}
-			if isDue && t.isHalfFull() {
-				go t.growEarly(t.size.Load())
+			if isDue {
+				t.look()
 			}
 			return
 		case codeJoined:
@@ -293,6 +297,10 @@ func (t *nativeTable) ask(a *asking, key string) {
 			a.leads, a.id = false, out.id
 			a.call = t.shared(a.id)
 			a.call.holders.Add(1)
+			// If only leaders looked, none would where each eighth call is a joiner's.
+			if isDue {
+				t.look()
+			}
 			return
 		}
 		if a.own.call.live {
@@ -319,11 +327,13 @@ func (s cStamp) packed() Stamp { return Stamp{(s.table+1)<<56 | s.slot, s.age} }
 
 func (s Stamp) words() cStamp { return cStamp{s.Place>>56 - 1, s.Place << 8 >> 8, s.Age} }
 
-// isHalfFull tells whether half of the cells of the last table are in use, or about so many.
-func (t *nativeTable) isHalfFull() bool {
+// look lets the group grow when half of the cells of the last table are in use, or about so many, so that nobody finds it full.
+func (t *nativeTable) look() {
 	var st Stats
 	t.count(&st)
-	return 2*st.InUse >= t.size.Load()&(1<<32-1)
+	if seen := t.size.Load(); 2*st.InUse >= seen&(1<<32-1) {
+		go t.growEarly(seen)
+	}
 }
 
 func (t *nativeTable) measure(h *handle) {
@@ -362,7 +372,7 @@ func (t *nativeTable) grow(seen uint64) bool {
 	return code == codeDone
 }
 
-// growEarly grows when half of the cells are in use, so that nobody finds no room.
+// growEarly is grow for a group that is not full. The last call of a closed group may have ended meanwhile.
 func (t *nativeTable) growEarly(seen uint64) {
 	t.grow(seen)
 	t.mu.Lock()

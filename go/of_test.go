@@ -22,7 +22,7 @@ func receiveGot[V any](t *testing.T, ch <-chan ResultOf[V]) (got ResultOf[V]) {
 	t.Helper()
 	select {
 	case got = <-ch:
-	case <-time.After(10 * time.Second):
+	case <-time.After(patience):
 		t.Fatal("it hangs")
 	}
 	return got
@@ -164,33 +164,34 @@ func TestOfDeadlines(t *testing.T) {
 		t.Error("a context that has ended", got)
 	}
 	for _, chans := range []bool{false, true} {
-		ctx, cancel := context.WithTimeout(always, time.Millisecond)
-		load := func(own context.Context) (int, error) { <-own.Done(); return 0, own.Err() }
+		ctx := newDeadline(always)
+		load := func(own context.Context) (int, error) { ctx.pass(); <-own.Done(); return 0, own.Err() }
 		var got ResultOf[int]
 		var err error
 		if chans {
 			got = receiveGot(t, o.DoChan(ctx, "key", load))
 			err = got.Err
 		} else {
-			within(t, 20*time.Second, "a deadline", func() { got, err = o.Do(ctx, "key", load) })
+			within(t, patience, "a deadline", func() { got, err = o.Do(ctx, "key", load) })
 		}
 		late := ResultOf[int]{Err: context.DeadlineExceeded}
 		if got != late || err != context.DeadlineExceeded {
 			t.Error("a deadline", chans, got, err)
 		}
-		cancel()
+		// The next leads.
+		until(t, "its load ends", func() bool { return o.InFlight() == 0 })
 	}
 	// One that joins, and has a deadline.
 	started, release := chans()
 	leader := o.DoChan(always, "other", held(2, started, release))
 	begun(t, started)
-	ctx, cancel := context.WithTimeout(always, time.Millisecond)
-	defer cancel()
-	within(t, 20*time.Second, "one who joins", func() {
-		if got, err := o.Do(ctx, "other", none); err != context.DeadlineExceeded || got.Val != 0 {
-			t.Error("who joins leaves", got, err)
-		}
-	})
+	ctx, left := newDeadline(always), make(chan ResultOf[int])
+	go func() { got, _ := o.Do(ctx, "other", none); left <- got }()
+	until(t, "it joins", func() bool { return o.Stats().Joins == 1 })
+	ctx.pass()
+	if got := came(t, left); got.Err != context.DeadlineExceeded || got.Val != 0 {
+		t.Error("who joins leaves", got)
+	}
 	close(release)
 	if got := receiveGot(t, leader); got.Val != 2 || !got.Shared || got.Joiners != 0 {
 		t.Error("who has left is not counted, and it was shared", got)
@@ -209,23 +210,23 @@ func TestOfBoxes(t *testing.T) {
 	value := new(int)
 	boxed := any(value)
 	load := func() (any, error) { return boxed, nil }
-	plain := testing.AllocsPerRun(1000, func() { g.Do("key", load) })
+	plain := allocations(func() { g.Do("key", load) })
 	var pointers Of[string, *int]
 	defer pointers.Close()
 	pointer := typed(value)
-	if n := testing.AllocsPerRun(1000, func() { pointers.Do(always, "key", pointer) }); n > plain {
+	if n := allocations(func() { pointers.Do(always, "key", pointer) }); n > plain {
 		t.Error("a pointer is boxed", n, plain)
 	}
 	var anys Of[string, any]
 	defer anys.Close()
 	ready := typed(boxed)
-	if n := testing.AllocsPerRun(1000, func() { anys.Do(always, "key", ready) }); n > plain {
+	if n := allocations(func() { anys.Do(always, "key", ready) }); n > plain {
 		t.Error("a value of an interface is boxed", n, plain)
 	}
 	var numbers Of[string, int]
 	defer numbers.Close()
 	number := typed(1000)
-	if n := testing.AllocsPerRun(1000, func() { numbers.Do(always, "key", number) }); n > plain+1 {
+	if n := allocations(func() { numbers.Do(always, "key", number) }); n > plain+1 {
 		t.Error("a number is boxed once", n, plain)
 	}
 }
@@ -356,7 +357,7 @@ func TestJoinersOfManyCalls(t *testing.T) {
 			}
 		}()
 	}
-	within(t, time.Minute, "Do", all.Wait)
+	within(t, 5*patience, "Do", all.Wait)
 	joined := 0
 	for _, it := range runs {
 		if it.got.Load() != it.told.Load()+1 {

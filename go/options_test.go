@@ -79,7 +79,7 @@ func TestRecorder(t *testing.T) {
 				defer func() { recover() }()
 				g.Do("key", fn)
 			}()
-			within(t, 20*time.Second, what, func() { <-ended })
+			within(t, patience, what, func() { <-ended })
 			if told := all.take(); len(told) != 1 || told[0].Err == nil ||
 				!strings.HasPrefix(told[0].Err.Error(), what) {
 				t.Error("a load that has not returned", callers, told)
@@ -136,7 +136,7 @@ func TestRecorderBlocksNobodyElse(t *testing.T) {
 			if v != 1 {
 				t.Error("the result", v)
 			}
-		case <-time.After(20 * time.Second):
+		case <-time.After(patience):
 			t.Error("the recorder holds up those who have joined")
 		}
 		if v, _, _ := g.Do("key in the recorder", value(2)); v != 2 {
@@ -167,7 +167,7 @@ func TestRecorderBlocksNobodyElse(t *testing.T) {
 		go func() { v, _, _ := g.Do("key", value(3)); joined <- v }()
 		until(t, "one joins", func() bool { return g.Stats().Joins == joins })
 		close(release)
-		within(t, 60*time.Second, "the leader", func() {
+		within(t, 5*patience, "the leader", func() {
 			if v := <-leader; v != 1 {
 				t.Error("the leader's result", v)
 			}
@@ -198,7 +198,7 @@ func TestLeaderOfASettledCall(t *testing.T) {
 			t.Error("its result", v, err)
 		}
 	}()
-	within(t, 20*time.Second, "the leader", func() { <-returned })
+	within(t, patience, "the leader", func() { <-returned })
 }
 
 // A recorder that panics is its leader's panic, and one that ends its goroutine ends the leader's;
@@ -217,7 +217,7 @@ func TestRecorderBreaks(t *testing.T) {
 			g.Do("key", value(1))
 			t.Error("it goes on", ends)
 		}()
-		within(t, 20*time.Second, "the leader", func() {
+		within(t, patience, "the leader", func() {
 			if v := <-came; !ends && v != "the recorder" {
 				t.Error("the panic", v)
 			}
@@ -225,7 +225,7 @@ func TestRecorderBreaks(t *testing.T) {
 		if ends {
 			ctx, cancel := context.WithCancel(always)
 			defer cancel()
-			within(t, 20*time.Second, "a leader with a context", func() {
+			within(t, patience, "a leader with a context", func() {
 				if v, err, _ := doContext(ctx, g, "key", loadOf(2)); v != 2 || err != nil {
 					t.Error("its result", v, err)
 				}

@@ -35,7 +35,7 @@ func TestLoadsThatHang(t *testing.T) {
 	for i := 0; i < 1000; i++ {
 		hung = append(hung, g.DoChan(fmt.Sprint("hangs-", i), func() (any, error) { <-release; return 1, nil }))
 	}
-	within(t, 60*time.Second, "a key that nobody else asks for", func() {
+	within(t, 5*patience, "a key that nobody else asks for", func() {
 		var all sync.WaitGroup
 		for i := 0; i < 8; i++ {
 			all.Add(1)
@@ -70,15 +70,16 @@ func TestOneRunAfterADeadline(t *testing.T) {
 			<-release
 			return nil, errors.New("the load failed")
 		}
-		for i := 0; i < 20; i++ {
-			ctx, cancel := context.WithTimeout(context.Background(), time.Millisecond)
-			if _, err, _ := doContext(ctx, g, "key", load); err != context.DeadlineExceeded {
+		for i := uint64(1); i <= 20; i++ {
+			ctx, left := newDeadline(always), make(chan error)
+			go func() { _, err, _ := doContext(ctx, g, "key", load); left <- err }()
+			until(t, "it waits", func() bool { st := g.Stats(); return st.Loads+st.Joins == i && running.Load() > 0 })
+			ctx.pass()
+			if err := came(t, left); err != context.DeadlineExceeded {
 				t.Error("a deadline", err)
 			}
-			cancel()
 		}
 		later := g.DoChan("key", value(7))
-		time.Sleep(10 * time.Millisecond)
 		close(release)
 		if r := receive(t, later); r.Val != 7 || r.Err != nil {
 			t.Error("who asks after all have left asks again when the load has failed", r)
@@ -320,7 +321,7 @@ func TestForgetAlwaysForgets(t *testing.T) {
 		old := g.DoChan("key", func() (any, error) { close(started); <-release; return "old", nil })
 		<-started
 		g.Forget("key")
-		within(t, 10*time.Second, what, func() {
+		within(t, patience, what, func() {
 			if v, _, _ := g.Do("key", value("new")); v != "new" {
 				t.Error(what, v)
 			}

@@ -54,9 +54,8 @@ func TestRecordingOfAStress(t *testing.T) {
 			}
 			log := recordedBy(t, g, func() {
 				stressed(g, 12, rounds)
-				// Loads that their callers have left end too.
-				until(t, "all have ended", func() bool { return g.Stats().InUse == 0 })
-				time.Sleep(200 * time.Millisecond)
+				// Loads that their callers have left end too. Their goroutines record them at the very end.
+				until(t, "all have ended", func() bool { return g.Stats().InUse == 0 && !isLeading() })
 			})
 			all := isLegal(t, log)
 			kinds := map[string]int{}
@@ -83,6 +82,13 @@ func TestRecordingOfAStress(t *testing.T) {
 			t.Log(len(all), kinds, st)
 		})
 	}
+}
+
+// Whether a goroutine leads a call, or has not yet returned from there.
+func isLeading() bool {
+	all := make([]byte, 1<<20)
+	all = all[:runtime.Stack(all, true)]
+	return regexp.MustCompile(`singleflight\.\(\*core\)\.(lead|goOn|doChan|leadContext)[(.]`).Match(all)
 }
 
 func stressed(g *Group, goroutines, rounds int) {
@@ -327,6 +333,25 @@ func TestRecordingOfAForgottenCall(t *testing.T) {
 	}
 }
 
+// A Forget has closed a call, and is stopped before it tells the recorder so. The call ends meanwhile. Its record waits.
+func TestRecordingOfASlowForget(t *testing.T) {
+	g := open(t, 4)
+	log := recordedBy(t, g, func() {
+		started, release := chans()
+		led := g.DoChan("key", heldAny(1, started, release))
+		begun(t, started)
+		p := g.core()
+		f := p.forgetting(false)
+		id, closed := p.table.forget("key")
+		close(release)
+		came(t, led)
+		f.end(p, "key", id, closed)
+	})
+	if all := isLegal(t, log); len(all) != 4 || all[1].E != "forget" || all[1].Closed == nil {
+		t.Errorf("a Lead, the Forget that closed it, a Settle and a Handed: %s", log)
+	}
+}
+
 // What began before a recording, and what has not ended, is not in it.
 func TestRecordingOfAPart(t *testing.T) {
 	g := open(t, 8)
@@ -453,7 +478,7 @@ func TestRecordingOfASlowWriter(t *testing.T) {
 		t.Fatal(err)
 	}
 	const calls = 3 * eventsOfLane
-	within(t, 60*time.Second, "a call waits for the writer", func() {
+	within(t, 5*patience, "a call waits for the writer", func() {
 		for i := 0; i < calls; i++ {
 			g.Do("key", value(i))
 		}
@@ -487,7 +512,7 @@ func TestRecordingOfAWriterThatCalls(t *testing.T) {
 	if err != nil {
 		t.Fatal(err)
 	}
-	within(t, 20*time.Second, "a writer that calls the group", func() {
+	within(t, patience, "a writer that calls the group", func() {
 		for i := 0; i < 10; i++ {
 			g.Do("key", value(i))
 			time.Sleep(recordEvery / 2)

@@ -42,7 +42,7 @@ func receive(t *testing.T, ch <-chan struct{}) {
 	t.Helper()
 	select {
 	case <-ch:
-	case <-time.After(20 * time.Second):
+	case <-time.After(time.Minute):
 		t.Fatal("it hangs")
 	}
 }
@@ -75,7 +75,7 @@ func TestDo(t *testing.T) {
 	joins := func(n uint64) {
 		t.Helper()
 		for from := time.Now(); users.Stats().Joins < n; time.Sleep(time.Millisecond) {
-			if time.Since(from) > 20*time.Second {
+			if time.Since(from) > time.Minute {
 				t.Fatal("it does not join")
 			}
 		}

@@ -201,7 +201,7 @@ func TestLeave(t *testing.T) {
 	m.mu.Lock()
 	delete(m.answer, "c")
 	m.mu.Unlock()
-	if err := forget(a, user); err != nil {
+	if err := acknowledged(a, user); err != nil {
 		t.Errorf("a Forget after it has left: %v", err)
 	}
 	if err := pool.Leave(context.Background()); err != nil {
@@ -211,7 +211,7 @@ func TestLeave(t *testing.T) {
 	if err := c.wait(context.Background()); err != nil || !has(c, a, user) {
 		t.Errorf("its next process: %v", err)
 	}
-	if err := forget(b, user); err != nil || !has(c, b, user) {
+	if err := acknowledged(b, user); err != nil || !has(c, b, user) {
 		t.Errorf("a Forget after it is back: %v", err)
 	}
 	// One that cannot tell all says so.
@@ -247,7 +247,7 @@ func TestLeaveWithALease(t *testing.T) {
 	}()
 	until(t, func() bool { return members() == 2 }, "it is a member yet")
 	m.setCut("c", true)
-	if err := forget(a, user); err != nil || !has(b, a, user) {
+	if err := acknowledged(a, user); err != nil || !has(b, a, user) {
 		t.Errorf("a Forget after it has left: %v", err)
 	}
 	time.Sleep(3 * retry)
@@ -315,7 +315,7 @@ func TestAPeerThatNobodyReaches(t *testing.T) {
 	}
 	m.mu.Unlock()
 	until(t, func() bool { return !isMember() }, "it keeps its lease while nobody reaches it")
-	if err := forget(a, user); err != nil || !has(b, a, user) {
+	if err := acknowledged(a, user); err != nil || !has(b, a, user) {
 		t.Errorf("a Forget while nobody reaches c: %v", err)
 	}
 	ctx, cancel := context.WithTimeout(context.Background(), 50*time.Millisecond)

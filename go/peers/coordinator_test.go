@@ -199,7 +199,7 @@ func TestAForgetWaitsForALease(t *testing.T) {
 	if err := <-done; err != nil || !has(b, a, user) {
 		t.Errorf("once c has no lease: %v", err)
 	}
-	if err := forget(b, user); err != nil {
+	if err := acknowledged(b, user); err != nil {
 		t.Errorf("the next one: %v", err)
 	}
 }
@@ -276,7 +276,7 @@ func TestAPeerThatJoinsWaitsForAllMembers(t *testing.T) {
 	n := d()
 	m.setCut("b", false)
 	await(t, n.session.Load().ready, "it does not serve once b answers")
-	if err := forget(b, user); err != nil || !has(n, b, user) {
+	if err := acknowledged(b, user); err != nil || !has(n, b, user) {
 		t.Errorf("b does not know it: %v", err)
 	}
 	n.close()
@@ -298,14 +298,14 @@ func TestAMemberThatHearsNothing(t *testing.T) {
 	memberOf(b).setDeaf(true)
 	d := joins(t, m, by, "d", time.Minute)
 	await(t, d.session.Load().ready, "it does not serve")
-	if err := forget(b, user); err != nil || !has(d, b, user) {
+	if err := acknowledged(b, user); err != nil || !has(d, b, user) {
 		t.Errorf("b does not tell it of a Forget: %v", err)
 	}
 	// And a Forget tells one whose predecessor alone it knows.
 	by.expire("c", false)
 	c := joins(t, m, by, "c", time.Minute)
 	await(t, c.session.Load().ready, "it does not serve")
-	if err := forget(b, user); err != nil || !has(c, b, user) || !has(a, b, user) {
+	if err := acknowledged(b, user); err != nil || !has(c, b, user) || !has(a, b, user) {
 		t.Errorf("b does not tell the next c of a Forget: %v", err)
 	}
 }
@@ -356,7 +356,7 @@ func TestAMemberThatHearsOfOneThatJoins(t *testing.T) {
 	m.mu.Lock()
 	delete(m.routes, "b>d")
 	m.mu.Unlock()
-	if err := forget(b, user); err != nil || !has(d, b, user) {
+	if err := acknowledged(b, user); err != nil || !has(d, b, user) {
 		t.Errorf("b does not tell it of a Forget: %v", err)
 	}
 }
@@ -385,7 +385,7 @@ func TestAPeerThatJoinsAsksAllInOneRound(t *testing.T) {
 	m.routes["d>a"] = func(sealed []byte) []byte {
 		first.Do(func() {
 			answered.Wait()
-			if err := forget(a, user); err != nil {
+			if err := acknowledged(a, user); err != nil {
 				t.Error(err)
 			}
 			a.close()
@@ -413,7 +413,7 @@ func TestJoiningAgain(t *testing.T) {
 	m.setCut("c", true)
 	old := c.session.Load()
 	by.expire("c", false)
-	if err := forget(a, user); err != nil {
+	if err := acknowledged(a, user); err != nil {
 		t.Fatal(err)
 	}
 	m.setCut("c", false)
@@ -430,7 +430,7 @@ func TestJoiningAgain(t *testing.T) {
 	m.setCut("c", true)
 	old = c.session.Load()
 	by.expire("c", false)
-	if err := forget(a, other); err != nil {
+	if err := acknowledged(a, other); err != nil {
 		t.Fatal(err)
 	}
 	a.close()
@@ -494,7 +494,7 @@ func TestForgetsThatAreKept(t *testing.T) {
 	// What stands there and is no Forget is left alone.
 	memberOf(b).Keep(context.Background(), "bad", []byte("{"))
 	memberOf(b).Keep(context.Background(), "absurd", []byte(`{"from":"b","number":{"start":18446744073709551615},"items":[{"of":3}]}`))
-	if err := forget(b, user); err != nil || keptNow() != 2 {
+	if err := acknowledged(b, user); err != nil || keptNow() != 2 {
 		t.Errorf("%v, %d are kept", err, keptNow())
 	}
 }
@@ -508,7 +508,7 @@ func TestForgetsOfPeersThatLeft(t *testing.T) {
 		before := map[string]bool{}
 		for i := 0; i < count; i++ {
 			before[versionOf(by.versions, of(i))] = true
-			if err := forget(by, of(i)); err != nil {
+			if err := acknowledged(by, of(i)); err != nil {
 				t.Fatal(err)
 			}
 		}
@@ -579,7 +579,7 @@ func TestKeptForgetsThatAreForged(t *testing.T) {
 		n.learnKept(n.session.Load())
 	}
 	for _, n := range []*node{b, a, c} {
-		if err := forget(n, user); err != nil {
+		if err := acknowledged(n, user); err != nil {
 			t.Errorf("%s: %v", n.self, err)
 		}
 	}

@@ -67,7 +67,7 @@ func TestStats(t *testing.T) {
 		t.Fatal("a Forget that c has not heard returns nil")
 	}
 	m.setCut("c", false)
-	if err := forget(a, user); err != nil {
+	if err := acknowledged(a, user); err != nil {
 		t.Fatal(err)
 	}
 	a.answer(nil)

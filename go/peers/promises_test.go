@@ -28,7 +28,7 @@ func TestAForgetOfAProcessThatWasRestored(t *testing.T) {
 		restored := a.versions.last
 		before := map[string]bool{}
 		for i := 0; i < 20; i++ {
-			if err := forget(a, user); err != nil {
+			if err := acknowledged(a, user); err != nil {
 				t.Fatal(err)
 			}
 			before[versionOf(b.versions, user)] = true
@@ -68,7 +68,7 @@ func TestAProcessThatWasRestoredBeginsAgain(t *testing.T) {
 	m := newMesh()
 	a, b, c := beginAll(t, m, time.Minute)
 	for i := 0; i < 5; i++ {
-		if err := forget(b, user); err != nil {
+		if err := acknowledged(b, user); err != nil {
 			t.Fatal(err)
 		}
 	}
@@ -91,7 +91,7 @@ func TestChangesOfAProcessThatIsStartedAgain(t *testing.T) {
 	m := newMesh()
 	a, b, _ := beginAll(t, m, time.Minute)
 	for i := 0; i < 50; i++ {
-		if err := forget(b, user); err != nil {
+		if err := acknowledged(b, user); err != nil {
 			t.Fatal(err)
 		}
 	}
@@ -127,7 +127,7 @@ func TestAnotherPeerDoesNotAcknowledge(t *testing.T) {
 	m.mu.Lock()
 	m.answer["b"] = right
 	m.mu.Unlock()
-	if err := forget(a, user); err != nil || !has(b, a, user) {
+	if err := acknowledged(a, user); err != nil || !has(b, a, user) {
 		t.Error(err)
 	}
 }
@@ -155,7 +155,7 @@ func TestAnEarlierProcessDoesNotAcknowledge(t *testing.T) {
 	m.mu.Lock()
 	delete(m.routes, "a>b")
 	m.mu.Unlock()
-	if err := forget(a, user); err != nil || !has(b, a, user) || !has(c, a, user) {
+	if err := acknowledged(a, user); err != nil || !has(b, a, user) || !has(c, a, user) {
 		t.Error(err)
 	}
 	// The earlier one was told, and found that it does not stand at its address.
@@ -189,7 +189,7 @@ func TestAnEarlierProcessWithALaterStart(t *testing.T) {
 	m.mu.Lock()
 	m.routes["a>b"] = old.answer
 	m.mu.Unlock()
-	if err := forget(a, user); err != nil || has(b, a, user) {
+	if err := acknowledged(a, user); err != nil || has(b, a, user) {
 		t.Fatalf("the earlier process did not acknowledge for the next one, so there is nothing to find out: %v", err)
 	}
 	first := b.session.Load()
@@ -238,7 +238,7 @@ func TestAcknowledgementsThatAreNone(t *testing.T) {
 		}
 	}
 	acknowledge = func(*reply) {}
-	if err := forget(a, user); err != nil {
+	if err := acknowledged(a, user); err != nil {
 		t.Errorf("one that is: %v", err)
 	}
 	// Of a number that only a copy of this process can have made: it takes a later start, and
@@ -271,7 +271,7 @@ func TestAForgetIsAcknowledgedLate(t *testing.T) {
 		return got
 	}
 	m.mu.Unlock()
-	if err := forget(a, user); err != nil {
+	if err := acknowledged(a, user); err != nil {
 		t.Error(err)
 	}
 }
@@ -283,7 +283,7 @@ func TestListsThatDiffer(t *testing.T) {
 	a, b, _ := beginAll(t, m, time.Minute)
 	old := start(t, m, "c", time.Minute, "a", "c")
 	await(t, old.session.Load().ready, "it does not begin")
-	if err := forget(old, user); err != nil || !has(b, old, user) {
+	if err := acknowledged(old, user); err != nil || !has(b, old, user) {
 		t.Errorf("b does not hear of a Forget of c, whose list lacks it: %v", err)
 	}
 	if !old.knows("b") {
@@ -298,7 +298,7 @@ func TestListsThatDiffer(t *testing.T) {
 		t.Error("c serves, which b does not have on its list")
 	}
 	joins.session.Load().asked.Store(askedAt(time.Now())) // as if it had not reached b
-	if err := forget(b, user); err != nil || !has(joins, b, user) {
+	if err := acknowledged(b, user); err != nil || !has(joins, b, user) {
 		t.Errorf("c does not hear of a Forget of b, whose list lacks it, but not a's: %v", err)
 	}
 	// A peer that is on no list any more is told no more.
@@ -308,7 +308,7 @@ func TestListsThatDiffer(t *testing.T) {
 	m.setCut("c", true)
 	round(a)
 	round(b)
-	if err := forget(b, user); err != nil {
+	if err := acknowledged(b, user); err != nil {
 		t.Errorf("after c was taken off all lists: %v", err)
 	}
 }
@@ -326,7 +326,7 @@ func TestAForgetIsRepeatedUntilNil(t *testing.T) {
 	a.close()
 	m.setCut("a", false)
 	a = begin(t, m, "a", time.Minute)
-	if err := forget(b, user); err != nil {
+	if err := acknowledged(b, user); err != nil {
 		t.Fatal(err)
 	}
 	isFresh(t, user, before, a, b, c)

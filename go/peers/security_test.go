@@ -327,7 +327,7 @@ func TestBadRequestsChangeNothing(t *testing.T) {
 	if after := a.versions.since(0, 1<<20, nil); after.Change != before.Change {
 		t.Error("a bad request changes something")
 	}
-	if err := forget(b, user); err != nil {
+	if err := acknowledged(b, user); err != nil {
 		t.Errorf("after absurd numbers: %v", err)
 	}
 	if got := ask(t, a, of(number+","+key(MostKeyBytes))); got.Refused != "" {

@@ -79,7 +79,7 @@ func TestTwoVersionsInOnePool(t *testing.T) {
 			for _, n := range all {
 				before[versionOf(n.versions, of)] = true
 			}
-			if err := forget(at, of); err != nil {
+			if err := acknowledged(at, of); err != nil {
 				t.Errorf("%s: %v", name, err)
 			}
 			isFresh(t, of, before, all...)

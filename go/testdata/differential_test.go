@@ -72,8 +72,8 @@ func script(r *rand.Rand) (steps []step) {
 
 var errLoad = errors.New("the load failed")
 
-// play returns what each step came to.
-func play(g group, steps []step) []string {
+// play returns what each step came to. What a step begins has this long to ask, or to end.
+func play(g group, steps []step, pause time.Duration) []string {
 	came := make([]string, len(steps))
 	var mu sync.Mutex
 	set := func(i int, format string, args ...any) {
@@ -90,7 +90,7 @@ func play(g group, steps []step) []string {
 		for _, ch := range all {
 			close(ch)
 		}
-		time.Sleep(time.Millisecond)
+		time.Sleep(2 * pause)
 	}
 	var all sync.WaitGroup
 	for i, s := range steps {
@@ -126,7 +126,7 @@ func play(g group, steps []step) []string {
 				select {
 				case r := <-ch:
 					set(i, "%v %v %v", r.Val, r.Err, r.Shared)
-				case <-time.After(100 * time.Millisecond):
+				case <-time.After(200 * pause):
 					set(i, "nothing")
 				}
 			}()
@@ -145,7 +145,7 @@ func play(g group, steps []step) []string {
 				how = fmt.Sprintf("%v %v %v", v, err, shared)
 			}()
 		}
-		time.Sleep(500 * time.Microsecond)
+		time.Sleep(pause)
 	}
 	// Whoever was slow to ask may lead yet.
 	over := make(chan struct{})
@@ -162,7 +162,7 @@ func play(g group, steps []step) []string {
 }
 
 // Scripts of Do, DoChan and Forget, with errors, panics and Goexit, come to the same in both packages. A script in which one was not
-// in time, on a machine that is busy, is played again.
+// in time, on a machine that is busy, is played again with twice the time.
 func TestAsXSync(t *testing.T) {
 	count := 1000
 	if text := os.Getenv("SFLIGHT_SCRIPTS"); text != "" {
@@ -179,8 +179,8 @@ func TestAsXSync(t *testing.T) {
 			for seed := worker; seed < count; seed += 8 {
 				steps := script(rand.New(rand.NewSource(int64(seed))))
 				var own, other []string
-				for try := 0; try < 8; try++ {
-					own, other = play(new(of), steps), play(new(ofX), steps)
+				for pause := 500 * time.Microsecond; pause < time.Second; pause *= 2 {
+					own, other = play(new(of), steps, pause), play(new(ofX), steps, pause)
 					if fmt.Sprint(own) == fmt.Sprint(other) {
 						break
 					}
