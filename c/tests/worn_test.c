@@ -16,14 +16,14 @@ enum {
     CELLS = 64,
     LEFT = 3,       /* calls that a cell has before it is worn */
     BLOCKS = 4096,
-    TABLES = 4,
+    TABLES_HERE = 4,
     CELL_WORDS = 8, /* of which the first is the cell's state */
     MOST_IDS = 1 << 20
 };
 
 /* A state word has the generation above these bits. A cell whose generation is the last leads no call any more. */
 enum { BELOW_GENERATION = 23 };
-static const uint64_t last_generation = (UINT64_C(1) << 41) - 2;
+static const uint64_t last_generation = (UINT64_C(1) << 41) - 1;
 
 static struct block { uint8_t *at; size_t size; } blocks[BLOCKS];
 static int count;
@@ -90,13 +90,16 @@ static void no_two_have_one_name(void) {
     for (size_t i = 1; i < named; i++) check(memcmp(&ids[i - 1], &ids[i], sizeof ids[0]) != 0, "no two calls have one name");
 }
 
-/* Leads a call of the key, and makes room where there is none. Whether it had to. */
+static int tables; /* of the group */
+
+/* Leads a call of the key, and makes room where there is none: a table that is nearly worn. Whether it had to. */
 static bool leads(sflight_handle *me, sflight_call *call, const char *key, sflight_stamp *stamp) {
     sflight_id id;
     bool grown = false;
     uint32_t code = sflight_ask(me, call, (const uint8_t *)key, strlen(key), 64, &id, stamp);
     if (code == SFLIGHT_FULL) {
         check(sflight_grow(me) == SFLIGHT_DONE, "there is room for a larger table");
+        wear(tables++);
         grown = true;
         code = sflight_ask(me, call, (const uint8_t *)key, strlen(key), 64, &id, stamp);
     }
@@ -117,22 +120,20 @@ static void calls_of_a_worn_group(void) {
     check(sflight_open(&me, CELLS, 1, 2) == SFLIGHT_DONE && sflight_split(&me, &other) == SFLIGHT_DONE, "a group");
     check(sflight_make(&me, &held) == SFLIGHT_DONE && sflight_make(&other, &joins) == SFLIGHT_DONE && sflight_make(&me, &call) == SFLIGHT_DONE, "calls");
     wear(0);
+    tables = 1;
     check(!leads(&me, &held, "held", &kept), "the first call");
     check(ids[0].generation == last_generation - LEFT + 1, "the generations are those that were written");
-    /* One cell leads a call; the others have so many calls left, and then the group grows. */
-    uint64_t most = LEFT * CELLS, made = 0;
-    for (int table = 0; table < TABLES - 1; table++) {
-        for (made = 0; made <= most; made++) {
-            char key[16];
-            snprintf(key, sizeof key, "key %d", (int)(made % 7));
-            bool grown = leads(&me, &call, key, &stamp);
-            check(sflight_settle(&me, &call, made, &audience) == SFLIGHT_ALONE, "nobody has joined it");
-            check(sflight_is_still(&me, &stamp), "its value is current");
-            if (grown) break;
-        }
-        check(made + LEFT >= most - LEFT && made <= most, "each cell has had the calls that it had left");
-        most = LEFT * cells_of(table + 1);
-        wear(table + 1);
+    /* One cell has the call that is held. Each other one has so many calls, and then the group grows. */
+    uint64_t most = LEFT * (CELLS - 1), made = 0;
+    while (tables < TABLES_HERE) {
+        char key[16];
+        snprintf(key, sizeof key, "key %d", (int)(made % 7));
+        bool grown = leads(&me, &call, key, &stamp);
+        check(sflight_settle(&me, &call, made, &audience) == SFLIGHT_ALONE, "nobody has joined it");
+        check(sflight_is_still(&me, &stamp), "its value is current");
+        check(grown == (made == most), "each cell has the calls that it had left");
+        made = grown ? 1 : made + 1;
+        most = grown ? LEFT * cells_of(tables - 1) : most;
     }
     check(sflight_ask(&other, &joins, (const uint8_t *)"held", 4, 64, &id, &stamp) == SFLIGHT_JOINED, "the call is joined that was open before");
     check(by_name(&id, &ids[0]) == 0, "and no other one");
