@@ -95,6 +95,8 @@ mod caller;
 mod chan;
 mod hash;
 mod keyed;
+#[cfg(test)]
+mod orders;
 mod places;
 mod post;
 mod recording;
