@@ -201,7 +201,9 @@ func (w *orderWorld) serve(state orderState) command {
 			w.ask(me, it)
 		case "forgets":
 			a.forgot = ""
-			if w.cache != nil {
+			if it.key == "" {
+				w.cache.ForgetAll()
+			} else if w.cache != nil {
 				w.cache.Forget(it.key)
 			} else {
 				w.group.Forget(it.key)
@@ -388,6 +390,8 @@ func (w *orderWorld) acts() (isStep bool, err error) {
 		w.actor(a).cancel()
 	case w.is("A forgets K", &a, &key):
 		err = w.tell(w.actor(a), command{what: "forgets", key: key})
+	case w.cache != nil && w.is("A forgets all", &a):
+		err = w.tell(w.actor(a), command{what: "forgets"})
 	case w.is("A forgets A's call", &a, &b):
 		// Each order has one key of which it forgets calls.
 		err = w.tell(w.actor(a), command{what: "forgets call", key: "k", call: w.actor(b).last.Call})

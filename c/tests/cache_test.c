@@ -503,6 +503,7 @@ static void test_shared(bool fails) {
         if (pthread_create(&askers[i].thread, NULL, asks, &askers[i])) abort();
     }
     while (sflight_cache_statistics(cache).joins < 5) sched_yield();
+    check(sflight_cache_statistics(cache).in_use == 1, "those who wait are not in use");
     atomic_store(&plan.held, false);
     int led = 0, joined = 0, lost = 0;
     for (int i = 0; i < 6; i++) {

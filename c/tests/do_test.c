@@ -215,6 +215,7 @@ static void many(void) {
             pthread_create(&threads[t], NULL, hangs, &joined[t]);
         }
         while (sflight_do_statistics(pool).joins < THREADS) sleep_ms(1);
+        check(sflight_do_statistics(pool).in_use == 1, "those who wait are not in use");
         sflight_got late;
         check(get(pool, "k", plain, NULL, 0, &late) == SFLIGHT_DO_TIMED_OUT, "one that is late is not counted");
         atomic_store(&inner.over, 1);

@@ -239,7 +239,8 @@ static enum what serve(enum state state) {
         case ASKS_WITH_DEADLINE: ask_for(command == ASKS_WITH_DEADLINE); break;
         case FORGETS:
             me->forgot = NULL;
-            if (w->cache) sflight_cache_forget(w->cache, (const uint8_t *)me->key, strlen(me->key));
+            if (w->cache && !me->key[0]) sflight_cache_forget_all(w->cache);
+            else if (w->cache) sflight_cache_forget(w->cache, (const uint8_t *)me->key, strlen(me->key));
             else me->forgot = sflight_do_forget(w->pool, (const uint8_t *)me->key, strlen(me->key)) ? "closed a load" : "closed none";
             break;
         default: return command;
@@ -361,8 +362,10 @@ static enum came came(bool is_well) { return is_well ? IS_WELL : IS_WRONG; }
 static enum came acts(struct world *w) {
     struct actor *a;
     bool may_leave = false;
-    if (is("A asks K") || (may_leave = is("A asks K with a deadline")) || is("A forgets K")) {
+    bool forgets_all = w->cache && is("A forgets all");
+    if (is("A asks K") || (may_leave = is("A asks K with a deadline")) || is("A forgets K") || forgets_all) {
         if (!(a = actor_of(w, actor_name))) return IS_WRONG;
+        if (forgets_all) key = "";
         if (a->state == IS_IDLE || a->state == IS_LOADING) strcpy(a->key, key);
         return came(tell(w, a, strcmp(words[1], "forgets") == 0 ? FORGETS : may_leave ? ASKS_WITH_DEADLINE : ASKS));
     }

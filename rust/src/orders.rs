@@ -244,6 +244,10 @@ impl World {
                     continue;
                 }
                 Command::Forgets(key) => match &self.cache {
+                    Some(cache) if key.is_empty() => {
+                        cache.invalidate_all();
+                        "closed"
+                    }
                     Some(cache) => {
                         cache.invalidate(key);
                         "closed"
@@ -534,6 +538,12 @@ impl Play {
         if let Some(it) = form("A forgets K") {
             self.actor(it.actors[0]);
             return Some(self.tell(it.actors[0], Command::Forgets(it.key.into())));
+        }
+        if self.world.cache.is_some() {
+            if let Some(it) = form("A forgets all") {
+                self.actor(it.actors[0]);
+                return Some(self.tell(it.actors[0], Command::Forgets(String::new())));
+            }
         }
         if let Some(it) = form("A forgets A's call") {
             it.actors.iter().for_each(|name| self.actor(*name));
