@@ -95,8 +95,6 @@ mod caller;
 mod chan;
 mod hash;
 mod keyed;
-#[cfg(test)]
-mod orders;
 mod places;
 mod post;
 mod recording;
@@ -108,6 +106,9 @@ mod schedules;
 mod shared;
 mod sync;
 mod wait;
+
+#[cfg(test)]
+mod orders;
 
 /// The example of the README.
 #[cfg(doctest)]

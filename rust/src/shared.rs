@@ -242,8 +242,8 @@ impl<T> Shared<T> {
             record.fails();
             record.settles();
         }
-        point();
         at("before settle");
+        point();
         let settled = self.places.with(|seat| {
             seat.settles += 1;
             match seat.handle.settle(&mut call, 0) {
@@ -336,8 +336,8 @@ impl<T> Shared<T> {
                 Forgot::Busy => pause(&mut tries),
             }
         };
-        stall_point();
         at("forgotten");
+        stall_point();
         match (forgetting, closed) {
             (Some(forgetting), Some(id)) => forgetting.closed(id),
             (Some(forgetting), None) => forgetting.found_nothing(key),
