@@ -252,7 +252,7 @@ static void keep_value(void *context, const uint8_t *key, size_t len, uint64_t v
     struct shard *s = shard_of(c, g->hash);
     if (value <= NO_MEMORY || g->is_found) return;
     struct sflight_entry *e = (struct sflight_entry *)(uintptr_t)value, *old;
-    SFLIGHT_POINT("keep");
+    SFLIGHT_POINT("before keep");
     /* An older value leaves, also where this one is too heavy to be kept: its key had been missed before that was kept. But what was forgotten
      * while it was loaded must not take the place of a newer value. */
     pthread_mutex_lock(&s->lock);
@@ -279,7 +279,7 @@ static void keep_value(void *context, const uint8_t *key, size_t len, uint64_t v
         atomic_fetch_sub(&c->weight, g->weight);
     }
     pthread_mutex_unlock(&s->lock);
-    SFLIGHT_POINT("has kept");
+    SFLIGHT_POINT("kept");
 }
 
 /* Loads the value of the key; or finds it, where the call before has ended since the get missed: that has kept it by then. */
@@ -306,7 +306,7 @@ static uint64_t load_value(void *context, const uint8_t *key, size_t len) {
     if (g->is_found) return (uintptr_t)e;
     e = malloc(sizeof *e + len);
     if (!e) return NO_MEMORY;
-    SFLIGHT_POINT("load");
+    SFLIGHT_POINT("before load");
     void *value = c->options.load(c->options.context, key, len, &g->weight);
     if (!value) {
         free(e);
@@ -359,7 +359,7 @@ int sflight_cache_get(sflight_cache *c, const uint8_t *key, size_t len, sflight_
     sflight_got got;
     *value = (sflight_value){0};
     if (look(c, g.hash, key, len, true, value)) return SFLIGHT_CACHE_HIT;
-    SFLIGHT_POINT("miss");
+    SFLIGHT_POINT("looked");
     int code = sflight_do_and_keep(c->pool, key, len, load_value, keep_value, &g, SFLIGHT_DO_FOREVER, &got);
     end_loading(&g, code == SFLIGHT_DO_DONE && got.value == FAILED);
     leave_all(c, g.left);
@@ -388,7 +388,7 @@ void sflight_cache_forget(sflight_cache *c, const uint8_t *key, size_t len) {
     struct sflight_entry *left = NULL;
     /* From here on no get takes a value of before. What was kept leaves at once, for its weight's sake. */
     sflight_do_forget(c->pool, key, len);
-    SFLIGHT_POINT("forgotten");
+    SFLIGHT_POINT("before take out");
     pthread_mutex_lock(&s->lock);
     struct sflight_entry *e = find(s, hash, key, len);
     if (e && !sflight_do_is_still(c->pool, &e->stamp)) take_out(c, s, e, &left);

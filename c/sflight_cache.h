@@ -67,7 +67,7 @@ typedef struct sflight_cache_stats {
     uint64_t misses;    /* gets that found none: each loaded, or joined */
     uint64_t forgets;   /* keys that were forgotten, loaded or not */
     uint64_t evictions; /* values that left the cache to make room */
-    uint64_t in_use;    /* gets that load or wait now */
+    uint64_t in_use;    /* loads that run now: calls that are led and not settled */
     uint64_t entries;   /* how many values there are now */
     uint64_t weight;    /* what they weigh, which is never more than the limit */
 } sflight_cache_stats;

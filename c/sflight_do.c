@@ -122,7 +122,6 @@ static struct asking *take_asking(sflight_pool *pool) {
     struct asking *asking = seat->free;
     if (asking) seat->free = asking->next;
     else asking = new_asking(seat);
-    if (asking) add(&seat->in_use, 1);
     leave(pool, seat);
     return asking;
 }
@@ -132,7 +131,6 @@ static void put_asking(sflight_pool *pool, struct asking *asking, int led) {
     asking->next = seat->free;
     seat->free = asking;
     seat->leading -= led;
-    add(&seat->in_use, (uint64_t)-1);
     leave(pool, seat);
 }
 
@@ -240,7 +238,7 @@ static bool wait_told(struct post *post, uint64_t generation, const struct times
         uint64_t next = word_of(found, generation) | SLEPT;
         if (next & TOLD) return true;
         if (next != found && !atomic_compare_exchange_strong(&post->word, &found, next)) continue;
-        SFLIGHT_POINT("sleep");
+        SFLIGHT_POINT("before sleep");
         if (sleep_on(post, next, deadline, FOR_VALUE)) return !lock_post(post, generation);
     }
 }
@@ -272,7 +270,7 @@ static void note(struct noted *noted, sflight_pool *pool) {
 
 static void leave_call(sflight_pool *pool, struct asking *asking) {
     uint64_t value;
-    SFLIGHT_POINT("leave");
+    SFLIGHT_POINT("before leave");
     struct seat *seat = enter(pool);
     sflight_leave(&seat->handle, &asking->call, &value);
     leave(pool, seat);
@@ -282,12 +280,13 @@ static void leave_call(sflight_pool *pool, struct asking *asking) {
 static void settle(sflight_pool *pool, struct asking *asking, const sflight_id *id, sflight_got *got, struct noted *noted) {
     struct post *post = post_of(pool, id);
     sflight_audience audience;
-    SFLIGHT_POINT("settle");
+    SFLIGHT_POINT("before settle");
     lock_post(post, id->generation);
     struct seat *seat = enter(pool);
     uint32_t code = sflight_settle(&seat->handle, &asking->call, got->value, &audience);
+    add(&seat->in_use, (uint64_t)-1);
     leave(pool, seat);
-    SFLIGHT_POINT("has settled");
+    SFLIGHT_POINT("settled");
     if (code != SFLIGHT_TOLD) return; /* the post may be another call's already */
     /* Each of them has come into the call, and waits until it is told, or finds that it is. */
     got->joiners = (uint32_t)(audience.holders - 1);
@@ -296,7 +295,7 @@ static void settle(sflight_pool *pool, struct asking *asking, const sflight_id *
         if (pool->share) pool->share(got->value, got->joiners);
         if (noted->by) calls_of(noted->by)->tells(noted, got->joiners);
         write_post(post, got);
-        SFLIGHT_POINT("tell");
+        SFLIGHT_POINT("before tell");
         if (atomic_exchange(&post->word, id->generation * MARKS | TOLD) & (SLEPT | AWAITED)) wake(post, FOR_LOCK | FOR_VALUE);
     }
     leave_call(pool, asking);
@@ -350,17 +349,18 @@ static uint32_t ask(sflight_pool *pool, struct asking *asking, const uint8_t *ke
     for (;;) {
         sflight_stamp stamp;
         bool is_more = false;
-        SFLIGHT_POINT("ask");
+        SFLIGHT_POINT("before ask");
         struct seat *seat = enter(pool);
         uint32_t code = sflight_ask(&seat->handle, &asking->call, key, len, TRIES, id, &stamp);
         if (code == SFLIGHT_LED) {
             add(&seat->loads, 1);
+            add(&seat->in_use, 1);
             is_more = ++seat->leading > seat->most;
             if (is_more) seat->most = seat->leading;
         }
         if (code == SFLIGHT_JOINED) add(&seat->joins, 1);
         leave(pool, seat);
-        SFLIGHT_POINT("has asked");
+        SFLIGHT_POINT("asked");
         if (code == SFLIGHT_LED) {
             *got = (sflight_got){.led = true, .stamp = {stamp.table + 1, stamp.slot, stamp.age}};
             /* More lead at one time than ever. The group grows before it is full, so that nobody waits for that. */
@@ -418,14 +418,14 @@ bool sflight_do_forget(sflight_pool *pool, const uint8_t *key, size_t len) {
     uint32_t code;
     note(&noted, pool);
     do {
-        SFLIGHT_POINT("forget");
+        SFLIGHT_POINT("before forget");
         struct seat *seat = enter(pool);
         code = sflight_forget(&seat->handle, key, len, TRIES, &id);
         if (code != SFLIGHT_BUSY) add(&seat->forgets, 1);
         leave(pool, seat);
         if (code == SFLIGHT_BUSY) sched_yield();
     } while (code == SFLIGHT_BUSY);
-    SFLIGHT_POINT("has forgotten");
+    SFLIGHT_POINT("forgotten");
     /* The call may be of a recording that has begun since this began. */
     struct recorder *by = noted.by || code != SFLIGHT_DONE ? noted.by : atomic_load(&pool->recorder);
     if (by) calls_of(by)->forgot(by, &noted, code == SFLIGHT_DONE ? &id : NULL, key, len);
@@ -454,7 +454,7 @@ sflight_stats sflight_do_statistics(sflight_pool *pool) {
     count(&stats, &pool->root);
     for (struct seat *seat = pool->seats; seat; seat = seat->next) count(&stats, seat);
     pthread_mutex_unlock(&pool->lock);
-    /* A call that ends by another seat meanwhile may have been seen to end alone. */
+    /* A load that ends by another seat meanwhile may have been seen to end alone. */
     if (stats.in_use > INT64_MAX) stats.in_use = 0;
     return stats;
 }

@@ -56,7 +56,7 @@ typedef struct sflight_stats {
     uint64_t misses;    /* gets that found none */
     uint64_t forgets;   /* keys that were forgotten, loaded or not */
     uint64_t evictions; /* values that left the cache to make room */
-    uint64_t in_use;    /* calls that run now: they load, or wait */
+    uint64_t in_use;    /* loads that run now: calls that are led and not settled */
 } sflight_stats;
 
 /* Loads the value of a key. The context is the one given to sflight_do. A load that fails returns a

@@ -61,7 +61,7 @@ struct seat {
     atomic_int state;
     int leading, most; /* calls that the owner leads, and the most at one time */
     /* Written by the owner alone, and read by any thread. The sum over all seats says how many there
-     * are: a call may begin by one and end by another. */
+     * are: a load may begin by one and end by another. */
     atomic_ullong loads, joins, forgets, in_use;
 };
 

@@ -30,6 +30,7 @@ const (
 	beforeSleep
 	beforeLeave
 	beforeForget
+	afterForget
 	beforeLook
 	beforeKeep
 	afterKeep
@@ -248,6 +249,7 @@ func (p *core) forgets(key string) {
 	f := p.forgetting(false)
 	point(beforeForget)
 	id, closed := p.table.forget(key)
+	point(afterForget)
 	f.end(p, key, id, closed)
 }
 
@@ -258,6 +260,7 @@ func (p *core) forgetsCall(key string, c Call) Hit {
 	f := p.forgetting(true)
 	point(beforeForget)
 	hit := p.table.forgetCall(key, c)
+	point(afterForget)
 	if hit == Closed {
 		f.end(p, key, c.id, true)
 	}

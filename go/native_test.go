@@ -138,3 +138,6 @@ func isTableFreed(t *table) bool {
 	defer t.mu.Unlock()
 	return t.plain.Load() != nil && len(t.all) == 0
 }
+
+// tablesOf returns how many tables the library's group has.
+func tablesOf(t *table) uint64 { return t.size.Load() >> 32 }

@@ -277,7 +277,7 @@ static void leader_is_forgotten(int number) {
 
 /* A Forget has reached the library, and stops before it takes the value out. */
 static bool stops_forget(int who, const char *where) {
-    if (who != 0 || strcmp(where, "forgotten") != 0) return false;
+    if (who != 0 || strcmp(where, "before take out") != 0) return false;
     if (phase < 2) phase = 2;
     return phase < 3;
 }
@@ -297,7 +297,7 @@ static void forget_is_slow(int number) {
 
 /* A thread has missed, and stops. Another one loads the key. The first goes on: it finds that value, and loads nothing. */
 static bool stops_miss(int who, const char *where) {
-    if (who != 0 || strcmp(where, "miss") != 0) return false;
+    if (who != 0 || strcmp(where, "looked") != 0) return false;
     if (phase == 0) phase = 2;
     return phase < 3;
 }
@@ -343,7 +343,7 @@ static void drop_and_get(void *context, void *value) {
 }
 
 static bool sees_join(int who, const char *where) {
-    if (who == 1 && is_second && phase == 1 && strcmp(where, "has asked") == 0) phase = 2;
+    if (who == 1 && is_second && phase == 1 && strcmp(where, "asked") == 0) phase = 2;
     return false;
 }
 
@@ -367,8 +367,8 @@ static void drops_in_order(uint64_t number) {
 
 int main(int argc, char **argv) {
     setvbuf(stdout, NULL, _IOLBF, 0);
-    static const char *const kept[] = {"has kept", "settle", "has settled"};
-    static const char *const stops[] = {"keep", "has room", "has kept", "settle", "has settled", "leave"};
+    static const char *const kept[] = {"kept", "before settle", "settled"};
+    static const char *const stops[] = {"before keep", "has room", "kept", "before settle", "settled", "before leave"};
     uint64_t from = argc > 1 ? strtoull(argv[1], NULL, 10) : 1;
     uint64_t count = argc > 2 ? strtoull(argv[2], NULL, 10) : argc > 1 ? 1 : SCHEDULES;
     open_plays();

@@ -20,7 +20,6 @@ static void *test_aligned_alloc(size_t alignment, size_t size);
 #include <stdio.h>
 #include <stdlib.h>
 #include <string.h>
-#include <time.h>
 #include <unistd.h>
 
 /* How many gets each of four threads makes beside Forgets: 10,000,000 and 1,000,000 together in the
@@ -36,7 +35,7 @@ static void *test_aligned_alloc(size_t alignment, size_t size);
 
 /* After so many seconds it hangs. */
 #ifndef LIMIT
-#define LIMIT 110
+#define LIMIT 500
 #endif
 
 enum { THREADS = 4, KEYS = 64, LIVE = 0x5a5a, DEAD = 0xdead };
@@ -493,7 +492,7 @@ static void *asks(void *arg) {
     return NULL;
 }
 
-/* Waits until so many have joined a call, as the counts of the library tell; at most ten seconds. */
+/* Six get one key, and the load waits until five have joined it. */
 static void test_shared(bool fails) {
     struct plan plan = {.fails = fails, .held = true};
     sflight_cache *cache = open_cache(100, 100, &plan);
@@ -503,24 +502,20 @@ static void test_shared(bool fails) {
         askers[i] = (struct asker){.cache = cache, .key = "ada"};
         if (pthread_create(&askers[i].thread, NULL, asks, &askers[i])) abort();
     }
-    while (!loads) sched_yield();
-    /* The others get time to join. Those that come later find the value, or load where that failed. */
-    nanosleep(&(struct timespec){0, 50000000}, NULL);
+    while (sflight_cache_statistics(cache).joins < 5) sched_yield();
+    check(sflight_cache_statistics(cache).in_use == 1, "those who wait are not in use");
     atomic_store(&plan.held, false);
-    int led = 0, shared = 0, lost = 0;
-    unsigned hits = 0;
+    int led = 0, joined = 0, lost = 0;
     for (int i = 0; i < 6; i++) {
         pthread_join(askers[i].thread, NULL);
         if (askers[i].code == SFLIGHT_CACHE_LOADED) led++;
         else if (askers[i].code == SFLIGHT_CACHE_FAILED) lost++;
-        else shared++;
-        if (askers[i].code == SFLIGHT_CACHE_HIT) hits++;
+        else if (askers[i].code == SFLIGHT_CACHE_JOINED) joined++;
     }
     sflight_cache_stats stats = sflight_cache_statistics(cache);
-    check(stats.hits == hits, "whoever found the value says so, and nobody else");
-    if (!fails) check(stats.joins == (unsigned)shared - hits, "so does whoever joined");
-    if (fails) check(lost == 6 && live == 0, "all that joined share a failure");
-    else check(led == 1 && shared == 5 && loads == 1 && live == 1, "six that ask at one time make one load");
+    check(stats.hits == 0 && stats.misses == 6 && stats.joins == 5 && stats.in_use == 0, "five have joined, and nobody has found it");
+    if (fails) check(lost == 6 && loads == 1 && live == 0, "all that joined share a failure");
+    else check(led == 1 && joined == 5 && loads == 1 && live == 1, "six that ask at one time make one load");
     sflight_cache_close(cache);
     check(live == 0, "what they shared is dropped once");
 }

@@ -22,7 +22,7 @@
 
 /* After so many seconds it hangs. */
 #ifndef LIMIT
-#define LIMIT 110
+#define LIMIT 500
 #endif
 
 static atomic_int passed, failed;
@@ -215,6 +215,7 @@ static void many(void) {
             pthread_create(&threads[t], NULL, hangs, &joined[t]);
         }
         while (sflight_do_statistics(pool).joins < THREADS) sleep_ms(1);
+        check(sflight_do_statistics(pool).in_use == 1, "those who wait are not in use");
         sflight_got late;
         check(get(pool, "k", plain, NULL, 0, &late) == SFLIGHT_DO_TIMED_OUT, "one that is late is not counted");
         atomic_store(&inner.over, 1);
@@ -318,8 +319,8 @@ static void deep(void) {
 }
 
 /* Threads with nested calls, deadlines and Forgets: one load of a key at a time, nothing older than a Forget, and nothing older than what was
-   returned before, nor the same. A stress is run again until it has met what it is for, at most so often. */
-enum { KEYS = 24, MOST_RUNS = 50 };
+   returned before, nor the same. */
+enum { KEYS = 24 };
 
 static struct key {
     char name[80];
@@ -416,8 +417,21 @@ static void ask(int number, int depth, unsigned *seed) {
     pthread_mutex_unlock(&key->lock);
 }
 
+static uint64_t loads_until_joined(void *context, const uint8_t *key, size_t len) {
+    (void)context, (void)key, (void)len;
+    atomic_fetch_add(&loads, 1);
+    while (sflight_do_statistics(stressed).joins == 0) sched_yield();
+    return 0;
+}
+
 static void *stress_one(void *at) {
     unsigned seed = (unsigned)(size_t)at * 7 + 1;
+    sflight_got got;
+    /* A busy machine may run one thread after the other. These two meet in any case. */
+    if ((size_t)at < 2) {
+        if (get(stressed, "two ask for this", loads_until_joined, NULL, SFLIGHT_DO_FOREVER, &got) != SFLIGHT_DO_DONE) abort();
+        received += !got.led;
+    }
     for (int i = 0; i < ROUNDS; i++) {
         int number = rand_r(&seed) % (rand_r(&seed) % 2 ? 3 : KEYS);
         struct key *key = &keys[number];
@@ -434,9 +448,7 @@ static void *stress_one(void *at) {
     return NULL;
 }
 
-/* One run of the stress; whether it met what it is for: somebody who joined, and a hit. Threads that a busy machine runs one after the other
-   may meet none of these. */
-static bool stress_once(const char *what, uint32_t size) {
+static void stress(const char *what, uint32_t size) {
     pthread_t threads[STRESSING];
     memset(keys, 0, sizeof keys);
     for (int i = 0; i < KEYS; i++) {
@@ -457,14 +469,8 @@ static bool stress_once(const char *what, uint32_t size) {
     check(atomic_load(&refused) == 0, "no call is refused");
     check(atomic_load(&given) == atomic_load(&received), "each who joined has one count, and who gave up has none");
     check(stats.loads == atomic_load(&loads) && stats.in_use == 0, "loads are counted, and all calls have ended");
+    check(stats.joins > 0 && atomic_load(&hits) > 0, "somebody joined, and somebody hit");
     sflight_do_close(stressed);
-    return stats.joins > 0 && atomic_load(&hits) > 0;
-}
-
-static void stress(const char *what, uint32_t size) {
-    bool met = false;
-    for (int runs = 0; !met && runs < MOST_RUNS; runs++) met = stress_once(what, size);
-    check(met, what);
 }
 
 /* Kilobytes of memory that the process has. */

@@ -102,7 +102,7 @@ static inline void point(bool is_blocked) {
 /* A step with a name, where a test may let the actor wait. Whoever is stopped after a step that others
  * have to find is often stopped for long. */
 static inline void point_at(const char *where) {
-    if (actor >= 0 && strncmp(where, "has ", 4) == 0 && random_below(STALLS_AFTER) == 0)
+    if (actor >= 0 && strncmp(where, "before ", 7) != 0 && random_below(STALLS_AFTER) == 0)
         play.stalled[actor] = random_below(LONG);
     point(false);
     while (actor >= 0 && play.waits && play.waits(actor, where)) point(true);
@@ -132,10 +132,10 @@ static inline long played_syscall(long number, void *at, int what, unsigned valu
     if ((what & FUTEX_CMD_MASK) == FUTEX_WAKE_BITSET) {
         point(false);
         ++*wakes_of(at);
-        point_at("has woken");
+        point_at("woken");
         return 1;
     }
-    point_at("sleep");
+    point_at("before sleep");
     unsigned before = *wakes_of(at);
     /* Whoever changes the word and wakes later finds the thread asleep. */
     if (*(volatile unsigned *)at != value) {

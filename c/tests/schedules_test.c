@@ -192,7 +192,7 @@ static void play_in_order(uint64_t number, int actors, uint32_t size, bool (*wai
 /* The leader of the call of a key loads. A Forget closes the call, and is stopped before it returns. A second Forget finds nothing to close, and
  * returns. A thread that asks then must not get the value of before. */
 static bool stops_forget(int who, const char *where) {
-    if (who != 1 || strcmp(where, "has forgotten") != 0) return false;
+    if (who != 1 || strcmp(where, "forgotten") != 0) return false;
     if (phase == 1) phase = 2;
     return phase < 3;
 }
@@ -236,7 +236,7 @@ static void forgets_twice(int number) {
 static const char *stopping;
 
 static bool stops_leader(int who, const char *where) {
-    if (who == 1 && phase == 1 && strcmp(where, strcmp(stopping, "has woken") == 0 || play.number % 2 ? "sleep" : "has asked") == 0) phase = 2;
+    if (who == 1 && phase == 1 && strcmp(where, strcmp(stopping, "woken") == 0 || play.number % 2 ? "before sleep" : "asked") == 0) phase = 2;
     if (who != 0 || phase < 2 || strcmp(where, stopping) != 0) return false;
     if (phase == 2) phase = 3;
     return phase < 4;
@@ -275,11 +275,11 @@ static bool is_early;
 static int given_up;
 
 static bool waits_to_leave(int who, const char *where) {
-    if (who == 1 && phase == 1 && strcmp(where, "has asked") == 0) phase = 2;
+    if (who == 1 && phase == 1 && strcmp(where, "asked") == 0) phase = 2;
     /* It has given up before the leader settles, or after that. */
-    if (is_early && who == 0 && strcmp(where, "settle") == 0 && phase < 3) return true;
-    if (!is_early && who == 1 && strcmp(where, "sleep") == 0 && phase < 4) return true;
-    if (!is_early && who == 0 && strcmp(where, "tell") == 0 && phase < 4) {
+    if (is_early && who == 0 && strcmp(where, "before settle") == 0 && phase < 3) return true;
+    if (!is_early && who == 1 && strcmp(where, "before sleep") == 0 && phase < 4) return true;
+    if (!is_early && who == 0 && strcmp(where, "before tell") == 0 && phase < 4) {
         phase = 4;
         return false;
     }
@@ -344,7 +344,7 @@ static void grows_beside(int number) {
 }
 
 int main(int argc, char **argv) {
-    static const char *const stops[] = {"has settled", "tell", "has woken", "leave"};
+    static const char *const stops[] = {"settled", "before tell", "woken", "before leave"};
     setvbuf(stdout, NULL, _IOLBF, 0);
     uint64_t from = argc > 1 ? strtoull(argv[1], NULL, 10) : 1, count = argc > 2 ? strtoull(argv[2], NULL, 10) : argc > 1 ? 1 : SCHEDULES;
     open_plays();

@@ -12,7 +12,7 @@
 
 use crate::hash::Fingerprints;
 use crate::keyed::Handle;
-use crate::sync::{lock, point};
+use crate::sync::{at, lock, point};
 use crate::{Error, Group, Stamp, Stats};
 use std::cell::Cell;
 use std::collections::HashMap;
@@ -1018,9 +1018,15 @@ impl<V: Send + Sync, E: Send + Sync> Cache<V, E> {
         point();
         self.invalidations(fingerprint).fetch_add(1, Ordering::SeqCst);
         self.group.forget(name(era, key));
+        // One that is current was loaded after another call had forgotten the key, while this one was
+        // slow to come here.
+        let is_wanted =
+            |entry: &Entry<V>| entry.name.era == era && self.group.is_current(entry.stamp);
         let mut shard = lock(self.shard(fingerprint));
         let entry = match shard.find(fingerprint) {
-            Some((place, entry)) if *entry.name.key == *key => shard.remove(place),
+            Some((place, entry)) if *entry.name.key == *key && !is_wanted(entry) => {
+                shard.remove(place)
+            }
             _ => None,
         };
         drop(shard);
@@ -1145,6 +1151,7 @@ impl<V: Send + Sync, E: Send + Sync> Cache<V, E> {
         if let Some(value) = self.find(key, fingerprint) {
             return Ok(value);
         }
+        at("looked");
         let (era, mut left) = (self.era(), Vec::new());
         let load = |stamp| match self.kept(key, fingerprint) {
             Some(value) => Ok(value),
@@ -1164,6 +1171,7 @@ impl<V: Send + Sync, E: Send + Sync> Cache<V, E> {
         if let Some(value) = self.find(key, fingerprint) {
             return Ok(value);
         }
+        at("looked");
         let (era, mut left) = (self.era(), Vec::new());
         let of = (key, fingerprint, era);
         let load = async {
@@ -1204,9 +1212,11 @@ impl<V: Send + Sync, E: Send + Sync> Cache<V, E> {
         let (key, used) = (key.into(), AtomicU8::new(0));
         let name = Arc::new(Name { key, era, near: not(), left: not(), used });
         let entry = Entry { fingerprint, name, value: value.clone(), stamp, weight, until };
+        at("before keep");
         let mut shard = lock(self.shard(fingerprint));
         // All was invalidated meanwhile. Whoever begins an era empties this shard later, by its lock.
-        if era != self.era() {
+        // Or the key was: then a newer value may be there by now, which this must not replace.
+        if era != self.era() || !self.group.is_current(stamp) {
             self.weight.fetch_sub(weight, Ordering::SeqCst);
             return false;
         }
@@ -1216,6 +1226,7 @@ impl<V: Send + Sync, E: Send + Sync> Cache<V, E> {
             self.leave(&before);
             left.push(before);
         }
+        at("kept");
         true
     }
 

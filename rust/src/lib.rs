@@ -108,6 +108,9 @@ mod shared;
 mod sync;
 mod wait;
 
+#[cfg(test)]
+mod orders;
+
 /// The example of the README.
 #[cfg(doctest)]
 #[doc = include_str!("../README.md")]

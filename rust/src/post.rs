@@ -6,7 +6,7 @@
 
 use crate::keyed::Id;
 use crate::recording::{now, CallRecord, Noted};
-use crate::sync::{lock, sleep};
+use crate::sync::{instant, lock, sleep};
 use crate::Stamp;
 use std::collections::BTreeMap;
 use std::panic::{catch_unwind, AssertUnwindSafe};
@@ -126,7 +126,7 @@ impl Post {
         while !self.is_told(generation) {
             let time = match deadline {
                 None => None,
-                Some(deadline) => match deadline.checked_duration_since(Instant::now()) {
+                Some(deadline) => match deadline.checked_duration_since(instant()) {
                     Some(time) => Some(time),
                     None => return false,
                 },

@@ -19,7 +19,7 @@ use crate::keyed::{self, Asked, Forgot, ForgotCall, Id};
 use crate::places::Places;
 use crate::post::{Post, Posts, Told};
 use crate::recording::{CallRecord, Noted, Recordings};
-use crate::sync::{lock, pause, point, stall_point};
+use crate::sync::{at, lock, pause, point, stall_point};
 use crate::{Call, Error, ForgetOutcome, Loaded, Stamp, Stats};
 use std::sync::atomic::{
     AtomicBool, AtomicU64,
@@ -99,6 +99,7 @@ impl<T> Shared<T> {
         let mut tries = 0;
         loop {
             point();
+            at("before ask");
             let mut is_early = false;
             let asked = self.places.with(|seat| {
                 let Some(mut call) = seat.take() else { return Asked::Full };
@@ -120,6 +121,7 @@ impl<T> Shared<T> {
             });
             if asked == Asked::Led {
                 stall_point();
+                at("asked");
                 if let Some(noted) = noted {
                     lead.record = Some(noted.record(key, lead.name.id));
                 }
@@ -130,6 +132,7 @@ impl<T> Shared<T> {
             }
             if let (Asked::Joined, Some(call)) = (asked, lead.call.take()) {
                 stall_point();
+                at("asked");
                 return Begun::Joined(Join { call, id: lead.name.id, noted });
             }
             match asked {
@@ -179,6 +182,7 @@ impl<T> Shared<T> {
     pub(crate) fn settle(&self, lead: &mut Lead, value: T) -> Loaded<T> {
         let value = Arc::new(value);
         point();
+        at("before settle");
         if let Some(record) = &lead.record {
             record.settles();
         }
@@ -231,6 +235,7 @@ impl<T> Shared<T> {
             record.fails();
             record.settles();
         }
+        at("before settle");
         point();
         match self.places.with(|seat| seat.settle(call, 0)) {
             None => record.iter().for_each(|record| record.settled()),
@@ -252,6 +257,7 @@ impl<T> Shared<T> {
             }
         }
         stall_point();
+        at("settled");
         if audience.joined {
             let mut woken = self.post(id).tell(id.generation);
             for (noted, at) in woken.left.drain(..) {
@@ -268,6 +274,7 @@ impl<T> Shared<T> {
     /// Leaves the call that is held.
     pub(crate) fn leave(&self, mut call: keyed::Call) {
         point();
+        at("before leave");
         let last = self.places.with(|seat| {
             let last = seat.handle.leave(&mut call);
             seat.put(call);
@@ -300,6 +307,7 @@ impl<T> Shared<T> {
         let mut tries = 0;
         let closed = loop {
             point();
+            at("before forget");
             let forgot = self.places.with(|seat| {
                 let forgot = seat.handle.forget(key);
                 seat.forgets += u64::from(forgot != Forgot::Busy);
@@ -311,6 +319,7 @@ impl<T> Shared<T> {
                 Forgot::Busy => pause(&mut tries),
             }
         };
+        at("forgotten");
         stall_point();
         match (closed, forgetting) {
             (Some(id), forgetting) => self.recordings.closed(forgetting, id),
@@ -331,6 +340,7 @@ impl<T> Shared<T> {
         let mut tries = 0;
         let (forgot, was_still) = loop {
             point();
+            at("before forget");
             let (forgot, was_still) = self.places.with(|seat| {
                 let was_still = seat.handle.is_still(&call.stamp.0);
                 let forgot = seat.handle.forget_call(key, &call.id, &call.stamp.0);
@@ -343,6 +353,7 @@ impl<T> Shared<T> {
             }
         };
         stall_point();
+        at("forgotten");
         match (forgot, was_still) {
             (ForgotCall::Closed, _) => {
                 self.recordings.closed(forgetting, call.id);

@@ -7,7 +7,7 @@ use std::sync::atomic::{
     Ordering::{Acquire, Relaxed, Release},
 };
 use std::sync::{Condvar, Mutex, MutexGuard, PoisonError};
-use std::time::Duration;
+use std::time::{Duration, Instant};
 
 /// Here another caller may take its turn: before each step that others can see. It does nothing but
 /// in the schedule test.
@@ -23,6 +23,24 @@ pub(crate) fn point() {
 pub(crate) fn stall_point() {
     #[cfg(test)]
     crate::schedules::stall_point();
+}
+
+/// The same, at a point with a name: the test of orders stops a caller there.
+#[inline(always)]
+pub(crate) fn at(name: &str) {
+    #[cfg(test)]
+    crate::orders::at(name);
+    let _ = name;
+}
+
+/// The time, by which a wait looks at its deadline.
+#[inline(always)]
+pub(crate) fn instant() -> Instant {
+    #[cfg(test)]
+    if crate::orders::is_actor() {
+        return crate::orders::instant();
+    }
+    Instant::now()
 }
 
 /// Whether others are quicker in each try. It is so in the schedule test alone, sometimes.
@@ -124,6 +142,10 @@ pub(crate) fn sleep<'a, T>(
         drop(guard);
         crate::schedules::is_blocked();
         return lock(mutex);
+    }
+    #[cfg(test)]
+    if crate::orders::is_actor() {
+        return crate::orders::sleep(condition, mutex, guard, time);
     }
     let _ = mutex;
     match time {

@@ -4,7 +4,7 @@ use crate::keyed::Id;
 use crate::places::processors;
 use crate::post::Post;
 use crate::shared::{Join, Shared};
-use crate::sync::{point, stall_point};
+use crate::sync::{at, point, stall_point};
 use crate::Loaded;
 use std::future::Future;
 use std::ops::Deref;
@@ -67,12 +67,14 @@ impl<T, P: Deref<Target = Shared<T>>> Ticket<T, P> {
         if deadline.is_none() {
             look(post, generation);
         }
+        at("before sleep");
         post.wait(generation, deadline)
     }
 
     /// Whether the call is told; else the task is woken when it is.
     pub(crate) fn poll(&mut self, waker: &Waker) -> Poll<()> {
         point();
+        at("before sleep");
         let Some(id) = self.join.as_ref().map(|join| join.id) else { return Poll::Ready(()) };
         if self.shared.post(&id).poll(id.generation, &mut self.waker, waker) {
             Poll::Ready(())
