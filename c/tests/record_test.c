@@ -858,7 +858,8 @@ struct calling {
 
 static int write_and_call(void *context, const char *text, size_t len) {
     struct calling *calling = context;
-    if (calling->log.writes < 4) {
+    /* The first write is the head's, while the pool does not record yet. */
+    if (calling->log.writes > 0 && calling->log.writes < 5) {
         check(sflight_do_stop(calling->pool, NULL) == SFLIGHT_DO_NOT_RECORDED, "a writer cannot stop its recording");
         load_key(calling->pool, "w", 1);
         sflight_do_forget(calling->pool, unsigned_bytes("w"), 1);
@@ -870,10 +871,12 @@ static void calling_writer(void) {
     struct calling calling = {.pool = sflight_do_open(0, NULL)};
     if (sflight_do_record(calling.pool, write_and_call, &calling) != SFLIGHT_DO_DONE) abort();
     uint64_t calls = 0;
-    for (; calls < 10 || calling.log.writes < 5; calls++) {
+    for (; calls < 10; calls++) {
         load_key(calling.pool, "k", 1);
         sleep_ms(6);
     }
+    /* What the writer itself does makes it write again. More calls here would be lost where it is slow. */
+    while (calling.log.writes < 6) sleep_ms(1);
     sflight_recorded recorded = stop(calling.pool);
     check(recorded.failed == 0 && recorded.events == 3 * calls + 4 * 4 && is_legal(&calling.log, &recorded), "a writer that calls the pool");
     free_log(&calling.log);
