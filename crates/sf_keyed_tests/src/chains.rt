@@ -308,12 +308,7 @@ fn a_note_makes_its_tables_and_forgets_known(rt: HostRuntime) -> Result<(), Fail
     let mut other = chain.caller(rt.alloc(), 2)?;
     assert!(rt; grows(&chain, rt.alloc(), &mut me, 3)?);
     let (_, stamp) = loads(&chain, &mut me, name(1), 0).expect(&rt, "nothing is led");
-    assert!(rt;
-        matches!(
-            chain.forget(&mut me, name(1), TRIES),
-            Forgotten::Nothing(3)
-        )
-    );
+    assert!(rt; matches!(chain.forget(&mut me, name(1), TRIES), Forgotten::Nothing(3)));
     let note = chain.tell(rt.alloc(), &mut me)?;
     assert!(rt; other.tables() == 1);
     chain.hear(&mut other, note);
