@@ -273,9 +273,6 @@ func (c *Cache[K, V]) write(k keyed) (last *atomic.Uint64, number uint64) {
 // ForgetAll is Forget of all keys. It takes the time and memory of a new cache, and calls what
 // WithOnEvict has set with each value. The old memory is freed when the loads have ended that run.
 func (c *Cache[K, V]) ForgetAll() {
-	for i := range c.writes {
-		c.writes[i].Add(1)
-	}
 	c.mu.Lock()
 	old := c.now.Load()
 	p := newCore(&c.size)
@@ -286,7 +283,8 @@ func (c *Cache[K, V]) ForgetAll() {
 	c.olds = append(c.olds, old.p)
 	c.fold()
 	c.mu.Unlock()
-	// Its calls are not joined any more, and their stamps are no later fill's.
+	// Its calls are not joined any more, and their stamps are no later fill's. A Put that began before keeps its value in the
+	// old fill, if at all.
 	defer old.p.table.close()
 	c.left(old.values.close())
 }
