@@ -207,10 +207,13 @@ func (w *world) name(key int) string {
 	return name
 }
 
-// A function keeps its result for the workers, before its call is settled.
+// A function keeps its result for the workers, before its call is settled. One that is not current takes the place of an older one
+// too: that one's stamp may be of an older table, where no Forget of another key has ended it.
 func (w *world) keeps(stamp Stamp, it *run) {
-	if w.group.IsStill(stamp) {
-		point(afterAsk)
+	isStill := w.group.IsStill(stamp)
+	point(afterAsk)
+	w.cached[it.key] = nil
+	if isStill {
 		w.cached[it.key] = &stampOf{stamp, Call{}, it}
 	}
 }
