@@ -1,6 +1,9 @@
 package singleflight
 
-import "sync"
+import (
+	"sync"
+	"sync/atomic"
+)
 
 // A clock chooses which item of a table makes room, by second chance. It has two rings: of the items that are fresh, and
 // of the others. A hand goes over each, and over nothing else: so a step finds an item, however many there were before.
@@ -105,3 +108,77 @@ func (c *clock) count() int {
 
 // laps returns how many steps pass each item twice in each ring.
 func (c *clock) laps() int { return 4*c.count() + 4 }
+
+// wayFor returns the way that the item is to have: that of its key; or an empty one; or that of an
+// item that is not current, or was not found since the last that wanted a way; or any. crowded
+// tells whether it has an item that is current and another key's. The lock is held.
+func (t *values) wayFor(set *waySet, it *item) (way int, crowded bool) {
+	if old, way := set.find(keyed{it.key, it.print}); old != nil {
+		return way, false
+	}
+	for way := range set.items {
+		if set.item(way) == nil {
+			return way, false
+		}
+	}
+	for way := range set.items {
+		if !t.p.table.isStill(set.item(way).stamp) {
+			return way, false
+		}
+	}
+	for way := range set.items {
+		if old := set.item(way); !old.pass() {
+			return way, true
+		}
+	}
+	return int(it.print >> 16 % waysOfSet), true
+}
+
+// pass takes the mark of an item that was found. Whether it had one.
+func (it *item) pass() bool {
+	if atomic.LoadUint32(&it.used) == 0 {
+		return false
+	}
+	atomic.StoreUint32(&it.used, 0)
+	return true
+}
+
+// reserve adds to the weight, and makes room for that. It fails where others have reserved what
+// there is.
+func (t *values) reserve(cost int64, out *[]*item) bool {
+	for {
+		weight := t.room.weight.Load()
+		point(beforeKeep)
+		if weight <= t.room.limit-cost {
+			if t.room.weight.CompareAndSwap(weight, weight+cost) {
+				return true
+			}
+		} else if it := t.evict(); it != nil {
+			*out = append(*out, it)
+		} else {
+			return false
+		}
+	}
+}
+
+// evict takes one item out, by second chance: the first to which a hand comes that is not current,
+// or was not found since the hand last passed.
+func (t *values) evict() *item {
+	for steps := t.clock.laps(); steps > 0; steps-- {
+		it, fresh := t.clock.step()
+		if it == nil {
+			return nil
+		}
+		if it.pass() && t.p.table.isStill(it.stamp) {
+			if fresh {
+				t.clock.settle(it)
+			}
+			continue
+		}
+		if t.drop(it) {
+			t.room.evicted.Add(1)
+			return it
+		}
+	}
+	return nil
+}
