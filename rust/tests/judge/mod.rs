@@ -214,6 +214,10 @@ pub fn judge(all: &[Event<'_>]) -> Result<(), String> {
 pub fn said_by_sfctl(log: &str) -> Option<String> {
     let own = Path::new(env!("CARGO_MANIFEST_DIR")).join("../crates/sf_cli/out/sf_cli");
     let program = std::env::var_os("SFLIGHT_SFCTL").map_or(own, Into::into);
+    // The emulator of another processor does not tell whether a program could be started.
+    if !program.exists() {
+        return None;
+    }
     let pipe = Stdio::piped;
     let mut check = Command::new(program);
     let check = check.args(["check", "--timed"]).stdin(pipe()).stdout(pipe());
