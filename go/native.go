@@ -11,7 +11,7 @@ import (
 	_ "unsafe" // for linkname
 )
 
-// The proved library says who leads, who joins, what a Forget ends and what is current: see sflight.h. A call of it is a call
+// The proved library says which caller leads, which ones join, what a Forget ends and what is current: see sflight.h. A call of it is a call
 // of C on a stack that its handle has, without cgo: see calls_amd64.s. None waits for another, and none keeps the address of
 // what it is given.
 type table = nativeTable
@@ -224,7 +224,7 @@ func (t *nativeTable) put(h *handle) {
 	t.mu.Unlock()
 }
 
-// increment adds one. One goroutine at a time does, and others read meanwhile: who reads the later of two numbers, and then the
+// increment adds one. One goroutine at a time does, and others read meanwhile: one that reads the later of two numbers, and then the
 // earlier, is to see both. On x86-64 plain stores come in their order, and an atomic one would be a locked instruction.
 func increment(at *uint64) {
 	if runtime.GOARCH == "amd64" {

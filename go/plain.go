@@ -9,7 +9,7 @@ import (
 
 type pointer = unsafe.Pointer
 
-// A plainTable says in plain Go what the library says: who leads, who joins, what a Forget ends, and what is current. It is
+// A plainTable says in plain Go what the library says: which caller leads, which ones join, what a Forget ends, and what is current. It is
 // tested, against the library too, and not proved.
 //
 // Keys are hashed to shards, each of which has a lock, the open calls of its keys, and a number for each of its slots: how

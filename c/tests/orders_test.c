@@ -1,7 +1,7 @@
 /* The orders of examples/orders, whose README tells the format. Each caller is a thread. After each step in which
  * somebody does something, the test waits until nobody goes on by itself: each caller has returned, runs its load,
- * sleeps, or is stopped at a point of the code. To know that, the futex is one of this test: who sleeps on a word
- * is seen to, and who is woken goes on from that moment. A deadline ends when the order says so.
+ * sleeps, or is stopped at a point of the code. To know that, the futex is one of this test: it counts the threads
+ * that sleep on a word, and a thread that is woken goes on from that moment. A deadline ends when the order says so.
  * usage: orders_test [FILE..] */
 #ifndef _GNU_SOURCE
 #define _GNU_SOURCE

@@ -1,5 +1,5 @@
-//! Counts of those who keep a group alive, by threads: with one count for all of them, its line of
-//! memory would go from processor to processor with each future of the group.
+//! Counts of the callers and futures that keep a group alive, by threads. One count for all of them
+//! would go from processor to processor with each future of the group.
 
 use crate::places::{place_count, thread_number};
 use crate::shared::Shared;
