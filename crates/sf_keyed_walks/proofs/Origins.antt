@@ -64,7 +64,7 @@ closed_from u v w call name a b = record {
   leads = b.leads ∙ a.leads;
   ticket = b.ticket ∙ a.ticket;
   own_is = b.own_is ∙ a.own;
-  adds = record { before = b.adds.before; seen = b.adds.seen ∙ (ap (λ l. (l ++ b.adds.before) ++ Forget v.number name (Some (call_of call)) ∷ []) a.seen ∙ ap (λ n. (u.seen ++ b.adds.before) ++ Forget n name (Some (call_of call)) ∷ []) a.number); legal = b.adds.legal };
+  adds = record { before = b.adds.before; seen = b.adds.seen ∙ (ap (λ l. (l ++ b.adds.before) ++ Forget v.number name (Some (call_of call)) ∷ []) a.seen ∙ ap (λ n. (u.seen ++ b.adds.before) ++ Forget n name (Some (call_of call)) ∷ []) a.number); legal = b.adds.legal; gone = b.adds.gone };
   gone = b.gone ∙ a.gone;
 }
 
@@ -76,7 +76,7 @@ joined_from u v w call name a b = record {
   ticket = b.ticket;
   own_is = b.own_is ∙ a.own;
   member = b.member;
-  adds = record { before = b.adds.before; seen = b.adds.seen ∙ ap (λ l. (l ++ b.adds.before) ++ Enter b.member.caller name (call_of call) b.member ∷ []) a.seen; legal = b.adds.legal };
+  adds = record { before = b.adds.before; seen = b.adds.seen ∙ ap (λ l. (l ++ b.adds.before) ++ Enter b.member.caller name (call_of call) b.member ∷ []) a.seen; legal = b.adds.legal; gone = b.adds.gone };
   gone = b.gone ∙ a.gone;
 }
 
@@ -87,7 +87,7 @@ none_from u v w name a b = record {
   own_is = b.own_is ∙ a.own;
   leads = b.leads ∙ a.leads;
   ticket = b.ticket ∙ a.ticket;
-  grows = record { seen = subst (λ l. IsPrefix l w.seen) a.seen b.grows.seen; legal = b.grows.legal };
+  grows = record { seen = subst (λ l. IsPrefix l w.seen) a.seen b.grows.seen; legal = b.grows.legal; gone = b.grows.gone };
   none = b.none;
   gone = λ k is. b.gone k (gone_on u v k a is);
 }
@@ -99,7 +99,7 @@ other_from u v w call name only a b = record {
   own_is = b.own_is ∙ a.own;
   leads = b.leads ∙ a.leads;
   ticket = b.ticket ∙ a.ticket;
-  grows = record { seen = subst (λ l. IsPrefix l w.seen) a.seen b.grows.seen; legal = b.grows.legal };
+  grows = record { seen = subst (λ l. IsPrefix l w.seen) a.seen b.grows.seen; legal = b.grows.legal; gone = b.grows.gone };
   other = b.other;
   apart = b.apart;
   gone = b.gone ∙ a.gone;
@@ -115,7 +115,7 @@ none_sealed u v w slot name a b is unmet =
 pub swept_sealed : (u v w : View) (slot : ℕ) → Stays u v → HasSealed v w slot → MetNone u.sizes slot v → HasSwept u w slot
 swept_sealed u v w slot a b none = record {
   keeps = record { sizes = b.keeps.sizes ∙ a.sizes; number = b.keeps.number ∙ a.number; own = b.keeps.own ∙ a.own; leads = b.keeps.leads ∙ a.leads; ticket = b.keeps.ticket ∙ a.ticket; gone = λ k is. b.keeps.gone k (gone_on u v k a is) };
-  grows = record { seen = subst (λ l. IsPrefix l w.seen) a.seen b.grows.seen; legal = b.grows.legal };
+  grows = record { seen = subst (λ l. IsPrefix l w.seen) a.seen b.grows.seen; legal = b.grows.legal; gone = b.grows.gone };
   all = λ k is. b.all k is (none k (ap (λ z. slot_of z k) (sym (b.keeps.sizes ∙ a.sizes)) ∙ is));
 }
 
@@ -129,7 +129,7 @@ settled_from v w call value n leads is =
       ap (λ (q : View). q.own) view,
       ap (λ (q : View). q.state) view,
       subst (λ e. HasSettled v w e (Some value) (joined_bit n) (is_forgotten n)) leads
-          (record { sizes = ap (λ (q : View). q.sizes) view; number = ap (λ (q : View). q.number) view; leads = ap (λ (q : View). q.leads) view; joiners = s.joiners; none = s.none; some = s.some; adds = record { before = s.adds.before; seen = s.adds.seen; legal = s.adds.legal }; was = s.was; gone = ap (λ (q : View). q.gone) view }),
+          (record { sizes = ap (λ (q : View). q.sizes) view; number = ap (λ (q : View). q.number) view; leads = ap (λ (q : View). q.leads) view; joiners = s.joiners; none = s.none; some = s.some; adds = record { before = s.adds.before; seen = s.adds.seen; legal = s.adds.legal; gone = s.adds.gone }; was = s.was; gone = ap (λ (q : View). q.gone) view }),
     )
 
 -- a Settle of a call that nobody has joined
@@ -160,6 +160,7 @@ taken_from u v w call value a b = record {
   grows = record {
     seen = (a.grows.seen.0 ++ b.seen.0, b.seen.1 ∙ (ap (λ l. l ++ b.seen.0) a.grows.seen.1 ∙ append_assoc u.seen a.grows.seen.0 b.seen.0));
     legal = b.legal a.grows.legal;
+    gone = b.none a.grows.gone;
   };
   result = ap (λ l. result_of l (call_of call)) b.seen.1 ∙ result_longer v.seen b.seen.0 (call_of call) (Some value) a.result;
   gone = b.gone ∙ a.gone;

@@ -8,7 +8,7 @@ use Rattle.sf_keyed_tells.specs.Tells.{call_of}
 use Rattle.sf_keyed_words.specs.declared.rule.KeyedSizes.{KeyedSizes}
 use Rattle.sf_keyed_words.specs.declared.rule.View.{View}
 use Rattle.sf_keyed_words.specs.Rule.{IsPrefix, is_gone, is_open_call, number, slot_of, word_total, Unmet}
-use Rattle.sf_keyed_words.specs.Plays.{Adds, Grows, WasForgotten, met_closed, met_open, read_low, read_high}
+use Rattle.sf_keyed_words.specs.Plays.{Adds, GoneHasNoCall, Grows, WasForgotten, met_closed, met_open, read_low, read_high}
 use Rattle.sf_keyed_walks.specs.declared.walk.Walked.{Walked}
 use Rattle.sf_keyed_walks.specs.declared.walk.Look.{Look}
 use Rattle.sf_keyed_walks.specs.declared.walk.Look.TheVariants.{Closed, Other, Named}
@@ -196,6 +196,7 @@ pub record HasLeft (v w : View) : Type 0 where
   pub ticket : w.ticket ≡ 0
   pub seen : IsPrefix v.seen w.seen
   pub legal : IsLegal nat_eq v.seen → IsLegal nat_eq w.seen
+  pub none : GoneHasNoCall v → GoneHasNoCall w
   pub gone : w.gone ≡ v.gone
 
 -- whatever a walk found, the calls of the seat are as before

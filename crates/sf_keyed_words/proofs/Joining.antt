@@ -145,7 +145,7 @@ join_won z id old new me may t p is found =
             last = mine.last;
           }),
       record {
-        won = λ _. (refl, record { member = mem; adds = record { before = m.seen.0; seen = ap (λ l. l ++ x ∷ []) m.seen.1; legal = tells.legal } });
+        won = λ _. (refl, record { member = mem; adds = record { before = m.seen.0; seen = ap (λ l. l ++ x ∷ []) m.seen.1; legal = tells.legal; gone = λ k is. tells.shuts k (mine.look.gone k is).none } });
         lost = λ no. absurd (no found);
       },
     )

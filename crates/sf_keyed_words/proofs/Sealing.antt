@@ -85,7 +85,7 @@ seal_won z id q old new me may t p is found =
           (unmoved z t.words ws q new v w fr inside (λ d. refl))
           (λ k u apart at. all k u at)
           mine,
-      record { won = λ _. (refl, record { seen = m.seen; legal = p.tells.legal }, λ k slot unmet. p.tells.shuts k (idle k slot unmet)); lost = λ bar. absurd (bar found) },
+      record { won = λ _. (refl, record { seen = m.seen; legal = p.tells.legal; gone = λ k is. p.tells.shuts k (mine.look.gone k is).none }, λ k slot unmet. p.tells.shuts k (idle k slot unmet)); lost = λ bar. absurd (bar found) },
     )
 
 pub seals_allowed : (z : KeyedSizes) (slots id q old new : ℕ) (me : Me ℕ View) → MaySeal z me.0 q old new

@@ -148,7 +148,7 @@ settles_allowed z slots id me may t p len is fits =
           joiners = j;
           none = lead.joins.0;
           some = lead.joins.1;
-          adds = record { before = m.seen.0; seen = ap (λ l. l ++ x ∷ []) m.seen.1; legal = tells.legal };
+          adds = record { before = m.seen.0; seen = ap (λ l. l ++ x ∷ []) m.seen.1; legal = tells.legal; gone = λ k is. tells.shuts k (mine.look.gone k is).none };
           was = subst (λ l. WasForgotten l e (is_forgotten old)) m.seen.1 (was_forgotten z t p e lead.led gen);
         };
       },
@@ -262,7 +262,7 @@ alone_won z id old new me may t p is found =
             last = mine.last;
           }),
       record {
-        won = λ _. (refl, record { joiners = j; none = λ _. lead.joins.0 bit; some = λ no. absurd (omega (arith, no)); adds = record { before = m.seen.0; seen = ap (λ l. l ++ x ∷ []) m.seen.1; legal = tells.legal }; was = subst (λ l. WasForgotten l e false) m.seen.1 (s.key_of e, p.tells.opens e lead.led live) });
+        won = λ _. (refl, record { joiners = j; none = λ _. lead.joins.0 bit; some = λ no. absurd (omega (arith, no)); adds = record { before = m.seen.0; seen = ap (λ l. l ++ x ∷ []) m.seen.1; legal = tells.legal; gone = λ k is. tells.shuts k (mine.look.gone k is).none }; was = subst (λ l. WasForgotten l e false) m.seen.1 (s.key_of e, p.tells.opens e lead.led live) });
         lost = λ no. absurd (no found);
       },
     )

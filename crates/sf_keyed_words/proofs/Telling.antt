@@ -107,12 +107,13 @@ finds z slots id q me may t p len is fits =
     let idle = idle_at z t p id q v may m same in
     let none : (k : ℕ) → slot_of v.sizes k ≡ v.slot → Unmet v.names k → open_call nat_eq h k ≡ None = λ k slot unmet. p.tells.shuts k (idle k slot unmet) in
     let bit : v.found / 2 % 2 ≡ 1 → s.sealed q ≡ true = λ one. p.shows.bits q may.below (ap (λ b. b / 2 % 2) same ∙ one) in
-    let w : View = record v { seen = h; gone = with_walk v v.found } in (
+    let w : View = record v { seen = h; gone = with_walk v v.found } in
+    let mine : IsView z s h t.words p.holder id w = walked_all z s h t.words p.holder id v q v.found may.sizes may.slot_is bit idle m in (
       w,
       keeps,
       tt,
-      still z t p id q me w is (λ d. refl) (walked_all z s h t.words p.holder id v q v.found may.sizes may.slot_is bit idle m),
-      record { won = λ _. (refl, record { seen = m.seen; legal = p.tells.legal }, none); lost = λ bar. absurd (bar same) },
+      still z t p id q me w is (λ d. refl) mine,
+      record { won = λ _. (refl, record { seen = m.seen; legal = p.tells.legal; gone = λ k is. p.tells.shuts k (mine.look.gone k is).none }, none); lost = λ bar. absurd (bar same) },
     ))
     (λ differ. (
       loses v,
@@ -141,7 +142,7 @@ confirms_allowed z slots id me told t p len is fits =
       keeps,
       tt,
       still z t p id i me w is (λ d. refl) (seen_all z s h t.words p.holder id v m),
-      record { won = λ _. (refl, record { seen = m.seen; legal = p.tells.legal }, opened); lost = λ no. absurd (true≢false (sym yes ∙ no)) },
+      record { won = λ _. (refl, record { seen = m.seen; legal = p.tells.legal; gone = λ k is. p.tells.shuts k (m.look.gone k is).none }, opened); lost = λ no. absurd (true≢false (sym yes ∙ no)) },
     ))
     (λ no. (
       loses v,
@@ -189,7 +190,7 @@ takes_allowed z slots id me any done t p len is fits =
       keeps,
       tt,
       still z t p id (value_at z v.ticket) me w is (λ d. refl) (seen_all z p.words p.history t.words p.holder id v m),
-      record { view = refl; grows = record { seen = m.seen; legal = p.tells.legal }; result = p.shows.values v.ticket o.led o.generation (o.settled done) },
+      record { view = refl; grows = record { seen = m.seen; legal = p.tells.legal; gone = λ k is. p.tells.shuts k (m.look.gone k is).none }; result = p.shows.values v.ticket o.led o.generation (o.settled done) },
     )
 
 pub takes_last_allowed : (z : KeyedSizes) (slots id : ℕ) (me : Me ℕ View) → me.0.last ≢ 0
@@ -203,5 +204,5 @@ takes_last_allowed z slots id me any t p len is fits =
       keeps,
       tt,
       still z t p id (value_at z v.last) me w is (λ d. refl) (seen_all z p.words p.history t.words p.holder id v m),
-      record { view = refl; grows = record { seen = m.seen; legal = p.tells.legal }; result = p.shows.values v.last o.led o.generation o.settled },
+      record { view = refl; grows = record { seen = m.seen; legal = p.tells.legal; gone = λ k is. p.tells.shuts k (m.look.gone k is).none }; result = p.shows.values v.last o.led o.generation o.settled },
     )

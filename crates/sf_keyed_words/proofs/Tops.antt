@@ -243,7 +243,7 @@ lead_won z id q old new me may t p is found =
             last = mine.last;
           }),
       record {
-        won = λ _. (refl, record { before = m.seen.0; seen = ap (λ l. l ++ x ∷ []) m.seen.1; legal = tells.legal });
+        won = λ _. (refl, record { before = m.seen.0; seen = ap (λ l. l ++ x ∷ []) m.seen.1; legal = tells.legal; gone = λ k is. tells.shuts k (mine.look.gone k is).none });
         lost = λ bar. absurd (bar found);
       },
     )

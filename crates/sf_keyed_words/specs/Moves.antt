@@ -1,9 +1,9 @@
 -- What moves between seats: a flight, a ticket, and what is seen.
-use Rattle.std.specs.Prelude.{◌≡◌, ℕ, nat_eq, true, false, None}
-use Rattle.sf_history.specs.History.{open_call}
+use Rattle.std.specs.Prelude.{◌≡◌, nat_eq, false}
 use Rattle.sf_history.specs.Legal.{IsLegal}
 use Rattle.sf_keyed_words.specs.declared.rule.View.{View}
-use Rattle.sf_keyed_words.specs.Rule.{first_view, is_gone, note_of, IsPrefix}
+use Rattle.sf_keyed_words.specs.Rule.{first_view, note_of, IsPrefix}
+use Rattle.sf_keyed_words.specs.Plays.{GoneHasNoCall}
 
 -- a view without the call that it leads, and one of that call alone
 abbrev pub without_flight : View → View
@@ -39,7 +39,7 @@ pub record has_heard (v w : View) : Type 0 where
   pub seen : IsPrefix v.seen w.seen
   pub heard : IsPrefix v.heard w.seen
   pub legal : IsLegal nat_eq w.seen
-  pub gone : (k : ℕ) → is_gone v.sizes v.gone k ≡ true → open_call nat_eq w.seen k ≡ None
+  pub gone : GoneHasNoCall w
 
 -- a new seat has seen all that has happened
 pub record has_entered (v w : View) : Type 0 where

@@ -8,7 +8,7 @@ use Rattle.sf_history.specs.Legal.{IsLegal}
 use Rattle.sf_keyed_tells.specs.Tells.{call_of}
 use Rattle.sf_keyed_words.specs.declared.rule.Gone.{Gone}
 use Rattle.sf_keyed_words.specs.declared.rule.View.{View}
-use Rattle.sf_keyed_words.specs.Rule.{both, slot_of, is_open_call, joined_bit, is_forgotten, Unmet, IsPrefix}
+use Rattle.sf_keyed_words.specs.Rule.{both, slot_of, is_gone, is_open_call, joined_bit, is_forgotten, Unmet, IsPrefix}
 
 -- a walk begins at the call that a slot's top word names
 abbrev pub walk_from : View → ℕ → ℕ → View
@@ -84,16 +84,22 @@ try_claim v at old n = cond (n == old) (record v { own = next_call v at old; fir
 abbrev pub try_aside : View → ℕ → ℕ → View
 try_aside v old n = cond (n == old) (record v { saved = true }) (loses v)
 
+-- no name that is gone has an open call in what the seat has seen
+abbrev pub GoneHasNoCall : View → Type 0
+GoneHasNoCall w = (k : ℕ) → is_gone w.sizes w.gone k ≡ true → open_call nat_eq w.seen k ≡ None
+
 -- the seat has seen more, of which the last is this event
 pub record Adds (v w : View) (x : KeyedEvent) : Type 0 where
   pub before : List KeyedEvent
   pub seen : w.seen ≡ (v.seen ++ before) ++ x ∷ []
   pub legal : IsLegal nat_eq w.seen
+  pub gone : GoneHasNoCall w
 
 -- the seat has seen more, all of which is others'
 pub record Grows (v w : View) : Type 0 where
   pub seen : IsPrefix v.seen w.seen
   pub legal : IsLegal nat_eq w.seen
+  pub gone : GoneHasNoCall w
 
 -- the call is led where the top word was the one expected
 abbrev pub led_view : View → List KeyedEvent → View
