@@ -33,7 +33,7 @@ pub record AddsTo (before after : FrontState) (x : KeyedEvent) : Type 0 where
   pub others : List KeyedEvent
   pub seen : after.seen ≡ (before.seen ++ others) ++ x ∷ []
   pub legal : IsLegal nat_eq after.seen
-  pub gone : after.gone ≡ before.gone
+  pub gone : (k : ℕ) → IsGone before k → IsGone after k
 
 -- the caller has seen more, and added nothing; all of it is legal
 pub record Sees (before after : FrontState) : Type 0 where
@@ -107,7 +107,7 @@ IsAsked before after name tries (asked.Refused why) = Stays before after × WhyR
 -- how an asking of a group that has grown ends: the name's open call is joined; or it has none, and never has one again; or nothing was done
 abbrev pub IsPassed : FrontState → FrontState → ℕ → ℕ → Passed → Type 0
 IsPassed before after name tries (passed.Joined ticket) = Joined before after name ticket.call × (ticket.group ≡ before.group) × (after.spare ≡ before.spare)
-IsPassed before after name tries passed.Gone = Sees before after × (open_call nat_eq after.seen name ≡ None) × IsGone after name × (after.spare ≡ before.spare)
+IsPassed before after name tries passed.Gone = Sees before after × IsGone after name × (after.spare ≡ before.spare)
 IsPassed before after name tries passed.Busy = Stays before after × WhyRefused before after tries refusal.Busy
 IsPassed before after name tries passed.Crowded = Stays before after × WhyRefused before after tries refusal.Crowded
 
@@ -129,7 +129,7 @@ Closes before after name call = AddsTo before after (event.Forget before.number 
 abbrev pub IsForgotten : FrontState → FrontState → ℕ → ℕ → Forgotten → Type 0
 IsForgotten before after name tries (forgotten.Closed call) = Closes before after name call
 IsForgotten before after name tries forgotten.Nothing = Sees before after × (open_call nat_eq after.seen name ≡ None) × (after.met.top / 2 % 2 ≡ 0) × (after.spare ≡ before.spare)
-IsForgotten before after name tries forgotten.Gone = Sees before after × (open_call nat_eq after.seen name ≡ None) × IsGone after name × (after.spare ≡ before.spare)
+IsForgotten before after name tries forgotten.Gone = Sees before after × IsGone after name × (after.spare ≡ before.spare)
 IsForgotten before after name tries forgotten.Busy = Stays before after × (before.met.lost + tries ≤ after.met.lost)
 
 -- how a Forget of one call of the name ends: it is closed; what was seen goes on, and at the end it is not the name's open call; or nothing was done

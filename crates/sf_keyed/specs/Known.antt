@@ -1,5 +1,7 @@
 -- What clauses see of a keyed group and of the tokens of its callers.
-use Rattle.std.specs.Prelude.{◌≡◌, ℕ, true, List}
+use Rattle.std.specs.Prelude.{◌≡◌, ℕ, nat_eq, true, List, None}
+use Rattle.sf_history.specs.History.{open_call}
+use Rattle.sf_history.specs.Legal.{IsLegal}
 use Rattle.atomic_table.specs.Seated.{TableId}
 use Rattle.sf_keyed_tells.specs.Tells.{KeyedEvent}
 use Rattle.sf_keyed_words.specs.declared.rule.Gone.{Gone}
@@ -30,9 +32,11 @@ pub record FrontState : Type 0 where
   pub spare : ℕ
   pub met : Met
 
--- the caller knows that the name is gone: it has no open call in the group, and never has one again
-abbrev pub IsGone : FrontState → ℕ → Type 0
-IsGone f k = is_gone f.group.sizes f.gone k ≡ true
+-- the caller knows that the name is gone: it has no open call in what the caller has seen, which is legal, and never has one again
+pub record IsGone (f : FrontState) (k : ℕ) : Type 0 where
+  pub known : is_gone f.group.sizes f.gone k ≡ true
+  pub none : open_call nat_eq f.seen k ≡ None
+  pub legal : IsLegal nat_eq f.seen
 
 -- a call that is led, or held
 pub record FlightState : Type 0 where

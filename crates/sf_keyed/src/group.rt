@@ -1,8 +1,6 @@
 //! The group, the tokens of its callers, and its calls. None of them waits, and none takes memory but `new`.
-ghost use Rattle.std.specs.Prelude.{◌≡◌, ◌≢◌, ℕ, None, nat_eq, ◌≤◌, ◌<◌, ◌*◌, ◌/◌, ◌%◌, ◌^◌, true, false, IfErr, IfOk};
-ghost use Rattle.sf_history.specs.History.{open_call};
+ghost use Rattle.std.specs.Prelude.{◌≡◌, ◌≢◌, ℕ, nat_eq, ◌≤◌, ◌<◌, ◌*◌, ◌/◌, ◌%◌, ◌^◌, true, false, IfErr, IfOk};
 ghost use Rattle.sf_history.specs.Legal.{IsLegal};
-ghost use Rattle.sf_keyed.specs.Known.{IsGone};
 ghost use Rattle.sf_keyed_words.specs.Rule.{number, slot_of, word_total, joined_bit, is_forgotten, IsPrefix};
 ghost use Rattle.sf_keyed_walks.specs.Walk.{IsLaid};
 ghost use Rattle.sf_keyed.specs.Calls.{IsAsked, IsClaimed, IsEnded, IsForgotten, IsLeft, IsLooked, IsPassed, IsSettled, IsSwept, IsTaken, Sees};
@@ -518,12 +516,11 @@ impl KeyedGroup {
         }
     }
 
-    /// Learns what another caller had seen. Both are beginnings of one history. A name that was gone has no open call in it.
+    /// Learns what another caller had seen. Both are beginnings of one history.
     pub fn learn(&self, me: &mut Front, note: Note)
         requires own { (me.old.group ≡ self.now) × (note.group ≡ self.now) }
         ensures sees { Sees me.old me.new × (me.new.spare ≡ me.old.spare) }
         ensures learned { IsPrefix note.seen me.new.seen }
-        ensures gone { (k : ℕ) → IsGone me.old k → open_call nat_eq me.new.seen k ≡ None }
     {
         let Note { seat } = note;
         join_note(&self.table.shared, &mut me.seat, seat);

@@ -6,7 +6,9 @@ use Rattle.sf_history.specs.Legal.{IsLegal}
 use Rattle.sf_history.specs.declared.event.Event.TheVariants.{Enter}
 use Rattle.sf_keyed_tells.specs.Tells.{call_of}
 use Rattle.sf_keyed_words.specs.Rule.{number}
+use Rattle.sf_keyed_words.specs.Plays.{GoneHasNoCall}
 use Rattle.sf_keyed.specs.Known.{GroupId, FrontState}
+use Rattle.sf_keyed.proofs.Joint.{gone_on, still_gone}
 use Rattle.sf_keyed.proofs.group.KeyedGroup.ask.Goals as goal
 
 pub invariant_of-result-in-Joined : goal.invariant_of-result-in-Joined
@@ -55,7 +57,7 @@ returns-in-Joined c =
           others = j.adds.before;
           seen = ap (λ (v : View). v.seen) left ∙ (j.adds.seen ∙ ap (λ l. (l ++ j.adds.before) ++ Enter j.member.caller (number c.args.name) (call_of c.in-Joined.call) j.member ∷ []) seen);
           legal = subst (IsLegal nat_eq) (sym (ap (λ (v : View). v.seen) left)) j.adds.legal;
-          gone = (ap (λ (v : View). v.gone) left ∙ j.gone) ∙ gone;
+          gone = still_gone _ _ (gone_on _ _ _ _ ((ap (λ (v : View). v.sizes) left ∙ j.sizes) ∙ ap (λ (g : GroupId). g.sizes) own) ((ap (λ (v : View). v.gone) left ∙ j.gone) ∙ gone)) (subst GoneHasNoCall (sym left) j.adds.gone) (subst (IsLegal nat_eq) (sym (ap (λ (v : View). v.seen) left)) j.adds.legal);
         };
       },
       (λ i. record { table = (c.split_ticket-seat.ensures.own.1 ∙ (ap (λ (g : GroupId). g.table) c.self.view_is ∙ (ap (λ (g : GroupId). g.table) (sym c.requires.own) ∙ sym (ap (λ (g : GroupId). g.table) own)))) i; sizes = (ap (λ q. q.0.sizes) new ∙ j.sizes) i }) ∙ own,

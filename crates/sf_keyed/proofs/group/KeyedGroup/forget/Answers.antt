@@ -4,7 +4,7 @@ use Rattle.sf_keyed_tells.specs.Tells.{call_of}
 use Rattle.sf_keyed_words.specs.Rule.{number}
 use Rattle.sf_keyed.specs.Known.{FrontState, GroupId}
 use Rattle.sf_keyed.specs.Calls.{IsForgotten}
-use Rattle.sf_keyed.proofs.Joint.{gone_on}
+use Rattle.sf_keyed.proofs.Joint.{gone_on, still_gone}
 use Rattle.sf_keyed.proofs.group.KeyedGroup.forget.Goals as goal
 use Rattle.sf_keyed.proofs.group.KeyedGroup.forget.Goals.{in-Closed, in-Nothing, in-Gone, in-Other, in-Busy}
 
@@ -28,7 +28,7 @@ returns c =
               others = f.adds.before;
               seen = f.adds.seen ∙ (ap (λ l. (l ++ f.adds.before) ++ Forget c.me.inside.seat.me.0.number (number c.args.name) (Some (call_of w.in-Closed.call)) ∷ []) seen ∙ ap (λ n. (c.args.me.now.seen ++ f.adds.before) ++ Forget n (number c.args.name) (Some (call_of w.in-Closed.call)) ∷ []) num);
               legal = f.adds.legal;
-              gone = f.gone ∙ gone;
+              gone = still_gone _ _ (gone_on _ _ _ _ (f.sizes ∙ ap (λ (g : GroupId). g.sizes) own) (f.gone ∙ gone)) f.adds.gone f.adds.legal;
             },
             spare,
           )
@@ -41,7 +41,7 @@ returns c =
               number = f.number ∙ num;
               seen = (f.grows.seen.0, f.grows.seen.1 ∙ ap (λ l. l ++ f.grows.seen.0) seen);
               legal = f.grows.legal;
-              gone = λ k is. f.gone k (gone_on _ _ _ _ (ap (λ (g : GroupId). g.sizes) own) gone k is);
+              gone = still_gone _ _ (λ k is. f.gone k (gone_on _ _ _ _ (ap (λ (g : GroupId). g.sizes) own) gone k is)) f.grows.gone f.grows.legal;
             },
             f.none,
             g.1,
@@ -56,10 +56,9 @@ returns c =
               number = f.number ∙ num;
               seen = (f.grows.seen.0, f.grows.seen.1 ∙ ap (λ l. l ++ f.grows.seen.0) seen);
               legal = f.grows.legal;
-              gone = λ k is. f.gone k (gone_on _ _ _ _ (ap (λ (g : GroupId). g.sizes) own) gone k is);
+              gone = still_gone _ _ (λ k is. f.gone k (gone_on _ _ _ _ (ap (λ (g : GroupId). g.sizes) own) gone k is)) f.grows.gone f.grows.legal;
             },
-            f.none,
-            g.1,
+            record { known = g.1; none = f.none; legal = f.grows.legal },
             spare,
           )
       | in-Other w ↦ absurd ((c.forget_often.ensures.other w.in-Other.field-0 w.in-Other.is).1 refl)

@@ -6,7 +6,7 @@ use Rattle.sf_keyed_tells.specs.Tells.{call_of}
 use Rattle.sf_keyed_words.specs.Rule.{number}
 use Rattle.sf_keyed.specs.Known.{FrontState, GroupId}
 use Rattle.sf_keyed.specs.Calls.{IsEnded, AddsTo}
-use Rattle.sf_keyed.proofs.Joint.{gone_on, not_open, other_open}
+use Rattle.sf_keyed.proofs.Joint.{gone_on, not_open, other_open, still_gone}
 use Rattle.sf_keyed.proofs.group.KeyedGroup.forget_call.Goals as goal
 use Rattle.sf_keyed.proofs.group.KeyedGroup.forget_call.Goals.{in-Closed, in-Nothing, in-Gone, in-Other, in-Busy}
 
@@ -32,7 +32,7 @@ returns c =
               others = f.adds.before;
               seen = f.adds.seen ∙ (ap (λ l. (l ++ f.adds.before) ++ Forget c.me.inside.seat.me.0.number (number c.args.name) (Some (call_of w.in-Closed.field-0)) ∷ []) seen ∙ ap (λ n. (c.args.me.now.seen ++ f.adds.before) ++ Forget n (number c.args.name) (Some (call_of w.in-Closed.field-0)) ∷ []) num);
               legal = f.adds.legal;
-              gone = f.gone ∙ gone;
+              gone = still_gone _ _ (gone_on _ _ _ _ (f.sizes ∙ ap (λ (g : GroupId). g.sizes) own) (f.gone ∙ gone)) f.adds.gone f.adds.legal;
             }),
             spare,
           )
@@ -44,7 +44,7 @@ returns c =
               number = f.number ∙ num;
               seen = (f.grows.seen.0, f.grows.seen.1 ∙ ap (λ l. l ++ f.grows.seen.0) seen);
               legal = f.grows.legal;
-              gone = λ k is. f.gone k (gone_on _ _ _ _ (ap (λ (g : GroupId). g.sizes) own) gone k is);
+              gone = still_gone _ _ (λ k is. f.gone k (gone_on _ _ _ _ (ap (λ (g : GroupId). g.sizes) own) gone k is)) f.grows.gone f.grows.legal;
             },
             not_open (open_call nat_eq c.forget_often.new.seat.me.0.seen (number c.args.name)) c.args.call f.none,
             spare,
@@ -58,7 +58,7 @@ returns c =
               number = f.number ∙ num;
               seen = (f.grows.seen.0, f.grows.seen.1 ∙ ap (λ l. l ++ f.grows.seen.0) seen);
               legal = f.grows.legal;
-              gone = λ k is. f.gone k (gone_on _ _ _ _ (ap (λ (g : GroupId). g.sizes) own) gone k is);
+              gone = still_gone _ _ (λ k is. f.gone k (gone_on _ _ _ _ (ap (λ (g : GroupId). g.sizes) own) gone k is)) f.grows.gone f.grows.legal;
             },
             not_open (open_call nat_eq c.forget_often.new.seat.me.0.seen (number c.args.name)) c.args.call f.none,
             spare,
@@ -71,7 +71,7 @@ returns c =
               number = f.number ∙ num;
               seen = (f.grows.seen.0, f.grows.seen.1 ∙ ap (λ l. l ++ f.grows.seen.0) seen);
               legal = f.grows.legal;
-              gone = λ k is. gone_on _ _ _ _ (f.sizes ∙ ap (λ (g : GroupId). g.sizes) own) (f.gone ∙ gone) k is;
+              gone = still_gone _ _ (gone_on _ _ _ _ (f.sizes ∙ ap (λ (g : GroupId). g.sizes) own) (f.gone ∙ gone)) f.grows.gone f.grows.legal;
             },
             other_open (open_call nat_eq c.forget_often.new.seat.me.0.seen (number c.args.name)) w.in-Other.field-0 c.args.call f.other (λ same. f.apart (ap Some (sym same))),
             spare,

@@ -4,7 +4,7 @@ use Rattle.sf_keyed_tells.specs.Tells.{call_of}
 use Rattle.sf_keyed_words.specs.declared.rule.View.{View}
 use Rattle.sf_keyed.specs.Known.{FrontState, FlightState, GroupId}
 use Rattle.sf_keyed.specs.Calls.{IsLeft, Sees}
-use Rattle.sf_keyed.proofs.Joint.{gone_on, two_parts}
+use Rattle.sf_keyed.proofs.Joint.{gone_on, still_gone, two_parts}
 use Rattle.sf_keyed.proofs.group.KeyedGroup.leave.Goals as goal
 use Rattle.sf_keyed.proofs.group.KeyedGroup.leave.Goals.{in-Some, in-None}
 
@@ -34,7 +34,7 @@ returns c =
       number = (left.number ∙ ap (λ (v : View). v.number) heard.view) ∙ num;
       seen = (heard.seen.0 ++ more.0, two_parts old.seen heard.seen.0 more.0 c.join_ticket.new.seat.me.0.seen c.leave_call.new.seat.me.0.seen (heard.seen.1 ∙ ap (λ l. l ++ heard.seen.0) seen) more.1);
       legal = left.legal heard.legal;
-      gone = gone_on _ _ _ _ (sizes ∙ ap (λ (g : GroupId). g.sizes) own) ((left.gone ∙ ap (λ (v : View). v.gone) heard.view) ∙ gone);
+      gone = still_gone _ _ (gone_on _ _ _ _ (sizes ∙ ap (λ (g : GroupId). g.sizes) own) ((left.gone ∙ ap (λ (v : View). v.gone) heard.view) ∙ gone)) (left.none heard.gone) (left.legal heard.legal);
     } in
     elim c.match-leave_call.branch [
       | in-Some w ↦

@@ -6,10 +6,10 @@ use Rattle.sf_history.specs.declared.event.Event.TheVariants.{Settle}
 use Rattle.sf_keyed_tells.specs.Tells.{call_of}
 use Rattle.sf_keyed_words.specs.declared.rule.KeyedSizes.{KeyedSizes}
 use Rattle.sf_keyed_words.specs.declared.rule.View.{View}
-use Rattle.sf_keyed_words.specs.Plays.{WasForgotten}
+use Rattle.sf_keyed_words.specs.Plays.{GoneHasNoCall, WasForgotten}
 use Rattle.sf_keyed_words.specs.Rule.{is_forgotten}
 use Rattle.sf_keyed.specs.Known.{GroupId, FrontState, FlightState}
-use Rattle.sf_keyed.proofs.Joint.{joint, two_parts}
+use Rattle.sf_keyed.proofs.Joint.{gone_on, joint, still_gone, two_parts}
 use Rattle.sf_keyed.proofs.group.KeyedGroup.settle.Goals as goal
 
 pub invariant_of-ticket : goal.invariant_of-ticket
@@ -63,7 +63,7 @@ returns-in-None c =
           seen = subst (λ (e : ℕ). c.settle_call.new.seat.me.0.seen ≡ (c.args.me.now.seen ++ (heard.seen.0 ++ al.2.adds.before)) ++ Settle (e % 1048576) (call_of e) None al.2.joiners ∷ []) call
               (joint c.args.me.now.seen heard.seen.0 al.2.adds.before (x c.flight.inside.call) c.join_flight.new.seat.me.0.seen c.settle_call.new.seat.me.0.seen first al.2.adds.seen);
           legal = al.2.adds.legal;
-          gone = (al.2.gone ∙ ap (λ (v : View). v.gone) heard.view) ∙ gone;
+          gone = still_gone _ _ (gone_on _ _ _ _ ((al.2.sizes ∙ ap (λ (v : View). v.sizes) heard.view) ∙ ap (λ (g : GroupId). g.sizes) own) ((al.2.gone ∙ ap (λ (v : View). v.gone) heard.view) ∙ gone)) al.2.adds.gone al.2.adds.legal;
         };
         was = subst (λ l. WasForgotten l c.args.flight.call false) (two_parts c.args.me.now.seen heard.seen.0 al.2.adds.before c.join_flight.new.seat.me.0.seen (c.join_flight.new.seat.me.0.seen ++ al.2.adds.before) first refl)
             (subst (λ e. WasForgotten (c.join_flight.new.seat.me.0.seen ++ al.2.adds.before) e false) call al.2.was);
@@ -99,7 +99,7 @@ returns-in-Some c =
           seen = ap (λ (v : View). v.seen) left ∙ subst (λ (e : ℕ). c.settle_call.new.seat.me.0.seen ≡ (c.args.me.now.seen ++ (heard.seen.0 ++ sh.3.adds.before)) ++ Settle (e % 1048576) (call_of e) (Some c.args.value) sh.3.joiners ∷ []) call
               (joint c.args.me.now.seen heard.seen.0 sh.3.adds.before (Settle (c.flight.inside.call % 1048576) (call_of c.flight.inside.call) (Some c.args.value) sh.3.joiners ∷ []) c.join_flight.new.seat.me.0.seen c.settle_call.new.seat.me.0.seen first sh.3.adds.seen);
           legal = subst (IsLegal nat_eq) (sym (ap (λ (v : View). v.seen) left)) sh.3.adds.legal;
-          gone = (ap (λ (v : View). v.gone) left ∙ (sh.3.gone ∙ ap (λ (v : View). v.gone) heard.view)) ∙ gone;
+          gone = still_gone _ _ (gone_on _ _ _ _ ((ap (λ (v : View). v.sizes) left ∙ (sh.3.sizes ∙ sizes1)) ∙ ap (λ (g : GroupId). g.sizes) own) ((ap (λ (v : View). v.gone) left ∙ (sh.3.gone ∙ ap (λ (v : View). v.gone) heard.view)) ∙ gone)) (subst GoneHasNoCall (sym left) sh.3.adds.gone) (subst (IsLegal nat_eq) (sym (ap (λ (v : View). v.seen) left)) sh.3.adds.legal);
         };
         was = subst (WasForgotten (c.args.me.now.seen ++ (heard.seen.0 ++ sh.3.adds.before)) c.args.flight.call) (sym told.forgotten)
             (subst (λ l. WasForgotten l c.args.flight.call (is_forgotten c.in-Some.state)) (two_parts c.args.me.now.seen heard.seen.0 sh.3.adds.before c.join_flight.new.seat.me.0.seen (c.join_flight.new.seat.me.0.seen ++ sh.3.adds.before) first refl)

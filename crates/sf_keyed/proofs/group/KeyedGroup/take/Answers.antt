@@ -3,7 +3,7 @@ use Rattle.sf_history.specs.History.{result_of}
 use Rattle.sf_keyed_tells.specs.Tells.{call_of}
 use Rattle.sf_keyed_words.specs.declared.rule.View.{View}
 use Rattle.sf_keyed.specs.Known.{FrontState, FlightState, GroupId}
-use Rattle.sf_keyed.proofs.Joint.{gone_on, two_parts}
+use Rattle.sf_keyed.proofs.Joint.{gone_on, still_gone, two_parts}
 use Rattle.sf_keyed.proofs.group.KeyedGroup.take.Goals as goal
 
 pub returns-in-Some-clause-taken : goal.returns-in-Some-clause-taken
@@ -22,7 +22,7 @@ returns-in-Some-clause-taken c =
         number = (taken.number ∙ ap (λ (v : View). v.number) heard.view) ∙ num;
         seen = (heard.seen.0 ++ more.0, two_parts c.args.me.now.seen heard.seen.0 more.0 c.join_ticket.new.seat.me.0.seen c.take.new.seat.me.0.seen (heard.seen.1 ∙ ap (λ l. l ++ heard.seen.0) seen) more.1);
         legal = taken.grows.legal;
-        gone = gone_on _ _ _ _ ((taken.sizes ∙ ap (λ (v : View). v.sizes) heard.view) ∙ ap (λ (g : GroupId). g.sizes) own) ((taken.gone ∙ ap (λ (v : View). v.gone) heard.view) ∙ gone);
+        gone = still_gone _ _ (gone_on _ _ _ _ ((taken.sizes ∙ ap (λ (v : View). v.sizes) heard.view) ∙ ap (λ (g : GroupId). g.sizes) own) ((taken.gone ∙ ap (λ (v : View). v.gone) heard.view) ∙ gone)) taken.grows.gone taken.grows.legal;
       };
       spare = ap (λ (f : FrontState). f.spare) c.me.view_is;
       result = subst (λ (e : ℕ). result_of c.take.new.seat.me.0.seen (call_of e) ≡ Some (Some c.in-Some.value)) call taken.result;
