@@ -124,7 +124,7 @@ next_at k at xs ys heard within more gone here = record {
 pub passed_on : (k at tries : ℕ) (xs ys : List Sight) (r : Passed) → r ≡ passed.Gone → at + 1 < length xs → length ys ≡ length xs → IsGoneBefore k at xs → PassedAt k at tries xs ys r → HasGoneOn k at (at + 1) xs ys
 passed_on k at tries xs ys r is within same gone c =
     let d : PassedAt k at tries xs ys passed.Gone = subst (PassedAt k at tries xs ys) is c in
-    next_at k at xs ys (heard_called (λ b a. IsPassed b a k tries passed.Gone) at xs ys d d.is.3) (omega (arith, within, same)) (omega (arith, same)) gone (record { sight = d.after; here = d.at_after; gone = d.is.2 })
+    next_at k at xs ys (heard_called (λ b a. IsPassed b a k tries passed.Gone) at xs ys d d.is.2) (omega (arith, within, same)) (omega (arith, same)) gone (record { sight = d.after; here = d.at_after; gone = d.is.1 })
 
 -- what one step came to, after more was heard
 pub stamped_from : (k table slot age : ℕ) (xs ys zs : List Sight) → AllHeard xs ys → IsStampOf k table slot age ys zs → IsStampOf k table slot age xs zs
@@ -198,7 +198,7 @@ busy_at k at tries xs ys r is c = subst (ForgottenAt k at tries xs ys) is c
 pub gone_heard : (k at tries : ℕ) (xs ys : List Sight) (r : Forgotten) → r ≡ forgotten.Gone → ForgottenAt k at tries xs ys r → AllHeard xs ys × IsGoneHere k at ys
 gone_heard k at tries xs ys r is c =
     let d : ForgottenAt k at tries xs ys forgotten.Gone = subst (ForgottenAt k at tries xs ys) is c in
-    (heard_called (λ b a. IsForgotten b a k tries forgotten.Gone) at xs ys d d.is.3, record { sight = d.after; here = d.at_after; gone = d.is.2 })
+    (heard_called (λ b a. IsForgotten b a k tries forgotten.Gone) at xs ys d d.is.2, record { sight = d.after; here = d.at_after; gone = d.is.1 })
 
 pub closed_from : (k at call : ℕ) (xs ys zs : List Sight) → AllHeard xs ys → IsClosedAt k at call ys zs → IsClosedAt k at call xs zs
 closed_from k at call xs ys zs heard l = record { closed = called_on (λ b a. Closes b a k call) at xs ys zs heard l.closed; gone = l.gone }

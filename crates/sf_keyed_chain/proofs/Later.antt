@@ -1,7 +1,10 @@
 -- What a call on one table leaves of what was seen of it.
-use Rattle.std.proofs.Common.{◌≡◌, ℕ, Bool, List, [], ◌∷◌, ◌++◌, refl, ◌∙◌, ap, append_assoc, ◌<◌, Option, Some, None, true, sym, subst}
+use Rattle.std.proofs.Common.{◌≡◌, ℕ, Bool, List, [], ◌∷◌, ◌++◌, refl, ◌∙◌, ap, append_assoc, ◌<◌, Option, Some, None, true, false, sym, subst}
+use Rattle.std.specs.Bool.{OnTrue}
 use Rattle.sf_keyed_tells.specs.Tells.{KeyedEvent}
-use Rattle.std.specs.Prelude.{IsSomeAnd}
+use Rattle.std.specs.Prelude.{nat_eq, IsSomeAnd}
+use Rattle.sf_history.specs.History.{open_call}
+use Rattle.sf_history.specs.Legal.{IsLegal}
 use Rattle.sf_keyed_words.specs.Rule.{is_gone, slot_of}
 use Rattle.sf_keyed.specs.Known.{FlightState, FrontState, GroupId, IsGone}
 use Rattle.sf_keyed.specs.Calls.{AddsTo, Sees, Stays, IsAsked, IsEnded, IsForgotten, IsPassed, IsLeft, IsLooked, IsSettled}
@@ -24,8 +27,12 @@ knows_same k = record { of = refl; facts = λ slot age has. has }
 pub knows_both : (a b c : AgesState) → KnowsOn a b → KnowsOn b c → KnowsOn a c
 knows_both a b c one two = record { of = two.of ∙ one.of; facts = λ slot age has. two.facts slot age (one.facts slot age has) }
 
-gone_same : (b a : FrontState) → a.group ≡ b.group → a.gone ≡ b.gone → (k : ℕ) → IsGone b k → IsGone a k
-gone_same b a group gone k is = ap (λ g. is_gone g.sizes a.gone k) group ∙ (ap (λ l. is_gone b.group.sizes l k) gone ∙ is)
+gone_same : (b a : FrontState) → a.group ≡ b.group → a.seen ≡ b.seen → a.gone ≡ b.gone → (k : ℕ) → IsGone b k → IsGone a k
+gone_same b a group seen gone k is = record {
+  known = ap (λ g. is_gone g.sizes a.gone k) group ∙ (ap (λ l. is_gone b.group.sizes l k) gone ∙ is.known);
+  none = ap (λ h. open_call nat_eq h k) seen ∙ is.none;
+  legal = subst (IsLegal nat_eq) (sym seen) is.legal;
+}
 
 append_none : (l : List KeyedEvent) → l ≡ l ++ []
 append_none [] = refl
@@ -43,13 +50,13 @@ on_both a b c one two = record {
 }
 
 on_adds : (b a : FrontState) (x : KeyedEvent) → AddsTo b a x → GoesOn b a
-on_adds b a x s = record { group = s.group; number = s.number; seen = (s.others ++ x ∷ [], s.seen ∙ append_assoc b.seen s.others (x ∷ [])); gone = gone_same b a s.group s.gone }
+on_adds b a x s = record { group = s.group; number = s.number; seen = (s.others ++ x ∷ [], s.seen ∙ append_assoc b.seen s.others (x ∷ [])); gone = s.gone }
 
 pub on_sees : (b a : FrontState) → Sees b a → GoesOn b a
 on_sees b a s = record { group = s.group; number = s.number; seen = s.seen; gone = s.gone }
 
 pub on_stays : (b a : FrontState) → Stays b a → GoesOn b a
-on_stays b a s = record { group = s.group; number = s.number; seen = ([], s.seen ∙ append_none b.seen); gone = gone_same b a s.group s.gone }
+on_stays b a s = record { group = s.group; number = s.number; seen = ([], s.seen ∙ append_none b.seen); gone = gone_same b a s.group s.seen s.gone }
 
 pub on_passed : (b a : FrontState) (k tries : ℕ) (r : Passed) → IsPassed b a k tries r → GoesOn b a
 on_passed b a k tries (passed.Joined ticket) is = on_adds b a _ is.0.adds
@@ -78,7 +85,7 @@ on_settled b a f value settled.Alone is = on_adds b a _ is.0.adds
 on_settled b a f value (settled.Told ticket on) is = on_adds b a _ is.0.adds
 
 pub on_claimed : (b a : FrontState) → (a.group ≡ b.group) × (a.number ≡ b.number) × (a.seen ≡ b.seen) × (a.gone ≡ b.gone) → GoesOn b a
-on_claimed b a s = record { group = s.0; number = s.1; seen = ([], s.2 ∙ append_none b.seen); gone = gone_same b a s.0 s.3 }
+on_claimed b a s = record { group = s.0; number = s.1; seen = ([], s.2 ∙ append_none b.seen); gone = gone_same b a s.0 s.2 s.3 }
 
 -- the sight lies in the cell where it lay
 pub later_at : (c d swept : ℕ) (done : Bool) (k : AgesState) (b a : FrontState) → d ≡ c → GoesOn b a → IsLater (record { cell = c; front = b; known = k; swept = swept; done = done }) (record { cell = d; front = a; known = k; swept = swept; done = done })
@@ -105,3 +112,7 @@ on_looked b a t None is = on_sees b a is.0
 pub on_left : (b a : FrontState) (t : FlightState) (r : Option ℕ) → IsLeft b a t r → GoesOn b a
 on_left b a t (Some value) is = on_sees b a is.0.sees
 on_left b a t None is = on_sees b a is.0
+
+pub on_true : (b : Bool) (P : Type 0) → (b ≡ true → P) → OnTrue b P
+on_true true P is = is refl
+on_true false P is = tt

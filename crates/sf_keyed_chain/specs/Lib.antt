@@ -1,4 +1,5 @@
 pub mod Chains
 pub mod Notes
 pub mod Went
+pub mod OneHistory
 pub mod Headline

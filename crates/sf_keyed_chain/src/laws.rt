@@ -2,7 +2,7 @@
 //! laws of its table, `sf_keyed::laws`.
 //!
 //! These functions have no code: their contracts are the laws.
-ghost use Rattle.sf_keyed_chain.specs.Headline.{EntersTheOpenCall, LeadsTheNewCall, NeverAForgottenCall, NeverAForgottenCallOfAnother, NoStampFromBefore, NoStampFromBeforeAnother};
+ghost use Rattle.sf_keyed_chain.specs.Headline.{CallsStandInOneHistory, EntersTheOpenCall, LeadsTheNewCall, NeverAForgottenCall, NeverAForgottenCallOfAnother, NoStampFromBefore, NoStampFromBeforeAnother};
 
 /// An asking that leads does so where the name has no open call in any table that its caller knows. Its call is new, and the name's open call then.
 pub fn leads_the_new_call()
@@ -17,6 +17,12 @@ pub fn enters_the_open_call()
 /// An asking never leads or enters a call that a Forget of the name had closed which the caller had seen before.
 pub fn never_a_forgotten_call()
     ensures { NeverAForgottenCall }
+{}
+
+/// The name's history over the tables that a caller knows, one behind the other, is legal up to the table where its asking or Forget ended. Its
+/// open call at the end is the call that was led or joined; after a Forget it has none.
+pub fn calls_stand_in_one_history()
+    ensures { CallsStandInOneHistory }
 {}
 
 /// After a Forget of the name by a caller, no stamp of it that this caller had known before is current.

@@ -1,7 +1,15 @@
-use Rattle.std.proofs.Common.{subst}
+use Rattle.std.proofs.Common.{rules, ◌≡◌, subst}
+use Rattle.std.specs.Prelude.{IsSomeAnd}
 use Rattle.sf_keyed_chain.specs.Chains.{Sight, IsLater}
-use Rattle.sf_keyed_chain.proofs.Later.{later_at, on_claimed}
+use Rattle.sf_keyed_chain.proofs.Later.{knows_same, later_at, on_claimed, part_kept}
 use Rattle.sf_keyed_chain.proofs.front.Part.claim.Goals as goal
+
+pub invariant_of-self : goal.invariant_of-self
+invariant_of-self c =
+    let p = c.self.inside in
+    let of : IsSomeAnd c.get_as.new.note.known (λ l. (l.group ≡ p.front.group) × (l.ages.table ≡ p.known.of)) = search rules in
+    part_kept c.get_as.new.note.known p.front c.claim.new.me p.known p.known p.swept p.done
+    (on_claimed p.front c.claim.new.me c.claim.ensures.stays) (knows_same p.known) of c.self.invariant.1 c.self.invariant.2
 
 pub returns-clause-later : goal.returns-clause-later
 returns-clause-later c =

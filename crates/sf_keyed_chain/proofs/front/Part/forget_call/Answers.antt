@@ -1,8 +1,16 @@
-use Rattle.std.proofs.Common.{subst}
+use Rattle.std.proofs.Common.{rules, ◌≡◌, subst}
+use Rattle.std.specs.Prelude.{IsSomeAnd}
 use Rattle.sf_keyed_words.specs.Rule.{number}
 use Rattle.sf_keyed_chain.specs.Chains.{IsLater, Sight}
-use Rattle.sf_keyed_chain.proofs.Later.{later_at, on_ended}
+use Rattle.sf_keyed_chain.proofs.Later.{knows_same, later_at, on_ended, part_kept}
 use Rattle.sf_keyed_chain.proofs.front.Part.forget_call.Goals as goal
+
+pub invariant_of-self : goal.invariant_of-self
+invariant_of-self c =
+    let p = c.self.inside in
+    let of : IsSomeAnd c.get_as.new.note.known (λ l. (l.group ≡ p.front.group) × (l.ages.table ≡ p.known.of)) = search rules in
+    part_kept c.get_as.new.note.known p.front c.forget_call-ended.new.me p.known p.known p.swept p.done
+    (on_ended p.front c.forget_call-ended.new.me (number c.args.name) c.args.call c.args.tries c.forget_call-ended.result c.forget_call-ended.ensures) (knows_same p.known) of c.self.invariant.1 c.self.invariant.2
 
 pub returns-then-ne-clause-later : goal.returns-then-ne-clause-later
 returns-then-ne-clause-later c =

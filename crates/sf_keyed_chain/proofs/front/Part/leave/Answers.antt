@@ -1,7 +1,15 @@
-use Rattle.std.proofs.Common.{◌∙◌, ap, subst}
+use Rattle.std.proofs.Common.{rules, ◌≡◌, ◌∙◌, ap, subst}
+use Rattle.std.specs.Prelude.{IsSomeAnd}
 use Rattle.sf_keyed_chain.specs.Chains.{Sight, IsLater}
-use Rattle.sf_keyed_chain.proofs.Later.{later_at, on_left}
+use Rattle.sf_keyed_chain.proofs.Later.{knows_same, later_at, on_left, part_kept}
 use Rattle.sf_keyed_chain.proofs.front.Part.leave.Goals as goal
+
+pub invariant_of-self : goal.invariant_of-self
+invariant_of-self c =
+    let p = c.self.inside in
+    let of : IsSomeAnd c.get_as.new.note.known (λ l. (l.group ≡ p.front.group) × (l.ages.table ≡ p.known.of)) = search rules in
+    part_kept c.get_as.new.note.known p.front c.leave.new.me p.known p.known p.swept p.done
+    (on_left p.front c.leave.new.me c.args.ticket c.leave.result c.leave.ensures) (knows_same p.known) of c.self.invariant.1 c.self.invariant.2
 
 pub returns-clause-later : goal.returns-clause-later
 returns-clause-later c =
