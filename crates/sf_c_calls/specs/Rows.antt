@@ -1,12 +1,14 @@
 -- What calls leave of what a program holds.
-use Rattle.std.specs.Prelude.{◌≡◌, ◌⊎◌, ℕ, ◌+◌, ◌*◌, ◌/◌, ◌%◌, ◌<◌, ◌≤◌, Bool, true, false, List, Option, None, Some, length, ⊤}
+use Rattle.std.specs.Prelude.{◌≡◌, ◌≢◌, ◌⊎◌, ℕ, ◌+◌, ◌*◌, ◌/◌, ◌%◌, ◌<◌, ◌≤◌, Bool, true, false, List, Option, None, Some, length, slice_get, ⊤}
 use Rattle.sf_keyed.specs.Names.{short_name, long_name}
 use Rattle.sf_keyed.specs.declared.names.Names.{Names}
 use Rattle.sf_keyed.specs.declared.group.Audience.{Audience}
+use Rattle.sf_keyed.specs.declared.group.Claim.{Claim}
+use Rattle.sf_keyed.specs.declared.group.Claim.TheVariants as claim
 use Rattle.sf_keyed.specs.declared.group.Refusal.{Refusal}
 use Rattle.sf_keyed.specs.declared.group.Refusal.TheVariants as refusal
 use Rattle.sf_keyed_chain.specs.Chains.{Sight, AllGoOn, IsOf, IsTokenOf, TokenState}
-use Rattle.sf_keyed_chain.specs.Went.{HasLeft, HasLooked, HasSettled, IsJoinedAt, IsLedAt, IsRefusedAt}
+use Rattle.sf_keyed_chain.specs.Went.{HasClaimed, HasLeft, HasLooked, HasSettled, IsJoinedAt, IsLedAt, IsRefusedAt}
 use Rattle.sf_keyed_chain.specs.declared.chain.Settled.TheVariants as settled
 use Rattle.sf_keyed_chain.specs.declared.chain.Reply.{Reply}
 use Rattle.sf_keyed_chain.specs.declared.chain.Reply.TheVariants as reply
@@ -102,7 +104,22 @@ pub record Then (so : List Sight → List Sight → Type 0) (old new : List Sigh
   pub on : AllGoOn old between
   pub is : so between new
 
--- an asking was refused for this cause; what was seen went on before and after
+-- a caller has a cell to spare in the last table that it knows
+pub record HasSpare (sights : List Sight) : Type 0 where
+  pub at : ℕ
+  pub last : at + 1 ≡ length sights
+  pub sight : Sight
+  pub here : slice_get sights at ≡ Some sight
+  pub spare : sight.front.spare ≢ 0
+
+-- so many cells of the last table were looked at, one after the other from this one on, and none could be had
+pub record HasSearched (count cell : ℕ) (old new : List Sight) : Type 0 where
+  pub after : ℕ → List Sight
+  pub begins : after 0 ≡ old
+  pub ends : after count ≡ new
+  pub none : (i : ℕ) → i < count → (r : Claim) × (r ≢ claim.Ready) × HasClaimed ((cell + i) % 18446744073709551616) (after i) (after (i + 1)) r
+
+-- an asking was refused for this cause; what was seen went on before and after; and where the caller had no cell to spare, 64 cells were looked at
 pub record Refuses (k tries : ℕ) (why : Refusal) (old new : List Sight) : Type 0 where
   pub before : List Sight
   pub after : List Sight
@@ -110,6 +127,7 @@ pub record Refuses (k tries : ℕ) (why : Refusal) (old new : List Sight) : Type
   pub at : ℕ
   pub refused : IsRefusedAt k tries why at before after
   pub then : AllGoOn after new
+  pub searched : why ≡ refusal.NoCell → (cell : ℕ) × HasSearched 64 cell after new
 
 -- how an asking of a chain ends, for which a cell is claimed where that is needed
 abbrev pub HasFound : List ℕ → ℕ → ℕ → List Sight → List Sight → Reply → Type 0

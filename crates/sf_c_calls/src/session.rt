@@ -3,20 +3,19 @@ ghost use Rattle.std.specs.Prelude.{◌≡◌, ◌≢◌, ◌↔◌, ◌⊎◌, 
 ghost use Rattle.std.specs.Prelude.{OnErr, ◌+◌};
 ghost use Rattle.std.specs.Bool.{OnTrue, OnFalse};
 ghost use Rattle.sf_c_calls.specs.declared.session.Answered.TheVariants.{Wrong};
+ghost use Rattle.sf_keyed.specs.declared.group.Refusal.TheVariants.{NoCell};
 ghost use Rattle.sf_c_calls.specs.declared.session.Settling.TheVariants as settling;
 ghost use Rattle.sf_c_calls.specs.declared.session.Looking.TheVariants as looking;
 ghost use Rattle.sf_c_calls.specs.declared.session.Leaving.TheVariants as leaving;
 ghost use Rattle.sf_keyed_chain.specs.Went.{HasForgotten, HasForgottenCall, IsCurrent, IsNotCurrent};
 ghost use Rattle.sf_keyed_words.specs.Rule.{number};
 ghost use Rattle.sf_keyed_chain.specs.Chains.{AllGoOn, AllHeard, IsGoneBefore, IsOf};
-ghost use Rattle.sf_c_calls.specs.Rows.{HasAnswered, HasFound, HasLeftCall, HasLookedAt, HasMade, HasOpened, HasSettledCall, HasSplit, IsNameOf, IsOne, IsSame, IsSameCall, call_of, is_holder, is_idle, is_leader};
+ghost use Rattle.sf_c_calls.specs.Rows.{HasAnswered, HasFound, HasLeftCall, HasLookedAt, HasMade, HasOpened, HasSearched, HasSettledCall, HasSpare, HasSplit, IsNameOf, IsOne, IsSame, IsSameCall, call_of, is_holder, is_idle, is_leader};
 
 use crate::asking::{Asking, Token};
 use crate::shared::Shared;
 use sf_keyed::{Audience, Claim, Ended, Name, Names, Refusal};
-use sf_keyed_chain::{
-    ChainFront, Flight, Forgotten, KeyedChain, LEVELS, Reply, Settled, Stamp, Ticket,
-};
+use sf_keyed_chain::{ChainFront, Flight, Forgotten, KeyedChain, Reply, Settled, Stamp, Ticket};
 use std::alloc::{AllocError, Global};
 use std::marker::Model;
 use std::mem::replace;
@@ -161,8 +160,12 @@ pub fn id_of(table: usize, call: u64) -> Id
 // Takes a free cell of the last table that is known, among the next ones.
 fn claim(chain: &KeyedChain, me: &mut ChainFront, cell: &mut u64) -> bool
     requires of { IsOf chain.now me.old }
+    requires fits { cell.old < 18446744073709551616 }
     ensures of { IsOf chain.now me.new }
+    ensures fits { cell.new < 18446744073709551616 }
     ensures on { AllGoOn me.old me.new }
+    ensures ready { OnTrue result (HasSpare me.new) }
+    ensures searched { OnFalse result (HasSearched 64 cell.old me.old me.new) }
 {
     for _ in 0..CLAIMS {
         if chain.claim(me, *cell) == Claim::Ready {
@@ -176,8 +179,12 @@ fn claim(chain: &KeyedChain, me: &mut ChainFront, cell: &mut u64) -> bool
 // Whether there may be room now, where an asking was refused for this cause: a cell is claimed, or the next table is there, and known now.
 fn makes_room(chain: &KeyedChain, me: &mut ChainFront, cell: &mut u64, why: Refusal) -> bool
     requires of { IsOf chain.now me.old }
+    requires fits { cell.old < 18446744073709551616 }
     ensures of { IsOf chain.now me.new }
+    ensures fits { cell.new < 18446744073709551616 }
     ensures on { AllGoOn me.old me.new }
+    ensures more { OnTrue result (((why ≡ NoCell) × HasSpare me.new) ⊎ (length me.old < length me.new)) }
+    ensures none { OnFalse result (why ≡ NoCell → HasSearched 64 cell.old me.old me.new) }
 {
     if why == Refusal::NoCell && claim(chain, me, cell) {
         return true;
@@ -191,11 +198,12 @@ fn makes_room(chain: &KeyedChain, me: &mut ChainFront, cell: &mut u64, why: Refu
 // Asks, and claims a cell first where the caller has none to spare. Where there is no room, it asks again in the next table, if that is there.
 fn ask(chain: &KeyedChain, me: &mut ChainFront, cell: &mut u64, name: Name, tries: u32) -> Reply
     requires of { IsOf chain.now me.old }
+    requires fits { cell.old < 18446744073709551616 }
     ensures of { IsOf chain.now me.new }
     ensures found { HasFound chain.now (number name) tries me.old me.new result }
 {
-    // In each table it may claim a cell, and then find that the slot has no room.
-    for _ in 0..2 * LEVELS {
+    // In each table it may claim a cell, and then find that the slot has no room: so it ends.
+    loop {
         match chain.ask(me, name, tries) {
             Reply::Led(flight, stamp) => return Reply::Led(flight, stamp),
             Reply::Joined(ticket) => return Reply::Joined(ticket),
@@ -206,7 +214,6 @@ fn ask(chain: &KeyedChain, me: &mut ChainFront, cell: &mut u64, name: Name, trie
             }
         }
     }
-    chain.ask(me, name, tries)
 }
 
 // The number of the call that is named so, in its table.
