@@ -1,212 +1,138 @@
 //! How one asks: leading and loading, or joining and waiting.
 
-use crate::chan::Own;
-use crate::shared::{Begun, Join, Lead, Shared};
+use crate::keyed;
+use crate::post::{Post, Ticket, Told};
+use crate::recording::CallRecord;
+use crate::shared::{Crowded, Join, Shared};
 use crate::sync::pause;
-use crate::wait::{Ticket, Waiting};
 use crate::{Call, Loaded, Stamp};
 use std::future::{poll_fn, Future};
-use std::ops::Deref;
 use std::pin::pin;
 use std::sync::Arc;
 use std::task::Poll;
-use std::time::{Duration, Instant};
+use std::time::Instant;
 
 /// One who asks, in one thread or task at a time: a caller of the user, or for one call of a group.
-pub(crate) struct Asker<T, P: Deref<Target = Shared<T>>> {
-    pub(crate) shared: P,
-    // The call for which it has to load.
-    lead: Lead,
-    // Whether it loads for itself alone.
-    is_alone: bool,
-    // Receives what it loads too.
-    own: Option<Arc<Own<T>>>,
+pub(crate) struct Asker<T> {
+    /// The call that it leads, and has to settle.
+    pub(crate) lead: Option<keyed::Call>,
+    /// Its name, and the stamp that its value will have, unless it is forgotten before it is settled.
+    pub(crate) name: Call,
+    pub(crate) record: Option<Arc<CallRecord>>,
+    // Where the receiver of a job waits for what it loads.
+    own: Option<Arc<Post<T>>>,
     /// Of the answer that it got last.
     pub(crate) last: Option<Stamp>,
 }
 
-/// What an asking came to.
-pub(crate) enum Asked {
-    Loads,
-    Joined(Join),
-    /// One asks again later.
-    Crowded,
-}
-
 /// Ends the load that its asker runs. Where that ends without a value, as by a panic, the call is
 /// settled with nothing, so that who joined asks again.
-pub(crate) struct Load<'a, T, P: Deref<Target = Shared<T>>>(&'a mut Asker<T, P>);
+struct Load<'a, T>(&'a mut Asker<T>, &'a Shared<T>);
 
-impl<T, P: Deref<Target = Shared<T>>> Load<'_, T, P> {
-    /// The stamp that the value will have, unless its call is forgotten before it is settled.
-    pub(crate) fn stamp(&self) -> Stamp {
-        if self.0.is_alone {
-            return Stamp::NONE;
-        }
-        self.0.lead.name.stamp
-    }
-
+impl<T> Load<'_, T> {
     /// The load has returned this.
     #[inline]
-    pub(crate) fn end(self, value: T) -> Loaded<T> {
+    fn end(self, value: T) -> Loaded<T> {
         let asker = &mut *self.0;
-        if asker.is_alone || asker.own.is_some() {
-            return self.end_otherwise(value);
-        }
-        let got = asker.shared.settle(&mut asker.lead, value);
-        asker.last = Some(asker.lead.name.stamp);
-        got
-    }
-
-    #[cold]
-    #[inline(never)]
-    fn end_otherwise(self, value: T) -> Loaded<T> {
-        let asker = &mut *self.0;
-        let got = if std::mem::take(&mut asker.is_alone) {
-            Loaded { value: Arc::new(value), joiners: 0, led: true, call: Call::NONE }
-        } else {
-            asker.shared.settle(&mut asker.lead, value)
-        };
-        asker.last = got.call().map(|call| call.stamp);
-        if let Some(own) = asker.own.take() {
-            own.end(Some(&got));
-        }
+        let value = Arc::new(value);
+        let mut got = Loaded { value, joiners: 0, led: true, call: asker.name };
+        self.1.settle(asker, Some(&mut got));
+        asker.last = Some(got.stamp());
+        asker.tell_own(Some(&got));
         got
     }
 }
 
-impl<T, P: Deref<Target = Shared<T>>> Drop for Load<'_, T, P> {
+impl<T> Drop for Load<'_, T> {
     #[inline]
     fn drop(&mut self) {
         // It does nothing where the load has ended with a value.
-        self.0.abandon();
+        self.0.abandon(self.1);
     }
 }
 
-impl<T, P: Deref<Target = Shared<T>>> Drop for Asker<T, P> {
+impl<T> Asker<T> {
     #[inline]
-    fn drop(&mut self) {
-        self.abandon();
-    }
-}
-
-impl<T, P: Deref<Target = Shared<T>>> Asker<T, P> {
-    #[inline]
-    pub(crate) fn new(shared: P) -> Self {
-        Asker { shared, lead: Lead::NONE, is_alone: false, own: None, last: None }
+    pub(crate) fn new() -> Self {
+        Asker { lead: None, name: Call::NONE, record: None, own: None, last: None }
     }
 
-    /// Asks for the key.
+    /// Asks for the key. Returns the call that it has joined, or none where it has to load.
     #[inline]
-    pub(crate) fn ask(&mut self, key: &[u8]) -> Asked {
-        self.abandon();
-        match self.shared.ask(key, &mut self.lead) {
-            Begun::Led => {}
-            Begun::Alone => self.is_alone = true,
-            Begun::Joined(join) => return Asked::Joined(join),
-            Begun::Crowded => return Asked::Crowded,
+    fn try_ask(&mut self, shared: &Shared<T>, key: &[u8]) -> Result<Option<Join>, Crowded> {
+        self.abandon(shared);
+        shared.ask(key, self)
+    }
+
+    /// The same, which tries again where the key's call is crowded.
+    #[inline]
+    pub(crate) fn ask(&mut self, shared: &Shared<T>, key: &[u8]) -> Option<Join> {
+        let mut tries = 0;
+        loop {
+            match self.try_ask(shared, key) {
+                Ok(join) => return join,
+                Err(Crowded) => pause(&mut tries),
+            }
         }
-        Asked::Loads
     }
 
-    /// The load that it has to run.
+    /// The load that it has to run, and the stamp that its value will have, unless its call is
+    /// forgotten before it is settled.
     #[inline]
-    pub(crate) fn load(&mut self) -> Load<'_, T, P> {
-        if let Some(record) = &self.lead.record {
+    fn load<'a>(&'a mut self, shared: &'a Shared<T>) -> (Load<'a, T>, Stamp) {
+        if let Some(record) = &self.record {
             record.leads();
         }
-        Load(self)
+        let stamp = self.name.stamp;
+        (Load(self, shared), stamp)
     }
 
     /// Which call it leads.
     pub(crate) fn call(&self) -> Option<Call> {
-        (!self.lead.is_none()).then_some(self.lead.name)
+        self.lead.as_ref().map(|_| self.name)
     }
 
-    /// A receiver of what it loads, which is not counted as one who joined.
-    pub(crate) fn own(&mut self) -> Arc<Own<T>> {
+    /// Where a receiver waits for what it loads, which is not counted as one who joined.
+    pub(crate) fn own(&mut self) -> Arc<Post<T>> {
         self.own.insert(Arc::default()).clone()
     }
 
     /// Settles the call that it leads with nothing. Where its job or future was leaked, nobody can
     /// load for it any more.
     #[inline]
-    pub(crate) fn abandon(&mut self) {
-        if !self.lead.is_none() || self.is_alone {
-            self.abandon_load();
+    pub(crate) fn abandon(&mut self, shared: &Shared<T>) {
+        if self.lead.is_some() || self.own.is_some() {
+            self.abandon_load(shared);
         }
     }
 
     #[cold]
     #[inline(never)]
-    fn abandon_load(&mut self) {
-        self.is_alone = false;
-        self.shared.settle_with_nothing(&mut self.lead);
+    fn abandon_load(&mut self, shared: &Shared<T>) {
+        shared.settle(self, None);
+        self.tell_own(None);
+    }
+
+    /// Tells the receiver of the job, if there is one.
+    #[inline]
+    fn tell_own(&mut self, got: Option<&Loaded<T>>) {
         if let Some(own) = self.own.take() {
-            own.end(None);
+            own.tell(Told::new(got, None)).wake();
         }
     }
 
-    /// Gets the key, by the load or from a call of another, however long that takes.
+    /// Gets the key, by the load or from a call of another: none where that takes longer than until
+    /// the deadline. The load is told the stamp that its value will have.
     #[inline]
-    pub(crate) fn get(&mut self, key: &[u8], load: impl FnOnce() -> T) -> Loaded<T> {
-        match self.ask(key) {
-            Asked::Loads => self.run(|_| load()),
-            asked => {
-                let got = self.get_otherwise(key, asked, None, |_| load());
-                got.expect("a wait without a deadline")
-            }
-        }
-    }
-
-    /// Runs the load that it has to run, which is told the stamp that its value will have.
-    #[inline]
-    pub(crate) fn run(&mut self, load: impl FnOnce(Stamp) -> T) -> Loaded<T> {
-        let guard = self.load();
-        let value = load(guard.stamp());
-        guard.end(value)
-    }
-
-    /// The same, and waits no longer than the timeout for a call of another. None then.
-    pub(crate) fn get_timeout(
+    pub(crate) fn get(
         &mut self,
-        key: &[u8],
-        timeout: Duration,
-        load: impl FnOnce() -> T,
-    ) -> Option<Loaded<T>> {
-        self.get_until(key, Instant::now().checked_add(timeout), |_| load())
-    }
-
-    pub(crate) fn get_until(
-        &mut self,
+        shared: &Shared<T>,
         key: &[u8],
         deadline: Option<Instant>,
         load: impl FnOnce(Stamp) -> T,
     ) -> Option<Loaded<T>> {
-        let asked = self.ask(key);
-        self.get_otherwise(key, asked, deadline, load)
-    }
-
-    #[inline(never)]
-    fn get_otherwise(
-        &mut self,
-        key: &[u8],
-        mut asked: Asked,
-        deadline: Option<Instant>,
-        load: impl FnOnce(Stamp) -> T,
-    ) -> Option<Loaded<T>> {
-        let mut tries = 0;
-        loop {
-            let join = match asked {
-                Asked::Loads => return Some(self.run(load)),
-                Asked::Joined(join) => join,
-                Asked::Crowded => {
-                    pause(&mut tries);
-                    asked = self.ask(key);
-                    continue;
-                }
-            };
-            let ticket = Ticket::new(&*self.shared, join);
+        while let Some(join) = self.ask(shared, key) {
+            let ticket = Ticket::new(shared, join);
             if !ticket.wait(deadline) {
                 self.last = None;
                 return None;
@@ -215,31 +141,40 @@ impl<T, P: Deref<Target = Shared<T>>> Asker<T, P> {
                 self.last = Some(got.stamp());
                 return Some(got);
             }
-            asked = self.ask(key);
         }
+        Some(self.run(shared, load))
     }
 
-    /// The same in a task. `make` makes the value of what was loaded and the stamp that it will have,
-    /// before its call is settled.
+    /// Runs the load that it has to run.
+    #[inline]
+    pub(crate) fn run(&mut self, shared: &Shared<T>, load: impl FnOnce(Stamp) -> T) -> Loaded<T> {
+        let (guard, stamp) = self.load(shared);
+        let value = load(stamp);
+        guard.end(value)
+    }
+
+    /// Gets the key in a task. `make` makes the value of what was loaded and the stamp that it will
+    /// have, before its call is settled.
     pub(crate) async fn get_async<R>(
         &mut self,
+        shared: &Shared<T>,
         key: &[u8],
         load: impl Future<Output = R>,
         make: impl FnOnce(R, Stamp) -> T,
     ) -> Loaded<T> {
         loop {
-            let join = match self.ask(key) {
-                Asked::Loads => return self.load_async(load, make).await,
-                Asked::Joined(join) => join,
-                Asked::Crowded => {
+            let join = match self.try_ask(shared, key) {
+                Ok(None) => return self.run_async(shared, load, make).await,
+                Ok(Some(join)) => join,
+                Err(Crowded) => {
                     yield_now().await;
                     continue;
                 }
             };
-            let ticket = Ticket::new(&*self.shared, join);
+            let mut ticket = Ticket::new(shared, join);
             let before = self.last.take();
             // Where it is dropped here it has left the call.
-            let ticket = Waiting(Some(ticket)).await;
+            poll_fn(|context| ticket.poll(context.waker())).await;
             self.last = before;
             if let Some(got) = ticket.read() {
                 self.last = Some(got.stamp());
@@ -249,19 +184,19 @@ impl<T, P: Deref<Target = Shared<T>>> Asker<T, P> {
     }
 
     /// Runs the load that it has to run.
-    pub(crate) async fn load_async<R>(
+    pub(crate) async fn run_async<R>(
         &mut self,
+        shared: &Shared<T>,
         load: impl Future<Output = R>,
         make: impl FnOnce(R, Stamp) -> T,
     ) -> Loaded<T> {
-        let guard = self.load();
+        let (guard, stamp) = self.load(shared);
         // The load is dropped before its call is settled: so it has ended when another begins.
         let loaded = {
             let load = pin!(load);
             load.await
         };
-        let value = make(loaded, guard.stamp());
-        guard.end(value)
+        guard.end(make(loaded, stamp))
     }
 }
 

@@ -10,6 +10,7 @@
 //! begins with the number of the era. `invalidate_all` begins a new era, so no later call joins a load
 //! of an era before.
 
+use crate::asker::Asker;
 use crate::hash::Fingerprints;
 use crate::keyed::Handle;
 use crate::sync::{at, lock, point};
@@ -311,13 +312,13 @@ struct Own<V> {
 impl<V> Own<V> {
     fn is_current<T: Send + Sync>(&mut self, group: &Group<T>, stamp: Stamp) -> bool {
         if !self.handle.is_open() {
-            match group.shared.split() {
+            match group.shared.places.split() {
                 Some(handle) => self.handle = handle,
                 None => return group.is_current(stamp),
             }
         }
         point();
-        !stamp.is_none() && self.handle.is_still(&stamp.0)
+        !stamp.is_none() && self.handle.is_still(&stamp)
     }
 
     /// The place of a fingerprint, where there are places.
@@ -1157,7 +1158,7 @@ impl<V: Send + Sync, E: Send + Sync> Cache<V, E> {
             Some(value) => Ok(value),
             None => self.came((key, fingerprint, era), load(), stamp, &mut left),
         };
-        let got = self.group.asker().get_until(&name(era, key), None, load);
+        let got = Asker::new().get(&self.group.shared, &name(era, key), None, load);
         self.tell(left);
         (*got.expect("a wait without a deadline").value).clone()
     }
@@ -1184,7 +1185,7 @@ impl<V: Send + Sync, E: Send + Sync> Cache<V, E> {
             Ok(loaded) => self.came(of, loaded, stamp, &mut left),
             Err(value) => Ok(value),
         };
-        let got = self.group.asker().get_async(&name(era, key), load, keep).await;
+        let got = Asker::new().get_async(&self.group.shared, &name(era, key), load, keep).await;
         self.tell(left);
         (*got.value).clone()
     }

@@ -1,11 +1,13 @@
 //! A caller: what a thread or task keeps that asks many times.
 
 use crate::asker::Asker;
-use crate::lease::Lease;
+use crate::chan::Leader;
+use crate::shared::Shared;
 use crate::{Call, Error, ForgetOutcome, Job, Loaded, Receiver, Stamp};
 use std::fmt;
 use std::future::Future;
-use std::time::Duration;
+use std::sync::Arc;
+use std::time::{Duration, Instant};
 
 /// A caller of a group, for one thread or task at a time. [`Group::caller`](crate::Group::caller)
 /// returns one.
@@ -27,17 +29,20 @@ use std::time::Duration;
 ///     }
 /// });
 /// ```
-pub struct Caller<T>(pub(crate) Asker<T, Lease<T>>);
+pub struct Caller<T> {
+    pub(crate) shared: Arc<Shared<T>>,
+    pub(crate) asker: Asker<T>,
+}
 
-impl<T> fmt::Debug for Caller<T> {
-    fn fmt(&self, f: &mut fmt::Formatter<'_>) -> fmt::Result {
-        f.debug_struct("Caller").field("last", &self.0.last).finish_non_exhaustive()
+impl<T> Drop for Caller<T> {
+    fn drop(&mut self) {
+        self.asker.abandon(&self.shared);
     }
 }
 
-impl<T> Caller<T> {
-    pub(crate) fn of(lease: Lease<T>) -> Self {
-        Caller(Asker::new(lease))
+impl<T> fmt::Debug for Caller<T> {
+    fn fmt(&self, f: &mut fmt::Formatter<'_>) -> fmt::Result {
+        f.debug_struct("Caller").field("last", &self.asker.last).finish_non_exhaustive()
     }
 }
 
@@ -51,7 +56,8 @@ impl<T: Send + Sync> Caller<T> {
     /// assert!(*got.value == 7 && got.led && !got.shared());
     /// ```
     pub fn get_or_load(&mut self, key: impl AsRef<[u8]>, load: impl FnOnce() -> T) -> Loaded<T> {
-        self.0.get(key.as_ref(), load)
+        let got = self.asker.get(&self.shared, key.as_ref(), None, |_| load());
+        got.expect("a wait without a deadline")
     }
 
     /// Returns the value of the key, as
@@ -77,7 +83,9 @@ impl<T: Send + Sync> Caller<T> {
         timeout: Duration,
         load: impl FnOnce() -> T,
     ) -> Result<Loaded<T>, Error> {
-        self.0.get_timeout(key.as_ref(), timeout, load).ok_or(Error::TimedOut)
+        let deadline = Instant::now().checked_add(timeout);
+        let got = self.asker.get(&self.shared, key.as_ref(), deadline, |_| load());
+        got.ok_or(Error::TimedOut)
     }
 
     /// Returns the value of the key in a task, as
@@ -105,7 +113,8 @@ impl<T: Send + Sync> Caller<T> {
         key: impl AsRef<[u8]>,
         load: impl Future<Output = T>,
     ) -> Loaded<T> {
-        self.0.get_async(key.as_ref(), load, |value, _| value).await
+        let Caller { shared, asker } = self;
+        asker.get_async(shared, key.as_ref(), load, |value, _| value).await
     }
 
     /// Joins the key's open call or leads a new one, as
@@ -123,7 +132,7 @@ impl<T: Send + Sync> Caller<T> {
     /// assert_eq!(waits.join().unwrap(), 7);
     /// ```
     pub fn subscribe(&mut self, key: impl AsRef<[u8]>) -> (Receiver<T>, Option<Job<'_, T>>) {
-        Job::subscribe(self.into(), key.as_ref())
+        Job::subscribe(Leader::Lent(self), key.as_ref())
     }
 
     /// Forgets the key, as [`Group::forget`](crate::Group::forget) does.
@@ -138,8 +147,8 @@ impl<T: Send + Sync> Caller<T> {
     /// });
     /// ```
     pub fn forget(&mut self, key: impl AsRef<[u8]>) -> bool {
-        self.0.abandon();
-        self.0.shared.forget(key.as_ref())
+        self.asker.abandon(&self.shared);
+        self.shared.forget(key.as_ref())
     }
 
     /// Forgets one call of the key, as [`Group::forget_call`](crate::Group::forget_call) does.
@@ -153,8 +162,8 @@ impl<T: Send + Sync> Caller<T> {
     /// assert_eq!(caller.forget_call("key", stale), ForgetOutcome::Missed);
     /// ```
     pub fn forget_call(&mut self, key: impl AsRef<[u8]>, call: Call) -> ForgetOutcome {
-        self.0.abandon();
-        self.0.shared.forget_call(key.as_ref(), call)
+        self.asker.abandon(&self.shared);
+        self.shared.forget_call(key.as_ref(), call)
     }
 
     /// Returns whether a value with this stamp may still be used, as
@@ -169,8 +178,8 @@ impl<T: Send + Sync> Caller<T> {
     /// assert!(!second.is_current(stamp));
     /// ```
     pub fn is_current(&mut self, stamp: Stamp) -> bool {
-        self.0.abandon();
-        self.0.shared.is_current(stamp)
+        self.asker.abandon(&self.shared);
+        self.shared.is_current(stamp)
     }
 
     /// Returns whether the value that this caller got last may still be used. It returns `None` if
@@ -187,7 +196,7 @@ impl<T: Send + Sync> Caller<T> {
     /// assert_eq!(caller.last_is_current(), Some(false));
     /// ```
     pub fn last_is_current(&mut self) -> Option<bool> {
-        let stamp = self.0.last?;
+        let stamp = self.asker.last?;
         Some(self.is_current(stamp))
     }
 }

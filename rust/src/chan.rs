@@ -1,62 +1,43 @@
 //! Calls whose value comes to a receiver, and whose load is a job.
 
-use crate::asker::Asked;
-use crate::lease::Lease;
-use crate::post::Post;
-use crate::sync::{lock, pause};
-use crate::wait::Ticket;
+use crate::post::Ticket;
+use crate::shared::Shared;
 use crate::{Call, Caller, Loaded, Stamp};
 use std::fmt;
 use std::future::Future;
 use std::pin::Pin;
 use std::sync::mpsc::{RecvError, RecvTimeoutError, TryRecvError};
-use std::sync::{Arc, Mutex};
+use std::sync::Arc;
 use std::task::{Context, Poll};
 use std::time::{Duration, Instant};
 
 /// A load that has to be run, by any thread or task. If the job is dropped, its call ends without a
 /// value: its receivers get an error, and callers that joined load themselves.
 #[must_use = "a job that is dropped ends its call without a value"]
-pub struct Job<'a, T> {
-    caller: Handle<'a, T>,
-}
+pub struct Job<'a, T>(Leader<'a, T>);
 
 /// A caller that the job has, or has borrowed.
-pub(crate) enum Handle<'a, T> {
+pub(crate) enum Leader<'a, T> {
     Own(Caller<T>),
     Lent(&'a mut Caller<T>),
 }
 
-impl<'a, T> From<&'a mut Caller<T>> for Handle<'a, T> {
-    fn from(caller: &'a mut Caller<T>) -> Self {
-        Handle::Lent(caller)
-    }
-}
-
-impl<T> Handle<'_, T> {
+impl<T> Leader<'_, T> {
     fn caller(&mut self) -> &mut Caller<T> {
         match self {
-            Handle::Own(caller) => caller,
-            Handle::Lent(caller) => caller,
+            Leader::Own(caller) => caller,
+            Leader::Lent(caller) => caller,
         }
     }
 }
 
 impl<'a, T> Job<'a, T> {
-    pub(crate) fn subscribe(mut caller: Handle<'a, T>, key: &[u8]) -> (Receiver<T>, Option<Self>) {
-        let asker = &mut caller.caller().0;
-        let mut tries = 0;
-        let join = loop {
-            match asker.ask(key) {
-                Asked::Loads => break None,
-                Asked::Joined(join) => break Some(join),
-                Asked::Crowded => pause(&mut tries),
-            }
-        };
-        match join {
-            None => (Receiver(Source::Own(asker.own(), 0)), Some(Job { caller })),
-            Some(join) => (Receiver(Source::Call(Ticket::new(asker.shared.clone(), join))), None),
+    pub(crate) fn subscribe(mut leader: Leader<'a, T>, key: &[u8]) -> (Receiver<T>, Option<Self>) {
+        let Caller { shared, asker } = leader.caller();
+        if let Some(join) = asker.ask(shared, key) {
+            return (Receiver(Some(Ticket::new(shared.clone(), join))), None);
         }
+        (Receiver(Some(Ticket::of(asker.own()))), Some(Job(leader)))
     }
 
     /// Returns the call that the job leads, for [`Group::forget_call`](crate::Group::forget_call);
@@ -70,9 +51,9 @@ impl<'a, T> Job<'a, T> {
     /// assert_eq!(group.forget_call("key", call), ForgetOutcome::Closed);
     /// ```
     pub fn call(&self) -> Option<Call> {
-        match &self.caller {
-            Handle::Own(caller) => caller.0.call(),
-            Handle::Lent(caller) => caller.0.call(),
+        match &self.0 {
+            Leader::Own(caller) => caller.asker.call(),
+            Leader::Lent(caller) => caller.asker.call(),
         }
     }
 
@@ -90,7 +71,8 @@ impl<'a, T> Job<'a, T> {
 
     /// The same, with the stamp that the value will have.
     pub(crate) fn run_with(mut self, load: impl FnOnce(Stamp) -> T) -> Loaded<T> {
-        self.caller.caller().0.run(load)
+        let Caller { shared, asker } = self.0.caller();
+        asker.run(shared, load)
     }
 
     /// Awaits the load, settles the call with its value, and returns that value. If the future is
@@ -107,14 +89,16 @@ impl<'a, T> Job<'a, T> {
     /// assert_eq!(*receiver.recv().unwrap().value, 7);
     /// ```
     pub async fn run_async(mut self, load: impl Future<Output = T>) -> Loaded<T> {
-        self.caller.caller().0.load_async(load, |value, _| value).await
+        let Caller { shared, asker } = self.0.caller();
+        asker.run_async(shared, load, |value, _| value).await
     }
 }
 
 impl<T> Drop for Job<'_, T> {
     fn drop(&mut self) {
         // It does nothing where it was run.
-        self.caller.caller().0.abandon();
+        let Caller { shared, asker } = self.0.caller();
+        asker.abandon(shared);
     }
 }
 
@@ -122,37 +106,6 @@ impl<T> fmt::Debug for Job<'_, T> {
     fn fmt(&self, f: &mut fmt::Formatter<'_>) -> fmt::Result {
         f.debug_struct("Job").finish_non_exhaustive()
     }
-}
-
-/// What the receiver of a job waits on: it is not counted as one who joined the job's call.
-pub(crate) struct Own<T> {
-    post: Post,
-    got: Mutex<Option<Loaded<T>>>,
-}
-
-impl<T> Default for Own<T> {
-    fn default() -> Self {
-        Own { post: Post::default(), got: Mutex::new(None) }
-    }
-}
-
-/// The generation of the only call of its post.
-const ONLY: u64 = 1;
-
-impl<T> Own<T> {
-    /// The job has ended, with a value or without one.
-    pub(crate) fn end(&self, got: Option<&Loaded<T>>) {
-        *lock(&self.got) = got.map(|got| Loaded { led: false, ..got.clone() });
-        self.post.tell(ONLY).wake();
-    }
-}
-
-enum Source<T> {
-    Call(Ticket<T, Lease<T>>),
-    /// Of its own job, with the number of its task's waker.
-    Own(Arc<Own<T>>, u64),
-    // The value was taken, or there was none.
-    Nothing,
 }
 
 /// Receives the value of a call, once: in a thread with [`Receiver::recv`], in a task with
@@ -170,7 +123,10 @@ enum Source<T> {
 /// # assert_eq!(value, 7);
 /// ```
 #[must_use = "a receiver that is dropped leaves its call"]
-pub struct Receiver<T>(Source<T>);
+pub struct Receiver<T>(
+    // None once the value was taken.
+    Option<Ticket<T, Arc<Shared<T>>>>,
+);
 
 impl<T> Receiver<T> {
     /// Returns the value if it is there.
@@ -187,12 +143,7 @@ impl<T> Receiver<T> {
     /// assert_eq!(*receiver.try_recv().unwrap().value, 7);
     /// ```
     pub fn try_recv(&mut self) -> Result<Loaded<T>, TryRecvError> {
-        let is_told = match &self.0 {
-            Source::Call(ticket) => ticket.is_told(),
-            Source::Own(own, _) => own.post.is_told(ONLY),
-            Source::Nothing => true,
-        };
-        if !is_told {
+        if self.0.as_ref().is_some_and(|ticket| !ticket.is_told()) {
             return Err(TryRecvError::Empty);
         }
         self.read().ok_or(TryRecvError::Disconnected)
@@ -236,19 +187,11 @@ impl<T> Receiver<T> {
     }
 
     fn wait(&self, deadline: Option<Instant>) -> bool {
-        match &self.0 {
-            Source::Call(ticket) => ticket.wait(deadline),
-            Source::Own(own, _) => own.post.wait(ONLY, deadline),
-            Source::Nothing => true,
-        }
+        self.0.as_ref().is_none_or(|ticket| ticket.wait(deadline))
     }
 
     fn read(&mut self) -> Option<Loaded<T>> {
-        match std::mem::replace(&mut self.0, Source::Nothing) {
-            Source::Call(ticket) => ticket.read(),
-            Source::Own(own, _) => lock(&own.got).take(),
-            Source::Nothing => None,
-        }
+        self.0.take()?.read()
     }
 }
 
@@ -256,26 +199,10 @@ impl<T> Future for Receiver<T> {
     type Output = Result<Loaded<T>, RecvError>;
 
     fn poll(mut self: Pin<&mut Self>, context: &mut Context<'_>) -> Poll<Self::Output> {
-        let is_told = match &mut self.0 {
-            Source::Call(ticket) => ticket.poll(context.waker()).is_ready(),
-            Source::Own(own, waker) => own.post.poll(ONLY, waker, context.waker()),
-            Source::Nothing => true,
-        };
-        if !is_told {
+        if self.0.as_mut().is_some_and(|ticket| ticket.poll(context.waker()).is_pending()) {
             return Poll::Pending;
         }
         Poll::Ready(self.read().ok_or(RecvError))
-    }
-}
-
-// Nothing of it is pinned.
-impl<T> Unpin for Receiver<T> {}
-
-impl<T> Drop for Receiver<T> {
-    fn drop(&mut self) {
-        if let Source::Own(own, waker) = &self.0 {
-            drop(own.post.give_up(ONLY, *waker, &mut None));
-        }
     }
 }
 

@@ -95,7 +95,7 @@ mod caller;
 mod chan;
 mod hash;
 mod keyed;
-mod lease;
+mod near;
 mod places;
 mod post;
 mod recording;
@@ -105,8 +105,11 @@ mod schedules;
 #[path = "schedules/elsewhere.rs"]
 mod schedules;
 mod shared;
+#[cfg(not(test))]
 mod sync;
-mod wait;
+#[cfg(test)]
+#[path = "schedules/sync.rs"]
+mod sync;
 
 #[cfg(test)]
 mod orders;
@@ -119,15 +122,14 @@ struct Readme;
 use asker::Asker;
 pub use cache::{Cache, CacheBuilder, CacheStats, WriteToken};
 pub use caller::Caller;
-use chan::Handle;
+use chan::Leader;
 pub use chan::{Job, Receiver};
-use lease::Owner;
 pub use recording::{RecordError, Recorded, Recording};
 use shared::Shared;
 use std::fmt;
 use std::future::Future;
 use std::sync::Arc;
-use std::time::Duration;
+use std::time::{Duration, Instant};
 
 /// For how many concurrent loads a new group has room, and for how many it can have at first.
 const LOADS: u32 = 64;
@@ -203,7 +205,7 @@ impl std::error::Error for Error {}
 /// let group = singleflight::Group::<std::cell::Cell<u32>>::new();
 /// ```
 pub struct Group<T> {
-    shared: Arc<Owner<T>>,
+    shared: Arc<Shared<T>>,
 }
 
 /// The numbers of a group. [`Group::stats`] returns them. Each has the meaning that it has in
@@ -281,15 +283,20 @@ impl Call {
 /// let stamp = group.get_or_load("key", || 1).stamp();
 /// assert!(group.is_current(stamp) && !group.is_current(Stamp::default()));
 /// ```
+#[repr(C)]
 #[derive(Clone, Copy, Debug, PartialEq, Eq, Hash)]
-pub struct Stamp(keyed::Stamp);
+pub struct Stamp {
+    table: u64,
+    slot: u64,
+    age: u64,
+}
 
 impl Stamp {
     /// A table that there is not.
-    const NONE: Stamp = Stamp(keyed::Stamp { table: u64::MAX, slot: 0, age: 0 });
+    const NONE: Stamp = Stamp { table: u64::MAX, slot: 0, age: 0 };
 
     fn is_none(&self) -> bool {
-        self.0.table == Self::NONE.0.table
+        self.table == Self::NONE.table
     }
 }
 
@@ -390,13 +397,7 @@ impl<T: Send + Sync> Group<T> {
         if !(1..=MOST_LOADS).contains(&loads) {
             return Err(Error::Loads(loads));
         }
-        Ok(Group { shared: Arc::new(Owner::new(Shared::open(loads)?)) })
-    }
-
-    // One who asks once.
-    #[inline]
-    fn asker(&self) -> Asker<T, &Shared<T>> {
-        Asker::new(&**self.shared)
+        Ok(Group { shared: Arc::new(Shared::open(loads)?) })
     }
 
     /// Returns the value of the key. If a call of the key is open, it joins that call, and blocks
@@ -412,7 +413,8 @@ impl<T: Send + Sync> Group<T> {
     /// assert!(*got.value == "Ada" && got.led);
     /// ```
     pub fn get_or_load(&self, key: impl AsRef<[u8]>, load: impl FnOnce() -> T) -> Loaded<T> {
-        self.asker().get(key.as_ref(), load)
+        let got = Asker::new().get(&self.shared, key.as_ref(), None, |_| load());
+        got.expect("a wait without a deadline")
     }
 
     /// Returns the value of the key, and waits no longer than the timeout for the load of another
@@ -423,7 +425,7 @@ impl<T: Send + Sync> Group<T> {
     ///
     /// ```
     /// use singleflight::{Error, Group};
-    /// use std::time::Duration;
+    /// use std::time::{Duration, Instant};
     ///
     /// let group = Group::<u32>::new();
     /// group.get_or_load("key", || {
@@ -438,7 +440,9 @@ impl<T: Send + Sync> Group<T> {
         timeout: Duration,
         load: impl FnOnce() -> T,
     ) -> Result<Loaded<T>, Error> {
-        self.asker().get_timeout(key.as_ref(), timeout, load).ok_or(Error::TimedOut)
+        let deadline = Instant::now().checked_add(timeout);
+        let got = Asker::new().get(&self.shared, key.as_ref(), deadline, |_| load());
+        got.ok_or(Error::TimedOut)
     }
 
     /// Returns the value of the key in a task: from the key's open call, or by awaiting `load`. The
@@ -467,8 +471,8 @@ impl<T: Send + Sync> Group<T> {
         K: AsRef<[u8]>,
         F: Future<Output = T>,
     {
-        let lease = self.shared.lease();
-        async move { Asker::new(lease).get_async(key.as_ref(), load, |value, _| value).await }
+        let shared = self.shared.clone();
+        async move { Asker::new().get_async(&shared, key.as_ref(), load, |value, _| value).await }
     }
 
     /// Joins the key's open call, or leads a new one. Returns a receiver of its value and, if it
@@ -489,7 +493,7 @@ impl<T: Send + Sync> Group<T> {
     where
         T: 'a,
     {
-        Job::subscribe(Handle::Own(self.caller()), key.as_ref())
+        Job::subscribe(Leader::Own(self.caller()), key.as_ref())
     }
 
     /// Forgets the key: a caller that asks from now on never receives a value whose load began
@@ -547,7 +551,7 @@ impl<T: Send + Sync> Group<T> {
     /// assert_eq!(*got.value, 7);
     /// ```
     pub fn caller(&self) -> Caller<T> {
-        Caller::of(self.shared.lease())
+        Caller { shared: self.shared.clone(), asker: Asker::new() }
     }
 
     /// Begins to write to the writer what the group's calls do, until [`Recording::stop`]: records
@@ -604,7 +608,7 @@ impl<T: Send + Sync> Group<T> {
     /// assert!(group.stats().loads == 1 && group.stats().in_use == 0);
     /// ```
     pub fn stats(&self) -> Stats {
-        self.shared.stats()
+        self.shared.places.stats()
     }
 }
 
@@ -622,6 +626,6 @@ impl<T: Send + Sync> Default for Group<T> {
 
 impl<T> fmt::Debug for Group<T> {
     fn fmt(&self, f: &mut fmt::Formatter<'_>) -> fmt::Result {
-        f.debug_struct("Group").field("stats", &self.shared.stats()).finish()
+        f.debug_struct("Group").field("stats", &self.shared.places.stats()).finish()
     }
 }

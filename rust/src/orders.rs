@@ -614,7 +614,7 @@ impl Play {
     }
 
     fn tables(&self) -> u64 {
-        self.world.group.shared.size().tables
+        self.world.group.shared.places.size().tables
     }
 
     // Loads inside each other, until the group has grown, or in plain Rust a hundred.

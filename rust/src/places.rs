@@ -2,8 +2,7 @@
 //! threads share no lock.
 
 use crate::keyed::{self, Handle};
-use crate::post::Told;
-use crate::sync::{Near, NearGuard};
+use crate::near::{Near, NearGuard};
 use crate::{Error, Stats};
 use std::cell::Cell;
 use std::collections::hash_map::RandomState;
@@ -12,15 +11,11 @@ use std::num::NonZero;
 use std::sync::atomic::{AtomicUsize, Ordering::Relaxed};
 use std::sync::OnceLock;
 
-/// As many processors as this process may use.
-pub(crate) fn processors() -> usize {
+/// How many places a group has, a power of two: enough for the threads that run at one time.
+fn place_count() -> usize {
     static PROCESSORS: OnceLock<usize> = OnceLock::new();
-    *PROCESSORS.get_or_init(|| std::thread::available_parallelism().map_or(1, NonZero::get))
-}
-
-/// How many places there are, a power of two: enough for the threads that run at one time.
-pub(crate) fn place_count() -> usize {
-    processors().next_power_of_two().clamp(4, 64)
+    let count = || std::thread::available_parallelism().map_or(1, NonZero::get);
+    PROCESSORS.get_or_init(count).next_power_of_two().clamp(4, 64)
 }
 
 /// So many idle calls are kept in a place.
@@ -28,11 +23,9 @@ const IDLE: usize = 64;
 
 /// A handle, which one thread at a time uses for one step. While it has it, it runs nothing of the
 /// user's, and does not sleep.
-pub(crate) struct Seat<T> {
+pub(crate) struct Seat {
     pub(crate) handle: Handle,
     idle: Vec<keyed::Call>,
-    /// For the value of the next call.
-    pub(crate) spare: Option<Box<Told<T>>>,
     /// What was done by this handle.
     pub(crate) loads: u64,
     pub(crate) joins: u64,
@@ -40,11 +33,7 @@ pub(crate) struct Seat<T> {
     settles: u64,
 }
 
-impl<T> Seat<T> {
-    fn new(handle: Handle) -> Self {
-        Seat { handle, idle: Vec::new(), spare: None, loads: 0, joins: 0, forgets: 0, settles: 0 }
-    }
-
+impl Seat {
     /// An idle call. None where there is no memory for one.
     #[inline]
     pub(crate) fn take(&mut self) -> Option<keyed::Call> {
@@ -56,16 +45,14 @@ impl<T> Seat<T> {
     pub(crate) fn settle(
         &mut self,
         mut call: keyed::Call,
-        number: u64,
     ) -> Option<(keyed::Audience, keyed::Call)> {
         self.settles += 1;
-        match self.handle.settle(&mut call, number) {
-            None => {
-                self.put(call);
-                None
-            }
-            Some(audience) => Some((audience, call)),
+        let audience = self.handle.settle(&mut call);
+        if audience.is_none() {
+            self.put(call);
+            return None;
         }
+        audience.map(|audience| (audience, call))
     }
 
     /// The call is idle again.
@@ -79,24 +66,27 @@ impl<T> Seat<T> {
 
 /// No two lie in one line of memory.
 #[repr(align(128))]
-struct Place<T>(Near<Seat<T>>);
+struct Place(Near<Seat>);
 
 /// Places for handles, among which each thread has one that it tries first. That of the first place
 /// is always open, and the others are split off from it.
-pub(crate) struct Places<T>(Box<[Place<T>]>);
+pub(crate) struct Places(Box<[Place]>);
 
-impl<T> Places<T> {
+impl Places {
     pub(crate) fn open(cells: u32) -> Result<Self, Error> {
         let random = RandomState::new();
         let first = Handle::open(cells, [0, 1].map(|number: u64| random.hash_one(number)))?;
         let more = (1..place_count()).map(|_| Handle::NONE);
-        let place = |handle| Place(Near::new(Seat::new(handle)));
+        let place = |handle| {
+            let idle = Vec::new();
+            Place(Near::new(Seat { handle, idle, loads: 0, joins: 0, forgets: 0, settles: 0 }))
+        };
         Ok(Places(std::iter::once(first).chain(more).map(place).collect()))
     }
 
     /// Runs with a handle.
     #[inline]
-    pub(crate) fn with<R>(&self, run: impl FnOnce(&mut Seat<T>) -> R) -> R {
+    pub(crate) fn with<R>(&self, run: impl FnOnce(&mut Seat) -> R) -> R {
         let own = thread_number() & (self.0.len() - 1);
         let mut seat = match self.0[own].0.try_lock() {
             Some(seat) => seat,
@@ -110,34 +100,36 @@ impl<T> Places<T> {
 
     #[cold]
     #[inline(never)]
-    fn elsewhere(&self, own: usize) -> NearGuard<'_, Seat<T>> {
+    fn elsewhere(&self, own: usize) -> NearGuard<'_, Seat> {
         let (before, after) = self.0.split_at(own);
         let mut places = after.iter().chain(before);
         places.find_map(|place| place.0.try_lock()).unwrap_or_else(|| self.0[own].0.lock())
     }
 
+    /// This place with its handle opened; or the first one, where there is no memory for a handle.
     #[cold]
     #[inline(never)]
-    fn opened<'a>(&'a self, mut seat: NearGuard<'a, Seat<T>>) -> NearGuard<'a, Seat<T>> {
-        if self.open_one().handle.split(&mut seat.handle) {
-            return seat;
+    fn opened<'a>(&'a self, mut seat: NearGuard<'a, Seat>) -> NearGuard<'a, Seat> {
+        // Whoever has the first place waits for no other.
+        let mut first = self.0[0].0.lock();
+        match first.handle.split() {
+            None => first,
+            Some(handle) => {
+                seat.handle = handle;
+                seat
+            }
         }
-        // There is no memory.
-        drop(seat);
-        self.open_one()
     }
 
     /// A handle of the group that belongs to no place. None where there is no memory.
     pub(crate) fn split(&self) -> Option<Handle> {
-        let mut handle = Handle::NONE;
-        self.open_one().handle.split(&mut handle).then_some(handle)
+        self.0[0].0.lock().handle.split()
     }
 
-    /// A place whose handle is open. The thread may have another place, whose handle is not: whoever
-    /// has one that is open waits for no other.
-    fn open_one(&self) -> NearGuard<'_, Seat<T>> {
-        let mut open = self.0.iter().filter_map(|place| place.0.try_lock());
-        open.find(|seat| seat.handle.is_open()).unwrap_or_else(|| self.0[0].0.lock())
+    /// How large the group is, as far as a handle near the thread knows.
+    #[cfg(test)]
+    pub(crate) fn size(&self) -> keyed::Size {
+        self.with(|seat| seat.handle.measure())
     }
 
     pub(crate) fn stats(&self) -> Stats {

@@ -1,155 +1,99 @@
-//! Posts: what the callers that joined a call wait on, by the table and cell of the call. And what
-//! a call is settled with, which goes through the keyed group as a number of 64 bits.
+//! Posts: where the value of a call is left for those who joined it, and where they wait for it:
+//! threads that sleep, and tasks that are woken.
 //!
-//! Only those who lead or hold a call touch its post. Its cell is nobody else's until the last of
-//! them has left, and the generation tells the calls of one cell apart.
+//! A call has a post once somebody joined it: whoever comes first, a joiner or the leader that has
+//! settled the call, makes it, by the call's name. No two calls have one name, so a post is of one
+//! call. The last that leaves the call takes its post away.
 
 use crate::keyed::Id;
 use crate::recording::{now, CallRecord, Noted};
-use crate::sync::{instant, lock, sleep};
-use crate::Stamp;
+use crate::shared::{Join, Shared};
+use crate::sync::{at, instant, lock, point, sleep};
+use crate::Loaded;
 use std::collections::BTreeMap;
+use std::ops::Deref;
 use std::panic::{catch_unwind, AssertUnwindSafe};
-use std::sync::atomic::{
-    AtomicU64,
-    Ordering::{Acquire, Release},
-};
 use std::sync::{Arc, Condvar, Mutex, OnceLock};
-use std::task::Waker;
+use std::task::{Poll, Waker};
 use std::time::Instant;
 
-/// What a call is settled with, unless it ends without a value. The leader fills it once it has
-/// settled the call, if somebody joined it, and then marks the post. Nobody looks at it before the
-/// mark.
+/// What those who joined a call are told.
 pub(crate) struct Told<T> {
-    /// None before it is filled.
-    pub(crate) value: Option<Arc<T>>,
-    pub(crate) joiners: u32,
-    pub(crate) stamp: Stamp,
+    /// None where the call ended without a value.
+    pub(crate) got: Option<Loaded<T>>,
     /// Of the call, if that is recorded.
     pub(crate) record: Option<Arc<CallRecord>>,
 }
 
 impl<T> Told<T> {
-    pub(crate) fn new() -> Box<Self> {
-        Box::new(Told { value: None, joiners: 0, stamp: Stamp::NONE, record: None })
-    }
-
-    /// The number with which a call is settled, which is not 0. If the call is told, it has to be
-    /// given away by [`Told::into_number`].
-    #[inline]
-    pub(crate) fn number(self: &mut Box<Self>) -> u64 {
-        (&raw mut **self).expose_provenance() as u64
-    }
-
-    /// Gives it to those who hold the call that was settled with its number.
-    pub(crate) fn into_number(self: Box<Self>) -> u64 {
-        Box::into_raw(self).expose_provenance() as u64
-    }
-
-    /// What the number stands for. None where the call ended without a value.
-    ///
-    /// # Safety
-    /// The number is one of [`Told::into_number`] for this type, or 0, and was not given to
-    /// [`Told::take`]. The caller holds the call that was settled with it, for as long as it uses
-    /// the reference: the last that leaves the call takes it.
-    #[inline]
-    pub(crate) unsafe fn see<'a>(number: u64) -> Option<&'a Self> {
-        // SAFETY: it was a box, which nobody takes before the caller has left.
-        unsafe { std::ptr::with_exposed_provenance::<Self>(number as usize).as_ref() }
-    }
-
-    /// Takes it back.
-    ///
-    /// # Safety
-    /// The number is one of [`Told::into_number`] for this type, or 0, and the caller was the last
-    /// that left the call which was settled with it.
-    #[inline]
-    pub(crate) unsafe fn take(number: u64) -> Option<Box<Self>> {
-        let at = std::ptr::with_exposed_provenance_mut::<Self>(number as usize);
-        // SAFETY: it was a box, and nobody else has it, nor will.
-        (!at.is_null()).then(|| unsafe { Box::from_raw(at) })
+    pub(crate) fn new(got: Option<&Loaded<T>>, record: Option<Arc<CallRecord>>) -> Self {
+        Told { got: got.map(|got| Loaded { led: false, ..got.clone() }), record }
     }
 }
 
-/// What those who joined a call wait on.
-#[derive(Default)]
-pub(crate) struct Post {
-    // The generation of the last call that is settled, and whose leader has said so here.
-    told: AtomicU64,
+pub(crate) struct Post<T> {
+    told: OnceLock<Told<T>>,
     waits: Mutex<Waits>,
     settled: Condvar,
 }
 
+/// Those who wait for a call.
 #[derive(Default)]
-struct Waits {
-    asleep: u32,
+pub(crate) struct Waits {
+    has_sleepers: bool,
     wakers: BTreeMap<u64, Waker>,
     next: u64,
     // Those who have left, if they are recorded, and when.
-    left: Vec<(Noted, u64)>,
-}
-
-/// Those who waited for a call that is settled now.
-pub(crate) struct Woken {
-    wakers: BTreeMap<u64, Waker>,
     pub(crate) left: Vec<(Noted, u64)>,
 }
 
-impl Post {
-    #[inline]
-    pub(crate) fn is_told(&self, generation: u64) -> bool {
-        self.told.load(Acquire) == generation
+impl<T> Default for Post<T> {
+    fn default() -> Self {
+        Post { told: OnceLock::new(), waits: Mutex::default(), settled: Condvar::new() }
     }
+}
 
-    /// Says that the call is settled: wakes threads, and returns the tasks to wake. A joiner looks
-    /// for the mark with the lock held before it sleeps or leaves its waker, so it sees the mark,
-    /// or is found here.
-    pub(crate) fn tell(&self, generation: u64) -> Woken {
+impl<T> Post<T> {
+    /// Tells what the call came to: wakes threads, and returns the tasks to wake. A joiner looks
+    /// whether it is told with the lock held before it sleeps or leaves its waker, so it sees it, or
+    /// is found here.
+    pub(crate) fn tell(&self, told: Told<T>) -> Waits {
         let mut waits = lock(&self.waits);
-        self.told.store(generation, Release);
-        let woken = Woken {
-            wakers: std::mem::take(&mut waits.wakers),
-            left: std::mem::take(&mut waits.left),
-        };
-        let asleep = waits.asleep > 0;
+        self.told.get_or_init(|| told);
+        let woken = std::mem::take(&mut *waits);
         drop(waits);
-        if asleep {
+        if woken.has_sleepers {
             self.settled.notify_all();
         }
         woken
     }
 
     /// Sleeps until the call is told, or until the deadline: whether it is told.
-    pub(crate) fn wait(&self, generation: u64, deadline: Option<Instant>) -> bool {
+    fn wait(&self, deadline: Option<Instant>) -> bool {
         let mut waits = lock(&self.waits);
-        while !self.is_told(generation) {
-            let time = match deadline {
-                None => None,
-                Some(deadline) => match deadline.checked_duration_since(instant()) {
-                    Some(time) => Some(time),
-                    None => return false,
-                },
-            };
-            waits.asleep += 1;
-            waits = sleep(&self.settled, &self.waits, waits, time);
-            waits.asleep -= 1;
+        while self.told.get().is_none() {
+            let time = deadline.map(|deadline| deadline.checked_duration_since(instant()));
+            if time == Some(None) {
+                return false;
+            }
+            waits.has_sleepers = true;
+            waits = sleep(&self.settled, &self.waits, waits, time.flatten());
         }
         true
     }
 
     /// Whether the call is told; else the task is woken when it is. `own` is the number of the
     /// task's waker here, which is 0 before it has one.
-    pub(crate) fn poll(&self, generation: u64, own: &mut u64, waker: &Waker) -> bool {
-        if self.is_told(generation) {
-            return true;
+    fn poll(&self, own: &mut u64, waker: &Waker) -> Poll<()> {
+        if self.told.get().is_some() {
+            return Poll::Ready(());
         }
         // A waker's code runs without the lock: it may ask the group itself.
         let waker = waker.clone();
         let mut waits = lock(&self.waits);
-        if self.is_told(generation) {
+        if self.told.get().is_some() {
             drop(waits);
-            return true;
+            return Poll::Ready(());
         }
         if *own == 0 {
             waits.next += 1;
@@ -158,24 +102,16 @@ impl Post {
         let before = waits.wakers.insert(*own, waker);
         drop(waits);
         drop(before);
-        false
+        Poll::Pending
     }
 
     /// One who joined gives up: if it is recorded, it is noted as one who has left. Returns its
     /// waker, which is dropped when it has left: the waker's code may panic. Where the call is told
     /// nothing is done.
-    pub(crate) fn give_up(
-        &self,
-        generation: u64,
-        own: u64,
-        noted: &mut Option<Noted>,
-    ) -> Option<Waker> {
-        if self.is_told(generation) {
-            return None;
-        }
+    fn give_up(&self, own: u64, noted: &mut Option<Noted>) -> Option<Waker> {
         let left = noted.as_ref().map(|_| now());
         let mut waits = lock(&self.waits);
-        if self.is_told(generation) {
+        if self.told.get().is_some() {
             return None;
         }
         waits.left.extend(noted.take().zip(left));
@@ -183,7 +119,7 @@ impl Post {
     }
 }
 
-impl Woken {
+impl Waits {
     /// Wakes the tasks. A waker that panics has said so: it harms neither the other tasks nor the
     /// leader.
     pub(crate) fn wake(self) {
@@ -196,39 +132,90 @@ impl Woken {
     }
 }
 
-/// A part of a cell's number.
-const BITS: u32 = 5;
-const COUNT: usize = 1 << BITS;
-const TABLES: usize = 24;
+const SHARDS: usize = 16;
 
-/// What is made where its first part is asked for, and kept.
-struct Node<X>([OnceLock<Box<X>>; COUNT]);
+/// No two of them lie in one line of memory.
+#[repr(align(128))]
+struct Shard<T>(Mutex<BTreeMap<Id, Arc<Post<T>>>>);
 
-impl<X> Default for Node<X> {
-    fn default() -> Self {
-        Node(std::array::from_fn(|_| OnceLock::new()))
+/// The posts of a group.
+pub(crate) struct Posts<T>([Shard<T>; SHARDS]);
+
+impl<T> Posts<T> {
+    pub(crate) fn new() -> Self {
+        Posts(std::array::from_fn(|_| Shard(Mutex::default())))
+    }
+
+    fn shard(&self, id: &Id) -> &Mutex<BTreeMap<Id, Arc<Post<T>>>> {
+        &self.0[id.cell as usize % SHARDS].0
+    }
+
+    /// The post of a call that is led or held.
+    pub(crate) fn of(&self, id: &Id) -> Arc<Post<T>> {
+        lock(self.shard(id)).entry(*id).or_default().clone()
+    }
+
+    /// The call was left by all. Its value may be dropped here, where no lock is held.
+    pub(crate) fn remove(&self, id: &Id) {
+        let post = lock(self.shard(id)).remove(id);
+        drop(post);
     }
 }
 
-impl<X: Default> Node<X> {
-    fn get(&self, number: u32) -> &X {
-        self.0[number as usize % COUNT].get_or_init(Box::default)
+/// Waits for what a call comes to. If it is dropped, it leaves the call.
+pub(crate) struct Ticket<T, P: Deref<Target = Shared<T>>> {
+    post: Arc<Post<T>>,
+    // None for the receiver of a job, which is not counted as one who joined.
+    joined: Option<(P, Join)>,
+    // The number of a task's waker at the post, which is 0 before it has one.
+    waker: u64,
+}
+
+impl<T, P: Deref<Target = Shared<T>>> Ticket<T, P> {
+    pub(crate) fn new(shared: P, join: Join) -> Self {
+        Ticket { post: shared.posts.of(&join.id), joined: Some((shared, join)), waker: 0 }
+    }
+
+    /// Of the receiver of a job.
+    pub(crate) fn of(post: Arc<Post<T>>) -> Self {
+        Ticket { post, joined: None, waker: 0 }
+    }
+
+    pub(crate) fn is_told(&self) -> bool {
+        point();
+        self.post.told.get().is_some()
+    }
+
+    /// Sleeps until the call is told, or until the deadline: whether it is told.
+    pub(crate) fn wait(&self, deadline: Option<Instant>) -> bool {
+        at("before sleep");
+        self.post.wait(deadline)
+    }
+
+    /// Whether the call is told; else the task is woken when it is.
+    pub(crate) fn poll(&mut self, waker: &Waker) -> Poll<()> {
+        at("before sleep");
+        self.post.poll(&mut self.waker, waker)
+    }
+
+    /// What the call came to, which is told. None where it ended without a value.
+    pub(crate) fn read(self) -> Option<Loaded<T>> {
+        self.post.told.get().expect("a call that is told").got.clone()
     }
 }
 
-#[derive(Default)]
-struct Leaf([Post; COUNT]);
-
-/// The posts of a group, by tables of at most 2^20 cells. A call that nobody joins has none.
-#[derive(Default)]
-pub(crate) struct Posts([OnceLock<Box<Table>>; TABLES]);
-
-type Table = Node<Node<Node<Leaf>>>;
-
-impl Posts {
-    pub(crate) fn of(&self, id: &Id) -> &Post {
-        let (table, cell) = (self.0[id.table as usize].get_or_init(Box::default), id.cell);
-        let leaf = table.get(cell >> (3 * BITS)).get(cell >> (2 * BITS)).get(cell >> BITS);
-        &leaf.0[cell as usize % COUNT]
+impl<T, P: Deref<Target = Shared<T>>> Drop for Ticket<T, P> {
+    fn drop(&mut self) {
+        let mut noted = self.joined.as_mut().and_then(|(_, join)| join.noted.take());
+        let waker = self.post.give_up(self.waker, &mut noted);
+        // If it is told, it is recorded as one that has the value, also where it does not want it.
+        let record = self.post.told.get().and_then(|told| told.record.as_ref());
+        if let (Some(noted), Some(record)) = (noted, record) {
+            record.entered(&noted);
+        }
+        if let Some((shared, join)) = self.joined.take() {
+            shared.leave(join.call, &join.id);
+        }
+        drop(waker);
     }
 }

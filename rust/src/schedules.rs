@@ -703,7 +703,7 @@ fn schedule(
     let stats = group.stats();
     all.loads += world.loads.get();
     all.current += world.current.get();
-    all.grown += u64::from(group.shared.size().tables > 1);
+    all.grown += u64::from(group.shared.places.size().tables > 1);
     if stats.in_use != 0 || stats.loads < world.loads.get() {
         return Err(format!("{} loads, and not all calls are idle: {stats:?}", world.loads.get()));
     }

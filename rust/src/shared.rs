@@ -5,54 +5,31 @@
 //!
 //! 1. The leader settles its call. From then on the next caller of the key leads a new one. If
 //!    nobody had joined, that is all.
-//! 2. It fills what it settled with: the value, how many had joined, and the stamp, unless the call
-//!    was forgotten.
-//! 3. It marks the post of the call, wakes who sleeps there, and leaves the call.
-//! 4. Whoever joined sleeps until the post is marked. Then it looks, takes its share, and leaves.
-//!    The last that leaves drops the call's own share.
+//! 2. It leaves at the post of the call what that came to: the value, how many had joined, and the
+//!    stamp, unless the call was forgotten. It wakes who waits there, and leaves the call.
+//! 3. Whoever joined waits until the post has the value, takes its share, and leaves. The last that
+//!    leaves takes the post away.
 //!
-//! A caller that gives up leaves at any moment: if it is the last that leaves, the call was settled
-//! before, and it drops the share. A call that is led is settled in every case, also where its load
-//! panics or its future is dropped (`asker`): with nothing, and those who joined ask again.
+//! A caller that gives up leaves at any moment. A call that is led is settled in every case, also
+//! where its load panics or its future is dropped (`asker`): with nothing, and those who joined ask
+//! again.
 
-use crate::keyed::{self, Asked, Forgot, ForgotCall, Id};
+use crate::asker::Asker;
+use crate::keyed::{self, Asked, Audience, Busy, Handle, Id};
 use crate::places::Places;
-use crate::post::{Post, Posts, Told};
+use crate::post::{Posts, Told};
 use crate::recording::{CallRecord, Noted, Recordings};
-use crate::sync::{at, lock, pause, point, stall_point};
-use crate::{Call, Error, ForgetOutcome, Loaded, Stamp, Stats};
-use std::sync::atomic::{
-    AtomicBool, AtomicU64,
-    Ordering::{Acquire, Relaxed, Release},
-};
+use crate::sync::{at, pause, point};
+use crate::{Call, Error, ForgetOutcome, Loaded, Stamp};
 use std::sync::{Arc, Mutex};
 
 pub(crate) struct Shared<T> {
-    places: Places<T>,
-    posts: Posts,
-    /// How many calls can be open at a time in the last table.
-    room: AtomicU64,
-    is_growing: AtomicBool,
-    /// Makes the tables. It is opened when the group grows first.
-    grower: Mutex<keyed::Handle>,
+    pub(crate) places: Places,
+    pub(crate) posts: Posts<T>,
+    /// Makes the tables, so it knows them all. The other handles look for the next table before they
+    /// say that there is no room.
+    grower: Mutex<Handle>,
     pub(crate) recordings: Arc<Recordings>,
-}
-
-/// A call that is led, and has to be settled; or none.
-pub(crate) struct Lead {
-    call: Option<keyed::Call>,
-    /// Its name, and the stamp that its value will have, unless it is forgotten before it is settled.
-    pub(crate) name: Call,
-    pub(crate) record: Option<Arc<CallRecord>>,
-}
-
-impl Lead {
-    pub(crate) const NONE: Lead = Lead { call: None, name: Call::NONE, record: None };
-
-    #[inline]
-    pub(crate) fn is_none(&self) -> bool {
-        self.call.is_none()
-    }
 }
 
 /// A call that was joined, and has to be left.
@@ -63,16 +40,8 @@ pub(crate) struct Join {
     pub(crate) noted: Option<Noted>,
 }
 
-/// What an asking came to.
-pub(crate) enum Begun {
-    /// It leads the call that is written.
-    Led,
-    Joined(Join),
-    /// There is no memory for a call: one loads, and shares the value with nobody.
-    Alone,
-    /// The key's call is held as often as can be counted: one asks again later.
-    Crowded,
-}
+/// The key's call is held as often as can be counted: one asks again later.
+pub(crate) struct Crowded;
 
 /// At one load in so many of a place, the group may grow before it is full.
 const EARLY: u64 = 256;
@@ -80,31 +49,24 @@ const EARLY: u64 = 256;
 impl<T> Shared<T> {
     pub(crate) fn open(cells: u32) -> Result<Self, Error> {
         let places = Places::open(cells)?;
-        let made = Shared {
-            places,
-            posts: Posts::default(),
-            room: AtomicU64::new(0),
-            is_growing: AtomicBool::new(false),
-            grower: Mutex::new(keyed::Handle::NONE),
-            recordings: Arc::default(),
-        };
-        made.room.store(made.size().cells, Relaxed);
-        Ok(made)
+        let grower = Mutex::new(places.split().ok_or(Error::OutOfMemory)?);
+        Ok(Shared { places, posts: Posts::new(), grower, recordings: Arc::default() })
     }
 
-    /// Asks for the key. A call that it leads is written.
+    /// Asks for the key, for one who leads no call. Returns the call that it has joined, or none
+    /// where it has to load: for the call that it leads, or where there is no memory for one, for
+    /// itself alone.
     #[inline]
-    pub(crate) fn ask(&self, key: &[u8], lead: &mut Lead) -> Begun {
+    pub(crate) fn ask(&self, key: &[u8], asker: &mut Asker<T>) -> Result<Option<Join>, Crowded> {
         let noted = self.recordings.noted();
         let mut tries = 0;
         loop {
-            point();
             at("before ask");
             let mut is_early = false;
-            let asked = self.places.with(|seat| {
-                let Some(mut call) = seat.take() else { return Asked::Full };
-                let Call { id, stamp } = &mut lead.name;
-                let asked = seat.handle.ask(&mut call, key, id, &mut stamp.0);
+            let (asked, call) = self.places.with(|seat| {
+                let Some(mut call) = seat.take() else { return (Asked::Full, None) };
+                let Call { id, stamp } = &mut asker.name;
+                let asked = seat.handle.ask(&mut call, key, id, stamp);
                 match asked {
                     Asked::Led => {
                         seat.loads += 1;
@@ -113,93 +75,74 @@ impl<T> Shared<T> {
                     Asked::Joined => seat.joins += 1,
                     _ => {
                         seat.put(call);
-                        return asked;
+                        return (asked, None);
                     }
                 }
-                lead.call = Some(call);
-                asked
+                (asked, Some(call))
             });
-            if asked == Asked::Led {
-                stall_point();
-                at("asked");
-                if let Some(noted) = noted {
-                    lead.record = Some(noted.record(key, lead.name.id));
+            match (asked, call) {
+                (Asked::Led, call) => {
+                    at("asked");
+                    asker.lead = call;
+                    asker.record = noted.map(|noted| noted.record(key, asker.name.id));
+                    if is_early {
+                        self.grow_early();
+                    }
+                    return Ok(None);
                 }
-                if is_early {
-                    self.grow_early();
+                (_, Some(call)) => {
+                    at("asked");
+                    return Ok(Some(Join { call, id: asker.name.id, noted }));
                 }
-                return Begun::Led;
-            }
-            if let (Asked::Joined, Some(call)) = (asked, lead.call.take()) {
-                stall_point();
-                at("asked");
-                return Begun::Joined(Join { call, id: lead.name.id, noted });
-            }
-            match asked {
-                Asked::Crowded => return Begun::Crowded,
-                Asked::Full if !self.grow() => return Begun::Alone,
+                (Asked::Crowded, _) => return Err(Crowded),
+                (Asked::Full, _) if !self.grow() => {
+                    asker.name = Call::NONE;
+                    return Ok(None);
+                }
                 _ => pause(&mut tries),
             }
         }
     }
 
-    /// Makes room for more open calls, unless another thread does. False where there can be none.
-    /// One handle makes all tables, so it knows them all; the others look for the next table before
-    /// they say that there is no room. It may take long, and holds up nobody meanwhile.
+    /// Makes room for more open calls, unless another thread does. False where there can be none. It
+    /// may take long, and holds up nobody meanwhile.
     #[cold]
     fn grow(&self) -> bool {
-        if self.is_growing.swap(true, Acquire) {
-            return true;
-        }
-        let mut grower = lock(&self.grower);
-        if !grower.is_open() {
-            *grower = self.places.split().unwrap_or(keyed::Handle::NONE);
-        }
-        let grown = grower.is_open() && grower.grow();
-        if grown {
-            self.room.store(grower.measure().cells, Relaxed);
-        }
-        drop(grower);
-        self.is_growing.store(false, Release);
-        grown
+        let Ok(mut grower) = self.grower.try_lock() else { return true };
+        point();
+        grower.grow()
     }
 
     /// Grows if half of the room is taken. It may know it late: then a caller finds no room.
     #[cold]
     fn grow_early(&self) {
-        if self.stats().in_use > self.room.load(Relaxed) / 2 {
-            self.grow();
+        let in_use = self.places.stats().in_use;
+        if let Ok(mut grower) = self.grower.try_lock() {
+            if in_use > grower.measure().cells / 2 {
+                grower.grow();
+            }
         }
     }
 
-    /// The post of a call that is led or held.
-    pub(crate) fn post(&self, id: &Id) -> &Post {
-        self.posts.of(id)
-    }
-
-    /// Settles the call with the value: what its leader has.
+    /// Settles the call that is led, if one is, with what its load came to, or without a value. How
+    /// many have joined is written, and that a forgotten value has no stamp.
     #[inline]
-    pub(crate) fn settle(&self, lead: &mut Lead, value: T) -> Loaded<T> {
-        let value = Arc::new(value);
-        point();
+    pub(crate) fn settle(&self, asker: &mut Asker<T>, got: Option<&mut Loaded<T>>) {
         at("before settle");
-        if let Some(record) = &lead.record {
+        let Some(call) = asker.lead.take() else { return };
+        let record = asker.record.take();
+        if let Some(record) = &record {
+            if got.is_none() {
+                record.fails();
+            }
             record.settles();
         }
-        let call = lead.call.take().expect("a call that is led");
-        let told = self.places.with(|seat| {
-            let number = seat.spare.get_or_insert_with(Told::new).number();
-            let (audience, call) = seat.settle(call, number)?;
-            seat.spare.take().map(|told| (told, audience, call))
-        });
-        match told {
-            None => {
-                if let Some(record) = lead.record.take() {
-                    record.settled();
-                }
-                Loaded { value, joiners: 0, led: true, call: lead.name }
-            }
-            Some((told, audience, call)) => self.tell(told, value, &audience, call, lead),
+        let told = self.places.with(|seat| seat.settle(call));
+        if let Some(record) = &record {
+            record.settled();
+        }
+        if let Some((audience, call)) = told {
+            self.tell(&audience, call, &asker.name.id, got, record);
         }
     }
 
@@ -208,119 +151,68 @@ impl<T> Shared<T> {
     #[inline(never)]
     fn tell(
         &self,
-        mut told: Box<Told<T>>,
-        value: Arc<T>,
-        audience: &keyed::Audience,
-        call: keyed::Call,
-        lead: &mut Lead,
-    ) -> Loaded<T> {
-        let record = lead.record.take();
-        if audience.forgotten {
-            lead.name.stamp = Stamp::NONE;
-        }
-        let (joiners, name) = (joiners_of(audience), lead.name);
-        let record_of = record.clone();
-        *told = Told { value: Some(value.clone()), joiners, stamp: name.stamp, record: record_of };
-        told.into_number();
-        self.tell_post(audience, call, &name.id, record);
-        Loaded { value, joiners, led: true, call: name }
-    }
-
-    /// Settles the call without a value: whoever joined asks again.
-    #[cold]
-    pub(crate) fn settle_with_nothing(&self, lead: &mut Lead) {
-        let (id, record) = (lead.name.id, lead.record.take());
-        let Some(call) = lead.call.take() else { return };
-        if let Some(record) = &record {
-            record.fails();
-            record.settles();
-        }
-        at("before settle");
-        point();
-        match self.places.with(|seat| seat.settle(call, 0)) {
-            None => record.iter().for_each(|record| record.settled()),
-            Some((audience, call)) => self.tell_post(&audience, call, &id, record),
-        }
-    }
-
-    fn tell_post(
-        &self,
-        audience: &keyed::Audience,
+        audience: &Audience,
         call: keyed::Call,
         id: &Id,
+        mut got: Option<&mut Loaded<T>>,
         record: Option<Arc<CallRecord>>,
     ) {
-        if let Some(record) = &record {
-            record.settled();
-            if audience.forgotten {
-                record.was_forgotten();
-            }
+        if let Some(got) = &mut got {
+            // One that has left had joined too.
+            let others = audience.holders.saturating_sub(1).max(audience.joined.into());
+            got.joiners = others as u32;
         }
-        stall_point();
+        if audience.forgotten {
+            record.iter().for_each(|record| record.was_forgotten());
+            got.iter_mut().for_each(|got| got.call.stamp = Stamp::NONE);
+        }
         at("settled");
-        if audience.joined {
-            let mut woken = self.post(id).tell(id.generation);
-            for (noted, at) in woken.left.drain(..) {
-                record.iter().for_each(|record| record.enter(&noted, at));
-            }
-            stall_point();
-            self.leave(call);
-            woken.wake();
-        } else {
-            self.leave(call);
+        if !audience.joined {
+            return self.leave(call, id);
         }
+        let mut woken = self.posts.of(id).tell(Told::new(got.as_deref(), record.clone()));
+        for (noted, at) in woken.left.drain(..) {
+            record.iter().for_each(|record| record.enter(&noted, at));
+        }
+        self.leave(call, id);
+        woken.wake();
     }
 
     /// Leaves the call that is held.
-    pub(crate) fn leave(&self, mut call: keyed::Call) {
-        point();
+    pub(crate) fn leave(&self, mut call: keyed::Call, id: &Id) {
         at("before leave");
-        let last = self.places.with(|seat| {
-            let last = seat.handle.leave(&mut call);
+        let is_last = self.places.with(|seat| {
+            let is_last = seat.handle.leave(&mut call);
             seat.put(call);
-            last
+            is_last
         });
-        // SAFETY: all calls of this group are settled with numbers of this type, or 0, and this was
-        // the last that left it. It is dropped here, where no lock is held.
-        drop(last.and_then(|number| unsafe { Told::<T>::take(number) }));
+        if is_last {
+            self.posts.remove(id);
+        }
     }
 
-    /// What the call came to that was joined and is told, for one who leaves it. None where it
-    /// ended without a value.
-    pub(crate) fn read(&self, join: &mut Join) -> Option<Loaded<T>> {
-        point();
-        let (call, id) = (&mut join.call, join.id);
-        let number = self.places.with(|seat| seat.handle.look(call)).expect("a call that is told");
-        // SAFETY: all calls of this group are settled with numbers of this type, or 0. The call is
-        // held until after this.
-        let told = unsafe { Told::<T>::see(number) }?;
-        if let (Some(noted), Some(record)) = (join.noted.take(), &told.record) {
-            record.entered(&noted);
+    /// Forgets by a handle, again where others were quicker in each try.
+    fn forgets<R>(&self, forget: impl Fn(&mut Handle) -> Result<R, Busy>) -> R {
+        let mut tries = 0;
+        loop {
+            at("before forget");
+            let forgot = self.places.with(|seat| {
+                let forgot = forget(&mut seat.handle);
+                seat.forgets += u64::from(forgot.is_ok());
+                forgot
+            });
+            if let Ok(forgot) = forgot {
+                at("forgotten");
+                return forgot;
+            }
+            pause(&mut tries);
         }
-        let (value, call) = (told.value.clone()?, Call { id, stamp: told.stamp });
-        Some(Loaded { value, joiners: told.joiners, led: false, call })
     }
 
     /// Forgets the key: whether that ended an open call.
     pub(crate) fn forget(&self, key: &[u8]) -> bool {
         let forgetting = self.recordings.forgetting(false);
-        let mut tries = 0;
-        let closed = loop {
-            point();
-            at("before forget");
-            let forgot = self.places.with(|seat| {
-                let forgot = seat.handle.forget(key);
-                seat.forgets += u64::from(forgot != Forgot::Busy);
-                forgot
-            });
-            match forgot {
-                Forgot::Closed(id) => break Some(id),
-                Forgot::Nothing => break None,
-                Forgot::Busy => pause(&mut tries),
-            }
-        };
-        at("forgotten");
-        stall_point();
+        let closed = self.forgets(|handle| handle.forget(key));
         match (closed, forgetting) {
             (Some(id), forgetting) => self.recordings.closed(forgetting, id),
             (None, Some(forgetting)) => forgetting.found_nothing(key),
@@ -337,57 +229,28 @@ impl<T> Shared<T> {
             return ForgetOutcome::Missed;
         }
         let forgetting = self.recordings.forgetting(true);
-        let mut tries = 0;
-        let (forgot, was_still) = loop {
-            point();
-            at("before forget");
-            let (forgot, was_still) = self.places.with(|seat| {
-                let was_still = seat.handle.is_still(&call.stamp.0);
-                let forgot = seat.handle.forget_call(key, &call.id, &call.stamp.0);
-                seat.forgets += u64::from(forgot != ForgotCall::Busy);
-                (forgot, was_still)
-            });
-            match forgot {
-                ForgotCall::Busy => pause(&mut tries),
-                forgot => break (forgot, was_still),
-            }
-        };
-        stall_point();
-        at("forgotten");
-        match (forgot, was_still) {
-            (ForgotCall::Closed, _) => {
-                self.recordings.closed(forgetting, call.id);
-                ForgetOutcome::Closed
-            }
-            (_, true) => {
-                if let Some(forgetting) = forgetting {
-                    forgetting.cleared(key, call.id);
-                }
-                ForgetOutcome::Cleared
-            }
-            (_, false) => ForgetOutcome::Missed,
+        let (was_open, was_still) = self.forgets(|handle| {
+            let was_still = handle.is_still(&call.stamp);
+            Ok((handle.forget_call(key, &call.id, &call.stamp)?, was_still))
+        });
+        if was_open {
+            self.recordings.closed(forgetting, call.id);
+            return ForgetOutcome::Closed;
         }
+        if !was_still {
+            return ForgetOutcome::Missed;
+        }
+        if let Some(forgetting) = forgetting {
+            forgetting.cleared(key, call.id);
+        }
+        ForgetOutcome::Cleared
     }
 
     /// Whether no Forget has ended the stamp.
     #[inline]
     pub(crate) fn is_current(&self, stamp: Stamp) -> bool {
         point();
-        !stamp.is_none() && self.places.with(|seat| seat.handle.is_still(&stamp.0))
-    }
-
-    /// A handle of the group that belongs to no place.
-    pub(crate) fn split(&self) -> Option<keyed::Handle> {
-        self.places.split()
-    }
-
-    /// How large the group is, as far as a handle near the thread knows.
-    pub(crate) fn size(&self) -> keyed::Size {
-        self.places.with(|seat| seat.handle.measure())
-    }
-
-    pub(crate) fn stats(&self) -> Stats {
-        self.places.stats()
+        !stamp.is_none() && self.places.with(|seat| seat.handle.is_still(&stamp))
     }
 }
 
@@ -395,10 +258,4 @@ impl<T> Drop for Shared<T> {
     fn drop(&mut self) {
         self.recordings.close();
     }
-}
-
-/// How many others held the call when it was settled. One that has left had joined too.
-fn joiners_of(audience: &keyed::Audience) -> u32 {
-    let others = audience.holders.saturating_sub(1).min(u32::MAX.into()) as u32;
-    others.max(audience.joined.into())
 }

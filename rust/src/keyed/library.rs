@@ -1,7 +1,7 @@
 //! The library, by its header `sflight.h`.
 
-use super::{Asked, Audience, Forgot, ForgotCall, Id, Size, Stamp};
-use crate::Error;
+use super::{Asked, Audience, Busy, Id, Size};
+use crate::{Error, Stamp};
 use std::ptr::null_mut;
 
 const DONE: u32 = 0;
@@ -10,7 +10,6 @@ const JOINED: u32 = 2;
 const ALONE: u32 = 3;
 const TOLD: u32 = 4;
 const LAST: u32 = 5;
-const PENDING: u32 = 6;
 const NOTHING: u32 = 7;
 const CLEARED: u32 = 8;
 const FULL: u32 = 9;
@@ -47,13 +46,13 @@ unsafe impl Sync for Call {}
 // that are given to one call are two, since both are borrowed; what is written is borrowed too.
 // That a call is of another group, or in another state, is a code.
 unsafe extern "C" {
-    safe fn sflight_open(handle: &mut Handle, cells: u64, seed0: u64, seed1: u64) -> u32;
-    safe fn sflight_split(handle: &mut Handle, other: &mut Handle) -> u32;
-    safe fn sflight_close(handle: &mut Handle);
-    safe fn sflight_make(handle: &mut Handle, call: &mut Call) -> u32;
+    safe fn sflight_open(me: &mut Handle, cells: u64, seed0: u64, seed1: u64) -> u32;
+    safe fn sflight_split(me: &mut Handle, other: &mut Handle) -> u32;
+    safe fn sflight_close(me: &mut Handle);
+    safe fn sflight_make(me: &mut Handle, call: &mut Call) -> u32;
     safe fn sflight_free(call: &mut Call) -> u32;
     unsafe fn sflight_ask(
-        handle: &mut Handle,
+        me: &mut Handle,
         call: &mut Call,
         key: *const u8,
         len: usize,
@@ -61,32 +60,26 @@ unsafe extern "C" {
         id: &mut Id,
         stamp: &mut Stamp,
     ) -> u32;
-    safe fn sflight_settle(
-        handle: &mut Handle,
-        call: &mut Call,
-        value: u64,
-        audience: &mut Audience,
-    ) -> u32;
-    safe fn sflight_look(handle: &mut Handle, call: &mut Call, value: &mut u64) -> u32;
-    safe fn sflight_leave(handle: &mut Handle, call: &mut Call, value: &mut u64) -> u32;
+    safe fn sflight_settle(me: &mut Handle, call: &mut Call, value: u64, to: &mut Audience) -> u32;
+    safe fn sflight_leave(me: &mut Handle, call: &mut Call, value: &mut u64) -> u32;
     unsafe fn sflight_forget(
-        handle: &mut Handle,
+        me: &mut Handle,
         key: *const u8,
         len: usize,
         tries: u32,
         id: &mut Id,
     ) -> u32;
     unsafe fn sflight_forget_call(
-        handle: &mut Handle,
+        me: &mut Handle,
         key: *const u8,
         len: usize,
         id: &Id,
         stamp: &Stamp,
         tries: u32,
     ) -> u32;
-    safe fn sflight_is_still(handle: &mut Handle, stamp: &Stamp) -> bool;
-    safe fn sflight_grow(handle: &mut Handle) -> u32;
-    safe fn sflight_measure(handle: &mut Handle, size: &mut Size) -> u32;
+    safe fn sflight_is_still(me: &mut Handle, stamp: &Stamp) -> bool;
+    safe fn sflight_grow(me: &mut Handle) -> u32;
+    safe fn sflight_measure(me: &mut Handle, size: &mut Size) -> u32;
 }
 
 #[cold]
@@ -112,9 +105,10 @@ impl Handle {
         self.live
     }
 
-    /// Opens another one of the group, unless there is no memory.
-    pub(crate) fn split(&mut self, other: &mut Handle) -> bool {
-        sflight_split(self, other) == DONE
+    /// Another one of the group. None where there is no memory.
+    pub(crate) fn split(&mut self) -> Option<Handle> {
+        let mut other = Handle::NONE;
+        (sflight_split(self, &mut other) == DONE).then_some(other)
     }
 
     /// An idle call. None where there is no memory.
@@ -144,57 +138,46 @@ impl Handle {
         }
     }
 
-    /// Settles the call that is led. None where it is idle, and the value was told to nobody.
-    /// Otherwise it is held, until it is left.
+    /// Settles the call that is led. None where it is idle, and nobody is told. Otherwise it is
+    /// held, until it is left. The value itself goes by the call's post.
     #[inline]
-    pub(crate) fn settle(&mut self, call: &mut Call, value: u64) -> Option<Audience> {
+    pub(crate) fn settle(&mut self, call: &mut Call) -> Option<Audience> {
         let mut audience = Audience::default();
-        match sflight_settle(self, call, value, &mut audience) {
+        match sflight_settle(self, call, 0, &mut audience) {
             ALONE => None,
             TOLD => Some(audience),
             code => unexpected(code),
         }
     }
 
-    /// What the call that is held was settled with, if it is settled.
-    #[inline]
-    pub(crate) fn look(&mut self, call: &mut Call) -> Option<u64> {
-        let mut value = 0;
-        match sflight_look(self, call, &mut value) {
-            DONE => Some(value),
-            PENDING => None,
+    /// Leaves the call that is held: whether it was settled, and this was the last that held it.
+    pub(crate) fn leave(&mut self, call: &mut Call) -> bool {
+        match sflight_leave(self, call, &mut 0) {
+            LAST => true,
+            DONE => false,
             code => unexpected(code),
         }
     }
 
-    /// Leaves the call that is held. The last that leaves a settled call has its value.
-    #[inline]
-    pub(crate) fn leave(&mut self, call: &mut Call) -> Option<u64> {
-        let mut value = 0;
-        match sflight_leave(self, call, &mut value) {
-            LAST => Some(value),
-            DONE => None,
-            code => unexpected(code),
-        }
-    }
-
-    pub(crate) fn forget(&mut self, key: &[u8]) -> Forgot {
+    /// Forgets the key: the call that this has closed.
+    pub(crate) fn forget(&mut self, key: &[u8]) -> Result<Option<Id>, Busy> {
         let mut id = Id::default();
         // SAFETY: the key has so many bytes.
         match unsafe { sflight_forget(self, key.as_ptr(), key.len(), TRIES, &mut id) } {
-            DONE => Forgot::Closed(id),
-            NOTHING => Forgot::Nothing,
-            BUSY => Forgot::Busy,
+            DONE => Ok(Some(id)),
+            NOTHING => Ok(None),
+            BUSY => Err(Busy),
             code => unexpected(code),
         }
     }
 
-    pub(crate) fn forget_call(&mut self, key: &[u8], id: &Id, stamp: &Stamp) -> ForgotCall {
+    /// Forgets the call, or ends its stamp: whether the call was open.
+    pub(crate) fn forget_call(&mut self, key: &[u8], id: &Id, at: &Stamp) -> Result<bool, Busy> {
         // SAFETY: the key has so many bytes.
-        match unsafe { sflight_forget_call(self, key.as_ptr(), key.len(), id, stamp, TRIES) } {
-            DONE => ForgotCall::Closed,
-            CLEARED => ForgotCall::Cleared,
-            BUSY => ForgotCall::Busy,
+        match unsafe { sflight_forget_call(self, key.as_ptr(), key.len(), id, at, TRIES) } {
+            DONE => Ok(true),
+            CLEARED => Ok(false),
+            BUSY => Err(Busy),
             code => unexpected(code),
         }
     }

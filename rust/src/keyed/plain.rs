@@ -1,9 +1,9 @@
 //! What the library does for this crate, in plain Rust: maps from keys to open calls, in shards with
 //! a mutex each. It is tested, by the same tests as the library, and not proved.
 
-use super::{Asked, Audience, Forgot, ForgotCall, Id, Size, Stamp};
+use super::{Asked, Audience, Busy, Id, Size};
 use crate::sync::{is_unlucky, lock, point};
-use crate::Error;
+use crate::{Error, Stamp};
 use std::collections::hash_map::RandomState;
 use std::collections::HashMap;
 use std::hash::BuildHasher;
@@ -19,28 +19,16 @@ const SHARDS: usize = 16;
 const AGES: usize = 16;
 const LEAST_AGES: usize = 256;
 const MOST_AGES: usize = 1 << 20;
-/// The cells of a table, and the calls that can be open in a shard: each has a table and cell of
-/// its own.
-const CELLS: usize = 1 << 20;
-const MOST: usize = 24 * CELLS / SHARDS;
 /// A call can be held so often; in the schedule test by few, so that it plays what comes then.
 const HOLDERS: u64 = if cfg!(test) { 3 } else { (1 << 20) - 1 };
-
-struct Cell {
-    generation: u64,
-    holders: u64,
-    joined: bool,
-    forgotten: bool,
-    value: Option<u64>,
-}
 
 #[repr(align(128))]
 #[derive(Default)]
 struct Shard {
-    /// The open calls, by their keys: the number of each one's cell.
-    open: HashMap<Arc<[u8]>, usize>,
-    cells: Vec<Cell>,
-    free: Vec<usize>,
+    /// The open calls, by their keys: the generation of each.
+    open: HashMap<Arc<[u8]>, u64>,
+    /// The calls that are open or held, by their generations.
+    calls: HashMap<u64, Audience>,
     generation: u64,
 }
 
@@ -51,61 +39,29 @@ struct Table {
     ages: Box<[AtomicU64]>,
 }
 
-/// A number of a shard's cell, as a table and a cell that no other shard has.
-fn id(shard: usize, cell: usize, generation: u64) -> Id {
-    let number = cell * SHARDS + shard;
-    Id { table: (number / CELLS) as u32, cell: (number % CELLS) as u32, generation }
-}
-
-fn cell_of(id: &Id) -> (usize, usize) {
-    let number = id.table as usize * CELLS + id.cell as usize;
-    (number % SHARDS, number / SHARDS)
+impl Shard {
+    /// Closes the key's open call, if there is one: its generation.
+    fn close(&mut self, key: &[u8]) -> Option<u64> {
+        let generation = self.open.remove(key)?;
+        self.calls.get_mut(&generation).expect("an open call").forgotten = true;
+        Some(generation)
+    }
 }
 
 impl Table {
-    /// The number of the key's age. Its shard is the same for all keys of that age.
-    fn age_of(&self, key: &[u8]) -> usize {
-        self.hash.hash_one(key) as usize & (self.ages.len() - 1)
+    /// The number of the key's age, and its shard, which is the same for all keys of that age.
+    fn of(&self, key: &[u8]) -> (usize, usize) {
+        let slot = self.hash.hash_one(key) as usize & (self.ages.len() - 1);
+        (slot, slot % SHARDS)
     }
-}
-
-impl Shard {
-    fn lead(&mut self, key: Arc<[u8]>) -> Option<usize> {
-        let cell = match self.free.pop() {
-            Some(cell) => cell,
-            None if self.cells.len() == MOST => return None,
-            None => {
-                self.cells.push(Cell {
-                    generation: 0,
-                    holders: 0,
-                    joined: false,
-                    forgotten: false,
-                    value: None,
-                });
-                self.cells.len() - 1
-            }
-        };
-        self.generation += 1;
-        let generation = self.generation;
-        self.cells[cell] =
-            Cell { generation, holders: 1, joined: false, forgotten: false, value: None };
-        self.open.insert(key, cell);
-        Some(cell)
-    }
-}
-
-#[derive(Clone, Copy, PartialEq, Eq)]
-enum Doing {
-    Nothing,
-    /// It leads, or holds, the call in this cell of the shard.
-    Leads(usize, usize),
-    Holds(usize, usize),
 }
 
 pub(crate) struct Handle(Option<Arc<Table>>);
 
+/// One asking at a time.
 pub(crate) struct Call {
-    doing: Doing,
+    // The shard is its cell. The generation is 0 where it is idle.
+    id: Id,
     // Of the call that it leads.
     key: Option<Arc<[u8]>>,
 }
@@ -131,125 +87,108 @@ impl Handle {
         self.0.as_ref().expect("an open handle")
     }
 
-    pub(crate) fn split(&mut self, other: &mut Handle) -> bool {
-        other.0 = self.0.clone();
-        true
+    pub(crate) fn split(&mut self) -> Option<Handle> {
+        Some(Handle(self.0.clone()))
     }
 
     pub(crate) fn make(&mut self) -> Option<Call> {
-        Some(Call { doing: Doing::Nothing, key: None })
+        Some(Call { id: Id::default(), key: None })
     }
 
     pub(crate) fn ask(
         &mut self,
         call: &mut Call,
         key: &[u8],
-        name: &mut Id,
+        id: &mut Id,
         stamp: &mut Stamp,
     ) -> Asked {
-        assert!(call.doing == Doing::Nothing, "an idle call");
+        assert!(call.id.generation == 0, "an idle call");
         if is_unlucky() {
             return Asked::Busy;
         }
         let table = self.table();
-        let slot = table.age_of(key);
-        let at = slot % SHARDS;
+        let (slot, at) = table.of(key);
         let mut shard = lock(&table.shards[at]);
-        if let Some(&cell) = shard.open.get(key) {
-            let of = &mut shard.cells[cell];
+        let (asked, generation) = if let Some(generation) = shard.open.get(key).copied() {
+            let of = shard.calls.get_mut(&generation).expect("an open call");
             if of.holders == HOLDERS {
                 return Asked::Crowded;
             }
             of.holders += 1;
             of.joined = true;
-            call.doing = Doing::Holds(at, cell);
-            *name = id(at, cell, of.generation);
-            return Asked::Joined;
-        }
-        let key: Arc<[u8]> = key.into();
-        let Some(cell) = shard.lead(key.clone()) else { return Asked::Full };
-        *stamp = Stamp { table: 0, slot: slot as u64, age: table.ages[slot].load(Acquire) };
-        *name = id(at, cell, shard.generation);
-        drop(shard);
-        call.doing = Doing::Leads(at, cell);
-        call.key = Some(key);
-        Asked::Led
-    }
-
-    pub(crate) fn settle(&mut self, call: &mut Call, value: u64) -> Option<Audience> {
-        let Doing::Leads(at, cell) = call.doing else { panic!("a call that is led") };
-        let mut shard = lock(&self.table().shards[at]);
-        // A Forget may have closed it, and a newer one be open.
-        let key = call.key.take();
-        if let Some(key) = key.as_ref().filter(|_| !shard.cells[cell].forgotten) {
-            shard.open.remove(key);
-        }
-        let of = &mut shard.cells[cell];
-        let audience = Audience { holders: of.holders, joined: of.joined, forgotten: of.forgotten };
-        let is_alone = !of.joined && !of.forgotten;
-        if is_alone {
-            shard.free.push(cell);
+            (Asked::Joined, generation)
         } else {
-            of.value = Some(value);
+            shard.generation += 1;
+            let (key, generation): (Arc<[u8]>, _) = (key.into(), shard.generation);
+            shard.open.insert(key.clone(), generation);
+            shard.calls.insert(generation, Audience { holders: 1, ..Audience::default() });
+            call.key = Some(key);
+            *stamp = Stamp { table: 0, slot: slot as u64, age: table.ages[slot].load(Acquire) };
+            (Asked::Led, generation)
+        };
+        call.id = Id { table: 0, cell: at as u32, generation };
+        *id = call.id;
+        asked
+    }
+
+    pub(crate) fn settle(&mut self, call: &mut Call) -> Option<Audience> {
+        let key = call.key.take().expect("a call that is led");
+        let Id { cell, generation, .. } = call.id;
+        let mut shard = lock(&self.table().shards[cell as usize]);
+        let audience = shard.calls[&generation];
+        // A Forget may have closed it, and a newer one be open.
+        if !audience.forgotten {
+            shard.open.remove(&key);
         }
-        drop(shard);
-        call.doing = if is_alone { Doing::Nothing } else { Doing::Holds(at, cell) };
-        (!is_alone).then_some(audience)
+        if audience.joined || audience.forgotten {
+            return Some(audience);
+        }
+        shard.calls.remove(&generation);
+        call.id.generation = 0;
+        None
     }
 
-    pub(crate) fn look(&mut self, call: &mut Call) -> Option<u64> {
-        let Doing::Holds(at, cell) = call.doing else { panic!("a call that is held") };
-        lock(&self.table().shards[at]).cells[cell].value
-    }
-
-    pub(crate) fn leave(&mut self, call: &mut Call) -> Option<u64> {
-        let Doing::Holds(at, cell) = call.doing else { panic!("a call that is held") };
-        call.doing = Doing::Nothing;
-        let mut shard = lock(&self.table().shards[at]);
-        let of = &mut shard.cells[cell];
+    pub(crate) fn leave(&mut self, call: &mut Call) -> bool {
+        let generation = std::mem::take(&mut call.id.generation);
+        let mut shard = lock(&self.table().shards[call.id.cell as usize]);
+        let of = shard.calls.get_mut(&generation).expect("a call that is held");
         of.holders -= 1;
-        let value = of.value.filter(|_| of.holders == 0);
-        if value.is_some() {
-            shard.free.push(cell);
+        // Its leader holds it until it is settled.
+        let is_last = of.holders == 0;
+        if is_last {
+            shard.calls.remove(&generation);
         }
-        value
+        is_last
     }
 
-    pub(crate) fn forget(&mut self, key: &[u8]) -> Forgot {
+    pub(crate) fn forget(&mut self, key: &[u8]) -> Result<Option<Id>, Busy> {
         if is_unlucky() {
-            return Forgot::Busy;
+            return Err(Busy);
         }
         let table = self.table();
-        let slot = table.age_of(key);
-        let at = slot % SHARDS;
+        let (slot, at) = table.of(key);
         let mut shard = lock(&table.shards[at]);
         table.ages[slot].fetch_add(1, Release);
-        let Some(cell) = shard.open.remove(key) else { return Forgot::Nothing };
-        shard.cells[cell].forgotten = true;
-        Forgot::Closed(id(at, cell, shard.cells[cell].generation))
+        let closed = shard.close(key);
+        Ok(closed.map(|generation| Id { table: 0, cell: at as u32, generation }))
     }
 
-    pub(crate) fn forget_call(&mut self, key: &[u8], of: &Id, stamp: &Stamp) -> ForgotCall {
+    pub(crate) fn forget_call(&mut self, key: &[u8], of: &Id, at: &Stamp) -> Result<bool, Busy> {
         if is_unlucky() {
-            return ForgotCall::Busy;
+            return Err(Busy);
         }
         let table = self.table();
-        let at = table.age_of(key) % SHARDS;
-        let (shard_of, cell) = cell_of(of);
-        let mut shard = lock(&table.shards[at]);
-        let is_open = shard_of == at
-            && shard.open.get(key) == Some(&cell)
-            && shard.cells[cell].generation == of.generation;
-        if is_open {
-            shard.open.remove(key);
-            shard.cells[cell].forgotten = true;
-            return ForgotCall::Closed;
+        let shard = table.of(key).1;
+        let mut open = lock(&table.shards[shard]);
+        if of.cell as usize == shard && open.open.get(key) == Some(&of.generation) {
+            open.close(key);
+            return Ok(true);
         }
-        drop(shard);
-        if let Some(age) = self.age(stamp) {
-            let _ = age.compare_exchange(stamp.age, stamp.age + 1, Release, Acquire);
+        drop(open);
+        if let Some(age) = self.age(at) {
+            let _ = age.compare_exchange(at.age, at.age + 1, Release, Acquire);
         }
-        ForgotCall::Cleared
+        Ok(false)
     }
 
     fn age(&self, stamp: &Stamp) -> Option<&AtomicU64> {
@@ -268,7 +207,7 @@ impl Handle {
     }
 
     pub(crate) fn measure(&mut self) -> Size {
-        Size { tables: 24, passed: 0, cells: CELLS as u64 }
+        Size { tables: 24, passed: 0, cells: u64::MAX }
     }
 }
 
@@ -280,6 +219,6 @@ fn a_call_is_held_only_so_often() {
     let asked = calls.iter_mut().map(|call| handle.ask(call, b"key", &mut id, &mut stamp));
     let asked: Vec<_> = asked.collect();
     assert_eq!(asked, [Asked::Led, Asked::Joined, Asked::Joined, Asked::Crowded]);
-    assert_eq!(handle.leave(&mut calls[1]), None);
+    assert!(!handle.leave(&mut calls[1]));
     assert_eq!(handle.ask(&mut calls[3], b"key", &mut id, &mut stamp), Asked::Joined);
 }
