@@ -7,7 +7,6 @@ use crate::shared::{Crowded, Join, Shared};
 use crate::sync::pause;
 use crate::{Call, Loaded, Stamp};
 use std::future::{poll_fn, Future};
-use std::pin::pin;
 use std::sync::Arc;
 use std::task::Poll;
 use std::time::Instant;
@@ -57,19 +56,13 @@ impl<T> Asker<T> {
         Asker { lead: None, name: Call::NONE, record: None, own: None, last: None }
     }
 
-    /// Asks for the key. Returns the call that it has joined, or none where it has to load.
-    #[inline]
-    fn try_ask(&mut self, shared: &Shared<T>, key: &[u8]) -> Result<Option<Join>, Crowded> {
-        self.abandon(shared);
-        shared.ask(key, self)
-    }
-
-    /// The same, which tries again where the key's call is crowded.
+    /// Asks for the key, again where its call is crowded. Returns the call that it has joined, or
+    /// none where it has to load.
     #[inline]
     pub(crate) fn ask(&mut self, shared: &Shared<T>, key: &[u8]) -> Option<Join> {
         let mut tries = 0;
         loop {
-            match self.try_ask(shared, key) {
+            match shared.ask(key, self) {
                 Ok(join) => return join,
                 Err(Crowded) => pause(&mut tries),
             }
@@ -153,18 +146,16 @@ impl<T> Asker<T> {
         guard.end(value)
     }
 
-    /// Gets the key in a task. `make` makes the value of what was loaded and the stamp that it will
-    /// have, before its call is settled.
-    pub(crate) async fn get_async<R>(
+    /// The same in a task.
+    pub(crate) async fn get_async<F: Future<Output = T>>(
         &mut self,
         shared: &Shared<T>,
         key: &[u8],
-        load: impl Future<Output = R>,
-        make: impl FnOnce(R, Stamp) -> T,
+        load: impl FnOnce(Stamp) -> F,
     ) -> Loaded<T> {
         loop {
-            let join = match self.try_ask(shared, key) {
-                Ok(None) => return self.run_async(shared, load, make).await,
+            let join = match shared.ask(key, self) {
+                Ok(None) => return self.run_async(shared, load).await,
                 Ok(Some(join)) => join,
                 Err(Crowded) => {
                     yield_now().await;
@@ -184,19 +175,15 @@ impl<T> Asker<T> {
     }
 
     /// Runs the load that it has to run.
-    pub(crate) async fn run_async<R>(
+    pub(crate) async fn run_async<F: Future<Output = T>>(
         &mut self,
         shared: &Shared<T>,
-        load: impl Future<Output = R>,
-        make: impl FnOnce(R, Stamp) -> T,
+        load: impl FnOnce(Stamp) -> F,
     ) -> Loaded<T> {
         let (guard, stamp) = self.load(shared);
-        // The load is dropped before its call is settled: so it has ended when another begins.
-        let loaded = {
-            let load = pin!(load);
-            load.await
-        };
-        guard.end(make(loaded, stamp))
+        // The load is dropped here, before its call is settled: so it has ended when another begins.
+        let value = load(stamp).await;
+        guard.end(value)
     }
 }
 
@@ -204,11 +191,11 @@ impl<T> Asker<T> {
 async fn yield_now() {
     let mut is_over = false;
     poll_fn(|context| {
-        if std::mem::replace(&mut is_over, true) {
-            return Poll::Ready(());
-        }
         context.waker().wake_by_ref();
-        Poll::Pending
+        match std::mem::replace(&mut is_over, true) {
+            true => Poll::Ready(()),
+            false => Poll::Pending,
+        }
     })
     .await
 }

@@ -1174,18 +1174,14 @@ impl<V: Send + Sync, E: Send + Sync> Cache<V, E> {
         }
         at("looked");
         let (era, mut left) = (self.era(), Vec::new());
-        let of = (key, fingerprint, era);
-        let load = async {
+        let left_by = &mut left;
+        let load = |stamp| async move {
             match self.kept(key, fingerprint) {
-                Some(value) => Err(value),
-                None => Ok(load.await),
+                Some(value) => Ok(value),
+                None => self.came((key, fingerprint, era), load.await, stamp, left_by),
             }
         };
-        let keep = |came: Result<Result<V, E>, Arc<V>>, stamp| match came {
-            Ok(loaded) => self.came(of, loaded, stamp, &mut left),
-            Err(value) => Ok(value),
-        };
-        let got = Asker::new().get_async(&self.group.shared, &name(era, key), load, keep).await;
+        let got = Asker::new().get_async(&self.group.shared, &name(era, key), load).await;
         self.tell(left);
         (*got.value).clone()
     }

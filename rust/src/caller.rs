@@ -114,7 +114,7 @@ impl<T: Send + Sync> Caller<T> {
         load: impl Future<Output = T>,
     ) -> Loaded<T> {
         let Caller { shared, asker } = self;
-        asker.get_async(shared, key.as_ref(), load, |value, _| value).await
+        asker.get_async(shared, key.as_ref(), |_| load).await
     }
 
     /// Joins the key's open call or leads a new one, as

@@ -90,7 +90,7 @@ impl<'a, T> Job<'a, T> {
     /// ```
     pub async fn run_async(mut self, load: impl Future<Output = T>) -> Loaded<T> {
         let Caller { shared, asker } = self.0.caller();
-        asker.run_async(shared, load, |value, _| value).await
+        asker.run_async(shared, |_| load).await
     }
 }
 

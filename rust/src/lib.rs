@@ -472,7 +472,7 @@ impl<T: Send + Sync> Group<T> {
         F: Future<Output = T>,
     {
         let shared = self.shared.clone();
-        async move { Asker::new().get_async(&shared, key.as_ref(), load, |value, _| value).await }
+        async move { Asker::new().get_async(&shared, key.as_ref(), |_| load).await }
     }
 
     /// Joins the key's open call, or leads a new one. Returns a receiver of its value and, if it

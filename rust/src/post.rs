@@ -67,56 +67,6 @@ impl<T> Post<T> {
         }
         woken
     }
-
-    /// Sleeps until the call is told, or until the deadline: whether it is told.
-    fn wait(&self, deadline: Option<Instant>) -> bool {
-        let mut waits = lock(&self.waits);
-        while self.told.get().is_none() {
-            let time = deadline.map(|deadline| deadline.checked_duration_since(instant()));
-            if time == Some(None) {
-                return false;
-            }
-            waits.has_sleepers = true;
-            waits = sleep(&self.settled, &self.waits, waits, time.flatten());
-        }
-        true
-    }
-
-    /// Whether the call is told; else the task is woken when it is. `own` is the number of the
-    /// task's waker here, which is 0 before it has one.
-    fn poll(&self, own: &mut u64, waker: &Waker) -> Poll<()> {
-        if self.told.get().is_some() {
-            return Poll::Ready(());
-        }
-        // A waker's code runs without the lock: it may ask the group itself.
-        let waker = waker.clone();
-        let mut waits = lock(&self.waits);
-        if self.told.get().is_some() {
-            drop(waits);
-            return Poll::Ready(());
-        }
-        if *own == 0 {
-            waits.next += 1;
-            *own = waits.next;
-        }
-        let before = waits.wakers.insert(*own, waker);
-        drop(waits);
-        drop(before);
-        Poll::Pending
-    }
-
-    /// One who joined gives up: if it is recorded, it is noted as one who has left. Returns its
-    /// waker, which is dropped when it has left: the waker's code may panic. Where the call is told
-    /// nothing is done.
-    fn give_up(&self, own: u64, noted: &mut Option<Noted>) -> Option<Waker> {
-        let left = noted.as_ref().map(|_| now());
-        let mut waits = lock(&self.waits);
-        if self.told.get().is_some() {
-            return None;
-        }
-        waits.left.extend(noted.take().zip(left));
-        waits.wakers.remove(&own)
-    }
 }
 
 impl Waits {
@@ -189,13 +139,37 @@ impl<T, P: Deref<Target = Shared<T>>> Ticket<T, P> {
     /// Sleeps until the call is told, or until the deadline: whether it is told.
     pub(crate) fn wait(&self, deadline: Option<Instant>) -> bool {
         at("before sleep");
-        self.post.wait(deadline)
+        let Post { told, waits: lock_of_waits, settled } = &*self.post;
+        let mut waits = lock(lock_of_waits);
+        while told.get().is_none() {
+            let time = deadline.map(|deadline| deadline.checked_duration_since(instant()));
+            if time == Some(None) {
+                return false;
+            }
+            waits.has_sleepers = true;
+            waits = sleep(settled, lock_of_waits, waits, time.flatten());
+        }
+        true
     }
 
     /// Whether the call is told; else the task is woken when it is.
     pub(crate) fn poll(&mut self, waker: &Waker) -> Poll<()> {
         at("before sleep");
-        self.post.poll(&mut self.waker, waker)
+        // A waker's code runs without the lock: it may ask the group itself.
+        let waker = waker.clone();
+        let mut waits = lock(&self.post.waits);
+        if self.post.told.get().is_some() {
+            drop(waits);
+            return Poll::Ready(());
+        }
+        if self.waker == 0 {
+            waits.next += 1;
+            self.waker = waits.next;
+        }
+        let before = waits.wakers.insert(self.waker, waker);
+        drop(waits);
+        drop(before);
+        Poll::Pending
     }
 
     /// What the call came to, which is told. None where it ended without a value.
@@ -207,9 +181,17 @@ impl<T, P: Deref<Target = Shared<T>>> Ticket<T, P> {
 impl<T, P: Deref<Target = Shared<T>>> Drop for Ticket<T, P> {
     fn drop(&mut self) {
         let mut noted = self.joined.as_mut().and_then(|(_, join)| join.noted.take());
-        let waker = self.post.give_up(self.waker, &mut noted);
+        let left = noted.as_ref().map(|_| now());
+        let mut waits = lock(&self.post.waits);
+        let told = self.post.told.get();
+        if told.is_none() {
+            waits.left.extend(noted.take().zip(left));
+        }
+        // A waker's code may panic, so it is dropped when it has left.
+        let waker = waits.wakers.remove(&self.waker);
+        drop(waits);
         // If it is told, it is recorded as one that has the value, also where it does not want it.
-        let record = self.post.told.get().and_then(|told| told.record.as_ref());
+        let record = told.and_then(|told| told.record.as_ref());
         if let (Some(noted), Some(record)) = (noted, record) {
             record.entered(&noted);
         }

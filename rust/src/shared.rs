@@ -53,11 +53,11 @@ impl<T> Shared<T> {
         Ok(Shared { places, posts: Posts::new(), grower, recordings: Arc::default() })
     }
 
-    /// Asks for the key, for one who leads no call. Returns the call that it has joined, or none
-    /// where it has to load: for the call that it leads, or where there is no memory for one, for
-    /// itself alone.
+    /// Asks for the key. Returns the call that the asker has joined, or none where it has to load: for
+    /// the call that it leads, or where there is no memory for one, for itself alone.
     #[inline]
     pub(crate) fn ask(&self, key: &[u8], asker: &mut Asker<T>) -> Result<Option<Join>, Crowded> {
+        asker.abandon(self);
         let noted = self.recordings.noted();
         let mut tries = 0;
         loop {

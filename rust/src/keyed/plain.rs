@@ -14,11 +14,6 @@ use std::sync::atomic::{
 use std::sync::{Arc, Mutex};
 
 const SHARDS: usize = 16;
-/// So many ages, by which Forgets are counted, for each call that is expected to be open, and at
-/// least and at most. All are powers of two, and no fewer than the shards.
-const AGES: usize = 16;
-const LEAST_AGES: usize = 256;
-const MOST_AGES: usize = 1 << 20;
 /// A call can be held so often; in the schedule test by few, so that it plays what comes then.
 const HOLDERS: u64 = if cfg!(test) { 3 } else { (1 << 20) - 1 };
 
@@ -70,7 +65,8 @@ impl Handle {
     pub(crate) const NONE: Handle = Handle(None);
 
     pub(crate) fn open(cells: u32, _: [u64; 2]) -> Result<Self, Error> {
-        let ages = (cells as usize * AGES).next_power_of_two().clamp(LEAST_AGES, MOST_AGES);
+        // So many for each call that is expected to be open, and no fewer than the shards.
+        let ages = (cells as usize * 16).next_power_of_two().clamp(1 << 8, 1 << 20);
         Ok(Handle(Some(Arc::new(Table {
             hash: RandomState::new(),
             shards: Default::default(),
