@@ -74,9 +74,9 @@ mod tests {
     }
 
     fn asked(handle: &mut Handle, call: &mut Call, key: &[u8]) -> (Asked, Id, Stamp) {
-        let (mut id, mut stamp) = (Id::default(), Stamp::default());
-        let asked = handle.ask(call, key, &mut id, &mut stamp);
-        (asked, id, stamp)
+        let mut name = crate::Call::NONE;
+        let asked = handle.ask(call, key, &mut name);
+        (asked, name.id, name.stamp)
     }
 
     #[test]
@@ -117,10 +117,11 @@ mod tests {
         assert!(first.leave(&mut leads), "the last");
         // The older call was settled beside the newer one, which stays open.
         assert_eq!(asked(&mut first, &mut leads, b"key").1, newer_id);
-        assert_ne!(second.forget_call(b"key", &id, &stamp), Ok(true));
+        let newest = crate::Call { id: newer_id, stamp: newer_stamp };
+        assert_ne!(second.forget_call(b"key", &crate::Call { id, stamp }), Ok(true));
         assert!(second.is_still(&newer_stamp), "an ended stamp ends nothing");
-        assert_eq!(second.forget_call(b"other", &newer_id, &stamp), Ok(false));
-        assert_eq!(second.forget_call(b"key", &newer_id, &newer_stamp), Ok(true));
+        assert_eq!(second.forget_call(b"other", &crate::Call { id: newer_id, stamp }), Ok(false));
+        assert_eq!(second.forget_call(b"key", &newest), Ok(true));
         assert_eq!(second.forget(b"key"), Ok(None));
         let audience = Audience { holders: 2, joined: true, forgotten: true };
         assert_eq!(second.settle(&mut newer), Some(audience));
@@ -138,7 +139,7 @@ mod tests {
         let (_, _, same) = asked(&mut first, &mut call, b"key");
         assert_eq!(first.settle(&mut call), None);
         assert!(second.is_still(&stamp) && second.is_still(&same), "a load ends none");
-        assert_eq!(second.forget_call(b"key", &id, &stamp), Ok(false));
+        assert_eq!(second.forget_call(b"key", &crate::Call { id, stamp }), Ok(false));
         assert!(!first.is_still(&stamp));
         let (_, _, stamp) = asked(&mut first, &mut call, b"key");
         assert!(first.settle(&mut call).is_none() && second.is_still(&stamp));
@@ -154,10 +155,11 @@ mod tests {
         let (mut all, mut open) = (std::collections::HashSet::new(), Vec::new());
         for number in 0..1000u32 {
             let (mut call, key) = (first.make().unwrap(), (number / 2).to_le_bytes());
-            let (mut id, mut stamp) = (Id::default(), Stamp::default());
-            while first.ask(&mut call, &key, &mut id, &mut stamp) == Asked::Full {
+            let mut name = crate::Call::NONE;
+            while first.ask(&mut call, &key, &mut name) == Asked::Full {
                 assert!(first.grow(), "there is room");
             }
+            let id = name.id;
             assert!(id.generation > 0 && all.insert(id), "{id:?} is taken");
             if number % 4 == 0 {
                 assert_eq!(first.settle(&mut call), None);

@@ -95,7 +95,6 @@ mod caller;
 mod chan;
 mod hash;
 mod keyed;
-mod near;
 mod places;
 mod post;
 mod recording;

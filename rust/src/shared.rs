@@ -65,8 +65,7 @@ impl<T> Shared<T> {
             let mut is_early = false;
             let (asked, call) = self.places.with(|seat| {
                 let Some(mut call) = seat.take() else { return (Asked::Full, None) };
-                let Call { id, stamp } = &mut asker.name;
-                let asked = seat.handle.ask(&mut call, key, id, stamp);
+                let asked = seat.handle.ask(&mut call, key, &mut asker.name);
                 match asked {
                     Asked::Led => {
                         seat.loads += 1;
@@ -231,7 +230,7 @@ impl<T> Shared<T> {
         let forgetting = self.recordings.forgetting(true);
         let (was_open, was_still) = self.forgets(|handle| {
             let was_still = handle.is_still(&call.stamp);
-            Ok((handle.forget_call(key, &call.id, &call.stamp)?, was_still))
+            Ok((handle.forget_call(key, &call)?, was_still))
         });
         if was_open {
             self.recordings.closed(forgetting, call.id);

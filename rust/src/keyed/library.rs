@@ -119,15 +119,10 @@ impl Handle {
 
     /// Asks for the key with an idle call.
     #[inline]
-    pub(crate) fn ask(
-        &mut self,
-        call: &mut Call,
-        key: &[u8],
-        id: &mut Id,
-        stamp: &mut Stamp,
-    ) -> Asked {
+    pub(crate) fn ask(&mut self, call: &mut Call, key: &[u8], name: &mut crate::Call) -> Asked {
+        let (at, len, crate::Call { id, stamp }) = (key.as_ptr(), key.len(), name);
         // SAFETY: the key has so many bytes.
-        let code = unsafe { sflight_ask(self, call, key.as_ptr(), key.len(), TRIES, id, stamp) };
+        let code = unsafe { sflight_ask(self, call, at, len, TRIES, id, stamp) };
         match code {
             LED => Asked::Led,
             JOINED => Asked::Joined,
@@ -172,9 +167,10 @@ impl Handle {
     }
 
     /// Forgets the call, or ends its stamp: whether the call was open.
-    pub(crate) fn forget_call(&mut self, key: &[u8], id: &Id, at: &Stamp) -> Result<bool, Busy> {
+    pub(crate) fn forget_call(&mut self, key: &[u8], of: &crate::Call) -> Result<bool, Busy> {
+        let (at, len, crate::Call { id, stamp }) = (key.as_ptr(), key.len(), of);
         // SAFETY: the key has so many bytes.
-        match unsafe { sflight_forget_call(self, key.as_ptr(), key.len(), id, at, TRIES) } {
+        match unsafe { sflight_forget_call(self, at, len, id, stamp, TRIES) } {
             DONE => Ok(true),
             CLEARED => Ok(false),
             BUSY => Err(Busy),

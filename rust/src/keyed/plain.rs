@@ -91,13 +91,7 @@ impl Handle {
         Some(Call { id: Id::default(), key: None })
     }
 
-    pub(crate) fn ask(
-        &mut self,
-        call: &mut Call,
-        key: &[u8],
-        id: &mut Id,
-        stamp: &mut Stamp,
-    ) -> Asked {
+    pub(crate) fn ask(&mut self, call: &mut Call, key: &[u8], name: &mut crate::Call) -> Asked {
         assert!(call.id.generation == 0, "an idle call");
         if is_unlucky() {
             return Asked::Busy;
@@ -119,11 +113,12 @@ impl Handle {
             shard.open.insert(key.clone(), generation);
             shard.calls.insert(generation, Audience { holders: 1, ..Audience::default() });
             call.key = Some(key);
-            *stamp = Stamp { table: 0, slot: slot as u64, age: table.ages[slot].load(Acquire) };
+            let age = table.ages[slot].load(Acquire);
+            name.stamp = Stamp { table: 0, slot: slot as u64, age };
             (Asked::Led, generation)
         };
         call.id = Id { table: 0, cell: at as u32, generation };
-        *id = call.id;
+        name.id = call.id;
         asked
     }
 
@@ -169,20 +164,20 @@ impl Handle {
         Ok(closed.map(|generation| Id { table: 0, cell: at as u32, generation }))
     }
 
-    pub(crate) fn forget_call(&mut self, key: &[u8], of: &Id, at: &Stamp) -> Result<bool, Busy> {
+    pub(crate) fn forget_call(&mut self, key: &[u8], of: &crate::Call) -> Result<bool, Busy> {
         if is_unlucky() {
             return Err(Busy);
         }
         let table = self.table();
-        let shard = table.of(key).1;
-        let mut open = lock(&table.shards[shard]);
-        if of.cell as usize == shard && open.open.get(key) == Some(&of.generation) {
-            open.close(key);
+        let (crate::Call { id, stamp }, at) = (of, table.of(key).1);
+        let mut shard = lock(&table.shards[at]);
+        if id.cell as usize == at && shard.open.get(key) == Some(&id.generation) {
+            shard.close(key);
             return Ok(true);
         }
-        drop(open);
-        if let Some(age) = self.age(at) {
-            let _ = age.compare_exchange(at.age, at.age + 1, Release, Acquire);
+        drop(shard);
+        if let Some(age) = self.age(stamp) {
+            let _ = age.compare_exchange(stamp.age, stamp.age + 1, Release, Acquire);
         }
         Ok(false)
     }
@@ -210,11 +205,11 @@ impl Handle {
 #[test]
 fn a_call_is_held_only_so_often() {
     let mut handle = Handle::open(1, [1, 2]).unwrap();
-    let (mut id, mut stamp) = (Id::default(), Stamp::default());
+    let mut name = crate::Call::NONE;
     let mut calls: Vec<_> = (0..=HOLDERS).map(|_| handle.make().unwrap()).collect();
-    let asked = calls.iter_mut().map(|call| handle.ask(call, b"key", &mut id, &mut stamp));
+    let asked = calls.iter_mut().map(|call| handle.ask(call, b"key", &mut name));
     let asked: Vec<_> = asked.collect();
     assert_eq!(asked, [Asked::Led, Asked::Joined, Asked::Joined, Asked::Crowded]);
     assert!(!handle.leave(&mut calls[1]));
-    assert_eq!(handle.ask(&mut calls[3], b"key", &mut id, &mut stamp), Asked::Joined);
+    assert_eq!(handle.ask(&mut calls[3], b"key", &mut name), Asked::Joined);
 }
