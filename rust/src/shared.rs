@@ -80,10 +80,10 @@ impl<T> Shared<T> {
                 (asked, Some(call))
             });
             match (asked, call) {
-                (Asked::Led, call) => {
+                (Asked::Led, Some(call)) => {
                     at("asked");
-                    asker.lead = call;
-                    asker.record = noted.map(|noted| noted.record(key, asker.name.id));
+                    let record = noted.map(|noted| noted.record(key, asker.name.id));
+                    asker.lead = Some((call, record));
                     if is_early {
                         self.grow_early();
                     }
@@ -128,8 +128,7 @@ impl<T> Shared<T> {
     #[inline]
     pub(crate) fn settle(&self, asker: &mut Asker<T>, got: Option<&mut Loaded<T>>) {
         at("before settle");
-        let Some(call) = asker.lead.take() else { return };
-        let record = asker.record.take();
+        let Some((call, record)) = asker.lead.take() else { return };
         if let Some(record) = &record {
             if got.is_none() {
                 record.fails();
