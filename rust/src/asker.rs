@@ -13,10 +13,12 @@ use std::time::Instant;
 
 /// One who asks, in one thread or task at a time: a caller of the user, or for one call of a group.
 pub(crate) struct Asker<T> {
-    /// The call that it leads, and has to settle, and its record, if it is recorded.
-    pub(crate) lead: Option<(keyed::Call, Option<Arc<CallRecord>>)>,
+    /// The call that it leads, and has to settle.
+    pub(crate) lead: Option<keyed::Call>,
     /// Its name, and the stamp that its value will have, unless it is forgotten before it is settled.
     pub(crate) name: Call,
+    /// If it is recorded.
+    pub(crate) record: Option<Arc<CallRecord>>,
     // Where the receiver of a job waits for what it loads.
     own: Option<Arc<Post<T>>>,
     /// Of the answer that it got last.
@@ -37,14 +39,14 @@ impl<T> Load<'_, T> {
         self.1.settle(asker, Some(&mut got));
         asker.last = Some(got.stamp());
         asker.tell_own(Some(&got));
+        std::mem::forget(self);
         got
     }
 }
 
 impl<T> Drop for Load<'_, T> {
-    #[inline]
     fn drop(&mut self) {
-        // It does nothing where the load has ended with a value.
+        // The load has ended without a value.
         self.0.abandon(self.1);
     }
 }
@@ -52,7 +54,7 @@ impl<T> Drop for Load<'_, T> {
 impl<T> Asker<T> {
     #[inline]
     pub(crate) fn new() -> Self {
-        Asker { lead: None, name: Call::NONE, own: None, last: None }
+        Asker { lead: None, name: Call::NONE, record: None, own: None, last: None }
     }
 
     /// Asks for the key, again where its call is crowded. Returns the call that it has joined, or
@@ -72,7 +74,7 @@ impl<T> Asker<T> {
     /// forgotten before it is settled.
     #[inline]
     fn load<'a>(&'a mut self, shared: &'a Shared<T>) -> (Load<'a, T>, Stamp) {
-        if let Some((_, Some(record))) = &self.lead {
+        if let Some(record) = &self.record {
             record.leads();
         }
         let stamp = self.name.stamp;

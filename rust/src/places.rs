@@ -43,22 +43,22 @@ impl Seat {
         self.idle.pop().or_else(|| self.handle.make())
     }
 
-    /// Settles the call that is led. None where nobody is told, and it is idle again.
+    /// Settles the call that is led, if one is. None where nobody is told, and it is idle again.
     #[inline]
-    pub(crate) fn settle(&mut self, mut call: Call) -> Option<(Audience, Call)> {
+    pub(crate) fn settle(&mut self, lead: &mut Option<Call>) -> Option<Audience> {
+        let audience = self.handle.settle(lead.as_mut()?);
         self.settles += 1;
-        let Some(audience) = self.handle.settle(&mut call) else {
-            self.put(call);
-            return None;
-        };
-        Some((audience, call))
+        if audience.is_none() {
+            self.put(lead.take());
+        }
+        audience
     }
 
     /// The call is idle again.
     #[inline]
-    pub(crate) fn put(&mut self, call: Call) {
+    pub(crate) fn put(&mut self, call: Option<Call>) {
         if self.idle.len() < IDLE {
-            self.idle.push(call);
+            self.idle.extend(call);
         }
     }
 }

@@ -63,38 +63,36 @@ impl<T> Shared<T> {
         loop {
             at("before ask");
             let mut is_early = false;
-            let (asked, call) = self.places.with(|seat| {
-                let Some(mut call) = seat.take() else { return (Asked::Full, None) };
-                let asked = seat.handle.ask(&mut call, key, &mut asker.name);
+            let asked = self.places.with(|seat| {
+                asker.lead = seat.take();
+                let Some(call) = &mut asker.lead else { return Asked::Full };
+                let asked = seat.handle.ask(call, key, &mut asker.name);
                 match asked {
                     Asked::Led => {
                         seat.loads += 1;
                         is_early = seat.loads % EARLY == 0;
                     }
                     Asked::Joined => seat.joins += 1,
-                    _ => {
-                        seat.put(call);
-                        return (asked, None);
-                    }
+                    _ => seat.put(asker.lead.take()),
                 }
-                (asked, Some(call))
+                asked
             });
-            match (asked, call) {
-                (Asked::Led, Some(call)) => {
+            match asked {
+                Asked::Led => {
                     at("asked");
-                    let record = noted.map(|noted| noted.record(key, asker.name.id));
-                    asker.lead = Some((call, record));
+                    asker.record = noted.map(|noted| noted.record(key, asker.name.id));
                     if is_early {
                         self.grow_early();
                     }
                     return Ok(None);
                 }
-                (_, Some(call)) => {
+                Asked::Joined => {
                     at("asked");
+                    let call = asker.lead.take().expect("the call that has joined");
                     return Ok(Some(Join { call, id: asker.name.id, noted }));
                 }
-                (Asked::Crowded, _) => return Err(Crowded),
-                (Asked::Full, _) if !self.grow() => {
+                Asked::Crowded => return Err(Crowded),
+                Asked::Full if !self.grow() => {
                     asker.name = Call::NONE;
                     return Ok(None);
                 }
@@ -128,18 +126,18 @@ impl<T> Shared<T> {
     #[inline]
     pub(crate) fn settle(&self, asker: &mut Asker<T>, got: Option<&mut Loaded<T>>) {
         at("before settle");
-        let Some((call, record)) = asker.lead.take() else { return };
+        let record = asker.record.take();
         if let Some(record) = &record {
             if got.is_none() {
                 record.fails();
             }
             record.settles();
         }
-        let told = self.places.with(|seat| seat.settle(call));
+        let audience = self.places.with(|seat| seat.settle(&mut asker.lead));
         if let Some(record) = &record {
             record.settled();
         }
-        if let Some((audience, call)) = told {
+        if let (Some(audience), Some(call)) = (audience, asker.lead.take()) {
             self.tell(&audience, call, &asker.name.id, got, record);
         }
     }
@@ -181,7 +179,7 @@ impl<T> Shared<T> {
         at("before leave");
         let is_last = self.places.with(|seat| {
             let is_last = seat.handle.leave(&mut call);
-            seat.put(call);
+            seat.put(Some(call));
             is_last
         });
         if is_last {
