@@ -73,7 +73,7 @@ struct Place {
     seat: UnsafeCell<Seat>,
 }
 
-// SAFETY: one thread at a time has a guard, by which alone the seat is reached.
+// SAFETY: one thread at a time has a guard, by which alone the seat is reached, and a seat is Send.
 unsafe impl Sync for Place {}
 
 struct Taken<'a>(&'a Place);

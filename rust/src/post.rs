@@ -8,7 +8,7 @@
 use crate::keyed::Id;
 use crate::recording::{now, CallRecord, Noted};
 use crate::shared::{Join, Shared};
-use crate::sync::{at, instant, lock, point, sleep};
+use crate::sync::{at, instant, lock, look, point, sleep};
 use crate::Loaded;
 use std::collections::BTreeMap;
 use std::ops::Deref;
@@ -140,6 +140,9 @@ impl<T, P: Deref<Target = Shared<T>>> Ticket<T, P> {
     pub(crate) fn wait(&self, deadline: Option<Instant>) -> bool {
         at("before sleep");
         let Post { told, waits: lock_of_waits, settled } = &*self.post;
+        if look(|| told.get().is_some()) {
+            return true;
+        }
         let mut waits = lock(lock_of_waits);
         while told.get().is_none() {
             let time = deadline.map(|deadline| deadline.checked_duration_since(instant()));
@@ -181,17 +184,17 @@ impl<T, P: Deref<Target = Shared<T>>> Ticket<T, P> {
 impl<T, P: Deref<Target = Shared<T>>> Drop for Ticket<T, P> {
     fn drop(&mut self) {
         let mut noted = self.joined.as_mut().and_then(|(_, join)| join.noted.take());
-        let left = noted.as_ref().map(|_| now());
-        let mut waits = lock(&self.post.waits);
-        let told = self.post.told.get();
-        if told.is_none() {
-            waits.left.extend(noted.take().zip(left));
+        let (told, left, mut waker) = (&self.post.told, noted.as_ref().map(|_| now()), None);
+        if told.get().is_none() {
+            let mut waits = lock(&self.post.waits);
+            // A waker's code may panic, so it is dropped when the ticket has left.
+            waker = waits.wakers.remove(&self.waker);
+            if told.get().is_none() {
+                waits.left.extend(noted.take().zip(left));
+            }
         }
-        // A waker's code may panic, so it is dropped when it has left.
-        let waker = waits.wakers.remove(&self.waker);
-        drop(waits);
         // If it is told, it is recorded as one that has the value, also where it does not want it.
-        let record = told.and_then(|told| told.record.as_ref());
+        let record = told.get().and_then(|told| told.record.as_ref());
         if let (Some(noted), Some(record)) = (noted, record) {
             record.entered(&noted);
         }

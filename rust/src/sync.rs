@@ -32,6 +32,17 @@ pub(crate) fn lock<T>(mutex: &Mutex<T>) -> MutexGuard<'_, T> {
     mutex.lock().unwrap_or_else(PoisonError::into_inner)
 }
 
+/// Looks some times whether it holds: that takes about as long as to sleep and be woken.
+pub(crate) fn look(holds: impl Fn() -> bool) -> bool {
+    (0..16).any(|_| {
+        let it_does = holds();
+        if !it_does {
+            std::thread::yield_now();
+        }
+        it_does
+    })
+}
+
 /// Sleeps until it is woken, or the time is over, or for no reason.
 pub(crate) fn sleep<'a, T>(
     condition: &Condvar,

@@ -47,6 +47,10 @@ pub(crate) fn lock<T>(mutex: &Mutex<T>) -> MutexGuard<'_, T> {
     real::lock(mutex)
 }
 
+pub(crate) fn look(holds: impl Fn() -> bool) -> bool {
+    !schedules::is_played() && !orders::is_actor() && real::look(holds)
+}
+
 pub(crate) fn sleep<'a, T>(
     condition: &Condvar,
     mutex: &'a Mutex<T>,
