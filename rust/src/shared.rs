@@ -65,8 +65,7 @@ impl<T> Shared<T> {
             let mut is_early = false;
             let asked = self.places.with(|seat| {
                 asker.lead = seat.take();
-                let Some(call) = &mut asker.lead else { return Asked::Full };
-                let asked = seat.handle.ask(call, key, &mut asker.name);
+                let asked = seat.handle.ask(asker.lead.as_mut()?, key, &mut asker.name);
                 match asked {
                     Asked::Led => {
                         seat.loads += 1;
@@ -75,10 +74,10 @@ impl<T> Shared<T> {
                     Asked::Joined => seat.joins += 1,
                     _ => seat.put(asker.lead.take()),
                 }
-                asked
+                Some(asked)
             });
             match asked {
-                Asked::Led => {
+                Some(Asked::Led) => {
                     at("asked");
                     asker.record = noted.map(|noted| noted.record(key, asker.name.id));
                     if is_early {
@@ -86,17 +85,18 @@ impl<T> Shared<T> {
                     }
                     return Ok(None);
                 }
-                Asked::Joined => {
+                Some(Asked::Joined) => {
                     at("asked");
                     let call = asker.lead.take().expect("the call that has joined");
                     return Ok(Some(Join { call, id: asker.name.id, noted }));
                 }
-                Asked::Crowded => return Err(Crowded),
-                Asked::Full if !self.grow() => {
+                Some(Asked::Crowded) => return Err(Crowded),
+                Some(Asked::Busy) => pause(&mut tries),
+                Some(Asked::Full) if self.grow() => pause(&mut tries),
+                Some(Asked::Full) | None => {
                     asker.name = Call::NONE;
                     return Ok(None);
                 }
-                _ => pause(&mut tries),
             }
         }
     }
