@@ -62,7 +62,7 @@ static void *load(void *context, const uint8_t *name, size_t len, uint64_t *weig
     uint64_t moment = ++ticks, ended = ended_at[actor][depth];
     if (key->len != len || memcmp(key->name, name, len) != 0) abort();
     *weight = 1 + random_below(2);
-    /* What was asked for before all Forgets that have begun by now had returned may have been ended by one. */
+    /* A load may run beside another if a Forget came between: if not all that have begun by now had returned when it was asked for. */
     for (int i = 0; i < key->count && ended == key->begun; i++) doubles += key->running[i].ended == key->begun;
     if (key->count == MOST_RUNNING) abort();
     key->running[key->count].moment = moment;
@@ -125,7 +125,7 @@ static void ask_for(int number) {
     joins += code == SFLIGHT_CACHE_JOINED;
     stale += moment < least || got->key != number;
     backward += moment < newest && key->begun == ended;
-    /* What was loaded was not there before. What was joined may have been found in the cache already, where it was kept before it was settled. */
+    /* A loaded value was not there before. A joined one may have been found in the cache already, where it was kept before its call was settled. */
     backward += code == SFLIGHT_CACHE_LOADED && moment <= newest && key->begun == ended;
     if (moment > key->newest) {
         key->newest = moment;
@@ -163,6 +163,17 @@ static void open_cache(sflight_cache_load *by, uint64_t limit, uint32_t entries)
     for (int i = 0; i < KEYS; i++) keys[i] = (struct key){.name = keys[i].name, .len = keys[i].len};
 }
 
+/* The sum of the weights of all values that the cache has. */
+static uint64_t weight_of_all(void) {
+    uint64_t weight = 0;
+    for (unsigned i = 0; i < cache->count; i++) {
+        for (uint64_t bucket = 0; bucket <= cache->shards[i].mask; bucket++) {
+            for (struct sflight_entry *e = cache->shards[i].buckets[bucket]; e; e = e->next) weight += e->weight;
+        }
+    }
+    return weight;
+}
+
 static void play_at_random(uint64_t number) {
     begin_play(number, 2 + (int)(number % (MOST_ACTORS - 1)));
     rounds = 1 + random_below(6);
@@ -181,6 +192,7 @@ static void play_at_random(uint64_t number) {
     check(refused == 0, "no get is refused");
     check(stats.misses == stats.loads + stats.joins && stats.in_use == 0 && stats.weight <= cache->options.limit, "the counts");
     check(stats.entries == (uint64_t)live, "what is not in the cache is dropped");
+    check(stats.weight == weight_of_all(), "and its weight is given back");
     for (unsigned i = 0; i < cache->count; i++) check(!cache->shards[i].loading, "no load is listed");
     sflight_cache_close(cache);
     check(live == 0, "each value is dropped once");
@@ -192,7 +204,7 @@ static int phase;
 static bool is_second;
 static uint64_t store;
 
-/* What the actor gets of the key; 0 for a failure. */
+/* Returns the moment of the value that the actor gets of the key; 0 for a failure. */
 static uint64_t get(const char *key) {
     sflight_value value;
     int code = sflight_cache_get(cache, (const uint8_t *)key, strlen(key), &value);
@@ -251,13 +263,13 @@ static void leader_is_slow(int number) {
     until(2);
     check(phase == 2, "the leader stops");
     store = 2;
-    /* In every place the value is kept already. */
+    /* At each of these places the value is kept already. */
     check(get("k") == 1, "what is kept is found before its call is settled");
     phase = 3;
     check(get("k") == 1, "and later");
 }
 
-/* The same, but the key is forgotten meanwhile: the newer value stays. */
+/* A leader stops at one place after its load, and the key is forgotten meanwhile: the newer value stays. */
 static void leader_is_forgotten(int number) {
     if (number == 0) {
         check(get("k") == 1, "the leader has its value");
@@ -304,7 +316,7 @@ static bool stops_miss(int who, const char *where) {
 
 static void misses_before(int number) {
     if (number == 0) {
-        check(get("k") == 1, "who has missed before finds what was loaded meanwhile");
+        check(get("k") == 1, "a thread that has missed before finds what was loaded meanwhile");
         return;
     }
     until(2);

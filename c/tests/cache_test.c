@@ -55,14 +55,14 @@ static void check(bool holds, const char *what) {
     printf("FAILED: %s\n", what);
 }
 
-/* What is loaded: of which key, in which version, and whether it was dropped. */
+/* A loaded value: its key and version, and whether it was dropped. */
 struct page {
     unsigned mark, version;
     size_t len;
     uint8_t key[];
 };
 
-/* Which allocation of the package is refused, by its number; 0 is none. */
+/* The number of the allocation of the package that is refused; 0 is none. */
 static atomic_long refused_number;
 static atomic_bool was_refused;
 
@@ -72,7 +72,19 @@ static bool is_refused(void) {
     return true;
 }
 
-static void *test_malloc(size_t size) { return is_refused() ? NULL : malloc(size); }
+/* One allocation of this size is refused, once so many gets have joined the load that it is for; 0 is none. */
+enum { JOINING = 5 };
+static atomic_size_t refused_size;
+static sflight_cache *refusing;
+
+static bool is_refused_by_size(size_t size) {
+    size_t refused = size;
+    if (size == 0 || !atomic_compare_exchange_strong(&refused_size, &refused, 0)) return false;
+    while (sflight_cache_statistics(refusing).joins < JOINING) sched_yield();
+    return true;
+}
+
+static void *test_malloc(size_t size) { return is_refused() || is_refused_by_size(size) ? NULL : malloc(size); }
 
 static void *test_calloc(size_t count, size_t size) { return is_refused() ? NULL : calloc(count, size); }
 
@@ -293,6 +305,27 @@ static void test_used(void) {
     check(live == 0, "all are dropped");
 }
 
+/* A value that was found ever so often leaves while others are in use. */
+static void test_used_once(void) {
+    struct plan plan = {0};
+    sflight_cache *cache = open_cache(10, 10, &plan);
+    char key[24];
+    for (int i = 0; i < 1100; i++) {
+        get_text(cache, "used");
+        snprintf(key, sizeof key, "once-%d", i);
+        if (i < 100) get_text(cache, key);
+    }
+    for (int i = 0; i < 3000; i++) {
+        snprintf(key, sizeof key, "key-%d", i / 3 % 20);
+        get_text(cache, key);
+    }
+    sflight_value value;
+    check(!sflight_cache_peek(cache, (const uint8_t *)"used", 4, &value), "a value that was in use long ago has left");
+    sflight_cache_release(cache, &value);
+    sflight_cache_close(cache);
+    check(live == 0, "all are dropped");
+}
+
 /* Many more values than was said, in many shards; and all are found. */
 static void test_many_entries(void) {
     struct plan plan = {0};
@@ -384,7 +417,7 @@ static void test_small(void) {
     live = 0;
 }
 
-/* Each allocation of the package is refused in turn. What was refused can be done again. */
+/* Each allocation of the package is refused in turn. A call that was refused can be made again. */
 static void test_memory(void) {
     struct plan plan = {0};
     static const uint8_t large[3000];
@@ -503,7 +536,7 @@ static void test_shared(bool fails) {
         if (pthread_create(&askers[i].thread, NULL, asks, &askers[i])) abort();
     }
     while (sflight_cache_statistics(cache).joins < 5) sched_yield();
-    check(sflight_cache_statistics(cache).in_use == 1, "those who wait are not in use");
+    check(sflight_cache_statistics(cache).in_use == 1, "threads that wait are not in use");
     atomic_store(&plan.held, false);
     int led = 0, joined = 0, lost = 0;
     for (int i = 0; i < 6; i++) {
@@ -514,10 +547,34 @@ static void test_shared(bool fails) {
     }
     sflight_cache_stats stats = sflight_cache_statistics(cache);
     check(stats.hits == 0 && stats.misses == 6 && stats.joins == 5 && stats.in_use == 0, "five have joined, and nobody has found it");
+    check(stats.failures == (fails ? 1 : 0), "a load that fails is one failure");
     if (fails) check(lost == 6 && loads == 1 && live == 0, "all that joined share a failure");
     else check(led == 1 && joined == 5 && loads == 1 && live == 1, "six that ask at one time make one load");
     sflight_cache_close(cache);
     check(live == 0, "what they shared is dropped once");
+}
+
+/* Six get one key, and there is no memory for its value. */
+static void test_shared_refusal(void) {
+    struct plan plan = {0};
+    sflight_cache *cache = open_cache(100, 100, &plan);
+    struct asker askers[1 + JOINING];
+    loads = 0;
+    refusing = cache;
+    atomic_store(&refused_size, sizeof(struct sflight_entry) + strlen("ada"));
+    for (int i = 0; i <= JOINING; i++) {
+        askers[i] = (struct asker){.cache = cache, .key = "ada"};
+        if (pthread_create(&askers[i].thread, NULL, asks, &askers[i])) abort();
+    }
+    for (int i = 0; i <= JOINING; i++) {
+        pthread_join(askers[i].thread, NULL);
+        check(askers[i].code == SFLIGHT_CACHE_NO_MEMORY, "want of memory is shared");
+    }
+    check(loads == 0 && live == 0 && atomic_load(&refused_size) == 0, "nothing is loaded");
+    check(get_text(cache, "ada") == SFLIGHT_CACHE_LOADED, "and the next get loads");
+    check(sflight_cache_statistics(cache).failures == 0, "want of memory is no failure of a load");
+    sflight_cache_close(cache);
+    check(live == 0, "all are dropped");
 }
 
 enum { MEET = 4, MEETINGS = 3000 };
@@ -623,6 +680,7 @@ int main(void) {
     test_failures();
     test_meanwhile();
     test_used();
+    test_used_once();
     test_scan();
     test_many_entries();
     test_heavy();
@@ -631,6 +689,7 @@ int main(void) {
     test_memory();
     test_shared(false);
     test_shared(true);
+    test_shared_refusal();
     test_one_load();
     test_forgets_beside_gets();
     printf("%d passed, %d failed\n", passed, failed);

@@ -1,6 +1,5 @@
-/* Tests of sflight_do.h. */
-#include "sflight_do.h"
-#include "sflight.h"
+/* Tests of sflight_do.h. tests/stress_test.c has many calls of many threads. */
+#include "sflight_inside.h"
 #include <malloc.h>
 #include <pthread.h>
 #include <sched.h>
@@ -11,14 +10,6 @@
 #include <string.h>
 #include <time.h>
 #include <unistd.h>
-
-/* How many threads stress a pool, and how many calls each makes. */
-#ifndef STRESSING
-#define STRESSING 16
-#endif
-#ifndef ROUNDS
-#define ROUNDS 1500
-#endif
 
 /* After so many seconds it hangs. */
 #ifndef LIMIT
@@ -79,7 +70,10 @@ static void runs_nested(struct inner *inner) {
 
 static void sizes(void) {
     check(!sflight_do_open(SFLIGHT_MOST_CELLS + 1, NULL), "a size that is refused");
-    sflight_pool *pool = sflight_do_open(0, NULL);
+    sflight_pool *pool = sflight_do_open(SFLIGHT_MOST_CELLS, NULL);
+    check(pool != NULL, "and the largest one that is not");
+    sflight_do_close(pool);
+    pool = sflight_do_open(0, NULL);
     sflight_got got;
     check(get(pool, "k", plain, (void *)(size_t)7, SFLIGHT_DO_FOREVER, &got) == SFLIGHT_DO_DONE && got.value == 7 && got.led && got.joiners == 0, "a load");
     check(sflight_do_is_still(pool, &got.stamp) && !sflight_do_is_still(pool, &(sflight_do_stamp){0}), "its stamp is current");
@@ -88,6 +82,8 @@ static void sizes(void) {
     sflight_stats stats = sflight_do_statistics(pool);
     check(stats.loads == 2 && stats.joins == 0 && stats.forgets == 1 && stats.in_use == 0, "its numbers");
     check(stats.hits == 0 && stats.misses == 0 && stats.evictions == 0, "a pool has no cache");
+    for (int i = 0; i < 300; i++) get(pool, "k", plain, NULL, SFLIGHT_DO_FOREVER, &got);
+    check(!atomic_load(&pool->posts[1]), "a pool grows for loads that are open at one time alone");
     sflight_do_close(pool);
     sflight_do_close(NULL);
 }
@@ -120,7 +116,7 @@ static void forgotten(void) {
     const sflight_do_stamp none = {0};
     sflight_got got;
     check(get(pool, "k", forgets_itself, &inner, SFLIGHT_DO_FOREVER, &got) == SFLIGHT_DO_DONE && got.value == 1, "the load that was forgotten");
-    check(inner.code == SFLIGHT_DO_DONE && inner.got.value == 2 && inner.got.led, "who asks after a Forget joins no load of before");
+    check(inner.code == SFLIGHT_DO_DONE && inner.got.value == 2 && inner.got.led, "a thread that asks after a Forget joins no load from before");
     check(memcmp(&got.stamp, &none, sizeof none) == 0 && sflight_do_is_still(pool, &inner.got.stamp), "what was forgotten has no stamp");
     sflight_do_close(pool);
 }
@@ -183,6 +179,8 @@ static void hung(void) {
             check(get(pool, "hung", plain, NULL, 0, &got) == SFLIGHT_DO_TIMED_OUT, "one load of it at a time");
         }
         check(get(pool, "hung", plain, NULL, 3000000, &got) == SFLIGHT_DO_TIMED_OUT, "in time");
+        check(get(pool, "hung", plain, NULL, -1, &got) == SFLIGHT_DO_TIMED_OUT, "at once where the time is over");
+        check(get(pool, "hung", plain, NULL, INT64_MIN, &got) == SFLIGHT_DO_TIMED_OUT, "however long ago");
         check(forget(pool, "hung") && !forget(pool, "hung"), "it is forgotten, once");
         check(get(pool, "hung", plain, (void *)(size_t)5, SFLIGHT_DO_FOREVER, &got) == SFLIGHT_DO_DONE && got.value == 5, "and loaded anew");
         atomic_store(&inner.over, 1);
@@ -215,7 +213,7 @@ static void many(void) {
             pthread_create(&threads[t], NULL, hangs, &joined[t]);
         }
         while (sflight_do_statistics(pool).joins < THREADS) sleep_ms(1);
-        check(sflight_do_statistics(pool).in_use == 1, "those who wait are not in use");
+        check(sflight_do_statistics(pool).in_use == 1, "threads that wait are not in use");
         sflight_got late;
         check(get(pool, "k", plain, NULL, 0, &late) == SFLIGHT_DO_TIMED_OUT, "one that is late is not counted");
         atomic_store(&inner.over, 1);
@@ -316,161 +314,6 @@ static void deep(void) {
     sflight_stats stats = sflight_do_statistics(pool);
     check(stats.loads == DEEPEST && stats.in_use == 0, "with nothing given up");
     sflight_do_close(pool);
-}
-
-/* Threads with nested calls, deadlines and Forgets: one load of a key at a time, nothing older than a Forget, and nothing older than what was
-   returned before, nor the same. */
-enum { KEYS = 24 };
-
-static struct key {
-    char name[80];
-    atomic_ullong begun, ended, forgotten;
-    pthread_mutex_t lock; /* protects the rest */
-    struct { uint64_t moment, ended; } running[4 * STRESSING];
-    int count;
-    uint64_t newest, newest_ended; /* that was returned, and how many Forgets had ended when it was asked for */
-    uint64_t cached_moment;
-    sflight_do_stamp cached;
-} keys[KEYS];
-
-static atomic_ullong ticks, loads, hits, doubles, stale, backward, refused, given, received;
-static sflight_pool *stressed;
-
-static void takes(uint64_t value, uint32_t others) {
-    (void)value;
-    atomic_fetch_add(&given, others);
-}
-
-struct asking {
-    int key, depth;
-    unsigned *seed;
-    uint64_t ended;
-};
-
-static void ask(int key, int depth, unsigned *seed);
-
-static uint64_t loading(void *context, const uint8_t *name, size_t len) {
-    struct asking *asking = context;
-    struct key *key = &keys[asking->key];
-    uint64_t moment = atomic_fetch_add(&ticks, 1) + 1;
-    if (strlen(key->name) != len || memcmp(key->name, name, len)) abort();
-    pthread_mutex_lock(&key->lock);
-    /* What was asked for before all Forgets that have begun by now had returned may have been ended by one. */
-    uint64_t begun = atomic_load(&key->begun);
-    for (int i = 0; i < key->count && asking->ended == begun; i++) doubles += key->running[i].ended == begun;
-    if (key->count == 4 * STRESSING) abort();
-    key->running[key->count].moment = moment;
-    key->running[key->count++].ended = asking->ended;
-    pthread_mutex_unlock(&key->lock);
-    loads++;
-    for (unsigned i = 0; i < (unsigned)rand_r(asking->seed) % 4; i++) sched_yield();
-    /* Greater keys alone, so that no two wait for each other. */
-    int other = asking->key + 1 + (int)((unsigned)rand_r(asking->seed) % 4);
-    if (asking->depth < 3 && other < KEYS && rand_r(asking->seed) % 3 == 0) ask(other, asking->depth + 1, asking->seed);
-    pthread_mutex_lock(&key->lock);
-    for (int i = 0; i < key->count; i++) {
-        if (key->running[i].moment == moment) key->running[i] = key->running[--key->count];
-    }
-    pthread_mutex_unlock(&key->lock);
-    return moment << 8 | (uint64_t)asking->key;
-}
-
-static void keeping_it(void *context, const uint8_t *name, size_t len, uint64_t value, const sflight_do_stamp *stamp) {
-    struct key *key = &keys[((struct asking *)context)->key];
-    (void)name, (void)len;
-    if (rand_r(((struct asking *)context)->seed) % 4 == 0) sched_yield();
-    pthread_mutex_lock(&key->lock);
-    key->cached = *stamp;
-    key->cached_moment = value >> 8;
-    pthread_mutex_unlock(&key->lock);
-}
-
-static void ask(int number, int depth, unsigned *seed) {
-    struct key *key = &keys[number];
-    struct asking asking = {number, depth, seed, atomic_load(&key->ended)};
-    uint64_t least = atomic_load(&key->forgotten);
-    pthread_mutex_lock(&key->lock);
-    uint64_t cached = key->cached_moment, newest = key->newest, ended = key->newest_ended;
-    sflight_do_stamp stamp = key->cached;
-    pthread_mutex_unlock(&key->lock);
-    if (rand_r(seed) % 2 && sflight_do_is_still(stressed, &stamp)) {
-        stale += cached < least;
-        /* Where no Forget has begun since the newest was asked for. */
-        backward += cached < newest && atomic_load(&key->begun) == ended;
-        hits++;
-    }
-    sflight_got got;
-    int64_t timeout = rand_r(seed) % 4 ? SFLIGHT_DO_FOREVER : (int64_t)(rand_r(seed) % 50000);
-    int code = sflight_do_and_keep(stressed, (const uint8_t *)key->name, strlen(key->name), loading, keeping_it, &asking, timeout, &got);
-    if (code != SFLIGHT_DO_DONE) {
-        refused += code != SFLIGHT_DO_TIMED_OUT || timeout == SFLIGHT_DO_FOREVER;
-        return;
-    }
-    received += !got.led;
-    stale += got.value >> 8 < least || (got.value & 255) != (uint64_t)number;
-    backward += got.value >> 8 <= newest && atomic_load(&key->begun) == ended;
-    pthread_mutex_lock(&key->lock);
-    if (got.value >> 8 > key->newest) {
-        key->newest = got.value >> 8;
-        key->newest_ended = asking.ended;
-    }
-    pthread_mutex_unlock(&key->lock);
-}
-
-static uint64_t loads_until_joined(void *context, const uint8_t *key, size_t len) {
-    (void)context, (void)key, (void)len;
-    atomic_fetch_add(&loads, 1);
-    while (sflight_do_statistics(stressed).joins == 0) sched_yield();
-    return 0;
-}
-
-static void *stress_one(void *at) {
-    unsigned seed = (unsigned)(size_t)at * 7 + 1;
-    sflight_got got;
-    /* A busy machine may run one thread after the other. These two meet in any case. */
-    if ((size_t)at < 2) {
-        if (get(stressed, "two ask for this", loads_until_joined, NULL, SFLIGHT_DO_FOREVER, &got) != SFLIGHT_DO_DONE) abort();
-        received += !got.led;
-    }
-    for (int i = 0; i < ROUNDS; i++) {
-        int number = rand_r(&seed) % (rand_r(&seed) % 2 ? 3 : KEYS);
-        struct key *key = &keys[number];
-        if (rand_r(&seed) % 12 == 0) {
-            atomic_fetch_add(&key->begun, 1);
-            unsigned long long began = atomic_fetch_add(&ticks, 1) + 1, before = atomic_load(&key->forgotten);
-            forget(stressed, key->name);
-            while (before < began && !atomic_compare_exchange_weak(&key->forgotten, &before, began)) {}
-            atomic_fetch_add(&key->ended, 1);
-        } else {
-            ask(number, 0, &seed);
-        }
-    }
-    return NULL;
-}
-
-static void stress(const char *what, uint32_t size) {
-    pthread_t threads[STRESSING];
-    memset(keys, 0, sizeof keys);
-    for (int i = 0; i < KEYS; i++) {
-        snprintf(keys[i].name, sizeof keys[i].name, "%.*s%d", i % 3 * 25, "a long key, which the library keeps on the heap ....", i);
-        pthread_mutex_init(&keys[i].lock, NULL);
-    }
-    atomic_store(&loads, 0);
-    atomic_store(&hits, 0);
-    stressed = sflight_do_open(size, takes);
-    for (size_t i = 0; i < STRESSING; i++) pthread_create(&threads[i], NULL, stress_one, (void *)i);
-    for (size_t i = 0; i < STRESSING; i++) pthread_join(threads[i], NULL);
-    sflight_stats stats = sflight_do_statistics(stressed);
-    printf("%s: %llu loads, %llu joined, %llu hits, %llu Forgets\n", what, (unsigned long long)loads, (unsigned long long)stats.joins,
-           (unsigned long long)hits, (unsigned long long)stats.forgets);
-    check(atomic_load(&doubles) == 0, "one load of a key at a time");
-    check(atomic_load(&stale) == 0, "nothing is older than a Forget");
-    check(atomic_load(&backward) == 0, "nothing is older than what was returned before");
-    check(atomic_load(&refused) == 0, "no call is refused");
-    check(atomic_load(&given) == atomic_load(&received), "each who joined has one count, and who gave up has none");
-    check(stats.loads == atomic_load(&loads) && stats.in_use == 0, "loads are counted, and all calls have ended");
-    check(stats.joins > 0 && atomic_load(&hits) > 0, "somebody joined, and somebody hit");
-    sflight_do_close(stressed);
 }
 
 /* Kilobytes of memory that the process has. */
@@ -576,12 +419,6 @@ int main(void) {
     threads_and_pools();
     deep();
     small();
-    if (failed > 0) {
-        printf("%d passed, %d failed\n", passed, failed);
-        return 1;
-    }
-    stress("a pool of the usual size", 0);
-    stress("a pool that grows", 1);
     printf("%d passed, %d failed\n", passed, failed);
     return failed > 0;
 }

@@ -11,7 +11,7 @@
 
 enum { KEYS = 12, CALLS = 24, HANDLES = 3, STAMPS = 32, MOST = 4096 };
 
-/* What the library may write only where its code says so. */
+/* Outputs have this value, which the library may change only where its code says so. */
 enum { UNWRITTEN = 77 };
 
 /* A call of a key, from its lead until its last holder has left. */
@@ -106,7 +106,7 @@ static void settle(sflight_handle *handle, int at) {
         free(led);
         state[at] = IDLE;
     } else {
-        check(code == SFLIGHT_TOLD && audience.holders == led->holders && audience.joined == led->joined && audience.forgotten == led->forgotten, "who is told");
+        check(code == SFLIGHT_TOLD && audience.holders == led->holders && audience.joined == led->joined && audience.forgotten == led->forgotten, "the audience");
         shut(led);
         led->settled = true;
         led->value = value;

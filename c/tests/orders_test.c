@@ -73,7 +73,7 @@ struct world {
     sflight_cache *cache;
     struct actor actors[ACTORS];
     struct { char key[LONGEST]; uint64_t loads; } keys[KEYS];
-    uint64_t given, received; /* counts of values, by those who have joined */
+    uint64_t given, received; /* counts of values, by joiners */
     int64_t live;             /* values of a cache */
     int fillers;
     bool is_over; /* nobody waits any more, since the order has failed */
@@ -254,7 +254,7 @@ static void *act(void *actor) {
     return NULL;
 }
 
-/* What follows is done by the test's own thread. */
+/* The functions from here on run in the test's own thread. */
 
 static char error[1024];
 static bool hangs; /* whether a thread goes on for ever */
@@ -406,7 +406,7 @@ static enum came acts(struct world *w) {
     return IS_NONE;
 }
 
-/* What a call returned. */
+/* A step that says what a call returned. */
 static enum came says_result(struct world *w) {
     int all = length, first = length > 2 && (words[2][0] == 'a') ? 4 : 3;
     if (length < first) return IS_NONE;
@@ -512,7 +512,7 @@ static struct world *open_world(bool is_cache) {
     return w;
 }
 
-/* Ends the threads, whatever they do, and frees the world. Returns whether all is given back. What hangs is left. */
+/* Ends the threads, whatever they do, and frees the world. Returns whether all is given back. A thread that hangs is left. */
 static bool close_world(struct world *w) {
     struct timespec end;
     clock_gettime(CLOCK_REALTIME, &end);
@@ -619,7 +619,7 @@ static void play_file(const char *path) {
     if (!is_well) printf("FAILED: %s\n", error);
 }
 
-/* What is no order, and what does not come so, is an error that names the line. */
+/* A text that is no order, and a step that does not come so, are errors that name the line. */
 static void play_wrong_ones(void) {
     static const char *const wrong_ones[][2] = {
         {"", "it: at its end: an order begins with group or cache"},

@@ -63,7 +63,7 @@ static void check(bool holds, const char *what) {
 
 static void sleep_ms(long ms) { nanosleep(&(struct timespec){ms / 1000, ms % 1000 * 1000000}, NULL); }
 
-/* What the test decides. */
+/* Settings of the test. */
 
 /* The clock of the threads that are timed moves where the test says, and by 100 in a call of the library. */
 static atomic_ullong now_at;
@@ -128,7 +128,7 @@ static int test_create(pthread_t *thread, const pthread_attr_t *attributes, void
     return has_no_thread ? EAGAIN : pthread_create(thread, attributes, run, context);
 }
 
-/* Which allocations are refused: those of this size, or the one of this number. */
+/* The allocations of this size are refused, or the one of this number. */
 static atomic_size_t refused_size;
 static atomic_long refused_number;
 static atomic_bool was_refused;
@@ -751,7 +751,7 @@ static void two_recordings(void) {
     open_at(&gate, 7000);
     end(&leader);
     end(&joiner);
-    check(!joiner.got.led && joiner.got.value == 1, "who joins gets the value");
+    check(!joiner.got.led && joiner.got.value == 1, "a thread that joins gets the value");
     stop(pool);
     expect(&first, "a call that has not ended is left out", LEADS("A", "a", "1000", "1100") SETTLES("A", "0", "1100", "1200"));
     expect(&second, "what began before is left out, with all that was done to it", LEADS("A", "c", "6000", "6100") SETTLES("A", "0", "6100", "6200"));
@@ -767,7 +767,7 @@ static void two_recordings(void) {
     free_log(&first);
     free_log(&second);
 
-    /* One that began to ask before the recording joins a call of it. */
+    /* A thread that began to ask before the recording joins a call of it. */
     struct gate asking = {0}, late = {0};
     leader = (struct job){.pool = pool, .key = "k", .load = &late};
     joiner = (struct job){.pool = pool, .key = "k", .before_ask = &asking};
@@ -875,7 +875,7 @@ static void calling_writer(void) {
         load_key(calling.pool, "k", 1);
         sleep_ms(6);
     }
-    /* What the writer itself does makes it write again. More calls here would be lost where it is slow. */
+    /* The writer's own calls make it write again. More calls here would be lost where it is slow. */
     while (calling.log.writes < 6) sleep_ms(1);
     sflight_recorded recorded = stop(calling.pool);
     check(recorded.failed == 0 && recorded.events == 3 * calls + 4 * 4 && is_legal(&calling.log, &recorded), "a writer that calls the pool");

@@ -99,8 +99,8 @@ static inline void point(bool is_blocked) {
     if (is_blocked || play.stalled[actor] > 0 || random_below(SWITCHES) == 0) hand_over(is_blocked);
 }
 
-/* A step with a name, where a test may let the actor wait. Whoever is stopped after a step that others
- * have to find is often stopped for long. */
+/* A step with a name, where a test may let the actor wait. An actor that is stopped after a step that
+ * others have to find is often stopped for long. */
 static inline void point_at(const char *where) {
     if (actor >= 0 && strncmp(where, "before ", 7) != 0 && random_below(STALLS_AFTER) == 0)
         play.stalled[actor] = random_below(LONG);
@@ -137,7 +137,7 @@ static inline long played_syscall(long number, void *at, int what, unsigned valu
     }
     point_at("before sleep");
     unsigned before = *wakes_of(at);
-    /* Whoever changes the word and wakes later finds the thread asleep. */
+    /* An actor that changes the word later, and wakes, finds the thread asleep. */
     if (*(volatile unsigned *)at != value) {
         errno = EAGAIN;
         return -1;

@@ -55,7 +55,7 @@ static uint64_t loading(void *context, const uint8_t *name, size_t len) {
     struct key *key = &keys[load->key];
     uint64_t moment = ++ticks;
     if (key->len != len || memcmp(key->name, name, len) != 0) abort();
-    /* What was asked for before all Forgets that have begun by now had returned may have been ended by one. */
+    /* A load may run beside another if a Forget came between: if not all that have begun by now had returned when it was asked for. */
     for (int i = 0; i < key->count && load->ended == key->begun; i++) doubles += key->running[i].ended == key->begun;
     if (key->count == MOST_RUNNING) abort();
     key->running[key->count].moment = moment;
@@ -152,7 +152,7 @@ static void play_at_random(uint64_t number) {
     check(stale == 0, "nothing is older than a Forget that had returned");
     check(backward == 0, "nothing is older than what was returned before");
     check(refused == 0, "no call is refused");
-    check(given == received, "each that joined has one count, and who gave up has none");
+    check(given == received, "each that joined has one count, and one that gave up has none");
     check(stats.loads == loads - before && stats.in_use == 0, "loads are counted, and all calls have ended");
     doubles = stale = backward = refused = given = received = 0;
     sflight_do_close(pool);
@@ -221,13 +221,13 @@ static void forgets_twice(int number) {
         until(2);
         check(phase == 2 && !sflight_do_forget(pool, (const uint8_t *)"k", 1), "the second Forget closes nothing");
         store = 2;
-        check(get("k", reads_store, NULL, &got) == 2 && got.led && sflight_do_is_still(pool, &got.stamp), "who knows of it joins no call of before");
+        check(get("k", reads_store, NULL, &got) == 2 && got.led && sflight_do_is_still(pool, &got.stamp), "a thread that knows of it joins no call from before");
         phase = 3;
     }
 }
 
-/* The leader of a call stops at one place from its settling to its end. Another thread has joined the call before. One that asks meanwhile leads a
- * newer call, and does not wait. Once it is told, the one that joined has the value, asks again, and gets a newer one. `phase` says how far it is:
+/* The leader of a call stops at one place from its settling to its end. Another thread has joined the call before. A thread that asks meanwhile leads a
+ * newer call, and does not wait. Once the call is told, the thread that joined has the value, asks again, and gets a newer one. `phase` says how far it is:
  * 0: the leader is about to ask;
  * 1: it loads;
  * 2: another one has joined;
@@ -258,25 +258,25 @@ static void leader_is_slow(int number) {
         break;
     case 1:
         until(1);
-        check(get("k", reads_store, NULL, &got) == 1 && !got.led && got.joiners == 1, "who joined has the leader's value");
+        check(get("k", reads_store, NULL, &got) == 1 && !got.led && got.joiners == 1, "the thread that joined has the leader's value");
         store++;
-        check(get("k", reads_store, NULL, &got) > 1, "who has returned the value gets a newer one");
+        check(get("k", reads_store, NULL, &got) > 1, "once it has the value it gets a newer one");
         break;
     default:
         until(3);
         store++;
-        check(phase == 3 && get("k", reads_store, NULL, &got) > 1, "who asks when the call is settled leads a newer one");
+        check(phase == 3 && get("k", reads_store, NULL, &got) > 1, "a thread that asks when the call is settled leads a newer one");
         phase = 4;
     }
 }
 
-/* One that joined gives up as the call is settled: it has its value, or none; and it is counted, or not. `is_told` says what it got. */
+/* A thread that joined gives up as the call is settled: it has its value, or none, and is counted if it has it. `given_up` says whether it has none. */
 static bool is_early;
 static int given_up;
 
 static bool waits_to_leave(int who, const char *where) {
     if (who == 1 && phase == 1 && strcmp(where, "asked") == 0) phase = 2;
-    /* It has given up before the leader settles, or after that. */
+    /* The thread gives up before the leader settles, or after that. */
     if (is_early && who == 0 && strcmp(where, "before settle") == 0 && phase < 3) return true;
     if (!is_early && who == 1 && strcmp(where, "before sleep") == 0 && phase < 4) return true;
     if (!is_early && who == 0 && strcmp(where, "before tell") == 0 && phase < 4) {

@@ -22,7 +22,7 @@ static const sflight_id no_id = {5, 5, 5};
 static const sflight_stamp no_stamp = {5, 5, 5};
 static const sflight_audience nobody = {5, true, true};
 
-/* What the last asking of this thread wrote. */
+/* The outputs of this thread's last asking. */
 static _Thread_local sflight_id id;
 static _Thread_local sflight_stamp stamp;
 static _Thread_local sflight_audience audience;
@@ -153,12 +153,12 @@ static void one_call(void) {
     check(ask(&one, &calls[1], "k") == SFLIGHT_JOINED && is_id(&id, &led), "one joins it");
     check(stamp.table == 5 && stamp.slot == 5 && stamp.age == 5, "and has no stamp of it");
     check(look(&one, &calls[1]) == SFLIGHT_PENDING && value == 5, "it is not settled");
-    check(ask(&one, &calls[1], "x") == SFLIGHT_WRONG_STATE && is_unwritten() && settle(&one, &calls[1], 1) == SFLIGHT_WRONG_STATE, "who has joined does not ask, nor settle");
+    check(ask(&one, &calls[1], "x") == SFLIGHT_WRONG_STATE && is_unwritten() && settle(&one, &calls[1], 1) == SFLIGHT_WRONG_STATE, "a call that has joined does not ask, nor settle");
     check(sflight_free(&calls[1]) == SFLIGHT_WRONG_STATE, "nor is freed");
     check(ask(&one, &calls[2], "another") == SFLIGHT_LED && !is_id(&id, &led), "another key has a call of its own");
     check(settle(&one, &calls[2], 1) == SFLIGHT_ALONE, "and ends alone");
     check(settle(&one, &calls[0], 9) == SFLIGHT_TOLD && audience.holders == 2 && audience.joined && !audience.forgotten, "two are told");
-    check(ask(&one, &calls[2], "k") == SFLIGHT_LED && !is_id(&id, &led), "who asks then leads a new call");
+    check(ask(&one, &calls[2], "k") == SFLIGHT_LED && !is_id(&id, &led), "one that asks then leads a new call");
     next = id;
     check(look(&one, &calls[1]) == SFLIGHT_DONE && value == 9 && look(&one, &calls[1]) == SFLIGHT_DONE && value == 9, "what it was settled with");
     check(look(&one, &calls[0]) == SFLIGHT_DONE && value == 9, "for its leader too");
@@ -166,7 +166,7 @@ static void one_call(void) {
     check(leave(&one, &calls[0]) == SFLIGHT_DONE && value == 5 && leave(&one, &calls[0]) == SFLIGHT_WRONG_STATE && look(&one, &calls[0]) == SFLIGHT_WRONG_STATE, "one leaves, once");
     check(leave(&one, &calls[1]) == SFLIGHT_LAST && value == 9 && leave(&one, &calls[1]) == SFLIGHT_WRONG_STATE, "and the last, once");
     check(settle(&one, &calls[2], 1) == SFLIGHT_ALONE && !is_id(&next, &led), "the newer call ends alone");
-    /* One that joins and leaves before. */
+    /* With one that joins, and leaves before the call is settled. */
     check(ask(&one, &calls[0], "k") == SFLIGHT_LED && ask(&one, &calls[1], "k") == SFLIGHT_JOINED, "one joins again");
     check(leave(&one, &calls[1]) == SFLIGHT_DONE && value == 5, "and leaves");
     check(ask(&one, &calls[1], "other") == SFLIGHT_LED && settle(&one, &calls[1], 2) == SFLIGHT_ALONE, "and is idle");
@@ -191,13 +191,13 @@ static void forgets(void) {
     check(forget(&one, "k") == SFLIGHT_DONE && is_id(&id, &led), "a Forget closes it, and says which");
     check(!sflight_is_still(&one, &old), "and ends its stamp");
     check(forget(&one, "k") == SFLIGHT_NOTHING, "once");
-    check(ask(&one, &calls[2], "k") == SFLIGHT_LED && !is_id(&id, &led), "who asks after it leads");
+    check(ask(&one, &calls[2], "k") == SFLIGHT_LED && !is_id(&id, &led), "one that asks after it leads");
     newer = id;
     young = stamp;
     check(settle(&one, &calls[2], 2) == SFLIGHT_ALONE && sflight_is_still(&one, &young), "and ends sooner");
     check(look(&one, &calls[1]) == SFLIGHT_PENDING, "while the older one goes on");
     check(settle(&one, &calls[0], 1) == SFLIGHT_TOLD && audience.holders == 2 && audience.joined && audience.forgotten, "it is known that it was forgotten");
-    check(look(&one, &calls[1]) == SFLIGHT_DONE && value == 1, "who had joined has its value");
+    check(look(&one, &calls[1]) == SFLIGHT_DONE && value == 1, "the call that had joined has its value");
     check(leave(&one, &calls[1]) == SFLIGHT_DONE && leave(&one, &calls[0]) == SFLIGHT_LAST && value == 1, "and both leave");
     check(sflight_is_still(&one, &young) && !sflight_is_still(&one, &old), "the newer stamp is there, and the older one is not");
     /* Nobody has joined. */

@@ -1,4 +1,4 @@
-/* What happens when cells have had their last call, which a program would reach after 2^41 calls in one cell: the test
+/* Cells that have had their last call, which a program would reach after 2^41 calls in one cell: the test
  * writes generations near their end into the words of a group that is new, whose place it learns by counting what malloc
  * gives. The calls go on: a group whose cells are all worn has room again once it has grown, no call has the name of
  * another, and one that is held across the growth is joined and told as ever. Linked with --wrap=malloc, --wrap=free. */
