@@ -4,8 +4,8 @@
  *
  * The leader keeps its value before its call is settled, since the key's next load cannot begin sooner:
  * a value that is kept later is a newer one, unless the key was forgotten meanwhile. Then the older
- * one's stamp is ended, and no get takes it. What leaves the cache to make room is dropped once the
- * call is settled: a drop function may get a key whose load waits for that very call.
+ * one's stamp is ended, and no get takes it. A value that leaves the cache to make room is dropped once
+ * the call is settled: a drop function may get a key whose load waits for that very call.
  *
  * Eviction is S3-FIFO (Yang and others, SOSP 2023) by weight: a value comes into the small queue of its
  * shard, and from there into the main one if it was used, or if its key left the small one lately. */
@@ -33,7 +33,7 @@ enum {
     MOST_USES = 3
 };
 
-/* What a call is settled with, in place of an entry, where it has no value. */
+/* A call that has no value is settled with one of these, in place of an entry. */
 enum { FAILED = 0, NO_MEMORY = 1 };
 
 enum place { OUT, IN_SMALL, IN_MAIN };
@@ -120,7 +120,7 @@ static uint64_t hash_of(const sflight_cache *c, const uint8_t *key, size_t len) 
 
 static struct shard *shard_of(sflight_cache *c, uint64_t hash) { return &c->shards[(hash >> 48) % c->count]; }
 
-/* So many use the value no more. The last one drops it. No lock is held. */
+/* One use of the value ends. The last one drops it. No lock is held. */
 static void leave_entry(sflight_cache *c, struct sflight_entry *e) {
     if (atomic_fetch_sub_explicit(&e->users, 1, memory_order_acq_rel) != 1) return;
     void *value = e->value;
@@ -136,7 +136,7 @@ static void leave_all(sflight_cache *c, struct sflight_entry *list) {
     }
 }
 
-/* What follows is done with the shard's lock. */
+/* From here to widen, each function is called with the shard's lock. */
 
 static struct sflight_entry *find(struct shard *s, uint64_t hash, const uint8_t *key, size_t len) {
     struct sflight_entry *e = s->buckets[hash & s->mask];
@@ -221,8 +221,6 @@ static void widen(struct shard *s) {
     s->mask = count - 1;
 }
 
-/* .. until here. */
-
 /* Takes so much of the limit, if it is there. */
 static bool take_weight(sflight_cache *c, uint64_t weight) {
     unsigned long long now = atomic_load(&c->weight);
@@ -282,7 +280,7 @@ static void keep_value(void *context, const uint8_t *key, size_t len, uint64_t v
     SFLIGHT_POINT("kept");
 }
 
-/* Loads the value of the key; or finds it, where the call before has ended since the get missed: that has kept it by then. */
+/* Loads the value of the key; or finds it, where the call before has ended since the get missed: that call has kept it by then. */
 static uint64_t load_value(void *context, const uint8_t *key, size_t len) {
     struct getting *g = context;
     sflight_cache *c = g->cache;
@@ -297,7 +295,7 @@ static uint64_t load_value(void *context, const uint8_t *key, size_t len) {
     g->is_found = e && sflight_do_is_still(c->pool, &e->stamp);
     if (g->is_found) {
         atomic_fetch_add_explicit(&e->users, 1, memory_order_relaxed);
-        /* So it is a hit after all. */
+        /* So the get is a hit after all. */
         s->found++;
         s->hits++;
         s->misses--;
@@ -318,7 +316,7 @@ static uint64_t load_value(void *context, const uint8_t *key, size_t len) {
     return (uintptr_t)e;
 }
 
-/* Its call is settled, if it led one. */
+/* The call of this get is settled, if it led one. */
 static void end_loading(struct getting *g, bool is_failure) {
     struct shard *s = shard_of(g->cache, g->hash);
     if (!g->is_loading) return;
@@ -386,7 +384,7 @@ void sflight_cache_forget(sflight_cache *c, const uint8_t *key, size_t len) {
     uint64_t hash = hash_of(c, key, len);
     struct shard *s = shard_of(c, hash);
     struct sflight_entry *left = NULL;
-    /* From here on no get takes a value of before. What was kept leaves at once, for its weight's sake. */
+    /* From here on no get takes a value from before. The one that was kept leaves at once, since its weight is needed. */
     sflight_do_forget(c->pool, key, len);
     SFLIGHT_POINT("before take out");
     pthread_mutex_lock(&s->lock);

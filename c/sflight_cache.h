@@ -33,10 +33,10 @@
 extern "C" {
 #endif
 
-/* What threads share. */
+/* A cache, which threads share. */
 typedef struct sflight_cache sflight_cache;
 
-/* A value that is in use: its pointer, and by what it is released. */
+/* A value that is in use: its pointer, and the entry by which it is released. */
 typedef struct sflight_value {
     void *at;
     struct sflight_entry *entry; /* the cache's own; null: nothing is in use */
@@ -49,19 +49,19 @@ typedef void *sflight_cache_load(void *context, const uint8_t *key, size_t len,
 
 /* How a cache is made. */
 typedef struct sflight_cache_options {
-    uint64_t limit;   /* what all values weigh together at most; not 0 */
+    uint64_t limit;   /* the most that all values weigh together; not 0 */
     uint32_t entries; /* about how many values there will be, from 1 on */
     uint32_t loads;   /* about how many loads run at one time, up to 1,048,576; 0 means 16 */
     sflight_cache_load *load;
     /* May be null, where values need not be freed. */
     void (*drop)(void *context, void *value) SFLIGHT_NOEXCEPT;
-    void *context; /* for the two */
+    void *context; /* for both functions */
 } sflight_cache_options;
 
-/* What has happened since the cache was opened. The names mean the same as in sflight_stats. */
+/* The counts of a cache since it was opened. The names mean the same as in sflight_stats. */
 typedef struct sflight_cache_stats {
     uint64_t loads;     /* calls of the load function */
-    uint64_t failures;  /* those that gave no value */
+    uint64_t failures;  /* loads that gave no value */
     uint64_t joins;     /* gets that joined the load of another thread */
     uint64_t hits;      /* gets that found a value in the cache */
     uint64_t misses;    /* gets that found none: each loaded, or joined */
@@ -69,10 +69,10 @@ typedef struct sflight_cache_stats {
     uint64_t evictions; /* values that left the cache to make room */
     uint64_t in_use;    /* loads that run now: calls that are led and not settled */
     uint64_t entries;   /* how many values there are now */
-    uint64_t weight;    /* what they weigh, which is never more than the limit */
+    uint64_t weight;    /* the sum of their weights, which is never more than the limit */
 } sflight_cache_stats;
 
-/* What sflight_cache_get returns. */
+/* The results of sflight_cache_get. */
 enum sflight_cache_code {
     SFLIGHT_CACHE_HIT = 0,      /* the value was there */
     SFLIGHT_CACHE_LOADED = 1,   /* this thread loaded it */
@@ -112,7 +112,7 @@ void sflight_cache_forget(sflight_cache *cache, const uint8_t *key, size_t len);
 /* Forgets every key, in time that grows with the number of entries. */
 void sflight_cache_forget_all(sflight_cache *cache);
 
-/* Returns what has happened, in all threads. */
+/* Returns the counts of the cache, over all threads. */
 sflight_cache_stats sflight_cache_statistics(sflight_cache *cache);
 
 #ifdef __cplusplus

@@ -150,7 +150,7 @@ static void free_seat(struct seat *seat) {
 static bool make_posts(sflight_pool *pool, uint64_t table, uint64_t cells) {
     if (atomic_load(&pool->posts[table])) return true;
     if (cells > SFLIGHT_MOST_CELLS) cells = SFLIGHT_MOST_CELLS;
-    /* What is never used of it takes no memory. */
+    /* Pages of it that are never used take no memory. */
     char *made = calloc(cells + 1, sizeof(struct post));
     if (!made) return false;
     pool->made[table] = made;
@@ -321,7 +321,7 @@ static bool join(sflight_pool *pool, struct asking *asking, const sflight_id *id
     struct post *post = post_of(pool, id);
     bool is_told = wait_told(post, id->generation, deadline);
     if (is_told) read_post(post, got);
-    /* It may have begun before the recording that its call is of. */
+    /* The asking may have begun before the recording of its call. */
     if (atomic_load(&post->recorded) == id->generation) calls_of(pool->kept)->leaves(noted, post, is_told);
     leave_call(pool, asking);
     if (!is_told) unlock_post(post);

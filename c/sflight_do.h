@@ -47,7 +47,7 @@ typedef struct sflight_got {
     sflight_do_stamp stamp; /* all zeros if the key was forgotten while it was loaded */
 } sflight_got;
 
-/* What has happened since the pool was opened. The names mean the same in each package; a pool has no
+/* The counts of a pool since it was opened. The names mean the same in each package; a pool has no
  * cache, so its hits, misses and evictions are 0. */
 typedef struct sflight_stats {
     uint64_t loads;     /* calls of the load function */
@@ -63,14 +63,15 @@ typedef struct sflight_stats {
  * number that says so. */
 typedef uint64_t sflight_load(void *context, const uint8_t *key, size_t len) SFLIGHT_NOEXCEPT;
 
-/* What sflight_do returns. */
+/* The results of sflight_do. */
 enum {
     SFLIGHT_DO_DONE = 0,
     SFLIGHT_DO_TIMED_OUT = 1, /* the load of another thread takes longer; it goes on */
     SFLIGHT_DO_NO_MEMORY = 2  /* nothing was done */
 };
 
-/* What sflight_do_record and sflight_do_stop return, or SFLIGHT_DO_DONE, or SFLIGHT_DO_NO_MEMORY. */
+/* The results of sflight_do_record and sflight_do_stop, beside SFLIGHT_DO_DONE and
+ * SFLIGHT_DO_NO_MEMORY. */
 enum {
     SFLIGHT_DO_RECORDED = 3,    /* the pool is recorded already */
     SFLIGHT_DO_NO_THREAD = 4,   /* no thread could be made */
@@ -81,7 +82,7 @@ enum {
  * another number if it fails. */
 typedef int sflight_write(void *context, const char *text, size_t len) SFLIGHT_NOEXCEPT;
 
-/* What a recording was. */
+/* The counts of a recording that has ended. */
 typedef struct sflight_recorded {
     uint64_t events; /* lines that were written, beside those of the format */
     uint64_t lost;   /* events that were dropped */
@@ -116,7 +117,7 @@ int sflight_do(sflight_pool *pool, const uint8_t *key, size_t len, sflight_load 
 typedef void sflight_keep(void *context, const uint8_t *key, size_t len, uint64_t value,
                           const sflight_do_stamp *stamp) SFLIGHT_NOEXCEPT;
 
-/* The same as sflight_do, for a cache: `keep` puts the value into it. A cache that takes its values
+/* Does what sflight_do does, and lets `keep` put the value into a cache. A cache that takes its values
  * from sflight_do instead may put an older value in place of a newer one, since its thread can be
  * stopped before it does so. */
 int sflight_do_and_keep(sflight_pool *pool, const uint8_t *key, size_t len, sflight_load *load,
@@ -150,9 +151,9 @@ sflight_stats sflight_do_statistics(sflight_pool *pool);
  *   "3.17"; nothing is told of the value itself. The key stands as it is. One of more than 250
  *   bytes, one that is no UTF-8, and one that begins with "hash:" stand as "hash:" and two hashes
  *   of 64 bits, whose secret seeds the pool keeps. Times are nanoseconds of CLOCK_MONOTONIC.
- * - No call waits for the writer. What it does not take in time is dropped and counted. So is a
- *   call that there is no memory to record. Then a line {"format":4,"lost":n} stands between two
- *   calls, and `sfctl merge` makes one recording of that.
+ * - No call waits for the writer. Events that it does not take in time are dropped and counted, and
+ *   so are calls that there is no memory to record. Then a line {"format":4,"lost":n} stands between
+ *   two calls, and `sfctl merge` makes one recording of that.
  * - The recording ends at the first write that does not return 0. The pool is still recorded then,
  *   until sflight_do_stop.
  * - The writer may call the pool, but cannot stop the recording, and must not close the pool. It

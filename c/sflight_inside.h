@@ -1,5 +1,5 @@
-/* What sflight_do.c and sflight_record.c share. It is no part of the interface: programs include
- * sflight_do.h. */
+/* Declarations that sflight_do.c and sflight_record.c share. They are no part of the interface:
+ * programs include sflight_do.h. */
 #ifndef SFLIGHT_INSIDE_H
 #define SFLIGHT_INSIDE_H
 
@@ -11,8 +11,8 @@
 struct recorder;
 struct record;
 
-/* What an asking, or a Forget, knows of the recording. Where `by` is null it is not recorded, and the
- * rest says nothing. */
+/* The part of an asking, or of a Forget, in a recording. Where `by` is null it is not recorded, and the
+ * other fields say nothing. */
 struct noted {
     struct recorder *by;
     uint64_t recording, from;
@@ -29,19 +29,20 @@ struct post {
     _Atomic(struct record *) record;
 };
 
-/* What a recording does in the course of a call. The functions stand in sflight_record.c, and are
- * reached through the pool's recorder, so that a program that records nothing does without them. */
+/* The functions that a recording has called in the course of a call. They stand in sflight_record.c, and
+ * are reached through the pool's recorder, so that a program that records nothing does without them. */
 struct recording {
     /* An asking or a Forget begins. */
     void (*begins)(struct noted *noted);
     /* The asking leads, and is about to load. */
     void (*leads)(struct noted *noted, struct post *post, uint64_t generation, const uint8_t *key,
                   size_t len);
-    /* It is about to settle its call. */
+    /* The asking is about to settle its call. */
     void (*settles)(struct noted *noted);
-    /* It has settled its call, which so many others hold; nobody has been told yet. */
+    /* The asking has settled its call, which so many others hold; nobody has been told yet. */
     void (*tells)(struct noted *noted, uint64_t others);
-    /* It has told whoever holds the call. Where a Forget had closed that, its event comes, or came. */
+    /* The asking has told the holders of its call. Where a Forget had closed the call, the event of that
+     * Forget comes, or came. */
     void (*told)(struct recorder *by, struct noted *noted, const sflight_id *id, bool is_forgotten);
     /* The asking, which holds the post's call, has its value or gives up. */
     void (*leaves)(const struct noted *noted, struct post *post, bool is_told);
@@ -52,8 +53,8 @@ struct recording {
     void (*closes)(sflight_pool *pool);
 };
 
-/* What a thread has of a pool. Its owner is the thread whose `near` has it, or nobody: then any
- * thread can take it. */
+/* A thread's share of a pool. Its owner is the thread whose `near` has it, or nobody: then any thread
+ * can take it. */
 struct seat {
     _Alignas(64) sflight_handle handle;
     struct asking *free;

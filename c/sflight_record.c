@@ -95,7 +95,7 @@ static unsigned here(void) {
 /* A name in a recording: the number of a caller, from 1 on, and which of its calls or members it is. */
 static uint64_t name_at(uint32_t caller, uint64_t number) { return (uint64_t)caller << 32 | number; }
 
-/* What a lane has of a call, or of a Forget that closed none. So many moments of members follow, that of the Forget which closed it, and the key. */
+/* A call in a lane, or a Forget that closed none. The moments of its members follow, then that of the Forget which closed the call, and the key. */
 struct moments {
     uint64_t name, from, to;
 };
@@ -158,7 +158,7 @@ static uint64_t moment(void) {
     return (uint64_t)at.tv_sec * 1000000000 + (uint64_t)at.tv_nsec;
 }
 
-/* It begins in the recording, whose number is read first. */
+/* An asking or a Forget begins in the recording, whose number is read first. */
 static void begins(struct noted *noted) {
     noted->recording = atomic_load(&noted->by->number);
     noted->from = moment();
@@ -205,7 +205,7 @@ static struct lane *lane_for(struct recorder *by, uint64_t recording, uint32_t e
     for (unsigned i = 0; i < LANES; i++) {
         struct lane *lane = &by->lanes[(first + i) % LANES];
         if (pthread_mutex_trylock(&lane->lock) != 0) continue;
-        /* Whoever ends the recording says so first, and then takes each lock. */
+        /* The thread that ends the recording says so first, and then takes each lock. */
         if (atomic_load(&by->number) != recording) {
             pthread_mutex_unlock(&lane->lock);
             return NULL;
@@ -242,7 +242,7 @@ static struct lane *lane_for(struct recorder *by, uint64_t recording, uint32_t e
     return NULL;
 }
 
-/* What was put into it is there. */
+/* Lets go of a lane, into which so many events were put. */
 static void leave_lane(struct recorder *by, struct lane *lane, uint32_t events) {
     uint32_t before = lane->events;
     lane->events += events;
@@ -273,7 +273,7 @@ static void complete(struct record *record) {
             closing = event;
             continue;
         }
-        /* One that had left before the load began was in no call of the recording. */
+        /* A thread that had left before the load began was in no call of the recording. */
         struct event **list = event->to >= record->led ? &members : &others;
         count += list == &members;
         event->next = *list;
@@ -351,7 +351,7 @@ static bool is_same(const sflight_id *one, const sflight_id *other) {
 }
 
 static void closes_record(struct record *record, struct event *event) {
-    /* One that began before the recording took effect after the call had begun. */
+    /* A Forget that began before the recording took effect after the call had begun. */
     if (event->from == 0) event->from = record->asked;
     add_event(record, event);
 }
@@ -383,13 +383,13 @@ static bool waits_for_forget(struct recorder *by, struct record *record, const s
 
 static void told(struct recorder *by, struct noted *noted, const sflight_id *id, bool is_forgotten) {
     struct record *record = noted->by ? noted->record : NULL;
-    /* It could be joined until it was told. */
+    /* The call could be joined until it was told. */
     if (record) record->settled = moment();
     if (is_forgotten && waits_for_forget(by, record, id)) return;
     if (record) leave_record(record);
 }
 
-/* Who follows a call has a part in its record once that is told; before that it has the lock of the post. */
+/* A thread that joined a call has a part in its record once the call is told; before that it has the lock of the post. */
 static void leaves(const struct noted *noted, struct post *post, bool is_told) {
     struct record *record = atomic_load(&post->record);
     if (noted->by && noted->recording == record->recording) {

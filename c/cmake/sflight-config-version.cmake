@@ -1,4 +1,4 @@
-# Which versions a program may ask for: the library's own and older ones of the same minor version.
+# A program may ask for the library's own version, and for older ones of the same minor version.
 set(PACKAGE_VERSION "@VERSION@")
 string(REGEX REPLACE "^([0-9]+\\.[0-9]+).*" "\\1" _sflight_minor "${PACKAGE_VERSION}")
 if(PACKAGE_FIND_VERSION VERSION_EQUAL PACKAGE_VERSION)

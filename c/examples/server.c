@@ -20,7 +20,7 @@ static atomic_uint hits, loads, joined;
 
 static sflight_pool *pool;
 
-/* What was loaded, with its stamp. */
+/* A page that was loaded, with its stamp. */
 static struct page {
     pthread_mutex_t lock;
     uint64_t value;

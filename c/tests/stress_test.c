@@ -17,8 +17,8 @@
 #ifndef STRESSING
 #define STRESSING 16
 #endif
-#ifndef CALLS
-#define CALLS 60000
+#ifndef CALLS_OF_ALL
+#define CALLS_OF_ALL 60000
 #endif
 
 /* After so many seconds a pool hangs. */
@@ -281,7 +281,7 @@ int main(void) {
     setvbuf(stdout, NULL, _IOLBF, 0);
     signal(SIGALRM, hangs_at);
     const char *text = getenv("SFLIGHT_CALLS");
-    uint64_t calls = text ? strtoull(text, NULL, 10) : CALLS, pools = calls / OF_A_POOL, joins = 0, forgets = 0;
+    uint64_t calls = text ? strtoull(text, NULL, 10) : CALLS_OF_ALL, pools = calls / OF_A_POOL, joins = 0, forgets = 0;
     pools = pools < 2 ? 2 : pools;
     rounds = (calls + pools * STRESSING - 1) / (pools * STRESSING);
     for (uint64_t i = 0; i < pools && failed == 0; i++) {
