@@ -305,6 +305,40 @@ static void test_used(void) {
     check(live == 0, "all are dropped");
 }
 
+/* Whether the key comes into the small queue when it is loaded. */
+static bool comes_into_small(sflight_cache *cache, const char *key) {
+    uint64_t hash = hash_of(cache, (const uint8_t *)key, strlen(key));
+    check(get_text(cache, key) == SFLIGHT_CACHE_LOADED, "a key that is not there");
+    struct sflight_entry *e = find(shard_of(cache, hash), hash, (const uint8_t *)key, strlen(key));
+    return e && e->place == IN_SMALL;
+}
+
+/* A key that was never there comes into the small queue, and so does one that has left it long ago. */
+static void test_ghosts(void) {
+    enum { ENTRIES = 100, OLD = 50, REMEMBERED = 128 };
+    struct plan plan = {0};
+    sflight_cache *cache = open_cache(ENTRIES, ENTRIES, &plan);
+    char key[24];
+    bool is_small = true;
+    check(cache->shards[0].ghost_mask / 2 + 1 == REMEMBERED, "so many keys are remembered");
+    for (int i = 0; i < OLD; i++) {
+        snprintf(key, sizeof key, "old-%d", i);
+        get_text(cache, key);
+    }
+    for (int i = 0; i < ENTRIES + 2 * REMEMBERED; i++) {
+        snprintf(key, sizeof key, "new-%d", i);
+        is_small = comes_into_small(cache, key) && is_small;
+    }
+    check(is_small, "no new key is taken for one that has left");
+    for (int i = 0; i < OLD; i++) {
+        snprintf(key, sizeof key, "old-%d", i);
+        is_small = comes_into_small(cache, key) && is_small;
+    }
+    check(is_small, "a key is remembered until as many others have left");
+    sflight_cache_close(cache);
+    check(live == 0, "all are dropped");
+}
+
 /* A value that was found ever so often leaves while others are in use. */
 static void test_used_once(void) {
     struct plan plan = {0};
@@ -681,6 +715,7 @@ int main(void) {
     test_meanwhile();
     test_used();
     test_used_once();
+    test_ghosts();
     test_scan();
     test_many_entries();
     test_heavy();

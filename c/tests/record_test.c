@@ -729,6 +729,37 @@ static void forgets(void) {
 }
 
 /* A call of one recording is in no other. */
+/* Whether a Forget, or a leader, waits for the other in a bucket of the pool's recorder. */
+static bool is_one_waiting(sflight_pool *pool) {
+    bool is_one = false;
+    for (int i = 0; i < BUCKETS; i++) {
+        struct bucket *bucket = &pool->kept->buckets[i];
+        pthread_mutex_lock(&bucket->lock);
+        is_one = is_one || bucket->events || bucket->records || bucket->unknown > 0;
+        pthread_mutex_unlock(&bucket->lock);
+    }
+    return is_one;
+}
+
+/* The Forget of a call that has not ended waits for its leader, and no longer than the recording. */
+static void waiting_forget(void) {
+    sflight_pool *pool = sflight_do_open(0, NULL);
+    struct log log = {0};
+    struct gate gate = {0};
+    struct job leader = {.pool = pool, .key = "k", .load = &gate};
+    record(pool, &log);
+    start(&leader, 1000);
+    reached(&gate);
+    run(&(struct job){.pool = pool, .key = "k", .forgets = true}, 2000);
+    check(is_one_waiting(pool), "a Forget waits for its leader");
+    sflight_recorded recorded = stop(pool);
+    check(!is_one_waiting(pool) && recorded.events == 0, "and no longer than the recording");
+    open_at(&gate, 3000);
+    end(&leader);
+    free_log(&log);
+    sflight_do_close(pool);
+}
+
 static void two_recordings(void) {
     sflight_pool *pool = sflight_do_open(0, NULL);
     struct log first = {0}, second = {0};
@@ -847,6 +878,40 @@ static void slow_writer(void) {
     load_key(pool, "k", 1);
     recorded = stop(pool);
     check(recorded.events == 3 && recorded.lost == 0 && is_legal(&log, &recorded), "the next recording loses nothing");
+    free_log(&log);
+    sflight_do_close(pool);
+}
+
+/* A lane keeps so many events, and a call of more where it is empty. */
+static void full_lanes(void) {
+    enum { MORE = 100 };
+    sflight_pool *pool = sflight_do_open(0, NULL);
+    struct gate gate = {0}, large = {0};
+    struct log log = {.waits = &gate};
+    record(pool, &log);
+    reached(&gate);
+    for (int i = 0; i < LANE_EVENTS + MORE; i++) sflight_do_forget(pool, unsigned_bytes("k"), 1);
+    open_at(&gate, 0);
+    sflight_recorded recorded = stop(pool);
+    check(recorded.events == LANE_EVENTS && recorded.lost == MORE, "a lane keeps as many events as it has room for");
+    free_log(&log);
+    log = (struct log){.waits = &large};
+    record(pool, &log);
+    reached(&large);
+    uint64_t number = atomic_load(&pool->kept->number), now = moment();
+    struct packed *packed = NULL, *another = NULL;
+    size_t size = size_of(0, 1);
+    struct lane *lane = lane_for(pool->kept, number, LANE_EVENTS + 1, size, &packed);
+    check(lane != NULL, "a call of more events has an empty lane");
+    if (lane) {
+        *packed = (struct packed){.size = size, .events = 1, .len = 1, .first = {name_at(here() + 1, 0), now, now}};
+        *key_of(packed) = 'k';
+        leave_lane(pool->kept, lane, LANE_EVENTS + 1);
+    }
+    check(!lane_for(pool->kept, number, 1, size, &another), "in which there is no room for another");
+    open_at(&large, 0);
+    recorded = stop(pool);
+    check(recorded.events == 1 && recorded.lost == 1, "which is lost");
     free_log(&log);
     sflight_do_close(pool);
 }
@@ -1073,6 +1138,7 @@ int main(void) {
     timeouts();
     forgets();
     two_recordings();
+    waiting_forget();
     no_memory();
     names();
     signals();
@@ -1080,6 +1146,7 @@ int main(void) {
         failing_writer();
         calling_writer();
         slow_writer();
+        full_lanes();
     }
     if (failed > 0) {
         printf("%d passed, %d failed\n", passed, failed);

@@ -44,7 +44,7 @@ static struct {
     bool is_over[MOST_ACTORS];
     unsigned stalled[MOST_ACTORS];
     sem_t turn[MOST_ACTORS], end;
-    unsigned wakes[WAKES]; /* by the word that is slept on */
+    unsigned wakes[WAKES][2]; /* by the word that is slept on, and the bit of the reason */
     bool (*waits)(int actor, const char *where); /* whether the actor waits at the step of this name */
 } play;
 
@@ -123,7 +123,7 @@ static inline int played_unlock(pthread_mutex_t *lock) {
     return code;
 }
 
-static inline unsigned *wakes_of(const void *word) { return &play.wakes[(uintptr_t)word / 64 % WAKES]; }
+static inline unsigned *wakes_of(const void *word, unsigned bit) { return &play.wakes[(uintptr_t)word / 64 % WAKES][bit]; }
 
 /* A futex. Every other schedule wakes threads for no reason; in the rest one that nobody wakes sleeps. */
 static inline long played_syscall(long number, void *at, int what, unsigned value, const struct timespec *deadline, void *other, unsigned which) {
@@ -131,12 +131,12 @@ static inline long played_syscall(long number, void *at, int what, unsigned valu
     if (actor < 0) return (syscall)(SYS_futex, at, what, value, deadline, other, which);
     if ((what & FUTEX_CMD_MASK) == FUTEX_WAKE_BITSET) {
         point(false);
-        ++*wakes_of(at);
+        for (unsigned bit = 0; bit < 2; bit++) *wakes_of(at, bit) += which >> bit & 1;
         point_at("woken");
         return 1;
     }
     point_at("before sleep");
-    unsigned before = *wakes_of(at);
+    unsigned bit = which >> 1, before = *wakes_of(at, bit); /* it sleeps for one reason */
     /* An actor that changes the word later, and wakes, finds the thread asleep. */
     if (*(volatile unsigned *)at != value) {
         errno = EAGAIN;
@@ -146,7 +146,7 @@ static inline long played_syscall(long number, void *at, int what, unsigned valu
     do {
         point(true);
         is_late = deadline && random_below(16) == 0;
-    } while (!is_late && play.number % 2 == 0 && *wakes_of(at) == before);
+    } while (!is_late && play.number % 2 == 0 && *wakes_of(at, bit) == before);
     errno = ETIMEDOUT;
     return is_late ? -1 : 0;
 }
