@@ -29,8 +29,8 @@ struct post {
     _Atomic(struct record *) record;
 };
 
-/* The functions that a recording has called in the course of a call. They stand in sflight_record.c, and
- * are reached through the pool's recorder, so that a program that records nothing does without them. */
+/* The functions by which a recording follows a call. They stand in sflight_record.c, and are reached
+ * through the pool's recorder, so that a program that records nothing does without them. */
 struct recording {
     /* An asking or a Forget begins. */
     void (*begins)(struct noted *noted);
