@@ -134,7 +134,6 @@ const smallCache = 64
 
 // begin begins a fill.
 func (c *Cache[K, V]) begin(p *core) {
-	p.free()
 	c.now.Store(&fill{p, newValues(p, &c.room)})
 }
 
@@ -355,8 +354,8 @@ func (c *Cache[K, V]) Put(key K, value V) (kept bool) {
 // it: the item, which is older, would be the value of a newer call. One that has not counted yet
 // when this looks forgets the call that this leads. Those who have joined the call ask again.
 func (f *fill) put(it *item, last *atomic.Uint64, number uint64) (out []*item) {
-	var a asking
-	f.p.asks(&a, it.key)
+	a := asking{key: it.key}
+	f.p.asks(&a)
 	if !a.leads {
 		if !f.p.gives(&a) {
 			f.p.takes(new(Result), &a)
@@ -375,10 +374,9 @@ func (f *fill) settle(a *asking, it *item, last *atomic.Uint64, number uint64) (
 	return out
 }
 
-// Close makes all values leave and frees the memory; that which is in use, as soon as the loads
-// have ended that are running. It waits for none of these. After it each Get loads, as for a group
-// that is closed, and nothing is kept. It may be called at any time, and again. The memory of a
-// cache that nobody closes is freed by the garbage collector.
+// Close makes all values leave. It waits for no load. After it each Get loads, as for a group that
+// is closed, and nothing is kept. It may be called at any time, and again. The garbage collector
+// frees the memory of a cache, closed or not, when nothing refers to it.
 func (c *Cache[K, V]) Close() {
 	c.mu.Lock()
 	f := c.now.Load()

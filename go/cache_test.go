@@ -493,8 +493,8 @@ func TestCachePutThatIsLate(t *testing.T) {
 	last, number := c.write(k)
 	c.write(k)
 	got := make(chan int, 1)
-	var a asking
-	f.p.asks(&a, "ada")
+	a := asking{key: "ada"}
+	f.p.asks(&a)
 	go func() { v, _ := c.Get(always, "ada"); got <- v }()
 	until(t, "it joins", func() bool { return c.Stats().Calls.Joins == 1 })
 	f.settle(&a, &n.item, last, number)
@@ -754,8 +754,8 @@ func tableWith(t *testing.T, limit int64) (*values, func(key string, print uint6
 	t.Cleanup(p.table.close)
 	table := newValues(p, &room{limit: limit, hasCosts: true})
 	return table, func(key string, print uint64) (*item, []*item) {
-		var a asking
-		p.asks(&a, fmt.Sprint("call of ", key))
+		a := asking{key: fmt.Sprint("call of ", key)}
+		p.asks(&a)
 		it := &item{key: key, print: print, cost: 1}
 		out := table.keep(it, a.stamp)
 		p.ends(new(Result), &a)
@@ -1474,7 +1474,7 @@ func TestCacheCloseBesideGets(t *testing.T) {
 
 // A cache that nobody closes is freed when nobody has it, also if its functions and values have it.
 func TestForgottenCache(t *testing.T) {
-	closed := make(chan *core, 1)
+	freed := make(chan struct{}, 1)
 	func() {
 		var c *Cache[string, int]
 		c, err := NewCache(10, func(context.Context, string) (int, error) { return int(c.Stats().Calls.InUse), nil },
@@ -1484,11 +1484,9 @@ func TestForgottenCache(t *testing.T) {
 			t.Fatal(err)
 		}
 		c.Get(always, "ada")
-		p := c.now.Load().p
-		runtime.SetFinalizer(p, nil)
-		runtime.SetFinalizer(p, func(p *core) { p.table.close(); closed <- p })
+		whenFreed(&c.now.Load().p.table, freed)
 	}()
-	isCollected(t, closed)
+	isCollected(t, freed)
 }
 
 // A cache whose values have costs has more room when there are many. It loses few.

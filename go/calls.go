@@ -43,26 +43,21 @@ const (
 type call struct {
 	// In plain Go, protected by the lock of the shard.
 	key    string
-	hash   uint64
-	next   *call // in its bucket, or among those that are free
-	age    uint64
-	joined int  // how many have joined, and have not left
-	shared bool // whether somebody has
+	slot   uint64
+	id     callID
+	shared bool // whether somebody has joined it
 	closed bool // whether a Forget has closed it
 
-	generation atomic.Uint64 // the number of the call; see callID
-	holders    atomic.Int64  // its run, those who wait for it, and its leader where that waits for it
-	done       chan struct{} // closed when got is there; made by the first who joins
-	rec        callRecordPointer
+	holders atomic.Int64  // its run, and those who have joined and not left
+	done    chan struct{} // closed when got is there; made by the first who joins
+	rec     atomic.Pointer[callRecord]
 
-	mu      sync.Mutex // protects the rest
-	ready   bool       // whether got is there; nothing changes then
-	ended   bool       // whether the load was told to end, since nobody waited for it
-	watched bool       // whether a leader waits for it that may leave, or has left
-	waits   bool       // whether that leader waits
-	cancel  context.CancelFunc
-	told    []func(*Result) // to be called with the result
-	got     Result
+	mu     sync.Mutex         // protects the rest
+	ready  bool               // whether got is there; nothing changes then
+	waits  bool               // whether a leader waits for it that may leave
+	cancel context.CancelFunc // tells the load to end; of such a leader, also when it has left
+	ended  bool               // whether that was called, since nobody waited
+	got    Result
 }
 
 // Which call of the group: see sflight_id in sflight.h. None has the generation 0.
@@ -73,26 +68,21 @@ type callID struct {
 
 // An asking is what one caller knows of the call that it leads or holds.
 type asking struct {
+	key   string
 	own   flight // what the table knows of it
 	call  *call  // in the library's table none of a leader, unless it has to share something
 	leads bool
 	id    callID
-	stamp Stamp     // of the call that it leads
-	by    *recorder // none where it is not recorded
-	from  int64
-	watch *watch // of a leader that waits for a run in another goroutine
-	after func() // to be called when all have the result
-}
-
-// A watch is what the leader of a run in another goroutine waits for.
-type watch struct {
-	told chan struct{}
-	got  Result
+	stamp Stamp         // of the call that it leads
+	by    *recorder     // none where it is not recorded
+	from  int64         // when it began, where it is recorded
+	over  chan struct{} // of a leader that waits for a run in another goroutine; closed when that has ended
+	after func()        // to be called when all have the result
 }
 
 // An audience is what a leader learns as it settles: the callers that are to be told.
 type audience struct {
-	isTold    bool // whether somebody has joined it, a Forget has closed it, or the call was to be kept
+	isTold    bool // whether somebody has joined it, or the call was to be kept: the leader leaves it then
 	isShared  bool // whether somebody has joined it, also one that has left
 	joiners   int  // how many have joined, and wait
 	forgotten bool // whether a Forget has closed it: the result has no stamp then
@@ -108,34 +98,37 @@ const (
 )
 
 // asks begins an asking: it leads the key's new call, or has joined its open one.
-func (p *core) asks(a *asking, key string) {
-	if a.by = p.recorder.Load(); a.by != nil {
-		a.from = now()
-	}
+func (p *core) asks(a *asking) {
+	a.by = p.recorder.Load()
+	a.from = a.by.now()
 	point(beforeAsk)
-	p.table.ask(a, key)
+	p.table.ask(a)
 	point(afterAsk)
 	if a.by != nil && a.leads {
 		p.table.share(a)
-		a.call.rec.Store(a.by.record(key, a.from))
+		a.call.rec.Store(a.by.record(a.key, a.from))
 	}
+}
+
+// record returns the record of the call that is led, if that is recorded.
+func (a *asking) record() *callRecord {
+	if a.by == nil {
+		return nil
+	}
+	return a.call.rec.Load()
 }
 
 // ends settles the call that was led, tells those who have joined, and completes the result.
 func (p *core) ends(r *Result, a *asking) {
-	var rec *callRecord
-	if a.by != nil {
-		if rec = a.call.rec.Load(); rec != nil {
-			rec.settles, rec.err = now(), r.Err
-		}
+	rec := a.record()
+	if rec != nil {
+		rec.settles, rec.err = now(), r.Err
 	}
 	point(beforeSettle)
-	var to audience
-	p.table.settle(a, &to, rec != nil || a.watch != nil)
-	r.Joiners = to.joiners
-	r.Shared = to.isShared
-	if !to.forgotten {
-		r.Stamp = a.stamp
+	to := p.table.settle(a, rec != nil || a.over != nil)
+	r.Joiners, r.Shared, r.Stamp = to.joiners, to.isShared, a.stamp
+	if to.forgotten {
+		r.Stamp = Stamp{}
 	}
 	r.Call = Call{id: a.id, stamp: r.Stamp}
 	if !to.isTold {
@@ -156,31 +149,23 @@ func (p *core) tell(r *Result, a *asking) {
 	c := a.call
 	acquire(&c.mu)
 	c.got, c.ready = *r, true
-	told := c.told
-	c.told = nil
-	isLost := c.watched && c.holders.Load() == 1
-	if c.waits {
-		c.holders.Add(-1)
-	}
+	isLost := c.cancel != nil && !c.waits && c.holders.Load() == 1
 	done := c.done
 	c.mu.Unlock()
 	if done != nil {
 		close(done)
 	}
-	for _, tell := range told {
-		tell(&c.got)
-	}
-	p.leaves(a)
+	p.leaves(a, true)
 	if isLost {
 		p.lost(r.Err)
 	}
 }
 
-// leaves lets go of a call that has ended.
-func (p *core) leaves(a *asking) {
+// leaves lets go of a call.
+func (p *core) leaves(a *asking, hasEnded bool) {
 	rec := a.call.rec.Load()
 	point(beforeLeave)
-	if p.table.leave(a) && rec != nil {
+	if p.table.leave(a, hasEnded) && rec != nil {
 		rec.part()
 	}
 }
@@ -199,13 +184,13 @@ func (p *core) joins(r *Result, a *asking, stop <-chan struct{}) outcome {
 // takes takes the result of a call that has ended.
 func (p *core) takes(r *Result, a *asking) outcome {
 	c := a.call
-	*r = c.got
-	a.enter()
-	how := settled
-	if c.ended && r.Err != nil || r.Err == errAgain {
-		how = again
+	how := again
+	if err := c.got.Err; err != errAgain && (err == nil || !c.ended) {
+		*r, how = c.got, settled
 	}
-	p.leaves(a)
+	a.enter()
+	p.leaves(a, true)
+	a.call = nil
 	return how
 }
 
@@ -218,57 +203,73 @@ func (p *core) gives(a *asking) bool {
 		c.mu.Unlock()
 		return false
 	}
-	a.enter()
-	if c.holders.Add(-1) == 1 && c.watched && !c.ended {
+	if a.leads {
+		c.waits = false
+	} else {
+		a.enter()
+		c.holders.Add(-1)
+	}
+	if c.holders.Load() == 1 && !c.waits && c.cancel != nil && !c.ended {
 		c.ended = true
 		c.cancel()
 	}
 	c.mu.Unlock()
-	point(beforeLeave)
-	rec := c.rec.Load()
-	if p.table.giveUp(a) && rec != nil {
-		rec.part()
+	if !a.leads {
+		p.leaves(a, false)
 	}
 	return true
 }
 
-// whenTold calls tell with the result, at once where that is there.
-func (c *call) whenTold(tell func(*Result)) {
-	acquire(&c.mu)
-	isReady := c.ready
-	if !isReady {
-		c.told = append(c.told, tell)
-	}
-	c.mu.Unlock()
-	if isReady {
-		tell(&c.got)
-	}
-}
-
 func (p *core) forgets(key string) {
-	f := p.forgetting(false)
+	by := p.recorder.Load()
+	from := by.now()
 	point(beforeForget)
 	id, closed := p.table.forget(key)
 	point(afterForget)
-	f.end(p, key, id, closed)
+	if r := p.recorder.Load(); r != nil {
+		r.forgot(forgetting{by, from, false}, key, id, closed)
+	}
 }
 
 func (p *core) forgetsCall(key string, c Call) Hit {
 	if c.id.generation == 0 {
 		return Missed
 	}
-	f := p.forgetting(true)
+	by := p.recorder.Load()
+	from := by.now()
 	point(beforeForget)
 	hit := p.table.forgetCall(key, c)
 	point(afterForget)
-	if hit == Closed {
-		f.end(p, key, c.id, true)
+	if r := p.recorder.Load(); r != nil && hit == Closed {
+		r.forgot(forgetting{by, from, true}, key, c.id, true)
 	}
 	return hit
 }
 
-// closes ends all stamps. It is called when nobody can call the core any more, or by Close.
-func (p *core) closes() { p.table.close() }
+// A lazyCore is made when it is first asked for, if it was not before.
+type lazyCore struct {
+	corePointer
+	mu sync.Mutex // taken to make it
+}
+
+func (l *lazyCore) core() *core {
+	if p := l.Load(); p != nil {
+		return p
+	}
+	return l.make()
+}
+
+func (l *lazyCore) make() *core {
+	l.mu.Lock()
+	defer l.mu.Unlock()
+	if p := l.Load(); p != nil {
+		return p
+	}
+	size := defaultSizes()
+	p := newCore(&size)
+	l.Store(p)
+	return p
+}
 
 // These are atomic.Pointer for what each call reads: Go 1.19 does not inline that one's methods.
 
@@ -281,8 +282,3 @@ type recorderPointer struct{ at pointer }
 
 func (p *recorderPointer) Load() *recorder    { return (*recorder)(atomic.LoadPointer(&p.at)) }
 func (p *recorderPointer) Store(to *recorder) { atomic.StorePointer(&p.at, pointer(to)) }
-
-type callRecordPointer struct{ at pointer }
-
-func (p *callRecordPointer) Load() *callRecord    { return (*callRecord)(atomic.LoadPointer(&p.at)) }
-func (p *callRecordPointer) Store(to *callRecord) { atomic.StorePointer(&p.at, pointer(to)) }

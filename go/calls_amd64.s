@@ -11,8 +11,8 @@
 
 #define CALLC(fn) \
 	MOVQ SP, BX; \
-	MOVQ handle_stack(DI), SP; \
-	ADDQ $const_stackSize, SP; \
+	LEAQ (handle_stack+const_stackSize+16)(DI), SP; \
+	ANDQ $~15, SP; \
 	CALL fn; \
 	MOVQ BX, SP
 

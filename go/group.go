@@ -26,11 +26,7 @@ func NewGroup(options ...Option) (*Group, error) {
 // joined. As in x/sync, shared tells whether another caller joined the call.
 func (g *Group) Do(key string, fn func() (any, error)) (v any, err error, shared bool) {
 	var r Result
-	p := g.made.Load()
-	if p == nil {
-		p = g.make()
-	}
-	p.do(&r, key, fn)
+	g.made.core().do(&r, key, fn)
 	return r.Val, r.Err, r.Shared
 }
 
@@ -39,6 +35,13 @@ func (g *Group) Do(key string, fn func() (any, error)) (v any, err error, shared
 // and the channel receives nothing if the function calls runtime.Goexit.
 func (g *Group) DoChan(key string, fn func() (any, error)) <-chan Result {
 	return g.Of.DoChan(always, key, func(context.Context) (any, error) { return fn() })
+}
+
+// Forget is Of's Forget: it closes the key's open call, and ends the stamp of a call that has ended.
+func (g *Group) Forget(key string) {
+	if p := g.made.Load(); p != nil {
+		p.forgets(key)
+	}
 }
 
 var always = context.Background()

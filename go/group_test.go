@@ -86,14 +86,11 @@ func TestClose(t *testing.T) {
 		}
 	}
 	g.Close()
-	until(t, "all seats are freed", func() bool { return isFreed(g) })
+	until(t, "all seats are freed", func() bool { return isDone(g) })
 }
 
-// Whether nothing is left of the group's library.
-func isFreed(g *Group) bool {
-	runtime.GC()
-	return g.Err() == ErrClosed && isTableFreed(&g.core().table)
-}
+// Whether the group is closed, and no call of it is left.
+func isDone(g *Group) bool { return g.Err() == ErrClosed && hasNoCalls(&g.core().table) }
 
 func TestCloseWhileCallsRun(t *testing.T) {
 	for round := 0; round < 5; round++ {
@@ -121,7 +118,7 @@ func TestCloseWhileCallsRun(t *testing.T) {
 			}(i)
 		}
 		all.Wait()
-		until(t, "its memory is given back", func() bool { return isFreed(g) })
+		until(t, "its memory is given back", func() bool { return isDone(g) })
 	}
 }
 
@@ -150,7 +147,7 @@ func TestStatsAfterClose(t *testing.T) {
 	receive(t, first)
 	receive(t, joined)
 	want.InUse = 0
-	until(t, "all seats are freed", func() bool { return isFreed(g) })
+	until(t, "all seats are freed", func() bool { return isDone(g) })
 	if st := g.Stats(); st != want {
 		t.Error("closed", st, want)
 	}
@@ -162,33 +159,33 @@ func TestStatsAfterClose(t *testing.T) {
 	}
 }
 
-// A group that nobody closes is closed when nobody has it.
+// A group is freed when nobody has it, also if its functions have it.
 func TestForgottenGroup(t *testing.T) {
-	closed := make(chan *core, 1)
+	freed := make(chan struct{}, 1)
 	func() {
-		g := new(Group)
+		var g *Group
+		g, err := NewGroup(WithRecorder(func(Load) { g.Stats() }))
+		if err != nil {
+			t.Fatal(err)
+		}
 		g.Do("key", value(1))
-		p := g.core()
-		runtime.SetFinalizer(p, nil)
-		runtime.SetFinalizer(p, func(p *core) { p.table.close(); closed <- p })
+		whenFreed(&g.core().table, freed)
 	}()
-	isCollected(t, closed)
+	isCollected(t, freed)
 }
 
-// isCollected waits for a core that is closed when nobody has it, and until its memory is given back.
-func isCollected(t *testing.T, closed <-chan *core) {
+// isCollected waits until the memory is given back.
+func isCollected(t *testing.T, freed <-chan struct{}) {
 	t.Helper()
-	var p *core
-	until(t, "it is closed", func() bool {
+	until(t, "its memory is freed", func() bool {
 		runtime.GC()
 		select {
-		case p = <-closed:
+		case <-freed:
 			return true
 		default:
 			return false
 		}
 	})
-	until(t, "its memory is freed", func() bool { runtime.GC(); return isTableFreed(&p.table) })
 }
 
 // Many goroutines ask for few keys at one time, which all get one load each.
@@ -261,7 +258,7 @@ func TestWaitsAreApart(t *testing.T) {
 	<-started
 	joined := g.DoChan("slow", value(2))
 	var w *call
-	g.core().eachOpen(func(c *call) { w = c })
+	g.core().eachOpen(func(c *call, _ Call) { w = c })
 	until(t, "one waits", func() bool { return waiting(g) == 1 })
 	for i := 0; i < 100; i++ {
 		inside, end := make(chan struct{}), make(chan struct{})
@@ -394,7 +391,14 @@ func TestJoinerThatLeaves(t *testing.T) {
 
 // How many wait for open calls.
 func waiting(g interface{ core() *core }) (count int) {
-	g.core().eachOpen(func(c *call) { count += int(c.holders.Load()) - 1 })
+	g.core().eachOpen(func(c *call, _ Call) {
+		count += int(c.holders.Load()) - 1
+		c.mu.Lock()
+		if c.waits {
+			count++
+		}
+		c.mu.Unlock()
+	})
 	return count
 }
 

@@ -3,7 +3,6 @@
 package singleflight
 
 import (
-	"math/bits"
 	"runtime"
 	"sync"
 	"sync/atomic"
@@ -21,7 +20,7 @@ const isProved = true
 // Whether the processor lacks what the library's code may use, so that it would end the program by a signal.
 var isOld = !isRecent()
 
-// So many bytes of stack has a call of the library: native/depths tells that none needs more. 16 divides where it ends.
+// So many bytes of stack has a call of the library: native/depths tells that none needs more.
 const stackSize = 1024
 
 // How the library's calls end: see sflight.h.
@@ -29,10 +28,8 @@ const (
 	codeDone    = 0
 	codeLed     = 1
 	codeJoined  = 2
-	codeAlone   = 3
 	codeTold    = 4
 	codeLast    = 5
-	codeNothing = 7
 	codeCleared = 8
 	codeFull    = 9
 	codeCrowded = 10
@@ -66,63 +63,52 @@ type cAsked struct {
 // while a load runs, and not while one sleeps.
 //
 // Each processor has one in each group that it calls, and a goroutine that has it is not stopped: so it is taken and given back
-// without a locked instruction. It is called on the processor's stack, which all groups share. The root is for those whose
-// processor has none, and for a group that is closed: it has a stack of its own, and is taken by the table's lock.
+// without a locked instruction. The root is for those whose processor has none, and is taken by the table's lock.
 type handle struct {
-	at                            uintptr
-	live                          bool
-	stack                         *[stackSize]byte
-	isRoot                        bool
-	loads, ends, joins, forgotten uint64 // which others read meanwhile
-	made                          int    // how many calls it has made, less those it has freed
-	frees                         int
-	free                          [16]cCall // idle ones
-	_                             [64]byte
+	at                          uintptr
+	live                        bool
+	made                        int // how many calls it has made, less those it has freed
+	frees                       int
+	free                        [16]cCall // idle ones
+	loads, ends, joins, forgets uint64    // which others read meanwhile
+	asked                       cAsked    // what the library writes in a call
+	told                        cAudience
+	value                       uint64
+	stack                       [stackSize + 16]byte // the end of which is aligned
 }
 
-const mostProcessors = 256
+// flight is what the table knows of an asking beside its call: the library's call. None is there where the asking loads alone, since
+// there is no memory, and once the call is idle again.
+type flight = cCall
 
-var stacks [mostProcessors][stackSize]byte
-
-// flight is what the table knows of an asking beside its call.
-type flight struct {
-	call    cCall
-	isPlain bool // whether plain Go has it
-	isAlone bool // whether it is settled, and told to nobody
-}
-
-// A nativeTable has the handles of a group, and its posts: by a call's table and cell, the call that its leader and those
-// who joined share. A post is nobody else's until the last who holds the cell has left it, and a call's generation tells
-// it from the one before.
+// A nativeTable has the handles of a group, and the calls that are shared.
 type nativeTable struct {
-	plain   plainPointer // where there is no library, or no more
-	hot     []pointer    // handles, by processor
-	posts   [24]pointer  // each leads to chunks
+	plain   *plainTable // where there is no library
+	hot     []pointer   // handles, by processor
+	root    *handle
+	grower  *handle // which whoever grows has
 	size    atomic.Uint64
 	isEnded atomic.Bool
-	_       [64]byte // each call reads what is above, and Stats and ForgetCall write what is below
+	_       [64]byte // each call reads what is above, and not all read what is below
 
+	sharing [16]sharing
 	growing sync.Mutex
 	calling sync.Mutex // of ForgetCalls
-	mu      sync.Mutex // protects the rest
-	root    *handle
-	grower  *handle   // which whoever grows has
-	all     []*handle // with the root
-	isQuiet bool      // whether it is ended, and no goroutine has a handle that it found before
-	past    Stats     // of handles that are closed
-	why     error     // there is no library
-	_       [64]byte
+	mu      sync.Mutex // protects the root, and the list of handles
+	*handles
+	why error // there is no library
 }
 
-type plainPointer struct{ at pointer }
+// The handles of a group, which ends with them when the collector has found that nobody can call it. They are no part of the table: that
+// may be in a cycle, by a function that calls the group, and the collector finalizes nothing that is in one.
+type handles struct{ all []*handle }
 
-func (p *plainPointer) Load() *plainTable    { return (*plainTable)(atomic.LoadPointer(&p.at)) }
-func (p *plainPointer) Store(to *plainTable) { atomic.StorePointer(&p.at, pointer(to)) }
-
-// By the highest bit of a cell's number, so that a group needs no more memory than it uses.
-type chunks [16]pointer
-
-const cellsOfChunk = 64
+// Some of the calls that their leader and those who joined share, from the first of them until the last has left.
+type sharing struct {
+	mu    sync.Mutex
+	calls map[callID]*call
+	_     [48]byte
+}
 
 // A table has no more cells.
 const mostCells = 1 << 20
@@ -141,26 +127,35 @@ func (s *sizes) cells() uint64 {
 }
 
 func (t *nativeTable) open(size *sizes) {
-	root := &handle{stack: new([stackSize]byte), isRoot: true}
+	t.root, t.grower = new(handle), new(handle)
+	t.handles = &handles{[]*handle{t.root, t.grower}}
+	runtime.SetFinalizer(t.handles, (*handles).close)
 	switch {
 	case isOld:
 		t.why = ErrProcessor
 	case size.refused != nil && size.refused(),
-		cOpen(root, size.cells(), random(), random()) != codeDone:
+		cOpen(t.root, size.cells(), random(), random()) != codeDone,
+		cSplit(t.root, t.grower) != codeDone:
 		t.why = ErrMemory
 	default:
-		n := runtime.GOMAXPROCS(0)
-		if n > mostProcessors {
-			n = mostProcessors
+		if !isRaceDetected {
+			t.hot = make([]pointer, runtime.GOMAXPROCS(0))
 		}
-		t.hot = make([]pointer, n)
-		t.root, t.all = root, []*handle{root}
-		t.measure(root)
+		t.measure(t.root)
 		return
 	}
-	p := new(plainTable)
-	p.open(size)
-	t.plain.Store(p)
+	t.plain = new(plainTable)
+	t.plain.open(size)
+}
+
+// close gives the memory of the group back.
+func (all *handles) close() {
+	for _, h := range all.all {
+		for ; h.frees > 0; h.frees-- {
+			cFree(h, &h.free[h.frees-1])
+		}
+		cClose(h)
+	}
 }
 
 // procPin returns the number of the processor, on which the goroutine stays until procUnpin, and is not stopped. It may not wait
@@ -172,36 +167,26 @@ func procPin() int
 //go:linkname procUnpin runtime.procUnpin
 func procUnpin()
 
-// take takes a handle. None where there is no library any more. The race detector sees locks alone.
+// take takes a handle, until put. The race detector sees locks alone.
 func (t *nativeTable) take() *handle {
-	if !isRaceDetected {
-		if p := procPin(); p < len(t.hot) {
-			if h := (*handle)(atomic.LoadPointer(&t.hot[p])); h != nil {
-				return h
-			}
+	if p := procPin(); p < len(t.hot) {
+		if h := (*handle)(atomic.LoadPointer(&t.hot[p])); h != nil {
+			return h
 		}
-		procUnpin()
 	}
+	procUnpin()
 	return t.takeSlowly()
 }
 
 // takeSlowly takes a new handle for this processor, or the root.
 func (t *nativeTable) takeSlowly() *handle {
 	t.mu.Lock()
-	if t.root == nil {
-		t.mu.Unlock()
-		return nil
-	}
-	if isRaceDetected || t.isEnded.Load() {
-		return t.root
-	}
 	h := new(handle)
-	if cSplit(t.root, h) != codeDone {
+	if isRaceDetected || cSplit(t.root, h) != codeDone {
 		return t.root
 	}
 	all := append(t.all, h)
-	if p := procPin(); p < len(t.hot) && atomic.LoadPointer(&t.hot[p]) == nil {
-		h.stack = &stacks[p]
+	if p := procPin(); p < len(t.hot) && t.hot[p] == nil {
 		t.all = all
 		atomic.StorePointer(&t.hot[p], pointer(h))
 		t.mu.Unlock()
@@ -209,18 +194,16 @@ func (t *nativeTable) takeSlowly() *handle {
 	}
 	procUnpin()
 	// There are more processors than there were; or the goroutine has come to another.
-	h.stack = t.root.stack
 	cClose(h)
 	return t.root
 }
 
 // put gives the handle back.
 func (t *nativeTable) put(h *handle) {
-	if !h.isRoot {
+	if h != t.root {
 		procUnpin()
 		return
 	}
-	t.end()
 	t.mu.Unlock()
 }
 
@@ -234,96 +217,90 @@ func increment(at *uint64) {
 	atomic.StoreUint64(at, *at+1)
 }
 
-// pop takes an idle call.
-func (t *nativeTable) pop(h *handle) (c cCall) {
-	if h.frees > 0 {
-		h.frees--
-		return h.free[h.frees]
+// make makes a call, or none where there is no memory. It tells whether the group may have to grow. Looking takes the lock of all
+// handles, so each eighth call that is new to its handle looks: a group whose calls are used again never does.
+func (h *handle) make(c *cCall) (isDue bool) {
+	if cMake(h, c) != codeDone {
+		return false
 	}
-	if cMake(h, &c) == codeDone {
-		h.made++
-	}
-	return c
+	h.made++
+	return h.made%8 == 0
 }
 
-// push gives a call back, which is idle.
-func (t *nativeTable) push(h *handle, c cCall) {
-	if h.frees < len(h.free) {
-		h.free[h.frees] = c
+// idle gives a call back, if there is one.
+func (h *handle) idle(c *cCall) {
+	if h.frees < len(h.free) && c.live {
+		h.free[h.frees] = *c
 		h.frees++
-		return
+	} else if c.live {
+		cFree(h, c)
+		h.made--
 	}
-	cFree(h, &c)
-	h.made--
+	*c = cCall{}
 }
 
 // Where the string's bytes are.
 func bytesOf(key string) pointer { return *(*pointer)(pointer(&key)) }
 
-func (t *nativeTable) ask(a *asking, key string) {
-	a.call, a.own = nil, flight{}
+func (t *nativeTable) ask(a *asking) {
+	if t.plain != nil {
+		t.plain.ask(a)
+		return
+	}
 	for try := 1; ; try++ {
 		h := t.take()
-		if h == nil {
-			p := t.plain.Load()
-			a.own.isPlain = true
-			p.ask(a, key)
-			return
+		seen, code, isDue := t.size.Load(), uint32(codeFull), false
+		if h.frees > 0 {
+			h.frees--
+			a.own = h.free[h.frees]
+		} else {
+			isDue = h.make(&a.own)
 		}
-		var out cAsked
-		seen, made := t.size.Load(), h.made
-		code := uint32(codeFull)
-		if a.own.call = t.pop(h); a.own.call.live {
-			code = cAsk(h, &a.own.call, bytesOf(key), uintptr(len(key)), tries, &out)
+		if a.own.live {
+			code = cAsk(h, &a.own, bytesOf(a.key), uintptr(len(a.key)), tries, &h.asked)
 		}
-		// Looking takes the lock of all handles. So each eighth call that is new to its handle looks: a group whose calls
-		// are used again never does.
-		isDue := h.made > made && h.made%8 == 0
-		switch code {
+		switch out := &h.asked; code {
 		case codeLed:
 			increment(&h.loads)
-			t.put(h)
-			a.leads, a.id, a.stamp = true, out.id, out.stamp.packed()
+			a.leads, a.stamp = true, out.stamp.packed()
+			// Not copied at once: such a load would wait for stores that it cannot be forwarded from.
+			a.id = callID{out.id.table, out.id.cell, out.id.generation}
 			if t.isEnded.Load() {
 				a.stamp = Stamp{}
 			}
-			if isDue {
-				t.look()
-			}
-			return
 		case codeJoined:
 			increment(&h.joins)
-			t.put(h)
 			a.leads, a.id = false, out.id
-			a.call = t.shared(a.id)
-			a.call.holders.Add(1)
+		default:
+			h.idle(&a.own)
+		}
+		t.put(h)
+		switch {
+		case code == codeLed || code == codeJoined:
+			if code == codeJoined {
+				t.share(a)
+				a.call.holders.Add(1)
+			}
 			// If only leaders looked, none would where each eighth call is a joiner's.
 			if isDue {
 				t.look()
 			}
 			return
-		}
-		if a.own.call.live {
-			t.push(h, a.own.call)
-		}
-		t.put(h)
-		switch {
 		case code == codeFull && !t.grow(seen):
 			// There is no memory. It loads alone, and nobody can join it.
-			a.own.isAlone = true
 			a.leads, a.id, a.stamp = true, callID{}, Stamp{}
 			return
-		case code == codeCrowded, code == codeFull && try > 100:
+		case code == codeCrowded, try > 100:
 			// Another makes room.
 			time.Sleep(time.Millisecond)
-		case try%4 == 0 || code == codeFull:
+		default:
 			runtime.Gosched()
 		}
 	}
 }
 
 // A stamp of all zeros is none, so a table is packed as one more.
-func (s cStamp) packed() Stamp { return Stamp{(s.table+1)<<56 | s.slot, s.age} }
+func (s *cStamp) packed() Stamp { return Stamp{(s.table+1)<<56 | s.slot, s.age} }
 
 func (s Stamp) words() cStamp { return cStamp{s.Place>>56 - 1, s.Place << 8 >> 8, s.Age} }
 
@@ -332,7 +309,7 @@ func (t *nativeTable) look() {
 	var st Stats
 	t.count(&st)
 	if seen := t.size.Load(); 2*st.InUse >= seen&(1<<32-1) {
-		go t.growEarly(seen)
+		go t.grow(seen)
 	}
 }
 
@@ -353,175 +330,113 @@ func (t *nativeTable) grow(seen uint64) bool {
 	if t.size.Load() != seen {
 		return true
 	}
-	t.mu.Lock()
-	if t.root == nil {
-		t.mu.Unlock()
-		return true
-	}
-	if t.grower == nil {
-		h := &handle{stack: new([stackSize]byte)}
-		if cSplit(t.root, h) != codeDone {
-			t.mu.Unlock()
-			return false
-		}
-		t.grower = h
-	}
-	t.mu.Unlock()
 	code := cGrow(t.grower)
 	t.measure(t.grower)
 	return code == codeDone
 }
 
-// growEarly is grow for a group that is not full. The last call of a closed group may have ended meanwhile.
-func (t *nativeTable) growEarly(seen uint64) {
-	t.grow(seen)
-	t.mu.Lock()
-	defer t.mu.Unlock()
-	t.end()
+func (t *nativeTable) sharingOf(id callID) *sharing {
+	return &t.sharing[id.cell%uint32(len(t.sharing))]
 }
 
-// post returns where the call of the cell stands.
-func (t *nativeTable) post(id callID) *pointer {
-	table := (*chunks)(atomic.LoadPointer(&t.posts[id.table]))
-	if table == nil {
-		atomic.CompareAndSwapPointer(&t.posts[id.table], nil, pointer(new(chunks)))
-		table = (*chunks)(atomic.LoadPointer(&t.posts[id.table]))
-	}
-	number, first, n := bits.Len32(id.cell/cellsOfChunk), uint32(0), cellsOfChunk
-	if number > 0 {
-		n = cellsOfChunk << (number - 1)
-		first = uint32(n)
-	}
-	chunk := (*[]pointer)(atomic.LoadPointer(&table[number]))
-	if chunk == nil {
-		it := make([]pointer, n)
-		atomic.CompareAndSwapPointer(&table[number], nil, pointer(&it))
-		chunk = (*[]pointer)(atomic.LoadPointer(&table[number]))
-	}
-	return &(*chunk)[id.cell-first]
-}
-
-// shared returns the call that its leader and those who joined share. The first of them makes it. The caller holds the
-// library's call, so a call of another generation that stands there has ended.
-func (t *nativeTable) shared(id callID) *call {
-	at := t.post(id)
-	var mine *call
-	for {
-		old := (*call)(atomic.LoadPointer(at))
-		if old != nil && old.generation.Load() == id.generation {
-			return old
-		}
-		if mine == nil {
-			mine = &call{done: make(chan struct{})}
-			mine.generation.Store(id.generation)
-			mine.holders.Store(1)
-		}
-		if atomic.CompareAndSwapPointer(at, pointer(old), pointer(mine)) {
-			return mine
-		}
-	}
-}
-
-// drop lets go of a call that nobody holds any more, unless the cell's next has taken its place.
-func (t *nativeTable) drop(a *asking) {
-	if a.call != nil {
-		atomic.CompareAndSwapPointer(t.post(a.id), pointer(a.call), nil)
-	}
-}
-
-// share lets a leader share its call before that has ended.
+// share lets the asking share its call: the first who does makes that.
 func (t *nativeTable) share(a *asking) {
-	if a.call == nil && a.id.generation == 0 {
-		// It is alone.
-		a.call = &call{done: make(chan struct{})}
-		a.call.holders.Store(1)
-	} else if a.call == nil {
-		a.call = t.shared(a.id)
+	if t.plain != nil || a.call != nil {
+		return
 	}
+	if !a.own.live {
+		// It loads alone.
+		a.call = newCall()
+		return
+	}
+	s := t.sharingOf(a.id)
+	s.mu.Lock()
+	defer s.mu.Unlock()
+	if a.call = s.calls[a.id]; a.call != nil {
+		return
+	}
+	if s.calls == nil {
+		s.calls = map[callID]*call{}
+	}
+	a.call = newCall()
+	s.calls[a.id] = a.call
 }
 
-// settle ends the call that was led.
-func (t *nativeTable) settle(a *asking, to *audience, keeps bool) {
-	if a.own.isPlain {
-		t.plain.Load().settle(a, to, keeps)
-		return
+func newCall() *call {
+	c := &call{done: make(chan struct{})}
+	c.holders.Store(1)
+	return c
+}
+
+// drop is share's end, where nobody holds the call any more.
+func (t *nativeTable) drop(a *asking) {
+	s := t.sharingOf(a.id)
+	s.mu.Lock()
+	delete(s.calls, a.id)
+	s.mu.Unlock()
+}
+
+// settle ends the call that was led. The leader leaves it too, unless it has to tell somebody.
+func (t *nativeTable) settle(a *asking, keeps bool) (to audience) {
+	if t.plain != nil {
+		return t.plain.settle(a, keeps)
 	}
-	if a.own.isAlone {
-		to.isTold = keeps
-		return
+	to.isTold = keeps
+	if !a.own.live {
+		return to
 	}
 	h := t.take()
-	var told cAudience
-	code := cSettle(h, &a.own.call, a.id.generation, &told)
+	code := cSettle(h, &a.own, 0, &h.told)
 	increment(&h.ends)
-	if code != codeTold {
-		t.push(h, a.own.call)
-		t.put(h)
-		a.own.isAlone = true
-		t.drop(a)
-		to.isTold = keeps
-		return
+	if code == codeTold {
+		to = audience{h.told.joined || keeps, h.told.joined, int(h.told.holders) - 1, h.told.forgotten}
+		if to.isTold {
+			t.put(h)
+			t.share(a)
+			return to
+		}
+		cLeave(h, &a.own, &h.value)
 	}
-	to.joiners, to.isShared, to.forgotten = int(told.holders)-1, told.joined, told.forgotten
-	if to.isTold = told.joined || keeps; to.isTold {
-		t.put(h)
-		a.call = t.shared(a.id)
-		return
-	}
-	t.leaveBy(h, a)
+	h.idle(&a.own)
 	t.put(h)
-}
-
-// leaveBy lets go of the call. Whether nobody holds it any more.
-func (t *nativeTable) leaveBy(h *handle, a *asking) bool {
-	var value uint64
-	if isRaceDetected && a.call != nil {
-		a.call.holders.Add(0)
-	}
-	code := cLeave(h, &a.own.call, &value)
-	if isRaceDetected && a.call != nil {
-		a.call.holders.Add(0)
-	}
-	t.push(h, a.own.call)
-	if code == codeLast {
+	if a.call != nil {
 		t.drop(a)
 	}
-	return code == codeLast
+	return to
 }
 
-// leave lets go of the call, which has ended. Whether nobody holds it any more.
-func (t *nativeTable) leave(a *asking) bool {
-	if a.own.isPlain {
-		return t.plain.Load().leave(a)
+// leave lets go of the call. Whether it has ended, and nobody holds it any more.
+func (t *nativeTable) leave(a *asking, hasEnded bool) (last bool) {
+	if t.plain != nil {
+		return t.plain.leave(a, hasEnded)
 	}
-	if a.own.isAlone {
+	if !a.own.live {
 		return true
 	}
 	h := t.take()
-	last := t.leaveBy(h, a)
+	last = cLeave(h, &a.own, &h.value) == codeLast
+	h.idle(&a.own)
 	t.put(h)
+	if last && a.call != nil {
+		t.drop(a)
+	}
 	return last
 }
 
-// giveUp is leave before the call has ended, or was known to have.
-func (t *nativeTable) giveUp(a *asking) bool {
-	if a.own.isPlain {
-		return t.plain.Load().giveUp(a)
-	}
-	return t.leave(a)
-}
-
 func (t *nativeTable) forget(key string) (id callID, closed bool) {
-	for try := 1; ; try++ {
+	if t.plain != nil {
+		return t.plain.forget(key)
+	}
+	for {
 		h := t.take()
-		if h == nil {
-			return t.plain.Load().forget(key)
-		}
-		code := cForget(h, bytesOf(key), uintptr(len(key)), tries, &id)
+		code := cForget(h, bytesOf(key), uintptr(len(key)), tries, &h.asked.id)
 		if code != codeBusy {
-			increment(&h.forgotten)
+			increment(&h.forgets)
+			if closed = code == codeDone; closed {
+				id = h.asked.id
+			}
 			t.put(h)
-			return id, code == codeDone
+			return id, closed
 		}
 		t.put(h)
 		runtime.Gosched()
@@ -531,6 +446,9 @@ func (t *nativeTable) forget(key string) (id callID, closed bool) {
 // forgetCall asks first whether the result is current, so that of two who throw it away one has done so. Their lock is taken
 // for that alone.
 func (t *nativeTable) forgetCall(key string, it Call) Hit {
+	if t.plain != nil {
+		return t.plain.forgetCall(key, it)
+	}
 	if it.stamp.Place == 0 {
 		// A Forget has closed it.
 		return Missed
@@ -540,73 +458,56 @@ func (t *nativeTable) forgetCall(key string, it Call) Hit {
 	defer t.calling.Unlock()
 	for {
 		h := t.take()
-		if h == nil {
-			return t.plain.Load().forgetCall(key, it)
-		}
 		isStill := !t.isEnded.Load() && cIsStill(h, &stamp)
 		code := cForgetCall(h, bytesOf(key), uintptr(len(key)), &it.id, &stamp, tries)
-		if code == codeCleared && !isStill {
-			code = codeNothing
+		hit := Missed
+		if code == codeDone {
+			hit = Closed
+		} else if code == codeCleared && isStill {
+			hit = Cleared
 		}
-		if code == codeDone || code == codeCleared {
-			increment(&h.forgotten)
+		if hit != Missed {
+			increment(&h.forgets)
 		}
 		t.put(h)
-		switch code {
-		case codeDone:
-			return Closed
-		case codeCleared:
-			return Cleared
-		case codeBusy:
-			runtime.Gosched()
-			continue
+		if code != codeBusy {
+			return hit
 		}
-		return Missed
+		runtime.Gosched()
 	}
 }
 
-func (t *nativeTable) isStill(stamp Stamp) bool {
-	if p := t.plain.Load(); p != nil {
-		return p.isStill(stamp)
+func (t *nativeTable) isStill(stamp Stamp) (is bool) {
+	if t.plain != nil {
+		return t.plain.isStill(stamp)
 	}
 	if t.isEnded.Load() || stamp.Place>>56 == 0 {
 		return false
 	}
-	h := t.take()
-	if h == nil {
-		return t.plain.Load().isStill(stamp)
-	}
 	words := stamp.words()
-	is := cIsStill(h, &words)
+	h := t.take()
+	is = cIsStill(h, &words)
 	t.put(h)
 	return is
 }
 
-// countHandles adds the numbers of the handles. The lock is held.
-func (t *nativeTable) countHandles(st *Stats) {
-	ends := uint64(0)
-	for _, h := range t.all {
-		// An end is counted after its beginning, so it is read before that.
-		ends += atomic.LoadUint64(&h.ends)
-		st.Joins += atomic.LoadUint64(&h.joins)
-		st.Forgets += atomic.LoadUint64(&h.forgotten)
-	}
-	loads := uint64(0)
-	for _, h := range t.all {
-		loads += atomic.LoadUint64(&h.loads)
-	}
-	st.Loads += loads
-	st.InUse += loads - ends
-}
-
+// count counts the calls. An end is counted after its beginning, so it is read before that.
 func (t *nativeTable) count(st *Stats) {
+	if t.plain != nil {
+		t.plain.count(st)
+		return
+	}
 	t.mu.Lock()
 	defer t.mu.Unlock()
-	t.countHandles(st)
-	st.add(t.past)
-	if p := t.plain.Load(); p != nil {
-		p.count(st)
+	for _, h := range t.all {
+		st.InUse -= atomic.LoadUint64(&h.ends)
+		st.Joins += atomic.LoadUint64(&h.joins)
+		st.Forgets += atomic.LoadUint64(&h.forgets)
 	}
+	for _, h := range t.all {
+		st.Loads += atomic.LoadUint64(&h.loads)
+	}
+	st.InUse += st.Loads
 }
 
 func (t *nativeTable) err() error {
@@ -616,59 +517,10 @@ func (t *nativeTable) err() error {
 	return t.why
 }
 
-// close ends all stamps, and lets no processor find a handle any more. The memory is given back by the last call that ends, but
-// not before each goroutine has given back the handle that it may have found meanwhile: it is not stopped until then, and so
-// the collector waits for it. Whoever asks while calls run may join them.
+// close ends all stamps.
 func (t *nativeTable) close() {
-	t.mu.Lock()
-	defer t.mu.Unlock()
-	if t.isEnded.Swap(true) {
-		return
+	if t.plain != nil {
+		t.plain.close()
 	}
-	for i := range t.hot {
-		atomic.StorePointer(&t.hot[i], nil)
-	}
-	runtime.SetFinalizer(&barrier{t}, func(*barrier) {
-		t.mu.Lock()
-		defer t.mu.Unlock()
-		t.isQuiet = true
-		t.end()
-	})
-}
-
-type barrier struct{ of *nativeTable }
-
-// end gives the memory of the library's group back, if it is closed and no call is in use. From then on plain Go is asked. The
-// lock is held.
-func (t *nativeTable) end() {
-	if !t.isQuiet || t.root == nil || !t.growing.TryLock() {
-		return
-	}
-	defer t.growing.Unlock()
-	made, frees := 0, 0
-	for _, h := range t.all {
-		made, frees = made+h.made, frees+h.frees
-	}
-	if frees < made {
-		return
-	}
-	for _, h := range t.all {
-		for i := range h.free[:h.frees] {
-			cFree(t.root, &h.free[i])
-		}
-	}
-	t.countHandles(&t.past)
-	for _, h := range t.all {
-		h.stack = t.root.stack
-		cClose(h)
-	}
-	if t.grower != nil {
-		cClose(t.grower)
-	}
-	t.all, t.root, t.grower = nil, nil, nil
-	p := new(plainTable)
-	size := defaultSizes()
-	p.open(&size)
-	p.close()
-	t.plain.Store(p)
+	t.isEnded.Store(true)
 }

@@ -5,7 +5,6 @@ package singleflight
 import (
 	"runtime"
 	"strconv"
-	"sync/atomic"
 	"testing"
 )
 
@@ -39,8 +38,8 @@ func TestGrowsEarly(t *testing.T) {
 	}
 }
 
-// A post keeps no call that has ended, since that has the result.
-func TestPostsKeepNothing(t *testing.T) {
+// The calls that are shared are those that are held, since they have results.
+func TestSharedCallsAreDropped(t *testing.T) {
 	if isOld {
 		t.Skip("it has no library")
 	}
@@ -49,94 +48,86 @@ func TestPostsKeepNothing(t *testing.T) {
 	led := g.DoChan("key", heldAny(1, started, release))
 	begun(t, started)
 	joined := g.DoChan("key", value(2))
-	if n := g.core().table.posted(); n != 1 {
+	if n := g.core().table.shared(); n != 1 {
 		t.Error("one call is shared", n)
 	}
 	close(release)
 	receive(t, led)
 	receive(t, joined)
-	until(t, "its post is empty", func() bool { return g.core().table.posted() == 0 })
+	until(t, "it is not shared any more", func() bool { return g.core().table.shared() == 0 })
 }
 
 // The call of a cell's next generation is another one, also where the one before it has not been dropped yet.
-func TestPostsOfGenerations(t *testing.T) {
+func TestSharedCallsOfGenerations(t *testing.T) {
 	var table nativeTable
-	first := table.shared(callID{0, 5, 7})
-	if again := table.shared(callID{0, 5, 7}); again != first {
+	share := func(generation uint64) *call {
+		a := asking{own: cCall{live: true}, id: callID{0, 5, generation}}
+		table.share(&a)
+		return a.call
+	}
+	first := share(7)
+	if again := share(7); again != first {
 		t.Error("one generation has one call")
 	}
-	if next := table.shared(callID{0, 5, 8}); next == first || next.generation.Load() != 8 {
+	if next := share(8); next == first {
 		t.Error("the next generation has the call of the one before it")
 	}
 }
 
-// posted returns how many posts have a call.
-func (t *nativeTable) posted() (n int) {
-	for i := range t.posts {
-		table := (*chunks)(atomic.LoadPointer(&t.posts[i]))
-		for number := 0; table != nil && number < len(table); number++ {
-			if chunk := (*[]pointer)(atomic.LoadPointer(&table[number])); chunk != nil {
-				for at := range *chunk {
-					if atomic.LoadPointer(&(*chunk)[at]) != nil {
-						n++
-					}
-				}
-			}
-		}
+// shared returns how many calls are shared.
+func (t *nativeTable) shared() (n int) {
+	for i := range t.sharing {
+		s := &t.sharing[i]
+		s.mu.Lock()
+		n += len(s.calls)
+		s.mu.Unlock()
 	}
 	return n
 }
 
-// eachOpen calls do with each call that its leader and those who joined share, and that has not ended.
-func (t *nativeTable) eachOpen(do func(*call)) {
-	if p := t.plain.Load(); p != nil {
-		p.eachOpen(do)
+// eachOpen calls do with each call that its leader and those who joined share, and that has not ended; and with how a result would
+// name it, but for a stamp that never is current.
+func (t *nativeTable) eachOpen(do func(*call, Call)) {
+	if t.plain != nil {
+		t.plain.eachOpen(do)
 		return
 	}
-	for i := range t.posts {
-		table := (*chunks)(atomic.LoadPointer(&t.posts[i]))
-		if table == nil {
-			continue
-		}
-		for number := range table {
-			chunk := (*[]pointer)(atomic.LoadPointer(&table[number]))
-			if chunk == nil {
-				continue
-			}
-			first := 0
-			if number > 0 {
-				first = len(*chunk)
-			}
-			for at := range *chunk {
-				c := (*call)(atomic.LoadPointer(&(*chunk)[at]))
-				if c == nil {
-					continue
-				}
-				c.mu.Lock()
-				isReady := c.ready
-				c.mu.Unlock()
-				if !isReady {
-					testTable, testCell = uint32(i), uint32(first+at)
-					do(c)
-				}
+	for i := range t.sharing {
+		s := &t.sharing[i]
+		s.mu.Lock()
+		for id, c := range s.calls {
+			c.mu.Lock()
+			isReady := c.ready
+			c.mu.Unlock()
+			if !isReady {
+				do(c, Call{id, Stamp{1 << 56, 1 << 60}})
 			}
 		}
+		s.mu.Unlock()
 	}
 }
 
-// Of the call with which eachOpen calls.
-var testTable, testCell uint32
-
-// nameOf returns how a result would name the call, but for a stamp that never is current.
-func (t *nativeTable) nameOf(c *call) Call {
-	return Call{id: callID{testTable, testCell, c.generation.Load()}, stamp: Stamp{1 << 56, 1 << 60}}
-}
-
-// Whether the library's memory is given back.
-func isTableFreed(t *table) bool {
+// hasNoCalls tells whether each call of the library is given back.
+func hasNoCalls(t *table) bool {
+	if t.plain != nil {
+		return hasNoPlainCalls(t.plain)
+	}
 	t.mu.Lock()
 	defer t.mu.Unlock()
-	return t.plain.Load() != nil && len(t.all) == 0
+	calls := 0
+	for _, h := range t.all {
+		calls += h.made - h.frees
+	}
+	return calls == 0
+}
+
+// whenFreed tells when the library's memory is given back.
+func whenFreed(t *table, freed chan<- struct{}) {
+	runtime.SetFinalizer(t.handles, nil)
+	runtime.SetFinalizer(t.handles, func(all *handles) {
+		all.close()
+		freed <- struct{}{}
+	})
 }
 
 // tablesOf returns how many tables the library's group has.

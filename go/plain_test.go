@@ -7,35 +7,29 @@ func TestPlainCallsKeepNoKey(t *testing.T) {
 	var p plainTable
 	size := defaultSizes()
 	p.open(&size)
-	var a asking
-	p.ask(&a, "key")
-	p.settle(&a, new(audience), false)
-	free := 0
-	p.each(func(s *shard) {
-		for c := s.free; c != nil; c = c.next {
-			free++
-			if c.key != "" {
-				t.Error("a key is kept", c.key)
-			}
-		}
-	})
-	if free != 1 {
-		t.Error("the call is used again", free)
+	a := asking{key: "key"}
+	p.ask(&a)
+	p.settle(&a, false)
+	_, s := p.slotOf("key")
+	if s.spare == nil || s.spare.key != "" || len(s.calls) != 0 {
+		t.Error("the call is used again, without its key", s)
 	}
 }
 
-// eachOpen calls do with each open call of plain Go.
-func (t *plainTable) eachOpen(do func(*call)) {
-	t.each(func(s *shard) {
-		for _, c := range s.buckets {
-			for ; c != nil; c = c.next {
-				do(c)
-			}
+// eachOpen calls do with each open call of plain Go, and with how a result would name it.
+func (t *plainTable) eachOpen(do func(*call, Call)) {
+	for i := range t.shards {
+		s := &t.shards[i]
+		s.mu.Lock()
+		for _, c := range s.calls {
+			do(c, Call{c.id, t.stampOf(c.slot)})
 		}
-	})
+		s.mu.Unlock()
+	}
 }
 
-// nameOf returns how a result would name the call.
-func (t *plainTable) nameOf(c *call) Call {
-	return Call{id: t.idOf(c), stamp: Stamp{t.slotOf(c.hash) + 1, c.age}}
+func hasNoPlainCalls(t *plainTable) bool {
+	var st Stats
+	t.count(&st)
+	return st.InUse == 0
 }

@@ -111,7 +111,7 @@ func TestStress(t *testing.T) {
 		stress(t, g, 64, 64, func() bool { return done.Add(1) > int64(calls/3) })
 		t.Log(g.Stats())
 		g.Close()
-		until(t, "all is freed", func() bool { return isFreed(g) })
+		until(t, "all is freed", func() bool { return isDone(g) })
 	}
 }
 

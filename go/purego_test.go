@@ -2,8 +2,10 @@
 
 package singleflight
 
+func hasNoCalls(t *table) bool { return hasNoPlainCalls(t) }
+
 // In plain Go the memory is the collector's.
-func isTableFreed(t *table) bool { return t.isEnded.Load() }
+func whenFreed(_ *table, freed chan<- struct{}) { close(freed) }
 
 // tablesOf is of the library's group alone: plain Go has no tables.
 func tablesOf(*table) uint64 { return 0 }

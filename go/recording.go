@@ -5,6 +5,7 @@ import (
 	"errors"
 	"fmt"
 	"io"
+	"runtime"
 	"strconv"
 	"strings"
 	"sync"
@@ -73,6 +74,9 @@ func (p *core) beginRecording(w io.Writer) (*Recording, error) {
 		wake: make(chan struct{}, 1), quit: make(chan struct{}), over: make(chan struct{}),
 	}
 	p.recorder.Store(r)
+	// What a group records that nobody can call any more ends.
+	runtime.SetFinalizer(p, nil)
+	runtime.SetFinalizer(p, func(p *core) { p.endRecording(r) })
 	go r.run()
 	return &Recording{p, r}, nil
 }
@@ -133,6 +137,14 @@ type meeting struct {
 const forever = 1<<63 - 1
 
 func now() int64 { return int64(time.Since(started)) }
+
+// now returns when something begins that is recorded. Without a recorder nothing is.
+func (r *recorder) now() int64 {
+	if r == nil {
+		return 0
+	}
+	return now()
+}
 
 // record makes the record of a call that is led, which was asked for then.
 func (r *recorder) record(key string, from int64) *callRecord {
@@ -227,25 +239,16 @@ func (r *recorder) closed(id callID, f *forgetRecord) {
 	}
 }
 
-// A forgetting is a Forget that has begun, with the recording of then.
+// A forgetting is a Forget that has begun.
 type forgetting struct {
-	by   *recorder
+	by   *recorder // of then
 	from int64
 	one  bool // whether it forgets one call
 }
 
-func (p *core) forgetting(one bool) (f forgetting) {
-	if f.by = p.recorder.Load(); f.by != nil {
-		f.from, f.one = now(), one
-	}
-	return f
-}
-
-// end records a Forget that has ended. A call that it has closed is of the recording of now, if it is of one that is not over.
-func (f *forgetting) end(p *core, key string, id callID, closed bool) {
-	r := p.recorder.Load()
+// forgot records a Forget that has ended, in the recording of now. A call that it has closed is of that, if it is of one that is not over.
+func (r *recorder) forgot(f forgetting, key string, id callID, closed bool) {
 	switch {
-	case r == nil:
 	case closed && r == f.by:
 		r.closed(id, &forgetRecord{r.caller(), f.from, now(), f.one})
 	case closed:

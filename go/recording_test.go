@@ -319,7 +319,7 @@ func TestRecordingOfAForgottenCall(t *testing.T) {
 		first := g.Of.DoChan(ctx, "key", held[any](1, started, release))
 		begun(t, started)
 		var open Call
-		g.core().eachOpen(func(c *call) { open = g.core().nameOf(c) })
+		g.core().eachOpen(func(_ *call, name Call) { open = name })
 		if hit := g.ForgetCall("key", open); hit != Closed {
 			t.Error(hit)
 		}
@@ -341,11 +341,11 @@ func TestRecordingOfASlowForget(t *testing.T) {
 		led := g.DoChan("key", heldAny(1, started, release))
 		begun(t, started)
 		p := g.core()
-		f := p.forgetting(false)
+		f := forgetting{by: p.recorder.Load(), from: now()}
 		id, closed := p.table.forget("key")
 		close(release)
 		came(t, led)
-		f.end(p, "key", id, closed)
+		p.recorder.Load().forgot(f, "key", id, closed)
 	})
 	if all := isLegal(t, log); len(all) != 4 || all[1].E != "forget" || all[1].Closed == nil {
 		t.Errorf("a Lead, the Forget that closed it, a Settle and a Handed: %s", log)
