@@ -233,7 +233,7 @@ func (c *Cache[K, V]) run(ctx context.Context, f *fill, k keyed, a *asking) (any
 		n.cost = c.cost(K(k.key), v)
 	}
 	failed = false
-	if out := f.values.keep(&n.item, a.stamp); len(out) > 0 {
+	if out := f.values.keep(&n.item, a.stamp.packed()); len(out) > 0 {
 		a.after = func() { c.left(out) }
 	}
 	return &n.item, nil
@@ -368,7 +368,7 @@ func (f *fill) put(it *item, last *atomic.Uint64, number uint64) (out []*item) {
 func (f *fill) settle(a *asking, it *item, last *atomic.Uint64, number uint64) (out []*item) {
 	r := Result{Val: it, Err: errAgain}
 	if last.Load() == number {
-		out, r.Err = f.values.keep(it, a.stamp), nil
+		out, r.Err = f.values.keep(it, a.stamp.packed()), nil
 	}
 	f.p.ends(&r, a)
 	return out

@@ -757,7 +757,7 @@ func tableWith(t *testing.T, limit int64) (*values, func(key string, print uint6
 		a := asking{key: fmt.Sprint("call of ", key)}
 		p.asks(&a)
 		it := &item{key: key, print: print, cost: 1}
-		out := table.keep(it, a.stamp)
+		out := table.keep(it, a.stamp.packed())
 		p.ends(new(Result), &a)
 		return it, out
 	}

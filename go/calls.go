@@ -66,14 +66,27 @@ type callID struct {
 	generation  uint64
 }
 
+// What a Stamp says: see sflight_stamp in sflight.h.
+type words struct{ table, slot, age uint64 }
+
+// A stamp of all zeros is none, so a table is packed as one more.
+func (w *words) packed() Stamp { return Stamp{(w.table+1)<<56 | w.slot, w.age} }
+
+func (s Stamp) words() words { return words{s.Place>>56 - 1, s.Place << 8 >> 8, s.Age} }
+
+// What a table tells of a call: the library writes it.
+type asked struct {
+	id    callID
+	stamp words // of a call that is led
+}
+
 // An asking is what one caller knows of the call that it leads or holds.
 type asking struct {
-	key   string
+	key string
+	asked
 	own   flight // what the table knows of it
 	call  *call  // in the library's table none of a leader, unless it has to share something
 	leads bool
-	id    callID
-	stamp Stamp         // of the call that it leads
 	by    *recorder     // none where it is not recorded
 	from  int64         // when it began, where it is recorded
 	over  chan struct{} // of a leader that waits for a run in another goroutine; closed when that has ended
@@ -126,7 +139,7 @@ func (p *core) ends(r *Result, a *asking) {
 	}
 	point(beforeSettle)
 	to := p.table.settle(a, rec != nil || a.over != nil)
-	r.Joiners, r.Shared, r.Stamp = to.joiners, to.isShared, a.stamp
+	r.Joiners, r.Shared, r.Stamp = to.joiners, to.isShared, a.stamp.packed()
 	if to.forgotten {
 		r.Stamp = Stamp{}
 	}

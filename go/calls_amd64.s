@@ -98,7 +98,7 @@ TEXT ·cForget(SB), NOSPLIT, $0-44
 	MOVL AX, ret+40(FP)
 	RET
 
-// func cForgetCall(h *handle, key pointer, n uintptr, id *callID, stamp *cStamp, tries uint32) uint32
+// func cForgetCall(h *handle, key pointer, n uintptr, id *callID, stamp *words, tries uint32) uint32
 TEXT ·cForgetCall(SB), NOSPLIT, $0-52
 	MOVQ h+0(FP), DI
 	MOVQ key+8(FP), SI
@@ -110,7 +110,7 @@ TEXT ·cForgetCall(SB), NOSPLIT, $0-52
 	MOVL AX, ret+48(FP)
 	RET
 
-// func cIsStill(h *handle, stamp *cStamp) bool
+// func cIsStill(h *handle, stamp *words) bool
 TEXT ·cIsStill(SB), NOSPLIT, $0-17
 	MOVQ h+0(FP), DI
 	MOVQ stamp+8(FP), SI

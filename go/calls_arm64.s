@@ -97,7 +97,7 @@ TEXT ·cForget(SB), NOSPLIT, $0-44
 	MOVW R0, ret+40(FP)
 	RET
 
-// func cForgetCall(h *handle, key pointer, n uintptr, id *callID, stamp *cStamp, tries uint32) uint32
+// func cForgetCall(h *handle, key pointer, n uintptr, id *callID, stamp *words, tries uint32) uint32
 TEXT ·cForgetCall(SB), NOSPLIT, $0-52
 	MOVD h+0(FP), R0
 	MOVD key+8(FP), R1
@@ -109,7 +109,7 @@ TEXT ·cForgetCall(SB), NOSPLIT, $0-52
 	MOVW R0, ret+48(FP)
 	RET
 
-// func cIsStill(h *handle, stamp *cStamp) bool
+// func cIsStill(h *handle, stamp *words) bool
 TEXT ·cIsStill(SB), NOSPLIT, $0-17
 	MOVD h+0(FP), R0
 	MOVD stamp+8(FP), R1

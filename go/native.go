@@ -45,8 +45,6 @@ type cCall struct {
 	live bool
 }
 
-type cStamp struct{ table, slot, age uint64 }
-
 type cAudience struct {
 	holders           uint64
 	joined, forgotten bool
@@ -54,10 +52,7 @@ type cAudience struct {
 
 type cSize struct{ tables, passed, cells uint64 }
 
-type cAsked struct {
-	id    callID
-	stamp cStamp
-}
+type cAsked = asked
 
 // A handle is the library's handle, with what is near it. One goroutine has it at a time, for one call of the library: not
 // while a load runs, and not while one sleeps.
@@ -71,7 +66,7 @@ type handle struct {
 	frees                       int
 	free                        [16]cCall // idle ones
 	loads, ends, joins, forgets uint64    // which others read meanwhile
-	asked                       cAsked    // what the library writes in a call
+	id                          callID    // what the library writes in a call
 	told                        cAudience
 	value                       uint64
 	stack                       [stackSize + 16]byte // the end of which is aligned
@@ -257,20 +252,16 @@ func (t *nativeTable) ask(a *asking) {
 			isDue = h.make(&a.own)
 		}
 		if a.own.live {
-			code = cAsk(h, &a.own, bytesOf(a.key), uintptr(len(a.key)), tries, &h.asked)
+			code = cAsk(h, &a.own, bytesOf(a.key), uintptr(len(a.key)), tries, &a.asked)
 		}
-		switch out := &h.asked; code {
+		switch a.leads = code == codeLed; code {
 		case codeLed:
 			increment(&h.loads)
-			a.leads, a.stamp = true, out.stamp.packed()
-			// Not copied at once: such a load would wait for stores that it cannot be forwarded from.
-			a.id = callID{out.id.table, out.id.cell, out.id.generation}
 			if t.isEnded.Load() {
-				a.stamp = Stamp{}
+				a.stamp = Stamp{}.words()
 			}
 		case codeJoined:
 			increment(&h.joins)
-			a.leads, a.id = false, out.id
 		default:
 			h.idle(&a.own)
 		}
@@ -288,7 +279,7 @@ func (t *nativeTable) ask(a *asking) {
 			return
 		case code == codeFull && !t.grow(seen):
 			// There is no memory. It loads alone, and nobody can join it.
-			a.leads, a.id, a.stamp = true, callID{}, Stamp{}
+			a.leads, a.asked = true, asked{stamp: Stamp{}.words()}
 			return
 		case code == codeCrowded, try > 100:
 			// Another makes room.
@@ -298,11 +289,6 @@ func (t *nativeTable) ask(a *asking) {
 		}
 	}
 }
-
-// A stamp of all zeros is none, so a table is packed as one more.
-func (s *cStamp) packed() Stamp { return Stamp{(s.table+1)<<56 | s.slot, s.age} }
-
-func (s Stamp) words() cStamp { return cStamp{s.Place>>56 - 1, s.Place << 8 >> 8, s.Age} }
 
 // look lets the group grow when half of the cells of the last table are in use, or about so many, so that nobody finds it full.
 func (t *nativeTable) look() {
@@ -429,11 +415,11 @@ func (t *nativeTable) forget(key string) (id callID, closed bool) {
 	}
 	for {
 		h := t.take()
-		code := cForget(h, bytesOf(key), uintptr(len(key)), tries, &h.asked.id)
+		code := cForget(h, bytesOf(key), uintptr(len(key)), tries, &h.id)
 		if code != codeBusy {
 			increment(&h.forgets)
 			if closed = code == codeDone; closed {
-				id = h.asked.id
+				id = h.id
 			}
 			t.put(h)
 			return id, closed

@@ -36,10 +36,10 @@ func cLeave(h *handle, c *cCall, value *uint64) uint32
 func cForget(h *handle, key pointer, n uintptr, tries uint32, id *callID) uint32
 
 //go:noescape
-func cForgetCall(h *handle, key pointer, n uintptr, id *callID, stamp *cStamp, tries uint32) uint32
+func cForgetCall(h *handle, key pointer, n uintptr, id *callID, stamp *words, tries uint32) uint32
 
 //go:noescape
-func cIsStill(h *handle, stamp *cStamp) bool
+func cIsStill(h *handle, stamp *words) bool
 
 //go:noescape
 func cGrow(h *handle) uint32

@@ -61,7 +61,7 @@ func TestSharedCallsAreDropped(t *testing.T) {
 func TestSharedCallsOfGenerations(t *testing.T) {
 	var table nativeTable
 	share := func(generation uint64) *call {
-		a := asking{own: cCall{live: true}, id: callID{0, 5, generation}}
+		a := asking{own: cCall{live: true}, asked: asked{id: callID{0, 5, generation}}}
 		table.share(&a)
 		return a.call
 	}

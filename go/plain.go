@@ -68,8 +68,8 @@ func (t *plainTable) slotOf(key string) (slot uint64, s *shard) {
 }
 
 // stampOf returns the stamp that is current in the slot.
-func (t *plainTable) stampOf(slot uint64) Stamp {
-	return Stamp{slot + 1, t.first + t.ages[slot].Load()}
+func (t *plainTable) stampOf(slot uint64) words {
+	return words{0, slot, t.first + t.ages[slot].Load()}
 }
 
 // ask leads the key's new call, or joins its open one.
@@ -101,7 +101,7 @@ func (t *plainTable) ask(a *asking) {
 	c.holders.Store(1)
 	a.call, a.id, a.stamp = c, c.id, t.stampOf(slot)
 	if t.isEnded.Load() {
-		a.stamp = Stamp{}
+		a.stamp = Stamp{}.words()
 	}
 }
 
@@ -154,7 +154,7 @@ func (t *plainTable) forgetCall(key string, it Call) Hit {
 	if c := s.calls[key]; c != nil && c.id == it.id {
 		s.closes(c)
 		hit = Closed
-	} else if it.stamp == t.stampOf(slot) && !t.isEnded.Load() {
+	} else if it.stamp.words() == t.stampOf(slot) && !t.isEnded.Load() {
 		hit = Cleared
 	}
 	if hit != Missed {
@@ -176,8 +176,8 @@ func (t *plainTable) ends(s *shard, slot uint64) {
 }
 
 func (t *plainTable) isStill(stamp Stamp) bool {
-	slot := stamp.Place - 1
-	return slot < uint64(len(t.ages)) && stamp == t.stampOf(slot) && !t.isEnded.Load()
+	w := stamp.words()
+	return w.slot < uint64(len(t.ages)) && w == t.stampOf(w.slot) && !t.isEnded.Load()
 }
 
 // close ends all stamps.

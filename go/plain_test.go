@@ -22,7 +22,8 @@ func (t *plainTable) eachOpen(do func(*call, Call)) {
 		s := &t.shards[i]
 		s.mu.Lock()
 		for _, c := range s.calls {
-			do(c, Call{c.id, t.stampOf(c.slot)})
+			stamp := t.stampOf(c.slot)
+			do(c, Call{c.id, stamp.packed()})
 		}
 		s.mu.Unlock()
 	}

@@ -385,7 +385,7 @@ func (w *world) act(depth, least int) {
 		w.group.core().doChan(ctx, name, func(_ context.Context, a *asking) (any, error) {
 			v, err := w.load(key, asked, func() {})
 			v.(*run).by = me
-			w.keeps(a.stamp, v.(*run))
+			w.keeps(a.stamp.packed(), v.(*run))
 			return v, err
 		}, func(r *Result, err error) {
 			got := *r
