@@ -382,6 +382,17 @@ func TestPanicsOfLoadsThatWereLeft(t *testing.T) {
 			t.Error("the hook", v)
 		}
 	}
+	// A leader that waits by itself has the panic.
+	ctx, cancel := context.WithCancel(context.Background())
+	defer cancel()
+	func() {
+		defer func() {
+			if e, ok := recover().(error); !ok || !strings.HasPrefix(e.Error(), "waits\n\n") {
+				t.Error("the panic goes on in its leader", e)
+			}
+		}()
+		doContext(ctx, g, "key", func(context.Context) (any, error) { panic("waits") })
+	}()
 	if len(told) != 0 {
 		t.Error("the hook is told where nobody waits, and then alone")
 	}
