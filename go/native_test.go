@@ -74,6 +74,38 @@ func TestSharedCallsOfGenerations(t *testing.T) {
 	}
 }
 
+// What ends a group closes each handle, and frees the calls that these have.
+func TestHandlesAreClosed(t *testing.T) {
+	if isOld {
+		t.Skip("it has no library")
+	}
+	g := open(t, 4)
+	g.Do("key", func() (any, error) {
+		v, err, _ := g.Do("another", value(1))
+		return v, err
+	})
+	all := g.core().table.handles
+	runtime.SetFinalizer(all, nil)
+	calls := 0
+	for _, h := range all.all {
+		calls += h.frees
+	}
+	all.close()
+	for _, h := range all.all {
+		if h.live || h.frees != 0 {
+			t.Error("a handle is open", h.live, h.frees)
+		}
+		for i := range h.free {
+			if h.free[i].live {
+				t.Error("a call is not freed", i)
+			}
+		}
+	}
+	if calls < 2 || len(all.all) < 2 {
+		t.Error("there were calls and handles", calls, len(all.all))
+	}
+}
+
 // shared returns how many calls are shared.
 func (t *nativeTable) shared() (n int) {
 	for i := range t.sharing {
