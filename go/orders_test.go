@@ -675,6 +675,9 @@ func (w *orderWorld) end() error {
 	if st := w.core().stats(); st.InUse != 0 || waiting(w) != 0 {
 		return fmt.Errorf("something is left: %+v, and %d wait", st, waiting(w))
 	}
+	if !hasNoCalls(&w.core().table) {
+		return errors.New("a call of the table was not given back once")
+	}
 	w.core().table.close()
 	return nil
 }
