@@ -57,6 +57,7 @@ type call struct {
 	waits  bool               // whether a leader waits for it that may leave
 	cancel context.CancelFunc // tells the load to end; of such a leader, also when it has left
 	ended  bool               // whether that was called, since nobody waited
+	told   []func()           // to be called when got is there
 	got    Result
 }
 
@@ -163,10 +164,14 @@ func (p *core) tell(r *Result, a *asking) {
 	acquire(&c.mu)
 	c.got, c.ready = *r, true
 	isLost := c.cancel != nil && !c.waits && c.holders.Load() == 1
-	done := c.done
+	done, told := c.done, c.told
+	c.told = nil
 	c.mu.Unlock()
 	if done != nil {
 		close(done)
+	}
+	for _, tell := range told {
+		tell()
 	}
 	p.leaves(a, true)
 	if isLost {
@@ -231,6 +236,19 @@ func (p *core) gives(a *asking) bool {
 		p.leaves(a, false)
 	}
 	return true
+}
+
+// whenTold calls tell when the result is there, at once where it is.
+func (c *call) whenTold(tell func()) {
+	acquire(&c.mu)
+	isReady := c.ready
+	if !isReady {
+		c.told = append(c.told, tell)
+	}
+	c.mu.Unlock()
+	if isReady {
+		tell()
+	}
 }
 
 func (p *core) forgets(key string) {

@@ -52,7 +52,7 @@ func (p *core) lead(r *Result, a *asking, fn func() (any, error)) {
 	}
 	defer func() {
 		if !returned {
-			r.Err = broken(recover())
+			r.Err = errGoexit
 		}
 		if p.record != nil {
 			begun = now() - begun
@@ -62,6 +62,20 @@ func (p *core) lead(r *Result, a *asking, fn func() (any, error)) {
 			p.led(r, a, time.Duration(begun))
 		} else {
 			goOnPanic(r.Err)
+		}
+	}()
+	calls(r, fn)
+	returned = true
+}
+
+// calls calls fn. It does not return where fn ends the goroutine. Before Go 1.21 a panic of nil is as if fn had returned nothing, as in x/sync.
+func calls(r *Result, fn func() (any, error)) {
+	returned := false
+	defer func() {
+		if !returned {
+			if it := recover(); it != nil {
+				r.Err = newPanicError(it)
+			}
 		}
 	}()
 	r.Val, r.Err = fn()
@@ -162,12 +176,29 @@ func (p *core) leadContext(ctx context.Context, a *asking, fn loadFunc) (Result,
 }
 
 // doChan is Do for a caller that does not wait: it has asked when this returns. What tell is called with is the result. As in
-// x/sync, a panic of the function ends the program.
+// x/sync, a panic of the function ends the program, and one who joins needs no goroutine.
 func (p *core) doChan(ctx context.Context, key string, fn loadFunc, tell func(*Result, error)) {
 	a := &asking{key: key}
 	p.asks(a)
-	spawn(func() {
+	goOn := func() {
 		r, err := p.goOn(ctx, a, fn)
 		tell(&r, err)
+	}
+	if a.leads || ctx.Done() != nil {
+		spawn(goOn)
+		return
+	}
+	a.call.whenTold(func() {
+		var r Result
+		if p.takes(&r, a) == again {
+			spawn(func() {
+				p.asks(a)
+				goOn()
+			})
+		} else if e, ok := r.Err.(*panicError); ok {
+			go panic(e)
+		} else if r.Err != errGoexit {
+			tell(&r, r.Err)
+		}
 	})
 }

@@ -402,6 +402,25 @@ func waiting(g interface{ core() *core }) (count int) {
 	return count
 }
 
+// Before Go 1.21 a panic of nil is as if the function had returned nothing, as in x/sync; from then on it is a panic as others are.
+func TestPanicOfNil(t *testing.T) {
+	var g Group
+	var nothing, panicked any
+	func() {
+		defer func() { panicked = recover() }()
+		v, err, shared := g.Do("key", func() (any, error) { panic(nothing) })
+		if v != nil || err != nil || shared {
+			t.Errorf("Do = %v, %v, %v", v, err, shared)
+		}
+	}()
+	if panicked != nil && !strings.Contains(fmt.Sprint(panicked), "nil") {
+		t.Errorf("Do panicked with %v", panicked)
+	}
+	if v, err, _ := g.Do("key", func() (any, error) { return 1, nil }); v != 1 || err != nil {
+		t.Errorf("the next Do = %v, %v", v, err)
+	}
+}
+
 // A panic in a load with a goroutine of its own goes on in its leader and in who joined; so does a Goexit.
 func TestDoContextPanics(t *testing.T) {
 	for _, ends := range []func(){func() { panic("load") }, runtime.Goexit} {
