@@ -11,8 +11,8 @@
 
 #define CALLC(fn) \
 	MOVQ SP, BX; \
-	LEAQ (handle_stack+const_stackSize+16)(DI), SP; \
-	ANDQ $~15, SP; \
+	MOVQ handle_stack(DI), SP; \
+	ADDQ $const_stackSize, SP; \
 	CALL fn; \
 	MOVQ BX, SP
 

@@ -9,8 +9,8 @@
 
 #define CALLC(fn) \
 	MOVD RSP, R19; \
-	ADD  $(handle_stack+const_stackSize+16), R0, R20; \
-	AND  $~15, R20; \
+	MOVD handle_stack(R0), R20; \
+	ADD  $const_stackSize, R20; \
 	MOVD R20, RSP; \
 	CALL fn; \
 	MOVD R19, RSP

@@ -20,7 +20,7 @@ const isProved = true
 // Whether the processor lacks what the library's code may use, so that it would end the program by a signal.
 var isOld = !isRecent()
 
-// So many bytes of stack has a call of the library: native/depths tells that none needs more.
+// So many bytes of stack has a call of the library: native/depths tells that none needs more. 16 divides where it ends.
 const stackSize = 1024
 
 // How the library's calls end: see sflight.h.
@@ -58,7 +58,8 @@ type cAsked = asked
 // while a load runs, and not while one sleeps.
 //
 // Each processor has one in each group that it calls, and a goroutine that has it is not stopped: so it is taken and given back
-// without a locked instruction. The root is for those whose processor has none, and is taken by the table's lock.
+// without a locked instruction. It is called on the processor's stack, which all groups share. The root is for those whose processor
+// has none: it has a stack of its own, and is taken by the table's lock.
 type handle struct {
 	at                          uintptr
 	live                        bool
@@ -69,8 +70,14 @@ type handle struct {
 	id                          callID    // what the library writes in a call
 	told                        cAudience
 	value                       uint64
-	stack                       [stackSize + 16]byte // the end of which is aligned
+	stack                       *[stackSize]byte
 }
+
+const mostProcessors = 256
+
+var stacks [mostProcessors][stackSize]byte
+
+func newHandle() *handle { return &handle{stack: new([stackSize]byte)} }
 
 // flight is what the table knows of an asking beside its call: the library's call. None is there where the asking loads alone, since
 // there is no memory, and once the call is idle again.
@@ -81,12 +88,12 @@ type nativeTable struct {
 	plain   *plainTable // where there is no library
 	hot     []pointer   // handles, by processor
 	root    *handle
-	grower  *handle // which whoever grows has
+	grower  *handle // which whoever grows has; made by the first who does
 	size    atomic.Uint64
 	isEnded atomic.Bool
 	_       [64]byte // each call reads what is above, and not all read what is below
 
-	sharing [16]sharing
+	sharing [8]sharing
 	growing sync.Mutex
 	calling sync.Mutex // of ForgetCalls
 	mu      sync.Mutex // protects the root, and the list of handles
@@ -122,19 +129,22 @@ func (s *sizes) cells() uint64 {
 }
 
 func (t *nativeTable) open(size *sizes) {
-	t.root, t.grower = new(handle), new(handle)
-	t.handles = &handles{[]*handle{t.root, t.grower}}
+	t.root = newHandle()
+	t.handles = &handles{[]*handle{t.root}}
 	runtime.SetFinalizer(t.handles, (*handles).close)
 	switch {
 	case isOld:
 		t.why = ErrProcessor
 	case size.refused != nil && size.refused(),
-		cOpen(t.root, size.cells(), random(), random()) != codeDone,
-		cSplit(t.root, t.grower) != codeDone:
+		cOpen(t.root, size.cells(), random(), random()) != codeDone:
 		t.why = ErrMemory
 	default:
 		if !isRaceDetected {
-			t.hot = make([]pointer, runtime.GOMAXPROCS(0))
+			n := runtime.GOMAXPROCS(0)
+			if n > mostProcessors {
+				n = mostProcessors
+			}
+			t.hot = make([]pointer, n)
 		}
 		t.measure(t.root)
 		return
@@ -146,6 +156,7 @@ func (t *nativeTable) open(size *sizes) {
 // close gives the memory of the group back.
 func (all *handles) close() {
 	for _, h := range all.all {
+		h.stack = all.all[0].stack
 		for ; h.frees > 0; h.frees-- {
 			cFree(h, &h.free[h.frees-1])
 		}
@@ -176,13 +187,13 @@ func (t *nativeTable) take() *handle {
 // takeSlowly takes a new handle for this processor, or the root.
 func (t *nativeTable) takeSlowly() *handle {
 	t.mu.Lock()
-	h := new(handle)
+	h := &handle{stack: t.root.stack}
 	if isRaceDetected || cSplit(t.root, h) != codeDone {
 		return t.root
 	}
 	all := append(t.all, h)
 	if p := procPin(); p < len(t.hot) && t.hot[p] == nil {
-		t.all = all
+		t.all, h.stack = all, &stacks[p]
 		atomic.StorePointer(&t.hot[p], pointer(h))
 		t.mu.Unlock()
 		return h
@@ -315,6 +326,18 @@ func (t *nativeTable) grow(seen uint64) bool {
 	defer t.growing.Unlock()
 	if t.size.Load() != seen {
 		return true
+	}
+	if t.grower == nil {
+		h := newHandle()
+		t.mu.Lock()
+		code := cSplit(t.root, h)
+		if code == codeDone {
+			t.grower, t.all = h, append(t.all, h)
+		}
+		t.mu.Unlock()
+		if code != codeDone {
+			return false
+		}
 	}
 	code := cGrow(t.grower)
 	t.measure(t.grower)

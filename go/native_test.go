@@ -84,6 +84,10 @@ func TestHandlesAreClosed(t *testing.T) {
 		v, err, _ := g.Do("another", value(1))
 		return v, err
 	})
+	// Whoever grows has a handle too.
+	if table := &g.core().table; !table.grow(table.size.Load()) {
+		t.Fatal("it does not grow")
+	}
 	all := g.core().table.handles
 	runtime.SetFinalizer(all, nil)
 	calls := 0
